@@ -1,19 +1,18 @@
 -- The rows and the changes that a pass keeps, beside its state, and what is said at a frame.
-use Rattle.std.proofs.Common.{◌≡◌, ℕ, pos, ◌^◌, ◌<◌, ◌≤◌, ◌%◌, Bool, true, false, not, ◌==◌, ◌&&◌, List, [], ◌∷◌, ◌++◌}
-use Rattle.std.proofs.Common.{length, map, get_or, Option, is_none, refl, sym, ap, ◌∙◌, subst, append_assoc, ◌+◌, Some}
-use Rattle.std.proofs.Common.{None, is_some, drop, arith, ℤ, ◌*◌}
+use Rattle.std.proofs.Common.{◌≡◌, ℕ, pos, ◌^◌, ◌<◌, ◌≤◌, Bool, true, false, ◌==◌, ◌&&◌, List, [], ◌∷◌, ◌++◌, length}
+use Rattle.std.proofs.Common.{map, get_or, Option, is_none, refl, ap, ◌∙◌, subst, append_assoc, ◌+◌, Some, None}
+use Rattle.std.proofs.Common.{is_some, drop, arith, ℤ, ◌*◌}
 use Rattle.std.proofs.lemmas.List.Elements.{All-nil, All-cons}
-use Rattle.std.proofs.lemmas.Bool.{and_right}
 use Rattle.std.proofs.lemmas.Simd.{map-map}
 use Rattle.std.proofs.lemmas.List.Folds.{flat_map-map, list_any_at}
-use Rattle.audit_core.proofs.Words.{All, flat_map, list_any, find, eqb-true, eq-eqb, Sides, UnmatchedAck, Frame, Change}
-use Rattle.audit_core.proofs.Words.{Item, ConnectionState, Finding, side_of, is_ack, meets, promises, finding_at}
-use Rattle.audit_core.proofs.Words.{in_order, say, local_said, change_of, InForce, in_force_after, change_taking, taken}
-use Rattle.audit_core.proofs.Words.{settings_said, connection_said, is_opening, idle_stream, PassState, full_from, next}
-use Rattle.audit_core.proofs.Words.{said, streams_of, streams_said, item_of, opens_stream, step_of, room-wider}
-use Rattle.audit_core.proofs.Words.{StreamRow, rows_in, idle_rows, row_opens, row_said, row_after, RowFits}
-use Rattle.audit_core.proofs.Words.{option_to_list, Settings, changes_from, IsOrderlyFrom, IsAcknowledged, opens}
-use Rattle.audit_core.proofs.Words.{AllByRecursion, All-weaker, HasRoom, IsOrderly, nat_tests, other}
+use Rattle.audit_core.proofs.Words.{All, flat_map, list_any, find, eq-eqb, Sides, UnmatchedAck, Frame, Change, Item}
+use Rattle.audit_core.proofs.Words.{ConnectionState, Finding, side_of, is_ack, meets, finding_at, in_order, say}
+use Rattle.audit_core.proofs.Words.{local_said, change_of, InForce, in_force_after, change_taking, taken, settings_said}
+use Rattle.audit_core.proofs.Words.{connection_said, is_opening, idle_stream, PassState, full_from, next, said}
+use Rattle.audit_core.proofs.Words.{streams_of, streams_said, item_of, opens_stream, step_of, room-wider, StreamRow}
+use Rattle.audit_core.proofs.Words.{rows_in, idle_rows, row_opens, row_said, row_after, RowFits, option_to_list}
+use Rattle.audit_core.proofs.Words.{Settings, changes_from, IsOrderlyFrom, IsAcknowledged, opens, AllByRecursion}
+use Rattle.audit_core.proofs.Words.{All-weaker, HasRoom, IsOrderly, nat_tests, other}
 use Rattle.audit_core.proofs.PassOrder.{rows_of, AreStreams}
 use Rattle.audit_core.proofs.StreamsMet.{streams_met_lem}
 use Rattle.audit_core.proofs.OrderlyRest.{drop-at, length-orderly}
@@ -131,27 +130,19 @@ module _ (state : PassState) (frame : Frame) where
 
   -- no frame promises its own stream, and none opens stream 0
   zero-unopened : (frame.stream == 0) ≡ true → opens_it frame.stream ≡ false
-  zero-unopened e =
-      let even : (frame.stream % 2 == 1) ≡ false = ap (λ q. q % 2 == 1) (eqb-true frame.stream 0 e) in
-      let own : promises frame.stream frame ≡ false =
-      rw (eq-eqb frame.stream frame.stream refl) (and_right _ false refl) in
-      rw (even, own) (and_right _ false refl)
+  zero-unopened e = grind (arith, nat_tests)
 
 -- the row of a frame's stream says whether the frame opens it
 pub opens-frame : (state : PassState) (frames : List Frame) (i : ℕ) (frame : Frame) → frame ≡ get_or frames i frame →
     i < length frames →
     list_any (row_opens frame) (rows_in state.streams (streams_of frames)) ≡ opens_stream state frame
 opens-frame state frames i frame is within =
-    opens-rows state frame (streams_of frames)
-    ∙ rw (streams_met_lem frame.stream frames, met, meets-own state frame) (by_test (frame.stream == 0) refl) where
-      met : list_any (meets frame.stream) frames ≡ true
-      met = list_any_at (meets frame.stream) frames i frame within
-          (subst (λ (one : Frame). meets frame.stream one ≡ true) is (meets-own state frame))
-
-      by_test : (b : Bool) → (frame.stream == 0) ≡ b →
-          ((not (frame.stream == 0) && true) && opens_it state frame frame.stream) ≡ opens_it state frame frame.stream
-      by_test true e = rw e (sym (zero-unopened state frame e))
-      by_test false e = rw e refl
+    let rows = opens-rows state frame (streams_of frames) in
+    let named = streams_met_lem frame.stream frames in
+    let met : list_any (meets frame.stream) frames ≡ true =
+    list_any_at (meets frame.stream) frames i frame within
+    (subst (λ (one : Frame). meets frame.stream one ≡ true) is (meets-own state frame)) in
+    grind (arith, nat_tests, zero-unopened state frame)
 
 -- ---- a frame, as the code meets it
 

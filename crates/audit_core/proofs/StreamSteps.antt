@@ -2,9 +2,9 @@
 use Rattle.std.proofs.Common.{◌≡◌, Bool, List, None, Option, Some, [], ap, arith, false, if◌then◌else◌, ltb-true}
 use Rattle.std.proofs.Common.{nat_lt, refl, true, ℕ, ◌++◌, ◌+◌, ◌<◌, ◌==◌, ◌∙◌, ◌∷◌, ◌≤◌}
 use Rattle.audit_core.proofs.Words.{eqb-true, option_to_list, nat_tests, cond_both, change_by, meets, change_of}
-use Rattle.audit_core.proofs.Words.{InForce, taken, change_taking, in_force_after, step_of, changes_from}
-use Rattle.audit_core.proofs.Words.{IsOrderlyFrom, frame_step, with_change, steps_of, change_step, frames_of, Frame}
-use Rattle.audit_core.proofs.Words.{Change, Step, Settings, AllByRecursion}
+use Rattle.audit_core.proofs.Words.{InForce, taken, change_taking, in_force_after, step_of, changes_from, IsOrderlyFrom}
+use Rattle.audit_core.proofs.Words.{frame_step, with_change, steps_of, change_step, frames_of, Frame, Change, Step}
+use Rattle.audit_core.proofs.Words.{Settings, AllByRecursion, other, joined}
 use Rattle.audit_core.proofs.Pairs.{all-mapped, all-filter, all-append}
 
 pub differ_test : (m n : ℕ) → m < n → (m == n) ≡ false
@@ -88,9 +88,7 @@ with_change-first : (steps : List Step) (change : Change)
     → AllByRecursion (λ (step : Step). change.number + 1 ≤ step.number) steps
     → with_change steps change ≡ change_step change ∷ steps
 with_change-first [] change h = refl
-with_change-first (step ∷ steps) change h =
-    with_change-cases (λ l. l ≡ change_step change ∷ step ∷ steps) change step steps
-    (λ e. absurd (omega (arith, h.0))) (λ e. refl) (λ e. absurd (omega (arith, h.0)))
+with_change-first (step ∷ steps) change h = grind (arith, nat_tests, h.0)
 
 -- a frame before all changes comes first
 steps_of-first : (frame : Frame) (frames : List Frame) (changes : List Change)
@@ -98,10 +96,7 @@ steps_of-first : (frame : Frame) (frames : List Frame) (changes : List Change)
     → steps_of (frame ∷ frames) changes ≡ frame_step frame ∷ steps_of frames changes
 steps_of-first frame frames [] h = refl
 steps_of-first frame frames (change ∷ changes) h =
-    ap (λ steps. with_change steps change) (steps_of-first frame frames changes h.1)
-    ∙ with_change-cases (λ l. l ≡ frame_step frame ∷ with_change (steps_of frames changes) change) change
-    (frame_step frame) (steps_of frames changes)
-    (λ e. absurd (omega (arith, h.0))) (λ e. absurd (omega (arith, h.0))) (λ e. refl)
+    let rest = steps_of-first frame frames changes h.1 in grind (arith, nat_tests, h.0)
 
 -- the steps of a stream's frames and all changes are those of the connection's frames at which something is there
 pub steps_of-steps_from : (low stream : ℕ) (now : InForce) (frames : List Frame) → IsOrderlyFrom low frames
