@@ -13,9 +13,7 @@ past m k e = grind (arith, nat_tests)
 byte_arrival-from : (o p : ℕ) (arrivals : List Arrival) → o ≤ p → byte_arrival (arrivals_from o arrivals) p
     ≡ byte_arrival arrivals p
 byte_arrival-from o p [] h = refl
-byte_arrival-from o p (a ∷ later) h =
-    cond_both (nat_lt o a.upto) _ _ (λ xs. byte_arrival xs p ≡ byte_arrival (a ∷ later) p) (λ e. refl)
-    (λ e. let over = below_later o p a.upto e h in rw over (byte_arrival-from o p later h))
+byte_arrival-from o p (a ∷ later) h = grind (arith, nat_tests, byte_arrival-from o p later h)
 
 -- so do later frames
 pub captured_from-from : (side : Side) (arrivals : List Arrival) (o number offset : ℕ) (spelled : List Spelled)
@@ -33,9 +31,7 @@ captured_from-from side arrivals o number offset (s ∷ later) h =
 pub get_or-arrivals_from : (o : ℕ) (arrivals : List Arrival) (d : Arrival) → 0 < length (arrivals_from o arrivals) →
     get_or (arrivals_from o arrivals) 0 d ≡ byte_arrival arrivals o
 get_or-arrivals_from o [] d h = absurd (omega arith)
-get_or-arrivals_from o (a ∷ later) d h =
-    cond_both (nat_lt o a.upto) _ _ (λ xs. 0 < length xs → get_or xs 0 d ≡ byte_arrival (a ∷ later) o)
-    (λ e k. rw e refl) (λ e k. rw e (get_or-arrivals_from o later d k)) h
+get_or-arrivals_from o (a ∷ later) d h = grind (arith, nat_tests, get_or-arrivals_from o later d)
 
 -- each byte of the flow arrives
 pub arrivals_from-not_empty : (low rec high o : ℕ) (arrivals : List Arrival) → Rises low rec arrivals high → low ≤ o

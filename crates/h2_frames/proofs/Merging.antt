@@ -1,10 +1,10 @@
 -- Frames that stand in order are merged into order.
-use Rattle.std.proofs.Common.{◌≡◌, ℕ, ◌+◌, ◌-◌, ◌<◌, ◌≤◌, Bool, true, false, cond, List, [], ◌∷◌, ◌++◌, length, refl}
-use Rattle.std.proofs.Common.{ap, sym, ◌∙◌, arith, length-append}
+use Rattle.std.proofs.Common.{◌≡◌, ℕ, ◌+◌, ◌-◌, ◌<◌, ◌≤◌, Bool, true, false, List, [], ◌∷◌, ◌++◌, length, refl, ap, sym}
+use Rattle.std.proofs.Common.{◌∙◌, arith, length-append}
 use Rattle.std.specs.Prelude.{◌&&◌, ◌||◌}
 use Rattle.h2_frames.proofs.Words.{nat_lt, ◌==◌, nat_tests, Arrival, Rises, Side, Frame, put_by, ordered_by, side_order}
-use Rattle.h2_frames.proofs.Words.{merged, merged_with, Spelled, Spells, byte_arrival, captured, captured_from}
-use Rattle.h2_frames.proofs.Words.{comes_after, numbered, capture_order, ltb-false, cond_both, ltb-true}
+use Rattle.h2_frames.proofs.Words.{merged, Spelled, Spells, byte_arrival, captured, captured_from, comes_after}
+use Rattle.h2_frames.proofs.Words.{numbered, capture_order, ltb-false, cond_both, ltb-true}
 
 -- comes_after, on the three numbers
 is_above : (a b c x y z : ℕ) → Bool
@@ -50,12 +50,7 @@ put-merge : (x : Frame) (xs ys : List Frame) → IsAscendingFrom x xs →
     put_by comes_after x (merged xs ys) ≡ merged (x ∷ xs) ys
 put-merge x [] [] h = refl
 put-merge x (c ∷ xs) [] h = let first = h.0 in rw first refl
-put-merge x [] (y ∷ ys) h = by (comes_after x y) (put-merge x [] ys h)
-  where
-    by : (test : Bool) → put_by comes_after x ys ≡ merged_with x (λ zs. zs) ys →
-        cond test (y ∷ put_by comes_after x ys) (x ∷ y ∷ ys) ≡ cond test (y ∷ merged_with x (λ zs. zs) ys) (x ∷ y ∷ ys)
-    by true rest = ap (λ (zs : List Frame). y ∷ zs) rest
-    by false rest = refl
+put-merge x [] (y ∷ ys) h = grind (arith, put-merge x [] ys h)
 put-merge x (c ∷ xs) (y ∷ ys) h =
     cond_both (comes_after x y) _ _ (λ zs. put_by comes_after x (merged (c ∷ xs) (y ∷ ys)) ≡ zs)
     (λ e. let past = after_trans x c y h.0 e in

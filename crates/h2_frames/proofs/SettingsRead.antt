@@ -1,7 +1,7 @@
 -- Reading the settings of a payload one after the other.
-use Rattle.std.proofs.Common.{◌≡◌, ℕ, ◌≤◌, ◌+◌, Bool, true, false, cond, not, ◌&&◌, List, ◌∷◌, length, take, drop}
-use Rattle.std.proofs.Common.{Option, None, Some, refl, ap, arith, sym, ◌∙◌}
-use Rattle.std.specs.Prelude.{option_map, find, is_none, if◌then◌else◌}
+use Rattle.std.proofs.Common.{◌≡◌, ℕ, ◌≤◌, ◌+◌, Bool, not, ◌&&◌, List, ◌∷◌, length, take, drop, Option, None, Some}
+use Rattle.std.proofs.Common.{refl, ap, arith, sym, ◌∙◌}
+use Rattle.std.specs.Prelude.{is_none, if◌then◌else◌}
 use Rattle.std.specs.Option.{option_or}
 use Rattle.h2_frames.proofs.Words.{◌==◌, Settings, Setting, setting_at, settings_in, is_in_range, last_value, first_bad}
 use Rattle.h2_frames.proofs.Words.{with_setting}
@@ -18,28 +18,16 @@ with_later settings later = record {
 value_step : (later : Option ℕ) (test : Bool) (value : ℕ) (before : Option ℕ) →
     option_or later (if test then Some value else before) ≡ option_or
     (option_or later (if test then Some value else None)) before
-value_step None true value before = refl
-value_step None false value before = refl
-value_step (Some x) test value before = refl
+value_step later test value before = grind arith
 
 bad_step : (before : Option ℕ) (fine : Bool) (identifier : ℕ) (later : Option ℕ) →
     option_or (if is_none before && not fine then Some identifier else before) later
     ≡ option_or before (if not fine then Some identifier else later)
-bad_step None true identifier later = refl
-bad_step None false identifier later = refl
-bad_step (Some x) true identifier later = refl
-bad_step (Some x) false identifier later = refl
+bad_step before fine identifier later = grind arith
 
 pub bad_cons : (s : Setting) (later : List Setting) →
     first_bad (s ∷ later) ≡ (if not (is_in_range s) then Some s.identifier else first_bad later)
-bad_cons s later = by (is_in_range s)
-  where
-    by : (fine : Bool) →
-        option_map (λ (t : Setting). t.identifier)
-        (cond (not fine) (Some s) (find (λ (t : Setting). not (is_in_range t)) later))
-        ≡ (if not fine then Some s.identifier else first_bad later)
-    by true = refl
-    by false = refl
+bad_cons s later = grind arith
 
 -- one more setting read is one setting less to come
 pub with_later-step : (settings : Settings) (s : Setting) (later : List Setting) →
