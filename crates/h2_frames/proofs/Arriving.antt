@@ -39,8 +39,7 @@ pub arrivals_from-not_empty : (low rec high o : ℕ) (arrivals : List Arrival) �
     0 < length (arrivals_from o arrivals)
 arrivals_from-not_empty low rec high o [] rises h k = absurd (omega arith)
 arrivals_from-not_empty low rec high o (a ∷ later) rises h k =
-    cond_both (nat_lt o a.upto) _ _ (λ xs. 0 < length xs) (λ e. omega arith)
-    (λ e. arrivals_from-not_empty a.upto a.rec high o later rises.2 (past o a.upto e) k)
+    grind (arith, nat_tests, arrivals_from-not_empty a.upto a.rec high o later rises.2)
 
 -- the arrivals from a byte on rise too, from that byte or from before it
 abbrev pub RiseFrom : (o : ℕ) → List Arrival → (high : ℕ) → Type 0

@@ -4,7 +4,7 @@ use Rattle.std.proofs.Common.{◌∙◌, arith, length-append}
 use Rattle.std.specs.Prelude.{◌&&◌, ◌||◌}
 use Rattle.h2_frames.proofs.Words.{nat_lt, ◌==◌, nat_tests, Arrival, Rises, Side, Frame, put_by, ordered_by, side_order}
 use Rattle.h2_frames.proofs.Words.{merged, Spelled, Spells, byte_arrival, captured, captured_from, comes_after}
-use Rattle.h2_frames.proofs.Words.{numbered, capture_order, ltb-false, cond_both, ltb-true}
+use Rattle.h2_frames.proofs.Words.{numbered, capture_order, ltb-false, ltb-true}
 
 -- comes_after, on the three numbers
 is_above : (a b c x y z : ℕ) → Bool
@@ -51,13 +51,7 @@ put-merge : (x : Frame) (xs ys : List Frame) → IsAscendingFrom x xs →
 put-merge x [] [] h = refl
 put-merge x (c ∷ xs) [] h = let first = h.0 in rw first refl
 put-merge x [] (y ∷ ys) h = grind (arith, put-merge x [] ys h)
-put-merge x (c ∷ xs) (y ∷ ys) h =
-    cond_both (comes_after x y) _ _ (λ zs. put_by comes_after x (merged (c ∷ xs) (y ∷ ys)) ≡ zs)
-    (λ e. let past = after_trans x c y h.0 e in
-    rw (past, e) (ap (λ (zs : List Frame). y ∷ zs) (put-merge x (c ∷ xs) ys h)))
-    (λ e. let first = h.0 in
-    cond_both (comes_after c y) (y ∷ merged (c ∷ xs) ys) (c ∷ merged xs (y ∷ ys))
-    (λ zs. put_by comes_after x zs ≡ x ∷ zs) (λ f. rw e refl) (λ f. rw first refl))
+put-merge x (c ∷ xs) (y ∷ ys) h = grind (arith, put-merge x (c ∷ xs) ys h, after_trans x c y h.0, h.0)
 
 -- merging puts the frames of both sides in order
 pub ordered-merge : (xs ys : List Frame) → IsAscending xs → IsAscending ys →
@@ -80,9 +74,7 @@ rec_above : (low rec high o : ℕ) (arrivals : List Arrival) → Rises low rec a
     rec ≤ (byte_arrival arrivals o).rec
 rec_above low rec high o [] rises h k = absurd (omega arith)
 rec_above low rec high o (a ∷ later) rises h k =
-    let above : rec < a.rec = rises.1 in
-    arrival-cases (λ x. rec ≤ x.rec) o a later (λ e. omega arith)
-    (λ e. let rest = rec_above a.upto a.rec high o later rises.2 e k in omega arith)
+    grind (arith, nat_tests, rises.1, rec_above a.upto a.rec high o later rises.2)
 
 pub rec_rises : (low rec high o p : ℕ) (arrivals : List Arrival) → Rises low rec arrivals high → low ≤ o → o ≤ p
     → p < high →

@@ -7,13 +7,8 @@ use Rattle.h2_frames.proofs.Words.{AreMerged, IsWalkAfter, taken_of}
 -- one frame more is numbered
 numbered_push : (k : ℕ) (frames : List Frame) (f : Frame) →
     numbered k (frames ++ f ∷ []) ≡ numbered k frames ++ record f { number = k + length frames } ∷ []
-numbered_push k [] f =
-    let number : k ≡ k + length {A = Frame} [] = omega arith in
-    ap (λ (n : ℕ). record f { number = n } ∷ []) number
-numbered_push k (x ∷ frames) f =
-    let number : (k + 1) + length frames ≡ k + length (x ∷ frames) = omega arith in
-    ap (λ (fs : List Frame). record x { number = k } ∷ fs) (numbered_push (k + 1) frames f
-    ∙ ap (λ (n : ℕ). numbered (k + 1) frames ++ record f { number = n } ∷ []) number)
+numbered_push k [] f = grind arith
+numbered_push k (x ∷ frames) f = grind (arith, numbered_push (k + 1) frames f)
 
 -- with one frame more they are orderly
 orderly_push : (low k : ℕ) (frames : List Frame) (f : Frame) → IsOrderlyFrom low frames → numbered k frames ≡ frames →
