@@ -4,7 +4,7 @@ use Rattle.std.proofs.Common.{◌∙◌, arith, length-append}
 use Rattle.std.specs.Prelude.{◌&&◌, ◌||◌}
 use Rattle.h2_frames.proofs.Words.{nat_lt, ◌==◌, nat_tests, Arrival, Rises, Side, Frame, put_by, ordered_by, side_order}
 use Rattle.h2_frames.proofs.Words.{merged, Spelled, Spells, byte_arrival, captured, captured_from, comes_after}
-use Rattle.h2_frames.proofs.Words.{numbered, capture_order, ltb-false, ltb-true}
+use Rattle.h2_frames.proofs.Words.{numbered, capture_order}
 
 -- comes_after, on the three numbers
 is_above : (a b c x y z : ℕ) → Bool
@@ -61,14 +61,6 @@ ordered-merge (x ∷ xs) ys h k =
     let rest = ordered-merge xs ys (rest_ascending x xs h) k in
     ap (put_by comes_after x) rest ∙ put-merge x xs ys h
 
--- a byte arrives with the first arrival or with a later one
-arrival-cases : (P : Arrival → Type 0) (o : ℕ) (a : Arrival) (later : List Arrival) → (o < a.upto → P a)
-    → (a.upto ≤ o → P (byte_arrival later o)) → P (byte_arrival (a ∷ later) o)
-arrival-cases P o a later here there = by (nat_lt o a.upto) refl where
-  by : (test : Bool) → nat_lt o a.upto ≡ test → P (byte_arrival (a ∷ later) o)
-  by true e = rw e (here (ltb-true o a.upto e))
-  by false e = rw e (there (ltb-false o a.upto e))
-
 -- bytes arrive at later and later records
 rec_above : (low rec high o : ℕ) (arrivals : List Arrival) → Rises low rec arrivals high → low ≤ o → o < high →
     rec ≤ (byte_arrival arrivals o).rec
@@ -81,11 +73,8 @@ pub rec_rises : (low rec high o p : ℕ) (arrivals : List Arrival) → Rises low
     (byte_arrival arrivals o).rec ≤ (byte_arrival arrivals p).rec
 rec_rises low rec high o p [] rises h k l = absurd (omega arith)
 rec_rises low rec high o p (a ∷ later) rises h k l =
-    arrival-cases (λ x. (byte_arrival (a ∷ later) o).rec ≤ x.rec) p a later
-    (λ f. arrival-cases (λ x. x.rec ≤ a.rec) o a later (λ e. omega arith) (λ e. absurd (omega arith)))
-    (λ past. arrival-cases (λ x. x.rec ≤ (byte_arrival later p).rec) o a later
-    (λ e. rec_above a.upto a.rec high p later rises.2 past l)
-    (λ e. rec_rises a.upto a.rec high o p later rises.2 e k l))
+    grind (arith, nat_tests, rec_above a.upto a.rec high p later rises.2,
+    rec_rises a.upto a.rec high o p later rises.2)
 
 later_number : (x y : Frame) → x.number < y.number → x.rec ≤ y.rec → comes_after x y ≡ false
 later_number x y h k = grind (arith, nat_tests)

@@ -5,10 +5,10 @@ use Rattle.std.specs.Prelude.{IfOk}
 use Rattle.std.specs.declared.alloc.AllocError.{AllocError}
 use Rattle.std.proofs.lemmas.Bool.{false≢true}
 use Rattle.std.proofs.lemmas.List.{append_cancel_left, take_at, drop_at}
-use Rattle.h2_frames.proofs.Words.{Result, Ok, Err, Cut, Flow, Body, Frame, Sides, Http2, NotHttp2, NoPreface}
-use Rattle.h2_frames.proofs.Words.{NoHandshake, Header, Spelled, header_of, body_of, HoldsNoFrame, Makes, Spells}
-use Rattle.h2_frames.proofs.Words.{preface, IsPrefaceCutShort, BeginsWithPreface, IsCut, IsHttp2, SpellingIsUnique}
-use Rattle.h2_frames.proofs.Words.{IsSameFlow, CutIsUnique, IsSameCut}
+use Rattle.h2_frames.proofs.Words.{Result, Ok, Err, Cut, Flow, Frame, Sides, Http2, NotHttp2, NoPreface, NoHandshake}
+use Rattle.h2_frames.proofs.Words.{Header, Spelled, header_of, body_of, HoldsNoFrame, Makes, Spells, preface}
+use Rattle.h2_frames.proofs.Words.{IsPrefaceCutShort, BeginsWithPreface, IsCut, IsHttp2, SpellingIsUnique, IsSameFlow}
+use Rattle.h2_frames.proofs.Words.{CutIsUnique, IsSameCut, Body}
 
 -- two fronts of one length are one front, and so are the rests
 same_parts : (a b x y : List ℕ) → a ++ x ≡ b ++ y → length a ≡ length b → (a ≡ b) × (x ≡ y)
@@ -46,9 +46,6 @@ same_frame : (f g : Spelled) → f.header ≡ g.header → f.body ≡ g.body →
 same_frame f g h b =
     ap (λ (x : Header). record f { header = x }) h ∙ ap (λ (x : Body). record g { body = x }) b
 
-cons_same : (f g : Spelled) (frames others : List Spelled) → f ≡ g → frames ≡ others → f ∷ frames ≡ g ∷ others
-cons_same f g frames others h k = ap (λ (x : Spelled). x ∷ frames) h ∙ ap (λ (xs : List Spelled). g ∷ xs) k
-
 -- two frames that one list of bytes begins with are one, and so is what follows them
 same_first : (bytes header payload rest other_header other_payload other_rest : List ℕ) (f g : Spelled) →
     bytes ≡ header ++ payload ++ rest → Makes header payload f →
@@ -81,7 +78,7 @@ spelling-unique bytes (f ∷ frames) (g ∷ others) tail other_tail first second
     second.4 in
     let later = spelling-unique first.2 frames others tail other_tail first.5
     (subst (λ (r : List ℕ). Spells r others other_tail) (sym same.1) second.5) in
-    (cons_same f g frames others same.0 later.0, later.1)
+    (cc (same.0, later.0), later.1)
 
 -- no bytes are a part of the preface and begin with all of it
 not_both : (bytes rest : List ℕ) → IsPrefaceCutShort bytes → BeginsWithPreface bytes rest → ⊥
