@@ -7,9 +7,8 @@ use Rattle.audit_core.proofs.Words.{ints, Side, Client, Server, Frame, Step, Str
 use Rattle.audit_core.proofs.Words.{IsOrderlyFrom, is_last_of, first_window, new_initial, change_of, credit_after}
 use Rattle.audit_core.proofs.Words.{step_test, opens, window_after, window_at_opening, counted, window_ends, PassState}
 use Rattle.audit_core.proofs.Words.{pass_start, step_of, next, state_from, ConnectionCreditIsSum, StreamCreditIsSum}
-use Rattle.audit_core.proofs.Words.{content_on, since, stream_credit_sum, and-false, cond_both, cases_Bool, lt-leb}
-use Rattle.audit_core.proofs.Words.{nat_tests}
-use Rattle.audit_core.proofs.Meetings.{no-choice, step-grant, step-content, step-opening, step-opened}
+use Rattle.audit_core.proofs.Words.{content_on, since, stream_credit_sum, cond_both, cases_Bool, lt-leb, nat_tests}
+use Rattle.audit_core.proofs.Meetings.{step-grant, step-content, step-opening, step-opened}
 
 -- ---- the connection
 
@@ -169,8 +168,8 @@ module _ (d : Side) (stream low : ℕ) (state : PassState) (frame : Frame) (fram
       let nothing = step-opening stream state.in_force frame (state.streams stream) here in
       let counts = window-counts d stream frame.number (next state frame) frames _ credit at live last in
       let change : change_of state.in_force frame ≡ None = rw nothing.ack refl in
-      let grant : grant_to d stream frame ≡ 0 = rw nothing.grants (no-choice _ 0) in
-      let content : content_on d stream frame ≡ 0 = rw (nothing.content, and-false) (no-choice _ 0) in
+      let grant : grant_to d stream frame ≡ 0 = grind (arith, nothing.grants) in
+      let content : content_on d stream frame ≡ 0 = grind (arith, nothing.content) in
       let unchanged : initial_in d (next state frame) ≡ initial_in d state =
       initial-next d state frame ∙ ap (λ change. new_initial change d (initial_in d state)) change in
       rw (since-all frame.number frame.number (frame ∷ frames) (omega arith) (omega arith, h.1, h.2))

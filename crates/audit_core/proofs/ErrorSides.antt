@@ -2,12 +2,11 @@
 -- change moves the windows of the side alone that acknowledges it.
 use Rattle.std.proofs.Common.{◌≡◌, ℕ, ℤ, pos, ◌+ℤ◌, ◌-ℤ◌, Bool, true, false, ◌&&◌, int_lt, refl, arith, Option, Some}
 use Rattle.std.proofs.Common.{None, is_some, if◌then◌else◌}
-use Rattle.audit_core.proofs.Words.{option_map_or, ints, and-false, Side, Client, Server, Sides, Body, SettingsAck}
-use Rattle.audit_core.proofs.Words.{Settings, Frame, other, is_side, side_of, is_ack, is_content, increment, content_by}
-use Rattle.audit_core.proofs.Words.{grant_to, meets, new_initial, overflows, InForce, taken, change_of, change_taking}
+use Rattle.audit_core.proofs.Words.{option_map_or, ints, Side, Client, Server, Sides, Body, SettingsAck, Settings}
+use Rattle.audit_core.proofs.Words.{Frame, other, is_side, side_of, is_ack, is_content, increment, content_by, grant_to}
+use Rattle.audit_core.proofs.Words.{meets, new_initial, overflows, InForce, taken, change_of, change_taking}
 use Rattle.audit_core.proofs.Words.{credit_after, counted, step_of, and_parts}
 use Rattle.audit_core.proofs.TableRows.{same_side}
-use Rattle.audit_core.proofs.Meetings.{no-choice}
 
 other_side : (d e : Side) → is_side (other d) e ≡ true → d ≡ other e
 other_side Client Server h = refl
@@ -49,8 +48,8 @@ module _ (d : Side) (stream : ℕ) (now : InForce) (initial : Sides ℕ) (frame 
       → int_lt before (counted d stream initial (step_of now frame stream) before) ≡ true → ⊥
   still c e above =
       let ack = ack-only frame.body (change-ack now frame c) in
-      let grant = no_amount (grant_to d stream) (meets stream frame) (rw ack.0 (no-choice _ 0)) in
-      let content = no_amount (content_by d) (meets stream frame) (rw (ack.1, and-false) refl) in
+      let grant = no_amount (grant_to d stream) (meets stream frame) (grind (arith, ack.0)) in
+      let content = no_amount (content_by d) (meets stream frame) (grind (arith, ack.1)) in
       let same = same_initial (taken now frame) (side_of d initial) e in
       absurd (omega (arith, ints))
 

@@ -5,7 +5,7 @@ use Rattle.audit_core.proofs.Words.{flat_map, option_to_list, AllByRecursion, ma
 use Rattle.audit_core.proofs.Words.{change_taking, in_force_after, initial_in_force, changes_from, changes_of}
 use Rattle.audit_core.proofs.Words.{IsOrderlyFrom, frame_step, with_change, steps_of, frames_of, Frame, Change, Step}
 use Rattle.audit_core.proofs.Words.{Settings, EachPair, StreamsHaveSteps, AreRising, IsFilled}
-use Rattle.audit_core.proofs.Words.{StepsJoinFramesAndChanges, joined, or-true, nat_tests}
+use Rattle.audit_core.proofs.Words.{StepsJoinFramesAndChanges, or-true, nat_tests}
 use Rattle.audit_core.proofs.Pairs.{all-before_map, all-map, pairs-mapped, pairs-filter, all-mapped}
 use Rattle.audit_core.proofs.StreamSteps.{with_change-cases, all-with, all-steps, all-numbers, all-change_numbers}
 

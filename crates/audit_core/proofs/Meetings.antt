@@ -7,10 +7,6 @@ use Rattle.audit_core.proofs.Words.{is_content, is_headers, is_promise, is_clien
 use Rattle.audit_core.proofs.Words.{grant_to, promises, meets, content_on, InForce, is_opening, step_amount, opens}
 use Rattle.audit_core.proofs.Words.{life_at, step_of, and_parts, nat_tests}
 
-pub no-choice : {A : Type 0} (b : Bool) (x : A) → (if b then x else x) ≡ x
-no-choice true x = refl
-no-choice false x = refl
-
 -- a body that no window counts and that settings do not come into force by
 pub record CountsNothing (body : Body) : Type 0 where
   pub grants : increment body ≡ 0

@@ -7,7 +7,7 @@ use Rattle.audit_core.proofs.Words.{pass_start, said, full_from, full, next, fir
 use Rattle.audit_core.proofs.Words.{step_of, item_of, IsInOrder, in_order-ordered, in_order-append, ordered-in_order}
 use Rattle.audit_core.proofs.Words.{comes_after_is, AreAt, AreFrom, at-append, at-in_order, at-nil, at-local}
 use Rattle.audit_core.proofs.Words.{at-settings, at-connection, at-stream, from-at, from-from, from-append, precedes-at}
-use Rattle.audit_core.proofs.Words.{AllByRecursion, other}
+use Rattle.audit_core.proofs.Words.{AllByRecursion}
 use Rattle.audit_core.proofs.Pairs.{all-filter}
 
 -- all streams have 31 bits

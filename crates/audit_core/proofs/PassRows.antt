@@ -12,11 +12,11 @@ use Rattle.audit_core.proofs.Words.{connection_said, is_opening, idle_stream, Pa
 use Rattle.audit_core.proofs.Words.{streams_of, streams_said, item_of, opens_stream, step_of, room-wider, StreamRow}
 use Rattle.audit_core.proofs.Words.{rows_in, idle_rows, row_opens, row_said, row_after, RowFits, option_to_list}
 use Rattle.audit_core.proofs.Words.{Settings, changes_from, IsOrderlyFrom, IsAcknowledged, opens, AllByRecursion}
-use Rattle.audit_core.proofs.Words.{All-weaker, HasRoom, IsOrderly, nat_tests, other}
+use Rattle.audit_core.proofs.Words.{All-weaker, HasRoom, IsOrderly, nat_tests}
 use Rattle.audit_core.proofs.PassOrder.{rows_of, AreStreams}
 use Rattle.audit_core.proofs.StreamsMet.{streams_met_lem}
 use Rattle.audit_core.proofs.OrderlyRest.{drop-at, length-orderly}
-use Rattle.audit_core.proofs.StreamSteps.{differ_test, same_test, all-change_numbers}
+use Rattle.audit_core.proofs.StreamSteps.{all-change_numbers}
 use Rattle.audit_core.proofs.ErrorSides.{change-ack}
 
 -- ---- the change of a frame, among all changes
@@ -45,7 +45,7 @@ module _ (now : InForce) (frame : Frame) (later : List Frame) where
         none-later frame.number rest
         (all-change_numbers (λ n. frame.number + 1 ≤ n) (frame.number + 1) (in_force_after now frame) later
         (λ m l. l) h)
-    by_taken (Some settings) = rw (same_test frame.number) refl
+    by_taken (Some settings) = rw (eq-eqb frame.number frame.number refl) refl
 
   -- a change past the frame is one of the later frames
   pub change-past : (number : ℕ) → frame.number < number
@@ -54,7 +54,7 @@ module _ (now : InForce) (frame : Frame) (later : List Frame) where
     by_taken : (o : Option Settings)
         → find (is_at number) (option_to_list (change_taking frame o) ++ rest) ≡ find (is_at number) rest
     by_taken None = refl
-    by_taken (Some settings) = rw (differ_test frame.number number h) refl
+    by_taken (Some settings) = grind (arith, nat_tests)
 
 -- the same of a frame that was read at its position
 pub change-at : (now : InForce) (low : ℕ) (frames : List Frame) (i : ℕ) (frame : Frame) (changes : List Change)

@@ -6,7 +6,6 @@ use Rattle.std.proofs.lemmas.Cmp.{int_cmp_total, tied_itself}
 use Rattle.audit_core.proofs.Words.{ints, Side, Client, Server, Sides, Change, Step, Stream, say_of, side_of}
 use Rattle.audit_core.proofs.Words.{new_initial, is_used_up, window_step, live_window_said, window_after}
 use Rattle.audit_core.proofs.Words.{stream_window_said, stream_said, stream_after, counted, initial_after, and-false}
-use Rattle.audit_core.proofs.Words.{said}
 
 -- a step of a change alone, or of nothing
 abbrev pub bare_step : ℕ → Option Change → Step

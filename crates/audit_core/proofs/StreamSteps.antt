@@ -4,17 +4,8 @@ use Rattle.std.proofs.Common.{nat_lt, refl, true, ℕ, ◌++◌, ◌+◌, ◌<�
 use Rattle.audit_core.proofs.Words.{eqb-true, option_to_list, nat_tests, cond_both, change_by, meets, change_of}
 use Rattle.audit_core.proofs.Words.{InForce, taken, change_taking, in_force_after, step_of, changes_from, IsOrderlyFrom}
 use Rattle.audit_core.proofs.Words.{frame_step, with_change, steps_of, change_step, frames_of, Frame, Change, Step}
-use Rattle.audit_core.proofs.Words.{Settings, AllByRecursion, other, joined}
+use Rattle.audit_core.proofs.Words.{Settings, AllByRecursion, eq-eqb}
 use Rattle.audit_core.proofs.Pairs.{all-mapped, all-filter, all-append}
-
-pub differ_test : (m n : ℕ) → m < n → (m == n) ≡ false
-differ_test m n h = grind (arith, nat_tests)
-
-pub differ_test_back : (m n : ℕ) → m < n → (n == m) ≡ false
-differ_test_back m n h = grind (arith, nat_tests)
-
-pub same_test : (n : ℕ) → (n == n) ≡ true
-same_test n = grind (arith, nat_tests)
 
 -- ---- one more change among some steps
 
@@ -125,7 +116,7 @@ steps_of-steps_from low stream now (frame ∷ frames) h =
           steps_of-first frame own changes q ∙ ap (λ steps. frame_step frame ∷ steps) ih
       by_cases true (Some settings) own changes p q later ih =
           ap (λ steps. with_change steps (change_by frame settings)) (steps_of-first frame own changes q)
-          ∙ rw (same_test frame.number, ih) refl
+          ∙ rw (eq-eqb frame.number frame.number refl, ih) refl
       by_cases false None own changes p q later ih = ih
       by_cases false (Some settings) own changes p q later ih =
           with_change-first (steps_of own changes) (change_by frame settings)

@@ -1,9 +1,8 @@
 -- The streams that frames name are those that meet one of them.
 use Rattle.std.proofs.Common.{◌≡◌, Bool, List, [], false, filter, not, refl, sym, true, ℕ, ◌&&◌, ◌==◌, ◌||◌, ◌∷◌, arith}
-use Rattle.std.proofs.Common.{zero}
 use Rattle.std.proofs.lemmas.Map.Views.{any-filter_same}
 use Rattle.audit_core.proofs.Words.{and-false, list_any, promised_in, promises, promised_by, first_of, Frame}
-use Rattle.audit_core.proofs.Words.{StreamsAreNamedOnce, StreamsAreThoseMet, nat_tests, other, streams_of}
+use Rattle.audit_core.proofs.Words.{StreamsAreNamedOnce, StreamsAreThoseMet, nat_tests, streams_of}
 use Rattle.audit_core.proofs.Apart.{distinct-streams_of}
 
 module _ (stream : ℕ) where

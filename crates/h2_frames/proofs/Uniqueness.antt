@@ -101,8 +101,7 @@ module _ (client server other_client other_server : Flow) (c : IsSameFlow client
       let clients = spelling-unique _ _ _ _ _ first.client_spells
       (subst (λ (r : List ℕ). Spells r second.client_frames second.client_tail) (sym rests) second.client_spells) in
       let servers = spelling-unique _ _ _ _ _ first.server_spells
-      (subst (λ (r : List ℕ). Spells r second.server_frames second.server_tail) (sym s.bytes) second.server_spells) in
-      (
+      (subst (λ (r : List ℕ). Spells r second.server_frames second.server_tail) (sym s.bytes) second.server_spells) in (
         rw (first.in_order, second.in_order, clients.0, servers.0, c.arrivals, s.arrivals) refl,
         rw (first.tails_are, second.tails_are, clients.1, servers.1) refl,
       )
