@@ -3,9 +3,6 @@ use Rattle.std.proofs.Common.{◌≡◌, ℕ, ◌+◌, ◌-◌, ◌^◌, ◌<◌
 use Rattle.h2_frames.proofs.Words.{nat_lt, AllByRecursion, nat_tests, Arrival, Rises, Side, Frame, Spelled}
 use Rattle.h2_frames.proofs.Words.{byte_arrival, captured, captured_from, arrivals_from, cond_both}
 
-below_later : (m n k : ℕ) → nat_lt m k ≡ false → m ≤ n → nat_lt n k ≡ false
-below_later m n k e h = grind (arith, nat_tests)
-
 past : (m k : ℕ) → nat_lt m k ≡ false → k ≤ m
 past m k e = grind (arith, nat_tests)
 

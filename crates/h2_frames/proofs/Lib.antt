@@ -5,7 +5,6 @@ pub mod Arriving
 pub mod Reading
 pub mod Gathering
 pub mod Merging
-pub mod Taking
 pub mod BothSides
 pub mod Walking
 pub mod Uniqueness

@@ -1,8 +1,8 @@
 -- A walk over the frames of both sides goes on by one frame, or is over.
 use Rattle.std.proofs.Common.{◌≡◌, ℕ, ◌+◌, ◌≤◌, List, [], ◌∷◌, ◌++◌, length, ap, sym, ◌∙◌, arith, append_assoc}
 use Rattle.std.proofs.lemmas.List.{length_push}
-use Rattle.h2_frames.proofs.Words.{append-nil, Flow, Frame, IsInRange, IsOrderlyFrom, FrameWalk, IsHttp2, numbered}
-use Rattle.h2_frames.proofs.Words.{AreMerged, IsWalkAfter, taken_of}
+use Rattle.h2_frames.proofs.Words.{Flow, Frame, IsInRange, IsOrderlyFrom, FrameWalk, numbered, AreMerged, IsWalkAfter}
+use Rattle.h2_frames.proofs.Words.{taken_of}
 
 -- one frame more is numbered
 numbered_push : (k : ℕ) (frames : List Frame) (f : Frame) →
@@ -50,10 +50,3 @@ walk-turn client server walk walk' frames f frame counted frame_is range first b
           ∙ ap (λ (g : Frame). frames ++ g ∷ numbered ((length frames + 1) + 1) later) next in
           rw same all;
     }
-
--- no frame is left
-pub walk-over : (client server : Flow) (walk : FrameWalk) (frames : List Frame) (tail other : List ℕ) →
-    AreMerged walk.client walk.server [] tail other → IsWalkAfter client server frames walk →
-    IsHttp2 client server frames (record { client = length tail; server = length other })
-walk-over client server walk frames tail other over before =
-    rw (append-nil frames) at (before.whole [] tail other over)
