@@ -69,7 +69,8 @@ pub added-at : {X : Type 0} (all : List (Vec X Global)) (k n : ℕ) (list d new 
     → ((list : Vec X Global) → (get_or all n list).items ≡ before)
     → (get_or (set all k new) n list).items ≡ before ++ (if k == n then said else [])
 added-at all k n list d new said before l is held = ⊎_elim
-    (λ e. rw (eq-eqb k n e) (ap (λ v. v.items) (ap (λ at. get_or (set all k new) at list) (sym e) ∙ get_or-set_same all k new list l)
+    (λ e. rw (eq-eqb k n e) (ap (λ v. v.items) (ap (λ at. get_or (set all k new) at list) (sym e)
+    ∙ get_or-set_same all k new list l)
     ∙ is ∙ ap (λ k. (get_or all k d).items ++ said) e ∙ ap (λ l. l ++ said) (held d)))
     (λ ne. rw (ne_eqb k n ne) (ap (λ v. v.items) (get_or-set_other all k n new list (λ e. ne (sym e))) ∙ held list
     ∙ sym (append-nil before)))

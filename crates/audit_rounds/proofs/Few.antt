@@ -12,23 +12,31 @@ use Rattle.std.proofs.lemmas.List.Sums.{count_by-le-length}
 use Rattle.split_merge.specs.code.Groups.{group_at}
 use Rattle.audit_rounds.specs.code.Few.{PreparedAreFew, RestsAreFew}
 use Rattle.audit_rounds.proofs.Alike.{frames_in, some_of, sums-alike}
+use Rattle.audit_rounds.proofs.Words.{All-take, All-drop, IsOrderly}
+use Rattle.audit_rounds.specs.code.Batch.{IsBatch}
 use Rattle.audit_rounds.proofs.StreamReady.{length-rows}
 
 abbrev pub lent : Bor (List Frame) → ℕ
 lent = λ (frames : Bor (List Frame)). length frames.now
 
+-- orderly frames, lent
+abbrev IsLent : Bor (List Frame) → Type 0
+IsLent frames = IsOrderly frames.now
+
 -- ---- parts of a batch
 
 -- the connections before a place, and those from it on
-pub few-front : (all front : List (Bor (List Frame))) (at : ℕ) → front ≡ take at all → AreFew all → AreFew front
-few-front all front at e h =
+pub batch-front : (all : List (Bor (List Frame))) (at : ℕ) → IsBatch all → IsBatch (take at all)
+batch-front all at batch =
     let parts = sum_by-take-drop lent all at in
-    let same = ap (sum_by lent) e in omega (arith, parts, same, h)
+    let few = batch.few in
+    record { orderly = All-take IsLent at all batch.orderly; few = omega (arith, parts, few) }
 
-pub few-back : (all back : List (Bor (List Frame))) (at : ℕ) → back ≡ drop at all → AreFew all → AreFew back
-few-back all back at e h =
+pub batch-back : (all : List (Bor (List Frame))) (at : ℕ) → IsBatch all → IsBatch (drop at all)
+batch-back all at batch =
     let parts = sum_by-take-drop lent all at in
-    let same = ap (sum_by lent) e in omega (arith, parts, same, h)
+    let few = batch.few in
+    record { orderly = All-drop IsLent at all batch.orderly; few = omega (arith, parts, few) }
 
 -- the same connections, made ready
 pub few-ready : (connections : List (Bor (List Frame))) (made : List Prepared)

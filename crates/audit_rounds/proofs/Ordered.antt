@@ -24,7 +24,8 @@ pub told-more : (all : List (Vec ℕ Global)) (parts : List (Part (Vec ℕ Globa
     → ((list : Vec ℕ Global) → (get_or all n list).items ≡ numbers_told n (take at parts))
     → (get_or (set all part.connection new) n list).items ≡ numbers_told n (take (at + 1) parts)
 told-more all parts at n part list d new l is within made before =
-    added-at all part.connection n list d new part.made.items _ within made before ∙ sym (told-next n parts at part l is)
+    added-at all part.connection n list d new part.made.items _ within made before
+    ∙ sym (told-next n parts at part l is)
 
 -- the numbers of one connection more are put in order, with those that its split tells
 pub ordered-more : (connections : List Prepared) (told : ℕ → List ℕ) (all : List (Vec ℕ Global)) (i : ℕ)

@@ -47,6 +47,14 @@ parts-within jobs stops parts bound h all k d l =
     let same = own.2.of_connection in
     omega arith
 
+-- each job of a plan is of one of the connections
+pub jobs-inside : (c : Bool) (connections bound : ℕ) (finds : ℕ → List Finding) (plan : List ReadyBlock)
+    → connections ≡ bound → IsPlan c connections finds plan
+    → All (λ (job : Job). job.connection < bound) (map (block_job c) plan)
+jobs-inside c connections bound finds plan same planned =
+    All-map (λ (job : Job). job.connection < bound) (block_job c) plan
+    (λ n d l. let one = planned.within n d l in omega (arith, same, one))
+
 -- what was found of a connection, and what the parts keep of it, is up to its stop what was found and what is shown of
 -- all its blocks
 pub merged : {M : Type 0} (c : Bool) (connections : List Block) (bound : ℕ) (plan : List ReadyBlock)

@@ -161,23 +161,6 @@ module _ {L : Type 0} (answers : L → List Finding → Option ℕ → L → Typ
     looks = heeds-join due due' both join a b c one other h.looks k.looks;
   }
 
-  -- looks that are due, by another name
-  pub work-due : (due due' : List Asked → Option ℕ → Type 0)
-      → ((asked : List Asked) (upto : Option ℕ) → due asked upto → due' asked upto) → (a b : L)
-      (whole kept : List Finding) (all opened : List ℕ) (upto : Option ℕ)
-      → IsWork answers due a b whole all upto kept opened → IsWork answers due' a b whole all upto kept opened
-  work-due due due' entails a b whole kept all opened upto h = record {
-    cut = h.cut;
-    opens = h.opens;
-    numbered = h.numbered;
-    looks = record {
-      asked = h.looks.asked;
-      looked = h.looks.looked;
-      in_time = entails h.looks.asked upto h.looks.in_time;
-      answered = h.looks.answered;
-    };
-  }
-
 -- ---- the looks of one row more
 
 lesser-none : (one : Option ℕ) → lesser one None ≡ one

@@ -1,10 +1,10 @@
 -- What the proofs of this crate name, in one place.
 pub use Rattle.std.proofs.Common.{◌≡◌, ℕ, ◌<◌, ◌≤◌, Bool, true, false, nat_lt, if◌then◌else◌, List, [], ◌∷◌, map, take}
-pub use Rattle.std.proofs.Common.{drop, length, get_or, refl, sym, ap, ◌∙◌, subst, arith, Bor, Vec, Global, not, ◌==◌, ◌||◌}
-pub use Rattle.std.proofs.Common.{◌&&◌, ◌++◌, filter, append_assoc, append-nil, true≢false, ◌+◌, All, Option, Some, None}
-pub use Rattle.std.proofs.Common.{slice_get, set, zero, suc, ◌*◌, ◌-◌, ◌^◌, flat_map, ◌⊎◌, inl, inr, min, nat_le, leb-true}
-pub use Rattle.std.proofs.Common.{leb-false, Contains, pos, is_none, get_or-set_same, get_or-set_other, ⊎_elim, leb, rules}
-pub use Rattle.std.proofs.Common.{length-set}
+pub use Rattle.std.proofs.Common.{drop, length, get_or, refl, sym, ap, ◌∙◌, subst, arith, Bor, Vec, Global, not, ◌==◌}
+pub use Rattle.std.proofs.Common.{◌||◌, ◌&&◌, ◌++◌, filter, append_assoc, append-nil, true≢false, ◌+◌, All, Option}
+pub use Rattle.std.proofs.Common.{Some, None, slice_get, set, zero, suc, ◌*◌, ◌-◌, ◌^◌, flat_map, ◌⊎◌, inl, inr, min}
+pub use Rattle.std.proofs.Common.{nat_le, leb-true, leb-false, Contains, pos, is_none, get_or-set_same}
+pub use Rattle.std.proofs.Common.{get_or-set_other, ⊎_elim, leb, rules, length-set}
 pub use Rattle.std.proofs.Math.Seq.{get_or-append_seam}
 pub use Rattle.std.proofs.lemmas.Bool.{ne_eqb, cases_eq}
 pub use Rattle.std.proofs.lemmas.Bool.Decides.{nat_tests}
@@ -13,10 +13,11 @@ pub use Rattle.std.proofs.lemmas.Iterator.{YieldsList-from_map, items_from_colle
 pub use Rattle.std.proofs.lemmas.Iterator.{YieldsList-from_slice, YieldsList-from_map_by}
 pub use Rattle.std.proofs.lemmas.Iterator.Adapters.{YieldsList-from_vec}
 pub use Rattle.std.proofs.lemmas.Iterator.Consumers.{map_from_collect}
-pub use Rattle.std.proofs.lemmas.List.{take-append-drop, length-map, get_or-map, nil_from_length, take_more, get_or_default}
-pub use Rattle.std.proofs.lemmas.List.{map-append, take_all, length-take-le, length-drop, length-append, length_push}
-pub use Rattle.std.proofs.lemmas.List.Elements.{All-map, All-nil, All-head, All-tail, All-append, All-contains, All-filter}
-pub use Rattle.std.proofs.lemmas.List.Elements.{Contains-append_left, All-push, All-take, All-drop}
+pub use Rattle.std.proofs.lemmas.List.{take-append-drop, length-map, get_or-map, nil_from_length, take_more}
+pub use Rattle.std.proofs.lemmas.List.{get_or_default, map-append, take_all, length-take-le, length-drop, length-append}
+pub use Rattle.std.proofs.lemmas.List.{length_push}
+pub use Rattle.std.proofs.lemmas.List.Elements.{All-map, All-nil, All-head, All-tail, All-append, All-contains}
+pub use Rattle.std.proofs.lemmas.List.Elements.{All-filter, Contains-append_left, All-push, All-take, All-drop}
 pub use Rattle.std.proofs.lemmas.List.Folds.{list_any-append}
 pub use Rattle.std.proofs.lemmas.List.Sorted.{list_any-IsPermutation}
 pub use Rattle.std.proofs.lemmas.List.Sums.{sum_by-cons, sum_by_more}
@@ -34,8 +35,8 @@ pub use Rattle.audit_core.proofs.StreamsMet.{streams_met_lem}
 pub use Rattle.audit_core.specs.laws.Parts.{joined}
 pub use Rattle.audit_rounds.specs.code.AfterStreams.{AreAfterStreams, HaveSettled}
 pub use Rattle.audit_rounds.specs.code.Batch.{IsBatch, AreReady}
-pub use Rattle.audit_rounds.specs.code.Blocks.{IsSum, AreSums, wholes, IsShort, AreShort, blocks_in, blocks_of_connection}
-pub use Rattle.audit_rounds.specs.code.Blocks.{AreCut, AddsBlocks}
+pub use Rattle.audit_rounds.specs.code.Blocks.{IsSum, AreSums, wholes, IsShort, AreShort, blocks_in}
+pub use Rattle.audit_rounds.specs.code.Blocks.{blocks_of_connection, AreCut, AddsBlocks}
 pub use Rattle.audit_rounds.specs.code.Connections.{AreRests, IsRest}
 pub use Rattle.audit_rounds.specs.code.EarlyStops.{front_of, chosen_of}
 pub use Rattle.audit_rounds.specs.code.Few.{AreFew, RowsAreFew}
@@ -90,7 +91,8 @@ pub use Rattle.audit_terms.specs.declared.streams.Stream.{Stream}
 pub use Rattle.block_scan.specs.code.List.{items_of}
 pub use Rattle.conn_scan.specs.code.Block.{BlockFits}
 pub use Rattle.conn_scan.specs.code.ConnSum.{conn_sum_of}
-pub use Rattle.conn_scan.specs.code.Items.{items_in, IsBlock, NeverFallFrom, is_marked, item_with, items_with, change_at}
+pub use Rattle.conn_scan.specs.code.Items.{items_in, IsBlock, NeverFallFrom, is_marked, item_with, items_with}
+pub use Rattle.conn_scan.specs.code.Items.{change_at}
 pub use Rattle.conn_scan.specs.declared.block_items.Block.{Block}
 pub use Rattle.conn_scan.specs.declared.sums.ConnSum.{ConnSum}
 pub use Rattle.stop_desk.proofs.RoundCuts.{whole_is_cut_lem}

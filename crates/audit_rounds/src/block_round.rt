@@ -1,18 +1,14 @@
 //! The round in which blocks are gone through.
 
-ghost use Rattle.std.specs.Prelude.{◌≡◌, ℕ, ◌-◌, ◌<◌, ◌≤◌, ◌^◌, All, IfOk, length, map, slice_get, Option, Some, ⊤};
-ghost use Rattle.audit_terms.specs.declared.findings.Finding.{Finding as FindingTerm};
-ghost use Rattle.audit_terms.specs.Place.{place_number};
-ghost use Rattle.stop_desk.specs.code.Board.{Job, IsCut};
-ghost use Rattle.stop_desk.specs.code.Heeding.{Heeds};
+ghost use Rattle.std.specs.Prelude.{◌-◌, ◌<◌, ◌^◌, length, map, ⊤};
 ghost use Rattle.audit_rounds.specs.code.Plans.{block_job, AreReady, BlockLooks};
 ghost use Rattle.audit_rounds.specs.code.Props.{ready-props};
 
 use crate::block_plans::ReadyBlock;
 use audit_terms::Look;
 use conn_scan::block_findings;
-use stop_desk::{Round, Work};
 use std::alloc::{AllocError, Global};
+use stop_desk::{Round, Work};
 
 /// Blocks to be gone through, each a job.
 #[derive(Drop)]

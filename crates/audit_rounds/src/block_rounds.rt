@@ -7,7 +7,6 @@ ghost use Rattle.audit_terms.specs.code.runs.Blocks.{block_run};
 ghost use Rattle.audit_terms.specs.Finding.{in_order, upto_stop, shown};
 ghost use Rattle.stop_desk.specs.code.Stop.{IsStop};
 ghost use Rattle.stop_desk.specs.code.Board.{Job};
-ghost use Rattle.stop_desk.specs.code.Settling.{HasSettled};
 ghost use Rattle.conn_scan.specs.declared.sums.ConnSum.{ConnSum as ConnSumTerm};
 ghost use Rattle.conn_scan.specs.code.Items.{items_in, IsBlock};
 ghost use Rattle.conn_scan.specs.code.Block.{BlockFits};
@@ -27,9 +26,9 @@ use crate::merging::merged_each;
 use crate::sum_round::SumRound;
 use audit_terms::{Finding, Place};
 use conn_scan::{Block, ConnSum};
-use stop_desk::{Gate, Part, settle};
 use std::alloc::{AllocError, Global};
 use std::thread::Threads;
+use stop_desk::{Gate, Part, settle};
 
 /// The number of the round in which blocks are summed.
 const SUM_ROUND: u8 = 2;
@@ -72,7 +71,8 @@ fn parts_of<R: Threads + Sync, G: Gate>(
     requires few { length plan.now < 2 ^ 32 }
     requires within { All (λ (job : Job). job.connection < length stops.now)
         (map (block_job crew.now.setup.credits_shown) plan.now) }
-    ensures { IfOk result (λ parts. AreParts (map (block_job crew.now.setup.credits_shown) plan.now) stops.now parts.items) }
+    ensures { IfOk result (λ parts. AreParts (map (block_job crew.now.setup.credits_shown) plan.now) stops.now
+        parts.items) }
 {
     let round = BlockRound {
         plan,

@@ -1,7 +1,7 @@
 //! A batch of connections: each is made ready, then the rounds go over all of them, and what they found of each is put
 //! in order.
 
-ghost use Rattle.std.specs.Prelude.{◌≡◌, ◌<◌, ◌≤◌, [], ◌∷◌, ◌++◌, All, IfOk, OnOk, length, map};
+ghost use Rattle.std.specs.Prelude.{◌≡◌, ◌<◌, ◌≤◌, All, IfOk, length, map};
 ghost use Rattle.std.specs.Thread.{IsSync};
 ghost use Rattle.audit_terms.specs.code.runs.Orderly.{IsOrderly};
 ghost use Rattle.audit_terms.specs.Finding.{in_order, upto_stop, shown};
@@ -18,10 +18,10 @@ use crate::prepared::{Prepared, prepare};
 use crate::stream_round::{AfterStreams, round_over_streams};
 use audit_terms::{Finding, Frame, Place};
 use conn_scan::Block;
-use stop_desk::Gate;
 use split_merge::merge;
 use std::alloc::{AllocError, Global};
 use std::thread::{Threads, join};
+use stop_desk::Gate;
 
 /// Connections made ready, and what is found of each before the rounds.
 #[derive(Drop)]

@@ -3,9 +3,9 @@
 ghost use Rattle.std.specs.Prelude.{◌≡◌, ◌<◌, ◌≤◌};
 
 use crate::divisions::Division;
-use stop_desk::{Gate, Team};
 use std::alloc::Global;
 use std::thread::Threads;
+use stop_desk::{Gate, Team};
 use table_hash::TableHash;
 
 /// How connections are gone over: in which division, and whether credits are shown.

@@ -5,11 +5,11 @@ ghost use Rattle.audit_terms.specs.Pass.{pass};
 ghost use Rattle.audit_rounds.specs.code.Few.{AreFew};
 
 use crate::crew::{Crew, Setup};
-use crate::halves::findings_by_halves;
+use crate::halves::by_halves;
 use audit_terms::{Finding, Frame};
-use stop_desk::Gate;
 use std::alloc::{AllocError, Global};
 use std::thread::Threads;
+use stop_desk::Gate;
 use table_hash::TableHash;
 
 /// How an audit is divided. Whatever is chosen, the findings are the same.
@@ -68,7 +68,7 @@ pub fn findings_of_each<R: Threads + Sync, G: Gate>(
     while done < connections.len() {
         let (_, rest) = connections.split_at(done);
         let (batch, _) = rest.split_at(batch_length(rest));
-        let mut found = findings_by_halves(&crew, batch)?;
+        let mut found = by_halves(&crew, batch)?;
         all.append(&mut found)?;
         done += batch.len();
     }

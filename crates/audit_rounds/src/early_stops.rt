@@ -1,20 +1,17 @@
 //! An error that lies early in a long connection spares what comes after it: of each long connection a front is gone
 //! through first, and all of it only where the front shows no error.
 
-ghost use Rattle.std.specs.Prelude.{◌≡◌, ◌<◌, All, IfOk, length, map};
+ghost use Rattle.std.specs.Prelude.{◌≡◌, ◌<◌, IfOk, length, map};
 ghost use Rattle.std.specs.List.{zip};
-ghost use Rattle.audit_terms.specs.declared.findings.Finding.{Finding as FindingTerm};
-ghost use Rattle.audit_terms.specs.Finding.{shown};
-ghost use Rattle.audit_terms.specs.Pass.{pass};
 ghost use Rattle.audit_rounds.specs.code.EarlyStops.{chosen_of, front_of, has_stopped, later_of};
 ghost use Rattle.audit_rounds.specs.code.Batch.{AreShown, IsBatch};
 
 use crate::connections::findings_of_batch;
 use crate::crew::Crew;
 use audit_terms::{Finding, Frame};
-use stop_desk::Gate;
 use std::alloc::{AllocError, Global};
 use std::thread::Threads;
+use stop_desk::Gate;
 
 /// Of so many frames and more a front is gone through first.
 const LONG: usize = 4_096;

@@ -5,8 +5,8 @@ ghost use Rattle.stop_desk.specs.code.Board.{findings_of_parts};
 ghost use Rattle.stop_desk.specs.code.Laid.{part_of};
 
 use audit_terms::Finding;
-use stop_desk::Part;
 use std::alloc::{AllocError, Global};
+use stop_desk::Part;
 
 /// So many empty lists.
 pub(crate) fn none_of_each<T: Drop>(

@@ -1,7 +1,7 @@
 //! Many short connections go through the rounds in halves, side by side: no part of the work is then left to one
 //! thread, and threads start once.
 
-ghost use Rattle.std.specs.Prelude.{◌≡◌, ◌<◌, ◌≤◌, ◌++◌, All, IfOk, length, map};
+ghost use Rattle.std.specs.Prelude.{◌≡◌, ◌<◌, ◌≤◌, ◌++◌, IfOk, length};
 ghost use Rattle.std.specs.Thread.{IsSync};
 ghost use Rattle.audit_rounds.specs.code.Batch.{AreShown, IsBatch};
 
@@ -9,9 +9,9 @@ use crate::connections::middle;
 use crate::crew::Crew;
 use crate::early_stops::findings_by_fronts;
 use audit_terms::{Finding, Frame};
-use stop_desk::Gate;
 use std::alloc::AllocError;
 use std::thread::{Threads, join};
+use stop_desk::Gate;
 
 /// So many connections and more are halved: then halves of as many frames are about as much work.
 const MANY: usize = 64;
@@ -41,7 +41,7 @@ fn in_halves<'a, 'b>(connections: &'b [&'a [Frame]]) -> (&'b [&'a [Frame]], &'b 
 }
 
 /// What is shown of each connection of a batch.
-pub(crate) fn findings_by_halves<R: Threads + Sync, G: Gate>(
+pub(crate) fn by_halves<R: Threads + Sync, G: Gate>(
     crew: &Crew<'_, R, G>,
     connections: &[&[Frame]],
 ) -> Result<Vec<Vec<Finding>>, AllocError>
@@ -61,7 +61,7 @@ pub(crate) fn findings_by_halves<R: Threads + Sync, G: Gate>(
             requires { IsSync R.row × IsSync G.row × IsBatch front.now }
             ensures { IfOk result (λ found. AreShown few.credits_shown front.entry.now found.items) }
         {
-            findings_by_halves(
+            by_halves(
                 &Crew {
                     rt,
                     gate,
@@ -74,7 +74,7 @@ pub(crate) fn findings_by_halves<R: Threads + Sync, G: Gate>(
             requires { IsSync R.row × IsSync G.row × IsBatch back.now }
             ensures { IfOk result (λ found. AreShown others.credits_shown back.entry.now found.items) }
         {
-            findings_by_halves(
+            by_halves(
                 &Crew {
                     rt,
                     gate,

@@ -1,14 +1,14 @@
 //! Which frames open streams, connection by connection, as the parts of the round over streams and the splits tell.
 
 ghost use Rattle.std.specs.Global.{Global as GlobalTerm};
-ghost use Rattle.std.specs.Prelude.{◌≡◌, ℕ, ◌<◌, ◌++◌, [], All, IfOk, OnOk, Vec as VecTerm, length, slice_index_or};
+ghost use Rattle.std.specs.Prelude.{◌≡◌, ℕ, ◌<◌, ◌++◌, All, IfOk, OnOk, Vec as VecTerm, length, slice_index_or};
 ghost use Rattle.stop_desk.specs.declared.parts.Part.{Part as PartTerm};
 ghost use Rattle.audit_rounds.specs.code.Opened.{numbers_told, IsInOrder};
 
 use crate::gathering::none_of_each;
 use crate::prepared::Prepared;
-use stop_desk::Part;
 use std::alloc::{AllocError, Global};
+use stop_desk::Part;
 
 /// The numbers that the parts tell of each connection, one part after the other.
 fn told_of_each(

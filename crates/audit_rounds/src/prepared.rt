@@ -11,11 +11,11 @@ ghost use Rattle.audit_rounds.specs.code.Prepared.{IsPrepared, found_before};
 use crate::crew::Crew;
 use audit_terms::{Change, Finding, Frame};
 use fault_rules::local_faults;
-use stop_desk::Gate;
 use settings_pair::pair;
 use split_merge::{SplitFrames, split};
 use std::alloc::AllocError;
 use std::thread::{Threads, join};
+use stop_desk::Gate;
 
 /// The frames of a connection, with what its rounds need beside them.
 #[derive(Drop)]

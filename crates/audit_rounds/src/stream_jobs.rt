@@ -8,8 +8,8 @@ ghost use Rattle.audit_rounds.specs.code.JobProps.{frames-prop, changes-prop};
 use crate::stream_plan::StreamJob;
 use crate::streams::{Streams, run_of_rows};
 use audit_terms::Look;
-use stop_desk::{Round, Work};
 use std::alloc::{AllocError, Global};
+use stop_desk::{Round, Work};
 
 /// A round of which each job is a group of the streams of one connection.
 #[derive(Drop)]

@@ -1,6 +1,6 @@
 //! The round over streams: each job is a group of the streams of one connection.
 
-ghost use Rattle.std.specs.Prelude.{◌≡◌, ◌<◌, All, IfOk, length, map};
+ghost use Rattle.std.specs.Prelude.{◌≡◌, ◌<◌, All, IfOk, length};
 ghost use Rattle.stop_desk.specs.code.Stop.{IsStop};
 ghost use Rattle.audit_rounds.specs.code.StreamJobs.{IsReady};
 ghost use Rattle.audit_rounds.specs.code.Batch.{AreReady};
@@ -16,9 +16,9 @@ use crate::stream_jobs::StreamsRound;
 use crate::stream_plan::stream_plan;
 use crate::streams::Streams;
 use audit_terms::{Finding, Place};
-use stop_desk::{Gate, Settled, settle};
 use std::alloc::AllocError;
 use std::thread::Threads;
+use stop_desk::{Gate, Settled, settle};
 
 /// The number of the round over streams.
 const STREAM_ROUND: u8 = 1;

@@ -7,9 +7,9 @@ ghost use Rattle.audit_rounds.specs.code.Streams.{IsRow, IsWork, RowLooks, RowsL
 ghost use Rattle.audit_rounds.specs.code.Streams.{rows_shown, rows_opened};
 
 use audit_terms::{Frame, Look, Place, put_in_order};
-use stop_desk::Work;
 use split_merge::{SplitFrames, StreamRow};
 use std::alloc::{AllocError, Global};
+use stop_desk::Work;
 use stream_credit::{Changes, StreamPart, StreamRun, stream_run};
 
 /// A connection's frames by stream, and the changes that settings bring to it.

@@ -1,11 +1,6 @@
 //! The round in which blocks are summed.
 
-ghost use Rattle.std.specs.Prelude.{◌≡◌, ℕ, ◌-◌, ◌<◌, ◌≤◌, ◌^◌, [], All, IfOk, length, map, slice_get, slice_index_or};
-ghost use Rattle.std.specs.Prelude.{Option, Some};
-ghost use Rattle.audit_terms.specs.declared.findings.Finding.{Finding as FindingTerm};
-ghost use Rattle.audit_terms.specs.Place.{place_number};
-ghost use Rattle.stop_desk.specs.code.Board.{Job, IsCut};
-ghost use Rattle.stop_desk.specs.code.Heeding.{Heeds};
+ghost use Rattle.std.specs.Prelude.{◌≡◌, ◌-◌, ◌<◌, ◌^◌, [], length, map, slice_index_or};
 ghost use Rattle.audit_rounds.specs.declared.blocks.ConnectionBlock.{ConnectionBlock as BlockTerm};
 ghost use Rattle.audit_rounds.specs.code.Blocks.{AreShort, IsSum};
 ghost use Rattle.audit_rounds.specs.code.Plans.{sum_job};
@@ -14,8 +9,8 @@ ghost use Rattle.audit_rounds.specs.code.Props.{short-props};
 use crate::blocks::ConnectionBlock;
 use audit_terms::{Look, Place};
 use conn_scan::{ConnSum, block_sum};
-use stop_desk::{Round, Work};
 use std::alloc::{AllocError, Global};
+use stop_desk::{Round, Work};
 
 /// Blocks to be summed, each a job.
 #[derive(Drop)]

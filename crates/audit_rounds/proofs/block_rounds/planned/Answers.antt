@@ -1,5 +1,5 @@
-use Rattle.audit_rounds.proofs.Words.{◌≡◌, ◌<◌, List, length, All, sym, ◌∙◌, subst, arith, length-map, BlockFits, Block}
-use Rattle.audit_rounds.proofs.Words.{connection_start, ConnectionBlock, wholes, IsPlan, shown_at}
+use Rattle.audit_rounds.proofs.Words.{◌≡◌, ◌<◌, List, length, All, sym, ◌∙◌, subst, length-map, Block}
+use Rattle.audit_rounds.proofs.Words.{ConnectionBlock, wholes, IsPlan, shown_at}
 use Rattle.audit_rounds.proofs.Layouts.{cut-within}
 use Rattle.audit_rounds.proofs.Whole.{if_ok-then}
 use Rattle.audit_rounds.proofs.block_rounds.planned.Goals as goal
@@ -13,16 +13,6 @@ sums_of-requires-clause-within g c κs inside =
     (sym c.as_slice.ensures.value)
     (cut-within (wholes connections) c.in_ok-cut.cut.counts.items c.in_ok-cut.cut.blocks.items (length stops)
     c.in_ok-cut.ensures.cut (as_many ∙ sym c.requires.number))
-
-pub plan_of-requires-clause-fits : goal.plan_of-requires-clause-fits
-plan_of-requires-clause-fits g c =
-    subst (λ (of : List Block). All (BlockFits connection_start) (wholes of)) (sym c.in_ok-cut.ensures.of)
-    c.requires.fits
-
-pub returns-clause-few : goal.returns-clause-few
-returns-clause-few g c =
-    let few = c.in_ok-cut.ensures.few in
-    if_ok-then c.plan_of.result _ _ c.plan_of.ensures.few (λ plan less. omega (arith, less, few))
 
 pub returns-clause-plan : goal.returns-clause-plan
 returns-clause-plan g c =

@@ -1,9 +1,8 @@
-use Rattle.audit_rounds.proofs.Words.{◌≡◌, ◌<◌, ◌++◌, length, map, get_or, All, None, refl, sym, ap, ◌∙◌, subst, arith}
-use Rattle.audit_rounds.proofs.Words.{in_order, upto_stop, Job, findings_of_parts, part_of, AreParts, block_job}
-use Rattle.audit_rounds.proofs.Words.{All-map}
+use Rattle.audit_rounds.proofs.Words.{◌≡◌, ◌<◌, ◌++◌, length, map, get_or, None, refl, sym, ap, ◌∙◌, subst, arith}
+use Rattle.audit_rounds.proofs.Words.{in_order, upto_stop, findings_of_parts, part_of, AreParts, block_job}
 use Rattle.audit_terms.proofs.FindingOrder.{in_order-in_order}
 use Rattle.audit_rounds.proofs.Merges.{merged-at, merged-long}
-use Rattle.audit_rounds.proofs.Settles.{merged, parts-within, each-block, each-fits, each-place}
+use Rattle.audit_rounds.proofs.Settles.{jobs-inside, merged, parts-within, each-block, each-fits, each-place}
 use Rattle.audit_rounds.proofs.Whole.{if_ok-then}
 use Rattle.audit_rounds.proofs.block_rounds.rounds_over_blocks.Goals as goal
 
@@ -27,36 +26,18 @@ parts_of-requires-clause-places g c κs inside =
     each-place c.args.connections.now c.args.stops.now c.args.found.items c.requires.stops c.requires.number
     c.requires.each
 
-pub parts_of-requires-clause-few : goal.parts_of-requires-clause-few
-parts_of-requires-clause-few g c κs inside =
-    let same = ap length c.as_slice.ensures.value in
-    let few = c.in_ok-plan.ensures.few in omega (arith, same, few)
-
 pub parts_of-requires-clause-within : goal.parts_of-requires-clause-within
 parts_of-requires-clause-within g c κs inside =
-    let stops = c.args.stops.now in
-    let plan = c.in_ok-plan.plan.items in
-    let number = c.requires.stops in
-    subst (λ plan. All (λ (job : Job). job.connection < length stops) (map (block_job c.args.crew.now.setup.credits_shown) plan))
-    (sym c.as_slice.ensures.value)
-    (All-map (λ (job : Job). job.connection < length stops) (block_job c.args.crew.now.setup.credits_shown) plan
-    (λ n d l. let one = c.in_ok-plan.ensures.plan.within n d l in omega (arith, number, one)))
+    rw c.as_slice.ensures.value (jobs-inside c.args.crew.now.setup.credits_shown _ _ _ _ (sym c.requires.stops)
+    c.in_ok-plan.ensures.plan)
 
 pub gathered-requires : goal.gathered-requires
 gathered-requires g c =
-    let bound = length c.args.found.items in
-    let plan = c.in_ok-plan.plan.items in
-    let parts = c.in_ok-parts.parts.items in
-    let number = c.requires.number in
-    let none = c.in_ok-none.ensures.number in
-    let size : bound ≡ length c.in_ok-none.none.items = omega (arith, number, none) in
-    subst (λ n. All (λ part. part.connection < n) parts) size
-    (parts-within (map (block_job c.args.crew.now.setup.credits_shown) c.as_slice.result.now) c.args.stops.now parts bound
+    let shows = c.args.crew.now.setup.credits_shown in
+    parts-within (map (block_job shows) c.as_slice.result.now) c.args.stops.now c.in_ok-parts.parts.items _
     c.in_ok-parts.ensures
-    (subst (λ plan. All (λ (job : Job). job.connection < bound) (map (block_job c.args.crew.now.setup.credits_shown) plan))
-    (sym c.as_slice.ensures.value)
-    (All-map (λ (job : Job). job.connection < bound) (block_job c.args.crew.now.setup.credits_shown) plan
-    (λ n d l. let one = c.in_ok-plan.ensures.plan.within n d l in omega (arith, number, one)))))
+    (rw c.as_slice.ensures.value (jobs-inside shows _ _ _ _ (sym c.in_ok-none.ensures.number)
+    c.in_ok-plan.ensures.plan))
 
 pub returns-clause-number : goal.returns-clause-number
 returns-clause-number g c =

@@ -1,16 +1,8 @@
-use Rattle.audit_rounds.proofs.Words.{[], ◌∷◌, ◌++◌, append_assoc, append-nil, length, refl, sym, ap, ◌∙◌, subst, arith}
+use Rattle.audit_rounds.proofs.Words.{[], ◌∷◌, ◌++◌, append_assoc, length, sym, ap, ◌∙◌, subst, arith}
 use Rattle.audit_rounds.proofs.Words.{map-append, length_push, All-push, Block, ConnectionBlock, IsShort, AreShort}
 use Rattle.audit_rounds.proofs.Words.{blocks_of_connection}
 use Rattle.audit_rounds.proofs.Cuts.{block-cut, items-push}
 use Rattle.audit_rounds.proofs.blocks.add_blocks.Goals as goal
-
-pub loop-first-init : goal.loop-first-init
-loop-first-init c = record {
-  is_block = c.requires.whole;
-  short = λ h. h;
-  few = omega arith;
-  added = ([], sym (append-nil c.args.blocks.now.items), refl);
-}
 
 pub loop-first-preserved : goal.loop-first-preserved
 loop-first-preserved c =

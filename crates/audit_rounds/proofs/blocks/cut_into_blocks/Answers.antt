@@ -1,6 +1,5 @@
 use Rattle.audit_rounds.proofs.Words.{◌≡◌, ◌+◌, ◌-◌, length, take, sym, ap, ◌∙◌, subst, arith, length_push, sum_by_more}
 use Rattle.audit_rounds.proofs.Words.{Block, AddsBlocks, AreCut, wholes}
-use Rattle.std.proofs.lemmas.List.Sums.{sum_by-take-le}
 use Rattle.audit_rounds.proofs.Layouts.{cut-next}
 use Rattle.audit_rounds.proofs.blocks.cut_into_blocks.Goals as goal
 
@@ -33,11 +32,3 @@ loop-connection-preserved c =
           c.loop-connection-test.true in
           omega (arith, before, own, is, more);
     }
-
-pub returns-clause-few : goal.returns-clause-few
-returns-clause-few c =
-    let i = c.loop-connection.invariant in
-    let so_far = i.few in
-    let part = sum_by-take-le (λ (one : Block). length one.frames.now) c.args.connections.now
-    c.loop-connection.connection-index in
-    let few = c.requires.few in omega (arith, so_far, part, few)

@@ -15,7 +15,6 @@ returns g t c =
     let second = IfOk-at_ok (λ made. AreMadeReady _ back made.prepared.items made.found.items) other.was
     c.join-one.ensures.second in
     rw (c.in_ok-append.ensures.items, c.in_ok-append-2.ensures.items)
-    (made-whole c.args.crew.now.setup.credits_shown c.args.connections.now front back c.middle.result one.made.prepared.items
-    other.more.prepared.items
-    one.made.found.items other.more.found.items c.split_at.ensures.front c.split_at.ensures.back
-    (rw (sym same.0) first) (rw (sym same.1) second))
+    (made-whole c.args.crew.now.setup.credits_shown c.args.connections.now front back c.middle.result
+    one.made.prepared.items other.more.prepared.items one.made.found.items other.more.found.items
+    c.split_at.ensures.front c.split_at.ensures.back (rw (sym same.0) first) (rw (sym same.1) second))

@@ -1,4 +1,4 @@
-use Rattle.audit_rounds.proofs.Words.{List, map, sym, ap, ◌∙◌, subst, Prepared, AreReady, Frame, shown, pass}
+use Rattle.audit_rounds.proofs.Words.{List, map, ap, ◌∙◌, Prepared, Frame, shown, pass}
 use Rattle.audit_rounds.proofs.Alike.{frames_in, maps-alike}
 use Rattle.audit_rounds.proofs.MadeReady.{batch-ready}
 use Rattle.audit_rounds.proofs.Whole.{if_ok-then}
@@ -7,10 +7,8 @@ use Rattle.audit_rounds.proofs.connections.findings_of_framed.Goals as goal
 pub findings_of_prepared-requires-after_bounds : goal.findings_of_prepared-requires-after_bounds
 findings_of_prepared-requires-after_bounds g c κs within =
     let made = c.in_ok-made.made in
-    subst (λ (prepared : List Prepared). AreReady c.args.crew.now.setup.credits_shown prepared made.found.items)
-    (sym c.as_slice.ensures.value)
-    (batch-ready c.args.crew.now.setup.credits_shown c.args.connections.now made.prepared.items made.found.items c.requires
-    c.in_ok-made.ensures)
+    rw c.as_slice.ensures.value (batch-ready c.args.crew.now.setup.credits_shown c.args.connections.now
+    made.prepared.items made.found.items c.requires c.in_ok-made.ensures)
 
 pub returns : goal.returns
 returns g c =

@@ -1,5 +1,5 @@
-use Rattle.audit_rounds.proofs.Words.{List, map, All, sym, ap, ◌∙◌, subst, arith, Bor, Vec, Global, take_all, All-push}
-use Rattle.audit_rounds.proofs.Words.{Finding, Frame, IsOrderly, Prepared, IsPrepared, found_before}
+use Rattle.audit_rounds.proofs.Words.{List, map, sym, ap, ◌∙◌, arith, Bor, Vec, Global, All-push}
+use Rattle.audit_rounds.proofs.Words.{Finding, Frame, Prepared, IsPrepared, found_before}
 use Rattle.audit_rounds.proofs.Fronts.{before-more}
 use Rattle.audit_rounds.proofs.Alike.{frames_in, map-grows}
 use Rattle.audit_rounds.proofs.connections.prepare_in_turn.Goals as goal
@@ -14,11 +14,12 @@ loop-frames-preserved g c =
     let more = c.in_ok-push.ensures.items in
     record {
       within = omega (arith, within);
-      frames = rw more (map-grows (λ (one : Prepared). one.frames.now) frames_in made ready c.args.connections.now at.frames-index c.frames-item.result within
+      frames = rw more (map-grows (λ (one : Prepared). one.frames.now) frames_in made ready c.args.connections.now
+          at.frames-index c.frames-item.result within
           (c.in_ok-ready.ensures.frames ∙ ap (λ (frames : Bor (List Frame)). frames.now) c.frames-item.is)
           at.invariant.frames);
-      prepared = subst (All (IsPrepared c.args.crew.now.setup.credits_shown)) (sym more)
-          (All-push (IsPrepared c.args.crew.now.setup.credits_shown) made ready at.invariant.prepared c.in_ok-ready.ensures.prepared);
+      prepared = rw more (All-push (IsPrepared c.args.crew.now.setup.credits_shown) made ready at.invariant.prepared
+          c.in_ok-ready.ensures.prepared);
       found = rw (more, c.in_ok-push-2.ensures.items)
           (before-more found made c.in_ok-ready.before ready c.in_ok-ready.ensures.found at.invariant.found);
     }
@@ -29,27 +30,7 @@ loop-frames-init g c =
     record {
       within = omega arith;
       frames = ap (map (λ (one : Prepared). one.frames.now)) none;
-      prepared = subst (All (IsPrepared c.args.crew.now.setup.credits_shown)) (sym none) (λ n d l. absurd (omega arith));
+      prepared = rw none (λ n d l. absurd (omega arith));
       found = ap (map (λ (list : Vec Finding Global). list.items)) c.in_ok-found.ensures.items
           ∙ sym (ap (map found_before) none);
-    }
-
-pub prepare-requires : goal.prepare-requires
-prepare-requires g c = (
-  c.type_bounds.sync-R,
-  (
-    c.type_bounds.sync-G,
-    subst (λ (frames : Bor (List Frame)). IsOrderly frames.now) (sym c.frames-item.is)
-        (c.requires c.loop-frames.frames-index c.frames-item.result c.loop-frames-test.true),
-  ),
-)
-
-pub returns : goal.returns
-returns g c =
-    let at = c.loop-frames in
-    record {
-      frames = at.invariant.frames ∙ ap (map (λ (frames : Bor (List Frame)). frames.now))
-          (take_all at.frames-index c.args.connections.now c.loop-frames-test.false);
-      prepared = at.invariant.prepared;
-      before = at.invariant.found;
     }

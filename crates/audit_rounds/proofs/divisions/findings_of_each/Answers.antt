@@ -1,5 +1,5 @@
-use Rattle.audit_rounds.proofs.Words.{List, map, All, sym, ap, ◌∙◌, subst, arith, Bor, Vec, Global, take_all, All-take}
-use Rattle.audit_rounds.proofs.Words.{All-drop, Finding, IsOrderly, Frame, shown, pass, AreFew}
+use Rattle.audit_rounds.proofs.Words.{List, All, sym, subst, arith, Bor, All-take}
+use Rattle.audit_rounds.proofs.Words.{All-drop, IsOrderly, Frame, shown, pass, AreFew}
 use Rattle.audit_rounds.proofs.Batches.{batch-more}
 use Rattle.audit_rounds.proofs.divisions.findings_of_each.Goals as goal
 
@@ -19,20 +19,8 @@ loop-done-preserved g c =
           c.in_ok-append.ensures.items at.invariant.shown (rw c.of-setup.ensures at c.in_ok-found.ensures);
     }
 
-pub loop-done-init : goal.loop-done-init
-loop-done-init g c = record {
-  within = omega arith;
-  shown = ap (map (λ (list : Vec Finding Global). list.items)) c.in_ok-all.ensures.items;
-}
-
-pub batch_length-requires-clause-frames : goal.batch_length-requires-clause-frames
-batch_length-requires-clause-frames g c =
-    let orderly = λ (frames : Bor (List Frame)). IsOrderly frames.now in
-    let all = c.args.connections.now in
-    subst (All orderly) (sym c.split_at.ensures.back) (All-drop orderly c.loop-done.done all c.requires)
-
-pub findings_by_halves-requires : goal.findings_by_halves-requires
-findings_by_halves-requires g c =
+pub by_halves-requires : goal.by_halves-requires
+by_halves-requires g c =
     let orderly = λ (frames : Bor (List Frame)). IsOrderly frames.now in
     let all = c.args.connections.now in
     let rest = c.split_at.result.1.now in (
@@ -48,10 +36,3 @@ findings_by_halves-requires g c =
         },
       ),
     )
-
-pub returns : goal.returns
-returns g c =
-    let at = c.loop-done in
-    at.invariant.shown
-    ∙ ap (map (λ (frames : Bor (List Frame)). shown c.args.credits_shown (pass frames.now)))
-    (take_all at.done c.args.connections.now c.loop-done-test.false)

@@ -35,9 +35,6 @@ loop-part-preserved g c =
           (sym (map-append part_of at.yielded (part ∷ [])));
     }
 
-pub returns-clause-number : goal.returns-clause-number
-returns-clause-number g c = c.loop-part.invariant.number
-
 pub returns-clause-each : goal.returns-clause-each
 returns-clause-each g c =
     let at = c.loop-part in

@@ -1,4 +1,4 @@
-use Rattle.audit_rounds.proofs.Words.{◌≡◌, ◌+◌, [], All, length, sym, ap, ◌∙◌, subst, arith, Vec, Global, length_push}
+use Rattle.audit_rounds.proofs.Words.{◌≡◌, ◌+◌, [], All, length, sym, ap, ◌∙◌, subst, Vec, Global, length_push}
 use Rattle.audit_rounds.proofs.Words.{All-push}
 use Rattle.audit_rounds.proofs.gathering.none_of_each.Goals as goal
 
@@ -12,13 +12,3 @@ loop-preserved g c =
       each = subst (All none) (sym c.in_ok-push.ensures.items)
           (All-push none all c.new.result c.loop.invariant.each c.new.ensures.items);
     }
-
-pub returns-clause-number : goal.returns-clause-number
-returns-clause-number g c =
-    let number = c.loop.invariant.number in
-    let least = c.loop-test.false in
-    let most = c.loop.auto.counter-end in
-    omega (arith, number, least, most)
-
-pub returns-clause-each : goal.returns-clause-each
-returns-clause-each g c = c.loop.invariant.each

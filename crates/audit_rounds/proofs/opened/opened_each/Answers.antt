@@ -10,6 +10,7 @@ loop-n-preserved c =
     let connections = c.args.connections.now in
     let d = c.index_mut.result.now in
     let new = c.with_quiet.new.told in
+    let quiet = c.index-connections-n.result.split.opened.items in
     let number = at.invariant.number in
     let here = c.loop-n-test.true in
     let within : at.n < length all = omega (arith, here, number) in
@@ -18,17 +19,10 @@ loop-n-preserved c =
       done = ordered-more connections (λ n. numbers_told n c.args.parts.now) all at.n d new
           c.index-connections-n.result within here c.index-connections-n.is
           (at.invariant.left at.n d (omega arith) here)
-          (subst (λ (v : Vec ℕ Global). IsInOrder (v.items ++ c.index-connections-n.result.split.opened.items) new.items)
+          (subst (λ (v : Vec ℕ Global). IsInOrder (v.items ++ quiet) new.items)
           c.index_mut.ensures.value (rw c.as_slice.ensures.value at c.in_ok-with_quiet.ensures))
           at.invariant.done;
       left = λ n list m l.
           ap (λ (v : Vec ℕ Global). v.items) (get_or-set_other all at.n n new list (λ e. omega (arith, m, e)))
           ∙ at.invariant.left n list (omega (arith, m)) l;
     }
-
-pub returns-clause-number : goal.returns-clause-number
-returns-clause-number c = c.loop-n.invariant.number
-
-pub returns-clause-each : goal.returns-clause-each
-returns-clause-each c = λ n list connection l.
-    c.loop-n.invariant.done n list connection (let far = c.loop-n-test.false in omega (arith, far, l))

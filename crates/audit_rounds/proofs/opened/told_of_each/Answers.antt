@@ -1,5 +1,4 @@
-use Rattle.audit_rounds.proofs.Words.{◌<◌, length-set, sym, ap, ◌∙◌, subst, arith, ◌++◌, Vec, Global, ℕ, take_all}
-use Rattle.audit_rounds.proofs.Words.{numbers_told}
+use Rattle.audit_rounds.proofs.Words.{◌<◌, length-set, sym, ap, ◌∙◌, subst, arith, ◌++◌, Vec, Global, ℕ}
 use Rattle.audit_rounds.proofs.Ordered.{told-more}
 use Rattle.audit_rounds.proofs.opened.told_of_each.Goals as goal
 
@@ -24,13 +23,3 @@ loop-part-preserved c =
           ∙ ap (λ (v : Vec ℕ Global). v.items ++ part.made.items) c.index_mut.ensures.value)
           (λ list. at.invariant.each n list l);
     }
-
-pub returns-clause-number : goal.returns-clause-number
-returns-clause-number c = c.loop-part.invariant.number
-
-pub returns-clause-each : goal.returns-clause-each
-returns-clause-each c =
-    let at = c.loop-part in
-    λ n list l.
-    at.invariant.each n list l
-    ∙ ap (numbers_told n) (take_all at.part-index c.args.parts.now c.loop-part-test.false)

@@ -1,29 +1,25 @@
-use Rattle.audit_rounds.proofs.Words.{◌<◌, ◌++◌, List, length, get_or, All, ℕ, sym, ◌∙◌, subst, arith, Vec, Global}
-use Rattle.audit_rounds.proofs.Words.{AllZip-long, Finding, Part, numbers_told, IsInOrder, IsStreamsOf, found_before}
+use Rattle.audit_rounds.proofs.Words.{◌++◌, List, get_or, sym, ◌∙◌, subst, arith, Vec, Global}
+use Rattle.audit_rounds.proofs.Words.{AllZip-long, Finding, numbers_told, IsInOrder, IsStreamsOf, found_before}
 use Rattle.audit_rounds.specs.code.AfterStreams.{HaveSettledOver}
 use Rattle.audit_rounds.proofs.Alike.{items_in, as-many}
 use Rattle.audit_rounds.proofs.StreamsLeft.{parts-inside, are-after}
 use Rattle.audit_rounds.proofs.stream_round.round_over_streams.Goals as goal
 
-pub settled_over-requires-after_bounds : goal.settled_over-requires-after_bounds
-settled_over-requires-after_bounds g c κs within = rw c.as_slice.ensures.value c.requires
-
 pub opened_each-requires : goal.opened_each-requires
 opened_each-requires g c =
-    let connections = c.args.connections.now in
     let h = c.in_ok-settled.ensures in
-    subst (All (λ (part : Part (Vec ℕ Global)). part.connection < length connections)) (sym c.as_slice-2.ensures.value)
-    (parts-inside c.args.crew.now.setup.credits_shown c.args.crew.now.setup.groups h.streams h.opening c.in_ok-settled.settled h.done
-    (length connections) (AllZip-long IsStreamsOf connections h.streams h.of))
+    rw c.as_slice-2.ensures.value (parts-inside c.args.crew.now.setup.credits_shown c.args.crew.now.setup.groups
+    h.streams h.opening c.in_ok-settled.settled h.done _
+    (AllZip-long IsStreamsOf c.args.connections.now h.streams h.of))
 
 pub gathered-requires : goal.gathered-requires
 gathered-requires g c =
     let connections = c.args.connections.now in
-    let found = c.args.found.items in
     let h = c.in_ok-settled.ensures in
-    parts-inside c.args.crew.now.setup.credits_shown c.args.crew.now.setup.groups h.streams h.opening c.in_ok-settled.settled h.done
-    (length found)
-    (AllZip-long IsStreamsOf connections h.streams h.of ∙ sym (as-many items_in found_before found connections c.requires.before))
+    parts-inside c.args.crew.now.setup.credits_shown c.args.crew.now.setup.groups h.streams h.opening
+    c.in_ok-settled.settled h.done _
+    (AllZip-long IsStreamsOf connections h.streams h.of
+    ∙ sym (as-many items_in found_before c.args.found.items connections c.requires.before))
 
 pub returns : goal.returns
 returns g c =

@@ -6,8 +6,8 @@ pub invariant_of-round-clause-planned : goal.invariant_of-round-clause-planned
 invariant_of-round-clause-planned g c =
     let connections = c.args.connections.now in
     subst (All (IsJobOf connections)) (sym (c.as_slice.ensures.value ∙ c.in_ok-plan.ensures.plan))
-    (planned c.args.crew.now.setup.groups connections (let some = c.args.crew.now.setup.some_groups in omega (arith, some))
-    c.requires.ready)
+    (planned c.args.crew.now.setup.groups connections
+    (let some = c.args.crew.now.setup.some_groups in omega (arith, some)) c.requires.ready)
 
 pub settle-requires-clause-connections : goal.settle-requires-clause-connections
 settle-requires-clause-connections g c κs within =
