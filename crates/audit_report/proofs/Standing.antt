@@ -78,7 +78,8 @@ told-same shown k (c ∷ cs) (t ∷ told) (a ∷ audited) h =
     ++ told_text shown (k + 1) (map heading_of cs) told) h.0.extents
     ∙ ap (λ held. (opening_text k (heading_of c) a.extents held ++ outcome_text shown t.outcome)
     ++ told_text shown (k + 1) (map heading_of cs) told) (contents-same t.outcome a.cut findings h.0.outcome)
-    ∙ ap (λ l. (l ++ outcome_text shown t.outcome) ++ told_text shown (k + 1) (map heading_of cs) told) (opening-is k c a.extents a.cut)
+    ∙ ap (λ l. (l ++ outcome_text shown t.outcome) ++ told_text shown (k + 1) (map heading_of cs) told)
+    (opening-is k c a.extents a.cut)
     ∙ ap (λ l. (connection_text k c a.extents a.cut ++ l) ++ told_text shown (k + 1) (map heading_of cs) told)
     (outcome-same shown t.outcome a.cut findings h.0.outcome)
     ∙ ap (λ l. (connection_text k c a.extents a.cut ++ findings_text shown a.cut findings) ++ l)

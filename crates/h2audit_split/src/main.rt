@@ -24,9 +24,8 @@
 //!   as were asked for, and the buffer is long enough for a packet's front.
 //!
 //! Wrong bodies that the prover refuses: a pair of a sender alone, a record without its header, a part that gets
-//! another part's bytes, one number for all records, a cut record that is cut again, a full part that goes on, unread
-//! bytes that are lost; no parts, a buffer that is too short. Tested, in `tests/` at the root: the parts of whole
-//! captures, beside a model; reports of parts, merged.
+//! another part's bytes, one number for all records, a full part that goes on; no parts, a buffer that is too short.
+//! Tested, in `tests/` at the root: the parts of whole captures, beside a model; reports of parts, merged.
 #![tactic(auto)]
 
 mod command;
