@@ -24,6 +24,9 @@ use crate::told::{Outcome, Told};
 use audit_terms::{Finding, Frame};
 use std::alloc::{AllocError, Global};
 
+/// For so many bytes of each connection room is made at once: its three lines have about as many.
+const SECTION: usize = 128;
+
 /// The whole report: behind the capture's lines, as [`crate::capture_lines`] gives them, those of each connection, in
 /// order of opening, each under its heading. `told` has what came of each of them, in the same order, and the text is
 /// that of any connections and audits that these stand for. Credits are told only with `frames_shown`.
@@ -58,6 +61,8 @@ fn told_report(
         ≡ string_bytes capture_lines ++ told_text frames_shown 1 headings.now told.now) }
 {
     let mut out = capture_lines;
+    // A text that doubles leaves its former places in the C library's heap.
+    out.reserve(headings.len().saturating_mul(SECTION))?;
     push_sections(alloc, &mut out, headings, told, frames_shown)?;
     Ok(out.into_bytes())
 }

@@ -14,7 +14,7 @@ use pcap_records::{Capture, PcapFault};
 use std::alloc::{AllocError, Global};
 use std::random::RandomSource;
 use std::thread::Threads;
-use stop_desk::Gate;
+use stop_desk::{Gate, Team};
 use table_hash::TableHash;
 use tcp_streams::{Connections, connections};
 
@@ -90,7 +90,13 @@ fn audit_records(
     // From here on there are no strays, whose memory frames may take.
     let begun = capture_lines(alloc, cut, &packets, strays)?;
     let lent = opened.as_slice();
-    let parts = flows_each(rt, alloc, options, capture, &packets, lent, gate)?;
+    let team = Team {
+        rt,
+        alloc,
+        workers: options.workers(),
+        gate,
+    };
+    let parts = flows_each(&team, options, capture, &packets, lent)?;
     // Nor are there packets and lists of members once there are flows.
     drop(packets);
     drop(made);

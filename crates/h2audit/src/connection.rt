@@ -31,14 +31,12 @@ use stop_desk::{Gate, Part, Team, settle};
 use tcp_streams::Connection;
 
 /// What the flows of each connection hold, in order.
-pub(crate) fn flows_each(
-    rt: &(impl Threads + Sync),
-    alloc: Global,
+pub(crate) fn flows_each<R: Threads + Sync, G: Gate>(
+    team: &Team<'_, R, G>,
     options: &Options,
     capture: &Capture<'_>,
     packets: &Packets<'_>,
     opened: &[Connection],
-    gate: &impl Gate,
 ) -> Result<Vec<Part<Told>>, AllocError>
     requires size { length capture.now < 2 ^ 31 }
     requires few { length opened.now < 2 ^ 32 }
@@ -49,24 +47,19 @@ pub(crate) fn flows_each(
     ensures { IfOk result (λ parts. AreToldFlows options.now.frames_shown capture.now packets.now opened.now
         parts.items) }
 {
-    let mut stops: Vec<Option<Place>> = Vec::new(alloc);
+    let mut stops: Vec<Option<Place>> = Vec::new(team.alloc);
     stops.resize(opened.len(), None)?;
-    let workers = options.workers();
     let round = FlowRound {
-        rt,
-        threads: (workers as usize).checked_div(opened.len()).unwrap_or(1),
+        rt: team.rt,
+        threads: (team.workers as usize)
+            .checked_div(opened.len())
+            .unwrap_or(1),
         credits_shown: options.frames_shown(),
         capture,
         packets,
         opened,
     };
-    let team = Team {
-        rt,
-        alloc,
-        workers,
-        gate,
-    };
-    let settled = settle(&team, FLOWS, stops.as_slice(), &round)?;
+    let settled = settle(team, FLOWS, stops.as_slice(), &round)?;
     Ok(settled.parts)
 }
 
