@@ -11,13 +11,8 @@ use std::alloc::AllocError;
 pub fn push_record_lines(out: &mut String, packets: &Packets<'_>) -> Result<(), AllocError>
     ensures { OnOk result (string_bytes out.new ≡ string_bytes out.old ++ record_lines_from 1 packets.now) }
 {
-    let mut at = 0;
-    while at < packets.len() {
-        let together = packets.from(at);
-        for packet in together {
-            at += 1;
-            push_record_line(out, at as u64, packet)?;
-        }
+    for index in 0..packets.len() {
+        push_record_line(out, index as u64 + 1, &packets.at(index))?;
     }
     Ok(())
 }

@@ -32,13 +32,8 @@ impl Tally {
         ensures { IsTallyOf packets.now result }
     {
         let mut tally = Tally::NONE;
-        let mut at = 0;
-        while at < packets.len() {
-            let together = packets.from(at);
-            for packet in together {
-                tally.add(packet);
-            }
-            at += together.len();
+        for index in 0..packets.len() {
+            tally.add(&packets.at(index));
         }
         tally
     }

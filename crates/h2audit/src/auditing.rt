@@ -82,8 +82,8 @@ fn audit_records(
     requires order { AreInOrder (length capture.now) found }
     ensures { IfOk result (λ r. IsReport capture.now options.now.frames_shown r.0.items r.1) }
 {
-    let CapturePackets { parts: made, cut } = found;
-    let packets = Packets::of(alloc, made.as_slice())?;
+    let CapturePackets { packets: made, cut } = found;
+    let packets = Packets::of(alloc, &made)?;
     let division = division(options, TableHash::drawn(rt));
     let connections = connections(alloc, division.hash, &packets)?;
     let Connections { opened, strays } = connections;

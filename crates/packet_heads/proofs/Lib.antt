@@ -1,6 +1,7 @@
 mod Bits
 mod Headers
-mod LastPart
+mod Held
+mod Marking
 mod Placing
 mod Rows
 mod Table

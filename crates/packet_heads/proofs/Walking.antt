@@ -1,19 +1,21 @@
 -- What a walk has made stands, whatever follows; and what one record more makes of it.
+use denote.RawPtr.{null_ptr}
 use Rattle.std.proofs.Common.{◌≡◌, ℕ, ◌+◌, ◌-◌, ◌^◌, ◌<◌, ◌≤◌, List, [], ◌∷◌, ◌++◌, length, map, take, drop, refl}
-use Rattle.std.proofs.Common.{Option, Vec, Global, append-nil, length-drop, sym, ap, subst, ◌∙◌}
+use Rattle.std.proofs.Common.{Option, Global, append-nil, length-drop, sym, ap, subst, ◌∙◌}
 use Rattle.std.proofs.Common.{arith}
 use Rattle.std.specs.List.{enumerate_from}
-use Rattle.std.proofs.lemmas.List.{drop-append-le, take-append-le}
-use Rattle.parted_list.specs.code.Sizes.{ArePartsOf}
+use Rattle.std.proofs.lemmas.List.{drop-append-le, length-map, take-append-le}
 use Rattle.pcap_records.specs.code.Place.{RiseFrom}
 use Rattle.pcap_records.specs.code.Walk.{AreAll, IsThrough}
 use Rattle.pcap_records.specs.laws.Readings.{MoreBytesKeepAWalk}
 use Rattle.pcap_records.specs.declared.capture.Record.{Record}
 use Rattle.pcap_records.specs.declared.capture.Records.{Records}
+use Rattle.packet_heads.specs.declared.made.MadePackets.{MadePackets}
 use Rattle.packet_heads.specs.declared.packets.Packet.{Packet}
 use Rattle.packet_heads.specs.declared.walk.CapturePackets.{CapturePackets}
 use Rattle.packet_heads.specs.declared.walk.PacketWalk.{PacketWalk}
 use Rattle.packet_heads.specs.Decision.{decision_on, packet_decision}
+use Rattle.packet_heads.specs.code.Marks.{packet_of, packets_of}
 use Rattle.packet_heads.specs.code.Standing.{decisions_from, StandsIn, AllStand, AreDecided}
 use Rattle.packet_heads.specs.code.Walk.{AreInOrder, ArePacketsOf, HasMade, IsPacketWalkIn, packets_in}
 use Rattle.packet_heads.proofs.Rows.{AllStand-length, AllStand-numbered, AllStand-rise, AllStand-times, RiseFrom-le}
@@ -55,6 +57,7 @@ lasts keep front walk is more =
             ∙ sym (decisions-more walk.records.link 1 24 walk.records.at is.rows front more read.placed read.high);
         stand = is.made.stand;
       };
+      sound = is.sound;
     }
 
 -- so it is right of the front itself
@@ -115,16 +118,15 @@ decisions-numbered link number (row ∷ rows) capture =
     ap (λ (later : List Packet). packet_decision link number row capture ∷ later)
     (decisions-numbered link (number + 1) rows capture)
 
--- these records as the list of a reading; `like` is any list, since a list has a place in memory
-abbrev pub records_of : {X : Type 0} (like : Vec X Global) (link : ℕ) (rows : List Record) (cut : Option ℕ)
-    → length rows < 2 ^ 63 → Records
-records_of like link rows cut few = record {
+-- these records as the list of a reading, at no place in memory
+abbrev pub records_of : Global → (link : ℕ) (rows : List Record) (cut : Option ℕ) → length rows < 2 ^ 63 → Records
+records_of alloc link rows cut few = record {
   link = link;
   rows = record {
-    ptr = like.ptr;
+    ptr = null_ptr;
     len = length rows;
     cap = length rows;
-    alloc = like.alloc;
+    alloc = alloc;
     items = rows;
     ok = (refl, omega arith);
     small = few;
@@ -133,33 +135,47 @@ records_of like link rows cut few = record {
 }
 
 -- what a walk that is through has made are the packets of the capture
-pub packets_of_walk : (capture : List ℕ) (walk : PacketWalk) (found : CapturePackets) → HasMade capture walk
-    → IsThrough capture walk.records → AreAll capture walk.count walk.records found.cut
-    → packets_in found ≡ walk.packets → length capture < 2 ^ 31 → ArePacketsOf capture found
-packets_of_walk capture walk found is through all same short =
+pub packets_of_walk : Global → (capture : List ℕ) (walk : PacketWalk) (found : CapturePackets)
+    → HasMade capture walk → IsThrough capture walk.records → AreAll capture walk.count walk.records found.cut
+    → found.packets ≡ walk.packets → length capture < 2 ^ 31 → ArePacketsOf capture found
+packets_of_walk alloc capture walk found is through all same short =
     let few : length is.rows < 2 ^ 63 = omega (arith, is.passed.read.few, is.passed.read.high, short) in
-    let records : Records = records_of found.parts walk.records.link is.rows found.cut few in
+    let records : Records = records_of alloc walk.records.link is.rows found.cut few in
     record {
       records = records;
       reading = all records is.passed through (sym is.count) refl refl;
       cut = refl;
-      exact = same ∙ is.made.exact ∙ decisions-numbered walk.records.link 1 is.rows capture;
+      exact = ap (λ (made : MadePackets). packets_of made.marks made.segments) same ∙ is.made.exact
+          ∙ decisions-numbered walk.records.link 1 is.rows capture;
     }
 
 -- and they are in order
 pub in_order : (capture : List ℕ) (walk : PacketWalk) (found : CapturePackets) → HasMade capture walk
-    → packets_in found ≡ walk.packets
-    → ArePartsOf 8192 (map (λ (part : Vec Packet Global). part.items) found.parts.items) → length capture < 2 ^ 31
-    → AreInOrder (length capture) found
-in_order capture walk found is same parts short =
+    → found.packets ≡ walk.packets → length capture < 2 ^ 31 → AreInOrder (length capture) found
+in_order capture walk found is same short =
     let read = is.passed.read in
     let all : List Packet = packets_in found in
-    let stand : AllStand 1 is.rows all = subst (AllStand 1 is.rows) (sym same) is.made.stand in
+    let stand : AllStand 1 is.rows all =
+    subst (λ (made : MadePackets). AllStand 1 is.rows (packets_of made.marks made.segments)) (sym same) is.made.stand in
     record {
-      parts = parts;
       few = omega (arith, AllStand-length 1 is.rows all stand, read.few, read.high, short);
       numbered = AllStand-numbered 1 is.rows all stand;
       payloads = AllStand-rise 1 24 0 walk.records.at (length capture) is.rows all (omega arith) read.high read.placed
           stand;
       times = AllStand-times 1 is.rows all read.timely stand;
     }
+
+-- there are few records of a walk, and so few marks
+pub few_marks : (capture : List ℕ) (walk : PacketWalk) → HasMade capture walk → length capture ≤ 2 ^ 31
+    → length walk.packets.marks < 2 ^ 31
+few_marks capture walk is short =
+    let read = is.passed.read in
+    let packets : List Packet = packets_of walk.packets.marks walk.packets.segments in
+    omega (
+      arith,
+      AllStand-length 1 is.rows packets is.made.stand,
+      length-map walk.packets.marks (packet_of walk.packets.segments),
+      read.few,
+      read.high,
+      short,
+    )

@@ -1,66 +1,70 @@
-//! Packets that come one after the other, in parts.
+//! A list that grows in parts.
 
-ghost use Rattle.std.specs.Prelude.{◌≡◌, [], ◌∷◌, ◌++◌, map, IfOk, OnOk};
-ghost use Rattle.parted_list.specs.Parts.{joined};
-ghost use Rattle.parted_list.specs.code.Sizes.{ArePartsOf};
+ghost use Rattle.std.specs.Prelude.{◌≡◌, ◌<◌, ◌^◌, [], ◌∷◌, ◌++◌, IfOk, OnOk, length};
 
-use crate::packets::{PACKET_PART, Packet};
+use crate::packets::PACKET_PART;
+use parted_list::Parts;
 use std::alloc::{AllocError, Global};
 use std::marker::Model;
 use std::mem;
 
-/// Packets in parts of `PACKET_PART`, the last of which grows. A part that is full is not moved any more.
+/// A list in parts of `PACKET_PART`, the last of which grows. A part that is full is not moved any more.
 #[derive(Drop)]
-pub(crate) struct GrowingPackets {
+pub struct Growing<T> {
     /// The parts before the last, each of them full.
-    full: Vec<Vec<Packet>>,
-    last: Vec<Packet>,
+    full: Vec<Vec<T>>,
+    last: Vec<T>,
 }
 
-impl Model for GrowingPackets {
-    ghost use Rattle.std.specs.Prelude.{◌≡◌, ◌≤◌, ◌++◌, List, map, vec_len};
+impl<T> Model for Growing<T> {
+    ghost use Rattle.std.specs.Prelude.{◌≡◌, ◌+◌, ◌*◌, ◌<◌, ◌≤◌, ◌^◌, ◌++◌, List, length, map, vec_len};
     ghost use Rattle.std.specs.List.{All};
     ghost use Rattle.parted_list.specs.Parts.{joined};
-    ghost use Rattle.packet_heads.specs.declared.packets.Packet.{Packet};
 
-    ghost Value = { List Packet };
+    ghost Value = { List T };
 
     ghost view = { λ g. joined (map (λ part. part.items) g.full.items) ++ g.last.items };
 
-    ghost invariant = { λ g. All (λ part. vec_len part ≡ 8192) g.full.items × (vec_len g.last ≤ 8192) };
+    ghost invariant = { λ g. All (λ part. vec_len part ≡ 8192) g.full.items × (vec_len g.last ≤ 8192)
+        × (length g.full.items * 8192 + vec_len g.last < 2 ^ 32) };
 }
 
-impl GrowingPackets {
-    /// No packet.
-    pub(crate) fn new(alloc: Global) -> GrowingPackets
+impl<T: Copy> Growing<T> {
+    /// No item.
+    pub(crate) fn new(alloc: Global) -> Growing<T>
         ensures { result ≡ [] }
     {
-        GrowingPackets {
+        Growing {
             full: Vec::new(alloc),
             last: Vec::new(alloc),
         }
     }
 
-    /// One packet more.
-    pub(crate) fn push(&mut self, alloc: Global, packet: Packet) -> Result<(), AllocError>
-        ensures { OnOk result (self.new ≡ self.old ++ packet ∷ []) }
+    /// The number of items.
+    pub(crate) fn len(&self) -> u32
+        ensures { result ≡ length self.now }
+    {
+        (self.full.len() * PACKET_PART + self.last.len()) as u32
+    }
+
+    /// One item more.
+    pub(crate) fn push(&mut self, alloc: Global, item: T) -> Result<(), AllocError>
+        requires { length self.old < 2 ^ 31 }
+        ensures { OnOk result (self.new ≡ self.old ++ item ∷ []) }
     {
         if self.last.len() == PACKET_PART {
             let next = Vec::with_capacity(alloc, PACKET_PART)?;
             self.full.reserve(1)?;
             self.full.push_reserved(mem::replace(&mut self.last, next));
         }
-        self.last.push(packet)?;
+        self.last.push(item)?;
         Ok(())
     }
 
-    /// The packets, as they lie in parts.
-    pub(crate) fn into_parts(self) -> Result<Vec<Vec<Packet>>, AllocError>
-        ensures same { IfOk result (λ parts. joined (map (λ part. part.items) parts.items) ≡ self) }
-        ensures parts { IfOk result (λ parts. ArePartsOf 8192 (map (λ part. part.items) parts.items)) }
+    /// The list, to be read.
+    pub(crate) fn lent(&self, alloc: Global) -> Result<Parts<'_, T, PACKET_PART>, AllocError>
+        ensures { IfOk result (λ list. list ≡ self.now) }
     {
-        let mut parts = self.full;
-        parts.push(self.last)?;
-        Ok(parts)
+        Parts::with_last(alloc, self.full.as_slice(), self.last.as_slice())
     }
 }

@@ -13,9 +13,12 @@
 //! - Packet n is record n's, there are fewer than 2^32 of them, and times are below 2^63 nanoseconds.
 //! - Payloads lie in the capture in order and apart. Of one packet it is said only that it lies in its record, which is
 //!   bookkeeping (`specs/code/Standing.antt`); the order is proved from it.
-//! - Packets are made in parts of [`PACKET_PART`], 8,192. The first part grows, and may be moved as it does; nothing is
-//!   copied from one part into another, and no record is kept beside its packet. A record is read where it lies in the
-//!   capture; only one in which parts of the capture meet is gathered first, and freed at once.
+//! - A packet is held as a mark of 4 bytes, and a segment in 44 more ([`MadePackets`]): so records of a capture that
+//!   hold no segment take 4 bytes each. A mark counts through the eleven packets that are passed over, and then through
+//!   the segments (`specs/code/Marks.antt`). [`Packets`] reads both as the one list that contracts speak of.
+//! - Marks and segments are made in parts of [`PACKET_PART`], 8,192. The first part grows, and may be moved as it does;
+//!   nothing is copied from one part into another, and no record is kept beside its packet. A record is read where it
+//!   lies in the capture; only one in which parts of the capture meet is gathered first, and freed at once.
 //! - What a walk has made of a front stands whatever bytes come behind it, since it makes a packet only where all of
 //!   its record has come (`specs/code/Walk.antt`). So the packets are the same however the capture came.
 //!
@@ -25,7 +28,8 @@
 //! all bytes that were captured.
 //!
 //! Wrong bodies that the prover refuses: records numbered afresh in each part, a full part that is forgotten, a
-//! fragment judged before its end. Tested by whole reports: that a walk succeeds where there is memory.
+//! fragment judged before its end, a segment marked by its record's index, a mark that two refusals have. Tested by
+//! whole reports: that a walk succeeds where there is memory.
 #![tactic(auto)]
 
 mod decoding;
@@ -33,10 +37,13 @@ mod ethernet;
 mod growing;
 mod ipv4;
 mod link;
+mod made;
+mod marks;
 mod packets;
 mod tcp;
 mod walk;
 pub mod worked_examples;
 
+pub use made::MadePackets;
 pub use packets::{Endpoint, PACKET_PART, Packet, Packets, Refusal, Segment, Skip};
 pub use walk::{CapturePackets, PacketWalk};

@@ -1,5 +1,9 @@
+use crate::made::MadePackets;
+use crate::marks::{Mark, packet_of};
 use parted_list::Parts;
 use pcap_records::Nanos;
+use std::alloc::{AllocError, Global};
+use std::marker::Model;
 
 /// An IPv4 address and a TCP port.
 #[derive(Clone, Copy, Debug, PartialEq, Eq, PartialOrd, Ord)]
@@ -10,7 +14,7 @@ pub struct Endpoint {
 
 /// A TCP segment of a capture. Its payload stands in the capture at `lo..hi`.
 ///
-/// What needs no alignment stands last, so that a [`Packet`] takes 48 bytes.
+/// What needs no alignment stands last, so that it takes 44 bytes.
 #[derive(Clone, Copy)]
 pub struct Segment {
     /// When it was captured, in nanoseconds.
@@ -90,10 +94,66 @@ pub enum Packet {
     Refused(Refusal),
 }
 
-const _: () = prove!(size_of::<Packet>() == 48);
+const _: () = prove!(size_of::<Segment>() == 44);
 
-/// How many packets a part of a capture's packets has.
+/// How many marks, or segments, a part of a capture's packets has.
 pub const PACKET_PART: usize = 8_192;
 
-/// What the records of a capture hold, in order, held in parts.
-pub type Packets<'a> = Parts<'a, Packet, PACKET_PART>;
+/// What the records of a capture hold, in order: a mark for each, and the segments that marks name, both in parts.
+#[derive(Drop)]
+pub struct Packets<'a> {
+    marks: Parts<'a, Mark, PACKET_PART>,
+    segments: Parts<'a, Segment, PACKET_PART>,
+}
+
+impl<'a> Model for Packets<'a> {
+    ghost use Rattle.std.specs.Prelude.{List};
+    ghost use Rattle.packet_heads.specs.declared.packets.Packet.{Packet};
+    ghost use Rattle.packet_heads.specs.code.Marks.{packets_of};
+
+    ghost Value = { List Packet };
+
+    ghost view = { λ p. packets_of p.marks p.segments };
+}
+
+impl<'a> Packets<'a> {
+    ghost use Rattle.std.specs.Prelude.{◌≡◌, ◌<◌, ◌≤◌, IfOk, IfSome, IfNone, Some, get_or, length, slice_get};
+    ghost use Rattle.packet_heads.specs.code.Marks.{packets_of};
+
+    /// The packets that were made, to be read.
+    pub fn of(alloc: Global, made: &'a MadePackets) -> Result<Packets<'a>, AllocError>
+        ensures { IfOk result (λ all. all ≡ packets_of made.now.marks made.now.segments) }
+    {
+        Ok(Packets {
+            marks: made.marks.lent(alloc)?,
+            segments: made.segments.lent(alloc)?,
+        })
+    }
+
+    /// The number of packets.
+    pub fn len(&self) -> usize
+        ensures { result ≡ length self.now }
+    {
+        self.marks.len()
+    }
+
+    /// The packet of an index, if there is one.
+    pub fn get(&self, index: usize) -> Option<Packet>
+        ensures some { IfSome result (λ packet. slice_get self.now index ≡ Some packet) }
+        ensures none { IfNone result (length self.now ≤ index) }
+    {
+        if index < self.len() {
+            Some(self.at(index))
+        } else {
+            None
+        }
+    }
+
+    /// The packet of an index.
+    pub fn at(&self, index: usize) -> Packet
+        requires { index < length self.now }
+        ensures { result ≡ get_or self.now index result }
+    {
+        packet_of(&self.segments, self.marks.from(index)[0])
+    }
+}

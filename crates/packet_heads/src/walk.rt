@@ -6,8 +6,7 @@ ghost use Rattle.pcap_records.specs.code.Walk.{IsThrough};
 ghost use Rattle.packet_heads.specs.code.Walk.{AreInOrder, ArePacketsOf, HasMade, IsPacketWalkIn};
 
 use crate::decoding::decode;
-use crate::growing::GrowingPackets;
-use crate::packets::Packet;
+use crate::made::MadePackets;
 use pcap_records::laws::more_bytes_keep_a_walk;
 use pcap_records::{Capture, FrontWalk, PcapFault, RecordWalk, refusal_in_parts};
 use std::alloc::{AllocError, Global};
@@ -15,8 +14,8 @@ use std::alloc::{AllocError, Global};
 /// What a capture holds.
 #[derive(Drop)]
 pub struct CapturePackets {
-    /// What each record holds, in order, in parts of [`PACKET_PART`](crate::PACKET_PART) packets.
-    pub parts: Vec<Vec<Packet>>,
+    /// What each record holds, in order.
+    pub packets: MadePackets,
     /// The number of the record that the end of the capture cuts, if there is one.
     pub cut: Option<u32>,
 }
@@ -30,7 +29,7 @@ pub struct PacketWalk {
     records: RecordWalk,
     /// How many records the walk has passed.
     count: u32,
-    packets: GrowingPackets,
+    packets: MadePackets,
 }
 
 impl PacketWalk {
@@ -46,7 +45,7 @@ impl PacketWalk {
         Ok(PacketWalk {
             records,
             count: 0,
-            packets: GrowingPackets::new(alloc),
+            packets: MadePackets::new(alloc),
         })
     }
 
@@ -109,7 +108,7 @@ impl PacketWalk {
         self.go_on(alloc, capture)?;
         let cut = self.records.cut(capture, self.count);
         Ok(CapturePackets {
-            parts: self.packets.into_parts()?,
+            packets: self.packets,
             cut,
         })
     }

@@ -29,14 +29,11 @@ pub fn connections(
 {
     let mut table = Table::new(alloc, hash);
     let mut at = 0;
-    while at < packets.len() {
-        let together = packets.from(at);
-        for packet in together {
-            if let Packet::Segment(segment) = packet {
-                table.add(segment)?;
-            }
+    while let Some(packet) = packets.get(at) {
+        if let Packet::Segment(segment) = packet {
+            table.add(&segment)?;
         }
-        at += together.len();
+        at += 1;
     }
     Ok(table.into_connections())
 }

@@ -51,8 +51,8 @@ pub fn piece_of_member(
 {
     match packets.get((member - 1) as usize)? {
         Packet::Segment(segment) => {
-            if is_sent_by(connection, side, segment) {
-                piece_of(initial_number, segment)
+            if is_sent_by(connection, side, &segment) {
+                piece_of(initial_number, &segment)
             } else {
                 None
             }

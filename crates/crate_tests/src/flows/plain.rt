@@ -44,7 +44,7 @@ pub fn assemble(
         if let Some(Packet::Segment(segment)) = packets.get((*member as usize).saturating_sub(1)) {
             let is_client = segment.from == connection.client;
             if is_client == (side == Side::Client) {
-                cover(&mut covered, capture, initial_number, segment)?;
+                cover(&mut covered, capture, initial_number, &segment)?;
             }
         }
     }

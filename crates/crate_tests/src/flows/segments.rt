@@ -43,7 +43,7 @@ fn flow_of(alloc: Global, capture: &[u8]) -> Result<Option<PlainFlow>, AllocErro
     let Ok(found) = walk.finish(alloc, &parts) else {
         return Ok(None);
     };
-    let packets = Packets::of(alloc, found.parts.as_slice())?;
+    let packets = Packets::of(alloc, &found.packets)?;
     if packets.len() != read.rows.len() || found.cut != read.cut {
         return Ok(None);
     }

@@ -8,7 +8,7 @@ use crate::answer::Answer;
 use audit_report::{capture_lines, connection_lines, finding_line};
 use audit_terms::{Body, Finding, Frame, Kind, Length, Place, Side, Sides, Word};
 use h2_frames::Cut;
-use packet_heads::{Endpoint, Packet, Packets, Refusal, Segment, Skip};
+use packet_heads::{Endpoint, MadePackets, Packet, Packets, Refusal, Segment, Skip};
 use pcap_records::Nanos;
 use std::alloc::{AllocError, Global};
 use tcp_streams::{Arrival, Connection, Flow, Stray};
@@ -77,7 +77,8 @@ pub fn each_kind_of_packet(alloc: Global) -> Answer {
         to: CLIENT,
         segments: 2,
     })?;
-    let packets = Packets::cut(alloc, &packets)?;
+    let made = MadePackets::of(alloc, &packets)?;
+    let packets = Packets::of(alloc, &made)?;
     let text = capture_lines(alloc, Some(14), &packets, strays)?;
     Ok(text.as_str() == CAPTURE_LINES)
 }

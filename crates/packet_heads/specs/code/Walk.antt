@@ -1,8 +1,5 @@
 -- The packets of a front of a capture, behind which more bytes may come, and those of all of it.
-use Rattle.std.specs.Prelude.{◌≡◌, ℕ, ◌^◌, ◌<◌, List, Vec, length, map}
-use Rattle.std.specs.Global.{Global}
-use Rattle.parted_list.specs.Parts.{joined}
-use Rattle.parted_list.specs.code.Sizes.{ArePartsOf}
+use Rattle.std.specs.Prelude.{◌≡◌, ℕ, ◌^◌, ◌<◌, List, length}
 use Rattle.pcap_records.specs.Reading.{IsReading}
 use Rattle.pcap_records.specs.code.Front.{Lasts}
 use Rattle.pcap_records.specs.code.Walk.{HasPassed}
@@ -12,6 +9,7 @@ use Rattle.packet_heads.specs.declared.packets.Packet.{Packet}
 use Rattle.packet_heads.specs.declared.walk.CapturePackets.{CapturePackets}
 use Rattle.packet_heads.specs.declared.walk.PacketWalk.{PacketWalk}
 use Rattle.packet_heads.specs.Decision.{packet_decisions}
+use Rattle.packet_heads.specs.code.Marks.{IsSound, packets_of}
 use Rattle.packet_heads.specs.code.Order.{AreNumberedFrom, PayloadsRise, TimesFit}
 use Rattle.packet_heads.specs.code.Standing.{AreDecided}
 
@@ -20,15 +18,16 @@ pub record HasMade (capture : List ℕ) (walk : PacketWalk) : Type 0 where
   pub rows : List Record
   pub passed : HasPassed capture rows walk.records
   pub count : walk.count ≡ length rows
-  pub made : AreDecided walk.records.link 1 rows capture walk.packets
+  pub made : AreDecided walk.records.link 1 rows capture (packets_of walk.packets.marks walk.packets.segments)
+  pub sound : IsSound walk.packets
 
 -- the same of a front, whatever bytes come behind it
 abbrev pub IsPacketWalkIn : List ℕ → PacketWalk → Type 0
 IsPacketWalkIn = Lasts HasMade
 
--- all packets, one part after the other
+-- all packets
 abbrev pub packets_in : CapturePackets → List Packet
-packets_in found = joined (map (λ (part : Vec Packet Global). part.items) found.parts.items)
+packets_in found = packets_of found.packets.marks found.packets.segments
 
 -- these are the decisions on all records of a capture, whose cut record is this one
 pub record ArePacketsOf (capture : List ℕ) (found : CapturePackets) : Type 0 where
@@ -37,9 +36,8 @@ pub record ArePacketsOf (capture : List ℕ) (found : CapturePackets) : Type 0 w
   pub cut : records.cut ≡ found.cut
   pub exact : packets_in found ≡ packet_decisions records.link records.rows.items capture
 
--- what those who go on from the packets of a capture of this size have of them; each part but the last is full
+-- what those who go on from the packets of a capture of this size have of them
 pub record AreInOrder (size : ℕ) (found : CapturePackets) : Type 0 where
-  pub parts : ArePartsOf 8192 (map (λ (part : Vec Packet Global). part.items) found.parts.items)
   pub few : length (packets_in found) < 2 ^ 32
   pub numbered : AreNumberedFrom 1 (packets_in found)
   pub payloads : PayloadsRise 0 size (packets_in found)

@@ -1,8 +1,7 @@
-use Rattle.std.proofs.Common.{◌≡◌, ℕ, arith, ◌∙◌, sym, Bool, List, ◌++◌, length, map, subst, ap, All, Vec, Global}
+use Rattle.std.proofs.Common.{◌≡◌, ℕ, arith, ◌∙◌, sym, Bool, List, ◌++◌, length, subst, ap, All}
 use Rattle.std.specs.List.{enumerate_from}
 use Rattle.std.proofs.lemmas.List.{length-map}
 use Rattle.std.proofs.lemmas.List.FromFn.{length-enumerate_from}
-use Rattle.parted_list.specs.Parts.{joined}
 use Rattle.audit_report.specs.CaptureLines.{capture_text}
 use Rattle.audit_report.specs.Section.{sections_text}
 use Rattle.audit_report.specs.code.Heading.{heading_of}
@@ -38,9 +37,7 @@ flows_each-requires-clause-few g c κs within =
     let packets = c.in_ok-packets.packets in
     let few = opened-few packets c.in_ok-connections.connections.opened.items c.in_ok-connections.ensures.opened in
     let same : length packets ≡ length (packets_in c.args.found) =
-    ap length c.in_ok-packets.ensures
-    ∙ ap (λ (parts : List (Vec Packet Global)). length (joined (map (λ (part : Vec Packet Global). part.items) parts)))
-    c.as_slice.ensures.value in
+    ap length c.in_ok-packets.ensures in
     let lent : length c.as_slice-lent.result.now ≡ length c.in_ok-connections.connections.opened.items =
     ap length c.as_slice-lent.ensures.value in
     let all = c.requires.order.few in
@@ -59,20 +56,20 @@ report-requires-clause-each g c =
     let opened = c.in_ok-connections.connections.opened.items in
     let audits = found-audits credits c.args.capture.now packets lent c.in_ok-parts.parts.items
     c.in_ok-told.told.items c.in_ok-parts.ensures c.in_ok-told.ensures in
-    ap length c.as_slice-3.ensures.value
+    ap length c.as_slice-2.ensures.value
     ∙ zip-length IsToldOf c.in_ok-told.told.items audits.audited audits.stands
     ∙ sym (zip-length (IsAudited credits c.args.capture.now packets) lent audits.audited audits.audits)
     ∙ ap length c.as_slice-lent.ensures.value
     ∙ sym (length-map opened heading_of)
     ∙ sym (ap length c.in_ok-headings.ensures)
-    ∙ sym (ap length c.as_slice-2.ensures.value)
+    ∙ sym (ap length c.as_slice.ensures.value)
 
 pub report-requires-clause-orderly : goal.report-requires-clause-orderly
 report-requires-clause-orderly g c =
     let audits = found-audits c.args.options.now.frames_shown c.args.capture.now c.in_ok-packets.packets
     c.as_slice-lent.result.now c.in_ok-parts.parts.items c.in_ok-told.told.items c.in_ok-parts.ensures
     c.in_ok-told.ensures in
-    subst (λ (l : List Told). All (λ (t : Told). HasOrderlyOutcome t.outcome) l) (sym c.as_slice-3.ensures.value)
+    subst (λ (l : List Told). All (λ (t : Told). HasOrderlyOutcome t.outcome) l) (sym c.as_slice-2.ensures.value)
     audits.orderly
 
 pub returns : goal.returns
@@ -84,10 +81,7 @@ returns g c =
     let opened = c.in_ok-connections.connections.opened.items in
     let strays = c.in_ok-connections.connections.strays.items in
     let told = c.in_ok-told.told.items in
-    let given : c.in_ok-packets.packets ≡ packets = c.in_ok-packets.ensures
-    ∙ ap (λ (parts : List (Vec Packet Global)). joined (map (λ (part : Vec Packet Global). part.items) parts))
-    c.as_slice.ensures.value
-    ∙ c.requires.packets.exact in
+    let given : c.in_ok-packets.packets ≡ packets = c.in_ok-packets.ensures ∙ c.requires.packets.exact in
     let lent = c.as_slice-lent.ensures.value in
     let audits : AreToldAudits credits capture packets opened told =
     subst (λ (p : List Packet). AreToldAudits credits capture p opened told) given
@@ -108,8 +102,8 @@ returns g c =
         audited = audited;
         connections = subst (λ (p : List Packet). AreConnections p opened) given c.in_ok-connections.ensures.opened;
         audits = audits.audits;
-        spelled = c.in_ok-text.ensures opened audited (c.as_slice-2.ensures.value ∙ c.in_ok-headings.ensures)
-            (subst (λ (l : List Told). AreToldOf l audited) (sym c.as_slice-3.ensures.value) audits.stands)
+        spelled = c.in_ok-text.ensures opened audited (c.as_slice.ensures.value ∙ c.in_ok-headings.ensures)
+            (subst (λ (l : List Told). AreToldOf l audited) (sym c.as_slice-2.ensures.value) audits.stands)
             ∙ ap (λ (l : List ℕ). l ++ sections_text c.frames_shown.result 1 opened audited)
             (c.in_ok-begun.ensures found are)
             ∙ ap (λ (b : Bool). capture_text found c.in_ok-packets.packets strays
@@ -120,6 +114,6 @@ returns g c =
             ++ sections_text credits 1 opened audited)
             (c.in_ok-connections.ensures.strays ∙ ap strays_of given);
         judged = c.verdict_on-verdict.ensures audited
-            (subst (λ (l : List Told). AreToldOf l audited) (sym c.as_slice-4.ensures.value) audits.stands);
+            (subst (λ (l : List Told). AreToldOf l audited) (sym c.as_slice-3.ensures.value) audits.stands);
       };
     }

@@ -11,5 +11,9 @@ returns-clause-ok c =
       rows = [];
       passed = c.in_ok-records.ensures.ok;
       count = refl;
-      made = record { exact = c.new.ensures; stand = subst (AllStand 1 []) (sym c.new.ensures) tt };
+      made = record {
+        exact = c.new.ensures.none;
+        stand = subst (AllStand 1 []) (sym c.new.ensures.none) tt;
+      };
+      sound = c.new.ensures.sound;
     })

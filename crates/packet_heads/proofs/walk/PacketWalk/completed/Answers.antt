@@ -1,3 +1,4 @@
+use Rattle.std.proofs.Common.{refl}
 use Rattle.packet_heads.proofs.Walking.{in_order, packets_of_walk, stands_now}
 use Rattle.packet_heads.proofs.walk.PacketWalk.completed.Goals as goal
 use Rattle.packet_heads.specs.declared.walk.CapturePackets.{CapturePackets}
@@ -7,12 +8,11 @@ go_on-requires-clause-walk c = stands_now c.args.capture.now c.args.self c.requi
 
 pub returns-clause-packets : goal.returns-clause-packets
 returns-clause-packets c =
-    let found : CapturePackets = record { parts = c.in_ok-into_parts.field-0; cut = c.cut-cut.result } in
-    packets_of_walk c.args.capture.now c.go_on.new.self found c.in_ok-go_on.ensures.made c.in_ok-go_on.ensures.through
-    c.cut-cut.ensures c.in_ok-into_parts.ensures.same c.requires.short
+    let found : CapturePackets = record { packets = c.go_on.new.self.packets; cut = c.cut-cut.result } in
+    packets_of_walk c.args.alloc c.args.capture.now c.go_on.new.self found c.in_ok-go_on.ensures.made
+    c.in_ok-go_on.ensures.through c.cut-cut.ensures refl c.requires.short
 
 pub returns-clause-order : goal.returns-clause-order
 returns-clause-order c =
-    let found : CapturePackets = record { parts = c.in_ok-into_parts.field-0; cut = c.cut-cut.result } in
-    in_order c.args.capture.now c.go_on.new.self found c.in_ok-go_on.ensures.made c.in_ok-into_parts.ensures.same
-    c.in_ok-into_parts.ensures.parts c.requires.short
+    let found : CapturePackets = record { packets = c.go_on.new.self.packets; cut = c.cut-cut.result } in
+    in_order c.args.capture.now c.go_on.new.self found c.in_ok-go_on.ensures.made refl c.requires.short

@@ -1,0 +1,60 @@
+//! Packets that are made one after the other.
+
+ghost use Rattle.std.specs.Prelude.{◌≡◌, ◌<◌, ◌^◌, [], ◌∷◌, ◌++◌, IfOk, OnOk, length};
+ghost use Rattle.packet_heads.specs.code.Marks.{IsSound, packets_of};
+
+use crate::growing::Growing;
+use crate::marks::{FIRST_SEGMENT, Mark, mark_of_refused, mark_of_skipped};
+use crate::packets::{Packet, Segment};
+use std::alloc::{AllocError, Global};
+
+/// The packets of a front of a capture: 4 bytes for each, and 44 more for each segment.
+#[derive(Drop)]
+pub struct MadePackets {
+    pub(crate) marks: Growing<Mark>,
+    pub(crate) segments: Growing<Segment>,
+}
+
+impl MadePackets {
+    /// No packet.
+    pub(crate) fn new(alloc: Global) -> MadePackets
+        ensures none { packets_of result.marks result.segments ≡ [] }
+        ensures sound { IsSound result }
+    {
+        MadePackets {
+            marks: Growing::new(alloc),
+            segments: Growing::new(alloc),
+        }
+    }
+
+    /// These packets, from a list.
+    pub fn of(alloc: Global, packets: &[Packet]) -> Result<MadePackets, AllocError>
+        requires { length packets.now < 2 ^ 31 }
+        ensures { IfOk result (λ made. packets_of made.marks made.segments ≡ packets.now) }
+    {
+        let mut made = MadePackets::new(alloc);
+        for packet in packets {
+            made.push(alloc, *packet)?;
+        }
+        Ok(made)
+    }
+
+    /// One packet more.
+    pub(crate) fn push(&mut self, alloc: Global, packet: Packet) -> Result<(), AllocError>
+        requires sound { IsSound self.old }
+        requires room { length self.old.marks < 2 ^ 31 }
+        ensures more { OnOk result (packets_of self.new.marks self.new.segments
+            ≡ packets_of self.old.marks self.old.segments ++ packet ∷ []) }
+        ensures sound { OnOk result (IsSound self.new) }
+    {
+        match packet {
+            Packet::Segment(segment) => {
+                let mark = FIRST_SEGMENT + self.segments.len();
+                self.segments.push(alloc, segment)?;
+                self.marks.push(alloc, mark)
+            }
+            Packet::Skipped(skip) => self.marks.push(alloc, mark_of_skipped(skip)),
+            Packet::Refused(refusal) => self.marks.push(alloc, mark_of_refused(refusal)),
+        }
+    }
+}

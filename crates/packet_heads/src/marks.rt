@@ -1,0 +1,78 @@
+//! Marks, of which each stands for a packet: one below 11 for one that is passed over, any other for a segment.
+
+ghost use Rattle.std.specs.Prelude.{◌≡◌, ◌<◌, Some, slice_get};
+ghost use Rattle.packet_heads.specs.code.Marks.{packet_of, passed_over};
+ghost use Rattle.packet_heads.specs.declared.packets.Packet.TheVariants.{Skipped, Refused};
+
+use crate::packets::{PACKET_PART, Packet, Refusal, Segment, Skip};
+use parted_list::Parts;
+
+/// Counts through the packets that are passed over, in the order below, and then through the segments of a capture.
+pub type Mark = u32;
+
+const _: () = prove!(size_of::<Mark>() == 4);
+
+/// The mark of the first segment.
+pub(crate) const FIRST_SEGMENT: Mark = 11;
+
+/// The mark of a packet that is skipped.
+pub(crate) fn mark_of_skipped(skip: Skip) -> Mark
+    ensures within { result < 11 }
+    ensures is { slice_get passed_over result ≡ Some (Skipped skip) }
+{
+    match skip {
+        Skip::NotIpv4 => 0,
+        Skip::Fragment => 1,
+        Skip::NotTcp => 2,
+    }
+}
+
+/// The mark of a packet that is refused.
+pub(crate) fn mark_of_refused(refusal: Refusal) -> Mark
+    ensures within { result < 11 }
+    ensures is { slice_get passed_over result ≡ Some (Refused refusal) }
+{
+    match refusal {
+        Refusal::ShortEthernet => 3,
+        Refusal::ShortIpv4 => 4,
+        Refusal::BadVersion => 5,
+        Refusal::BadHeaderLength => 6,
+        Refusal::BadTotalLength => 7,
+        Refusal::PastEnd => 8,
+        Refusal::ShortTcp => 9,
+        Refusal::BadDataOffset => 10,
+    }
+}
+
+/// The packet that is passed over and has this mark, if there is one.
+fn passed_over(mark: Mark) -> Option<Packet>
+    ensures { result ≡ slice_get passed_over mark }
+{
+    match mark {
+        0 => Some(Packet::Skipped(Skip::NotIpv4)),
+        1 => Some(Packet::Skipped(Skip::Fragment)),
+        2 => Some(Packet::Skipped(Skip::NotTcp)),
+        3 => Some(Packet::Refused(Refusal::ShortEthernet)),
+        4 => Some(Packet::Refused(Refusal::ShortIpv4)),
+        5 => Some(Packet::Refused(Refusal::BadVersion)),
+        6 => Some(Packet::Refused(Refusal::BadHeaderLength)),
+        7 => Some(Packet::Refused(Refusal::BadTotalLength)),
+        8 => Some(Packet::Refused(Refusal::PastEnd)),
+        9 => Some(Packet::Refused(Refusal::ShortTcp)),
+        10 => Some(Packet::Refused(Refusal::BadDataOffset)),
+        _ => None,
+    }
+}
+
+/// What a mark stands for among these segments.
+pub(crate) fn packet_of(segments: &Parts<'_, Segment, PACKET_PART>, mark: Mark) -> Packet
+    ensures { result ≡ packet_of segments.now mark }
+{
+    if let Some(packet) = passed_over(mark) {
+        return packet;
+    }
+    match segments.get((mark - FIRST_SEGMENT) as usize) {
+        Some(segment) => Packet::Segment(*segment),
+        None => Packet::Skipped(Skip::NotIpv4),
+    }
+}
