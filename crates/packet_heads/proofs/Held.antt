@@ -1,31 +1,22 @@
 -- How long a list is that grows in parts.
-use Rattle.std.proofs.Common.{◌≡◌, ◌+◌, ◌*◌, suc, List, [], ◌∷◌, ◌++◌, length, length-append, map, Vec, Global, vec_len}
-use Rattle.std.proofs.Common.{arith}
+use Rattle.std.proofs.Common.{◌≡◌, ◌+◌, ◌*◌, List, [], ◌∷◌, ◌++◌, length, length-append, map, Vec, Global, vec_len, arith}
 use Rattle.std.specs.List.{All}
+use Rattle.std.proofs.lemmas.List.Elements.{All-head, All-tail}
 use Rattle.parted_list.specs.Parts.{joined}
 
--- full parts hold so many items
-full-length : {T : Type 0} (full : List (Vec T Global)) → All (λ (part : Vec T Global). vec_len part ≡ 8192) full
-    → length (joined (map (λ (part : Vec T Global). part.items) full)) ≡ length full * 8192
-full-length [] all = omega arith
-full-length (part ∷ later) all =
-    omega (
-      arith,
-      length-append part.items (joined (map (λ (part : Vec _ Global). part.items) later)),
-      all 0 part (omega arith),
-      part.ok.0,
-      full-length later (λ k d within. all (suc k) d (omega (arith, within))),
-    )
-
--- and so many with a last part behind them
-pub held-length : {T : Type 0} (full : List (Vec T Global)) (last : Vec T Global)
+-- full parts hold so many items, and a last part those that it has
+pub held_length : {T : Type 0} (full : List (Vec T Global)) (last : Vec T Global)
     → All (λ (part : Vec T Global). vec_len part ≡ 8192) full
     → length (joined (map (λ (part : Vec T Global). part.items) full) ++ last.items)
     ≡ length full * 8192 + vec_len last
-held-length full last all =
+held_length [] last all = omega (arith, last.ok.0)
+held_length (part ∷ later) last all =
     omega (
       arith,
-      length-append (joined (map (λ (part : Vec _ Global). part.items) full)) last.items,
-      full-length full all,
-      last.ok.0,
+      length-append part.items,
+      length-append (joined (map (λ (part : Vec _ Global). part.items) later)) last.items,
+      length-append (part.items ++ joined (map (λ (part : Vec _ Global). part.items) later)) last.items,
+      All-head (λ part. vec_len part ≡ 8192) part later all,
+      part.ok.0,
+      held_length later last (All-tail (λ part. vec_len part ≡ 8192) part later all),
     )

@@ -41,6 +41,7 @@ impl<T: Copy> Growing<T> {
     }
 
     /// The number of items.
+    #[tactic(auto, using(crate::proofs::Held::held_length))]
     pub(crate) fn len(&self) -> u32
         ensures { result ≡ length self.now }
     {
@@ -48,16 +49,18 @@ impl<T: Copy> Growing<T> {
     }
 
     /// One item more.
+    #[tactic(auto, using(crate::proofs::Held::held_length))]
     pub(crate) fn push(&mut self, alloc: Global, item: T) -> Result<(), AllocError>
         requires { length self.old < 2 ^ 31 }
         ensures { OnOk result (self.new ≡ self.old ++ item ∷ []) }
     {
-        if self.last.len() == PACKET_PART {
-            let next = Vec::with_capacity(alloc, PACKET_PART)?;
-            self.full.reserve(1)?;
-            self.full.push_reserved(mem::replace(&mut self.last, next));
+        if self.last.len() < PACKET_PART {
+            self.last.push(item)?;
+            return Ok(());
         }
-        self.last.push(item)?;
+        let mut next = Vec::with_capacity(alloc, PACKET_PART)?;
+        next.push(item)?;
+        self.full.push(mem::replace(&mut self.last, next))?;
         Ok(())
     }
 

@@ -40,6 +40,7 @@ impl MadePackets {
     }
 
     /// One packet more.
+    #[tactic(auto, using(crate::proofs::Marking::one_more))]
     pub(crate) fn push(&mut self, alloc: Global, packet: Packet) -> Result<(), AllocError>
         requires sound { IsSound self.old }
         requires room { length self.old.marks < 2 ^ 31 }

@@ -1,8 +1,9 @@
 //! Marks, of which each stands for a packet: one below 11 for one that is passed over, any other for a segment.
 
-ghost use Rattle.std.specs.Prelude.{◌≡◌, ◌<◌, Some, slice_get};
+ghost use Rattle.std.specs.Prelude.{◌≡◌, ◌<◌, get_or};
 ghost use Rattle.packet_heads.specs.code.Marks.{packet_of, passed_over};
 ghost use Rattle.packet_heads.specs.declared.packets.Packet.TheVariants.{Skipped, Refused};
+ghost use Rattle.packet_heads.specs.declared.packets.Skip.TheVariants.{NotIpv4};
 
 use crate::packets::{PACKET_PART, Packet, Refusal, Segment, Skip};
 use parted_list::Parts;
@@ -18,7 +19,7 @@ pub(crate) const FIRST_SEGMENT: Mark = 11;
 /// The mark of a packet that is skipped.
 pub(crate) fn mark_of_skipped(skip: Skip) -> Mark
     ensures within { result < 11 }
-    ensures is { slice_get passed_over result ≡ Some (Skipped skip) }
+    ensures is { get_or passed_over result (Skipped NotIpv4) ≡ Skipped skip }
 {
     match skip {
         Skip::NotIpv4 => 0,
@@ -30,7 +31,7 @@ pub(crate) fn mark_of_skipped(skip: Skip) -> Mark
 /// The mark of a packet that is refused.
 pub(crate) fn mark_of_refused(refusal: Refusal) -> Mark
     ensures within { result < 11 }
-    ensures is { slice_get passed_over result ≡ Some (Refused refusal) }
+    ensures is { get_or passed_over result (Skipped NotIpv4) ≡ Refused refusal }
 {
     match refusal {
         Refusal::ShortEthernet => 3,
@@ -44,32 +45,32 @@ pub(crate) fn mark_of_refused(refusal: Refusal) -> Mark
     }
 }
 
-/// The packet that is passed over and has this mark, if there is one.
-fn passed_over(mark: Mark) -> Option<Packet>
-    ensures { result ≡ slice_get passed_over mark }
+/// The packet that is passed over and has this mark.
+fn passed_over(mark: Mark) -> Packet
+    ensures { result ≡ get_or passed_over mark (Skipped NotIpv4) }
 {
     match mark {
-        0 => Some(Packet::Skipped(Skip::NotIpv4)),
-        1 => Some(Packet::Skipped(Skip::Fragment)),
-        2 => Some(Packet::Skipped(Skip::NotTcp)),
-        3 => Some(Packet::Refused(Refusal::ShortEthernet)),
-        4 => Some(Packet::Refused(Refusal::ShortIpv4)),
-        5 => Some(Packet::Refused(Refusal::BadVersion)),
-        6 => Some(Packet::Refused(Refusal::BadHeaderLength)),
-        7 => Some(Packet::Refused(Refusal::BadTotalLength)),
-        8 => Some(Packet::Refused(Refusal::PastEnd)),
-        9 => Some(Packet::Refused(Refusal::ShortTcp)),
-        10 => Some(Packet::Refused(Refusal::BadDataOffset)),
-        _ => None,
+        1 => Packet::Skipped(Skip::Fragment),
+        2 => Packet::Skipped(Skip::NotTcp),
+        3 => Packet::Refused(Refusal::ShortEthernet),
+        4 => Packet::Refused(Refusal::ShortIpv4),
+        5 => Packet::Refused(Refusal::BadVersion),
+        6 => Packet::Refused(Refusal::BadHeaderLength),
+        7 => Packet::Refused(Refusal::BadTotalLength),
+        8 => Packet::Refused(Refusal::PastEnd),
+        9 => Packet::Refused(Refusal::ShortTcp),
+        10 => Packet::Refused(Refusal::BadDataOffset),
+        _ => Packet::Skipped(Skip::NotIpv4),
     }
 }
 
 /// What a mark stands for among these segments.
+#[tactic(auto, using(crate::proofs::Marking::marks))]
 pub(crate) fn packet_of(segments: &Parts<'_, Segment, PACKET_PART>, mark: Mark) -> Packet
     ensures { result ≡ packet_of segments.now mark }
 {
-    if let Some(packet) = passed_over(mark) {
-        return packet;
+    if mark < FIRST_SEGMENT {
+        return passed_over(mark);
     }
     match segments.get((mark - FIRST_SEGMENT) as usize) {
         Some(segment) => Packet::Segment(*segment),

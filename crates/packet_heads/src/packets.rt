@@ -138,22 +138,24 @@ impl<'a> Packets<'a> {
     }
 
     /// The packet of an index, if there is one.
+    #[tactic(auto, using(std::proofs::lemmas::Option::gets))]
     pub fn get(&self, index: usize) -> Option<Packet>
         ensures some { IfSome result (λ packet. slice_get self.now index ≡ Some packet) }
         ensures none { IfNone result (length self.now ≤ index) }
     {
-        if index < self.len() {
-            Some(self.at(index))
-        } else {
-            None
-        }
+        let mark = self.marks.get(index)?;
+        Some(packet_of(&self.segments, *mark))
     }
 
     /// The packet of an index.
+    #[tactic(auto, using(std::proofs::lemmas::Option::gets))]
     pub fn at(&self, index: usize) -> Packet
         requires { index < length self.now }
         ensures { result ≡ get_or self.now index result }
     {
-        packet_of(&self.segments, self.marks.from(index)[0])
+        match self.get(index) {
+            Some(packet) => packet,
+            None => unreachable!(),
+        }
     }
 }
