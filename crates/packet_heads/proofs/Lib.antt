@@ -2,7 +2,6 @@ mod Bits
 mod Headers
 mod Held
 mod Marking
-mod Placing
 mod Rows
 mod Table
 mod Walking

@@ -48,6 +48,7 @@ fn segment_of(number: u32, row: &Record, partial: bool, at: usize, datagram: &[u
 /// What a record with these captured bytes holds: the first line of the table that applies.
 // Called once for each record that lies together, and from one other place.
 #[inline(always)]
+#[tactic(auto, using(crate::proofs::Headers::stands_anywhere))]
 fn decision_on(link: u16, number: u32, row: &Record, packet: &[u8]) -> Packet
     requires linked { IsTrue (is_read link) }
     requires captured { length packet.now ≡ row.now.length }
@@ -76,6 +77,7 @@ fn decision_on(link: u16, number: u32, row: &Record, packet: &[u8]) -> Packet
 /// `link` is the link type of the capture, 1 (Ethernet) or 101 (raw IP); `number` is the record's. The captured
 /// bytes of `row` are to lie in `capture`, as those of `pcap_records::records` do. They are read where they lie;
 /// those in which parts of the capture meet are gathered first.
+#[tactic(auto, using(crate::proofs::Headers::in_front), unfolding(crate::specs::Decision::packet_decision))]
 pub fn decode(
     alloc: Global,
     link: u16,
@@ -102,6 +104,7 @@ pub fn decode(
 
 /// The same of captured bytes in which parts of the capture meet: they are gathered first.
 #[cold]
+#[tactic(auto, unfolding(crate::specs::Decision::packet_decision))]
 fn decode_gathered(
     alloc: Global,
     link: u16,

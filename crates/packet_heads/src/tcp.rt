@@ -59,7 +59,7 @@ pub fn header_length(segment: &[u8]) -> usize
     4 * data_offset(segment) as usize
 }
 
-#[tactic(auto, unfolding(crate::specs::Tcp::syn))]
+#[tactic(auto, using(crate::proofs::Bits::bit_1_by_mask), unfolding(crate::specs::Tcp::syn))]
 pub fn syn(segment: &[u8]) -> bool
     requires { 20 ≤ length segment.now }
     ensures { result ≡ syn segment.now }
@@ -67,7 +67,7 @@ pub fn syn(segment: &[u8]) -> bool
     segment[13] & SYN != 0
 }
 
-#[tactic(auto, unfolding(crate::specs::Tcp::ack))]
+#[tactic(auto, using(crate::proofs::Bits::bit_4_by_mask), unfolding(crate::specs::Tcp::ack))]
 pub fn ack(segment: &[u8]) -> bool
     requires { 20 ≤ length segment.now }
     ensures { result ≡ ack segment.now }

@@ -1,72 +1,62 @@
-use Rattle.std.proofs.Common.{◌==◌, drop, ap, ◌∙◌, arith}
+use Rattle.std.proofs.Common.{◌≡◌, ◌==◌, ◌+◌, ℕ, List, drop, sym, ap, ◌∙◌, unwrap_or, arith}
 use Rattle.std.proofs.lemmas.Grind.{common_steps}
-use Rattle.packet_heads.specs.Decision.{is_partial}
-use Rattle.packet_heads.specs.declared.packets.Packet.TheVariants.{Segment}
 use Rattle.pcap_records.specs.LinkType.{raw_ip}
+use Rattle.pcap_records.specs.declared.capture.Record.{Record}
+use Rattle.packet_heads.specs.Decision.{decision_on, is_partial, segment_of}
 use Rattle.packet_heads.specs.Link.{datagram_start}
 use Rattle.packet_heads.specs.Ipv4.{segment_bytes}
+use Rattle.packet_heads.specs.declared.packets.Packet.TheVariants.{Segment}
 use Rattle.packet_heads.specs.code.Ipv4.{ipv4_lines}
+use Rattle.packet_heads.specs.code.Lines.{first_answer}
 use Rattle.packet_heads.specs.code.Link.{link_lines}
 use Rattle.packet_heads.specs.code.Tcp.{tcp_lines}
-use Rattle.packet_heads.proofs.Placing.{StandsIn-passed_over}
-use Rattle.packet_heads.proofs.Table.{by_lines, decided_by_first, decided_by_second, decided_by_third, decided_by_last}
+use Rattle.packet_heads.proofs.Table.{by_parts}
 use Rattle.packet_heads.proofs.decoding.decision_on.Goals as goal
+
+-- the decision by the three answers, where the datagram begins there
+by_answers : (link number : ℕ) (row : Record) (packet : List ℕ) (start : ℕ) (datagram : List ℕ)
+    → start ≡ datagram_start link packet → datagram ≡ drop start packet
+    → decision_on link number row packet ≡ unwrap_or (first_answer (link_lines link packet))
+    (unwrap_or (first_answer (ipv4_lines (is_partial row) datagram))
+    (unwrap_or (first_answer (tcp_lines (segment_bytes datagram)))
+    (Segment (segment_of number row (row.start + start) datagram))))
+by_answers link number row packet start datagram start_is datagram_is =
+    rw (datagram_is, start_is) (by_parts (link == raw_ip) (is_partial row) packet
+    (drop (datagram_start link packet) packet) (segment_bytes (drop (datagram_start link packet) packet)) _)
 
 pub returns-in-Some-clause-decided : goal.returns-in-Some-clause-decided
 returns-in-Some-clause-decided c =
-    let packet = c.args.packet.now in
-    let datagram = drop (datagram_start c.args.link packet) packet in
-    by_lines (c.args.link == raw_ip) (is_partial c.args.row.now) packet datagram (segment_bytes datagram) _ _ (
-    decided_by_first (link_lines c.args.link packet) (ipv4_lines (is_partial c.args.row.now) datagram)
-    (tcp_lines (segment_bytes datagram)) _ _
-    c.in-Some.ensures.answer)
+    rw (by_parts (c.args.link == raw_ip) (is_partial c.args.row.now) c.args.packet.now, ← c.in-Some.ensures.answer)
 
 pub returns-in-Some-answer-clause-decided : goal.returns-in-Some-answer-clause-decided
 returns-in-Some-answer-clause-decided c =
-    let packet = c.args.packet.now in
-    let datagram = drop (datagram_start c.args.link packet) packet in
-    by_lines (c.args.link == raw_ip) (is_partial c.args.row.now) packet datagram (segment_bytes datagram) _ _ (
-    decided_by_second (link_lines c.args.link packet) (ipv4_lines (is_partial c.args.row.now) datagram)
-    (tcp_lines (segment_bytes datagram)) _ _
-    c.in_default.ensures.answer
-    (rw (c.datagram-datagram.ensures.datagram, c.datagram_start-start.ensures) at c.in-Some-answer.ensures.answer))
+    rw (
+      by_answers c.args.link c.args.number c.args.row.now c.args.packet.now _ _ c.datagram_start-start.ensures
+          c.datagram-datagram.ensures.datagram,
+      ← c.in_default.ensures.answer,
+      ← c.in-Some-answer.ensures.answer,
+    )
 
 pub returns-in-Some-answer-2-clause-decided : goal.returns-in-Some-answer-2-clause-decided
 returns-in-Some-answer-2-clause-decided c =
-    let packet = c.args.packet.now in
-    let datagram = drop (datagram_start c.args.link packet) packet in
-    by_lines (c.args.link == raw_ip) (is_partial c.args.row.now) packet datagram (segment_bytes datagram) _ _ (
-    decided_by_third (link_lines c.args.link packet) (ipv4_lines (is_partial c.args.row.now) datagram)
-    (tcp_lines (segment_bytes datagram)) _ _
-    c.in_default.ensures.answer
-    (rw (c.datagram-datagram.ensures.datagram, c.datagram_start-start.ensures) at c.in_default-answer.ensures.answer)
-    (rw (c.segment.ensures, c.datagram-datagram.ensures.datagram, c.datagram_start-start.ensures) at
-    c.in-Some-answer-2.ensures.answer))
+    rw (
+      by_answers c.args.link c.args.number c.args.row.now c.args.packet.now _ _ c.datagram_start-start.ensures
+          c.datagram-datagram.ensures.datagram,
+      ← c.in_default.ensures.answer,
+      ← c.in_default-answer.ensures.answer,
+      ← c.segment.ensures,
+      ← c.in-Some-answer-2.ensures.answer,
+    )
 
 pub returns-clause-decided : goal.returns-clause-decided
 returns-clause-decided c =
-    let packet = c.args.packet.now in
-    let datagram = drop (datagram_start c.args.link packet) packet in
-    ap Segment (rw (c.datagram-datagram.ensures.datagram, c.datagram_start-start.ensures) at
-    c.segment_of.ensures.segment)
-    ∙ by_lines (c.args.link == raw_ip) (is_partial c.args.row.now) packet datagram (segment_bytes datagram) _ _ (
-    decided_by_last (link_lines c.args.link packet) (ipv4_lines (is_partial c.args.row.now) datagram)
-    (tcp_lines (segment_bytes datagram)) _
-    c.in_default.ensures.answer
-    (rw (c.datagram-datagram.ensures.datagram, c.datagram_start-start.ensures) at c.in_default-answer.ensures.answer)
-    (rw (c.segment.ensures, c.datagram-datagram.ensures.datagram, c.datagram_start-start.ensures) at
-    c.in_default-answer-2.ensures.answer))
-
-pub returns-in-Some-clause-placed : goal.returns-in-Some-clause-placed
-returns-in-Some-clause-placed c = StandsIn-passed_over c.args.number c.args.row.now _ c.in-Some.ensures.passed_over
-
-pub returns-in-Some-answer-clause-placed : goal.returns-in-Some-answer-clause-placed
-returns-in-Some-answer-clause-placed c = StandsIn-passed_over c.args.number c.args.row.now _
-    c.in-Some-answer.ensures.passed_over
-
-pub returns-in-Some-answer-2-clause-placed : goal.returns-in-Some-answer-2-clause-placed
-returns-in-Some-answer-2-clause-placed c = StandsIn-passed_over c.args.number c.args.row.now _
-    c.in-Some-answer-2.ensures.passed_over
+    rw (
+      by_answers c.args.link c.args.number c.args.row.now c.args.packet.now _ _ c.datagram_start-start.ensures
+          c.datagram-datagram.ensures.datagram,
+      ← c.in_default.ensures.answer,
+      ← c.in_default-answer.ensures.answer,
+      ← (rw c.segment.ensures at c.in_default-answer-2.ensures.answer),
+    ) (ap Segment c.segment_of.ensures.segment)
 
 pub returns-clause-placed : goal.returns-clause-placed
 returns-clause-placed c =
