@@ -22,74 +22,72 @@ header_of-append : (header later : List ℕ) → length header ≡ 9 → header_
 header_of-append (a ∷ b ∷ c ∷ d ∷ e ∷ f ∷ g ∷ h ∷ i ∷ []) later nine = refl
 header_of-append _ later nine = absurd (omega arith)
 
--- the header that the bytes of a frame begin with is the frame's
-header_is : (bytes header payload rest : List ℕ) (frame : Spelled) → bytes ≡ header ++ payload ++ rest
-    → Makes header payload frame →
-    header_of bytes ≡ frame.header
-header_is bytes header payload rest frame split makes =
-    ap header_of (split ∙ append_assoc header payload rest) ∙ header_of-append header (payload ++ rest) makes.nine
-    ∙ sym makes.header_is
+-- a frame that bytes begin with, and what follows it
+record BeginWith (bytes : List ℕ) (frame : Spelled) (rest : List ℕ) : Type 0 where
+  pub header : List ℕ
+  pub payload : List ℕ
+  pub split : bytes ≡ header ++ payload ++ rest
+  pub makes : Makes header payload frame
+
+-- its header is the one that the bytes begin with
+header_is : (bytes : List ℕ) (frame : Spelled) (rest : List ℕ) → BeginWith bytes frame rest
+    → header_of bytes ≡ frame.header
+header_is bytes frame rest first =
+    ap header_of (first.split ∙ append_assoc first.header first.payload rest)
+    ∙ header_of-append first.header (first.payload ++ rest) first.makes.nine ∙ sym first.makes.header_is
 
 -- bytes that hold no whole frame begin with none
-holds_none : (bytes header payload rest : List ℕ) (frame : Spelled) → HoldsNoFrame bytes →
-    bytes ≡ header ++ payload ++ rest → Makes header payload frame → ⊥
-holds_none bytes header payload rest frame holds split makes =
-    let size : length bytes ≡ (length header + length payload) + length rest = simp length-append at
-    (ap length split) in
-    let nine : length header ≡ 9 = makes.nine in
-    let whole : length payload ≡ frame.header.length = makes.whole in
-    let same : (header_of bytes).length ≡ frame.header.length =
-    ap (λ (h : Header). h.length) (header_is bytes header payload rest frame split makes) in
-    elim holds [ inl short ↦ omega arith | inr short ↦ omega arith ]
-
-same_frame : (f g : Spelled) → f.header ≡ g.header → f.body ≡ g.body → f ≡ g
-same_frame f g h b =
-    ap (λ (x : Header). record f { header = x }) h ∙ ap (λ (x : Body). record g { body = x }) b
+holds_none : (bytes : List ℕ) (frame : Spelled) (rest : List ℕ) → HoldsNoFrame bytes → BeginWith bytes frame rest → ⊥
+holds_none bytes frame rest holds first =
+    let size = simp length-append at (ap length first.split) in
+    let same = ap (λ (h : Header). h.length) (header_is bytes frame rest first) in
+    elim holds [
+      | inl short ↦ omega (arith, size, short, first.makes.nine)
+      | inr short ↦ omega (arith, size, short, same, first.makes.nine, first.makes.whole)
+    ]
 
 -- two frames that one list of bytes begins with are one, and so is what follows them
-same_first : (bytes header payload rest other_header other_payload other_rest : List ℕ) (f g : Spelled) →
-    bytes ≡ header ++ payload ++ rest → Makes header payload f →
-    bytes ≡ other_header ++ other_payload ++ other_rest → Makes other_header other_payload g
-    → (f ≡ g) × (rest ≡ other_rest)
-same_first bytes header payload rest other_header other_payload other_rest f g split makes other_split other_makes =
-    let headers : f.header ≡ g.header =
-    sym (header_is bytes header payload rest f split makes)
-    ∙ header_is bytes other_header other_payload other_rest g other_split other_makes in
-    let parts = same_parts header other_header (payload ++ rest) (other_payload ++ other_rest)
-    (sym (split ∙ append_assoc header payload rest) ∙ other_split ∙ append_assoc other_header other_payload other_rest)
-    (makes.nine ∙ sym other_makes.nine) in
-    let payloads = same_parts payload other_payload rest other_rest parts.1
-    (makes.whole ∙ ap (λ (h : Header). h.length) headers ∙ sym other_makes.whole) in
+same_first : (bytes : List ℕ) (f g : Spelled) (rest other : List ℕ) → BeginWith bytes f rest → BeginWith bytes g other
+    → (f ≡ g) × (rest ≡ other)
+same_first bytes f g rest other first second =
+    let headers : f.header ≡ g.header = sym (header_is bytes f rest first) ∙ header_is bytes g other second in
+    let parts = same_parts first.header second.header (first.payload ++ rest) (second.payload ++ other)
+    (sym (first.split ∙ append_assoc first.header first.payload rest) ∙ second.split
+    ∙ append_assoc second.header second.payload other) (first.makes.nine ∙ sym second.makes.nine) in
+    let payloads = same_parts first.payload second.payload rest other parts.1
+    (first.makes.whole ∙ ap (λ (h : Header). h.length) headers ∙ sym second.makes.whole) in
     let bodies : f.body ≡ g.body =
-    makes.body_is
-    ∙ ap (λ (h : Header). body_of h.code h.flags payload) headers
-    ∙ ap (body_of g.header.code g.header.flags) payloads.0
-    ∙ sym other_makes.body_is in
-    (same_frame f g headers bodies, payloads.1)
+    rw (first.makes.body_is, headers, payloads.0) (sym second.makes.body_is) in
+    ((λ i. record { header = headers i; body = bodies i }), payloads.1)
+
+begin_with : (bytes : List ℕ) (frame : Spelled) (later : List Spelled) (tail : List ℕ)
+    → (spells : Spells bytes (frame ∷ later) tail) → BeginWith bytes frame spells.2
+begin_with bytes frame later tail spells =
+    record { header = spells.0; payload = spells.1; split = spells.3; makes = spells.4 }
 
 pub spelling-unique : SpellingIsUnique
 spelling-unique bytes [] [] tail other_tail first second = (refl, sym first.0 ∙ second.0)
 spelling-unique bytes [] (f ∷ others) tail other_tail first second =
-    absurd (holds_none bytes second.0 second.1 second.2 f first.1 second.3 second.4)
+    absurd (holds_none bytes f second.2 first.1 (begin_with bytes f others other_tail second))
 spelling-unique bytes (f ∷ frames) [] tail other_tail first second =
-    absurd (holds_none bytes first.0 first.1 first.2 f second.1 first.3 first.4)
+    absurd (holds_none bytes f first.2 second.1 (begin_with bytes f frames tail first))
 spelling-unique bytes (f ∷ frames) (g ∷ others) tail other_tail first second =
-    let same = same_first bytes first.0 first.1 first.2 second.0 second.1 second.2 f g first.3 first.4 second.3
-    second.4 in
-    let later = spelling-unique first.2 frames others tail other_tail first.5
-    (subst (λ (r : List ℕ). Spells r others other_tail) (sym same.1) second.5) in
+    let same = same_first bytes f g first.2 second.2 (begin_with bytes f frames tail first)
+    (begin_with bytes g others other_tail second) in
+    let later = spelling-unique first.2 frames others tail other_tail first.5 (rw same.1 second.5) in
     (cc (same.0, later.0), later.1)
 
 -- no bytes are a part of the preface and begin with all of it
 not_both : (bytes rest : List ℕ) → IsPrefaceCutShort bytes → BeginsWithPreface bytes rest → ⊥
 not_both bytes rest short begins =
-    let size : length bytes + length short.0 ≡ 24 = sym (length-append bytes short.0) ∙ ap length short.2 in
-    let whole : length bytes ≡ 24 + length rest = ap length begins ∙ length-append preface rest in
-    let some : 0 < length short.0 = short.1 in
-    omega arith
-
-short_along : (bytes others : List ℕ) → bytes ≡ others → IsPrefaceCutShort bytes → IsPrefaceCutShort others
-short_along bytes others e short = (short.0, short.1, ap (λ (b : List ℕ). b ++ short.0) (sym e) ∙ short.2)
+    omega (
+      arith,
+      length-append bytes short.0,
+      ap length short.2,
+      ap length begins,
+      length-append preface rest,
+      short.1,
+    )
 
 module _ (client server other_client other_server : Flow) (c : IsSameFlow client other_client)
     (s : IsSameFlow server other_server) where
@@ -98,10 +96,8 @@ module _ (client server other_client other_server : Flow) (c : IsSameFlow client
   same_http2 frames others tails other_tails first second =
       let rests : first.after_preface ≡ second.after_preface =
       append_cancel_left preface _ _ (sym first.client_begins ∙ c.bytes ∙ second.client_begins) in
-      let clients = spelling-unique _ _ _ _ _ first.client_spells
-      (subst (λ (r : List ℕ). Spells r second.client_frames second.client_tail) (sym rests) second.client_spells) in
-      let servers = spelling-unique _ _ _ _ _ first.server_spells
-      (subst (λ (r : List ℕ). Spells r second.server_frames second.server_tail) (sym s.bytes) second.server_spells) in (
+      let clients = spelling-unique _ _ _ _ _ first.client_spells (rw (← rests) at second.client_spells) in
+      let servers = spelling-unique _ _ _ _ _ first.server_spells (rw (← s.bytes) at second.server_spells) in (
         rw (first.in_order, second.in_order, clients.0, servers.0, c.arrivals, s.arrivals) refl,
         rw (first.tails_are, second.tails_are, clients.1, servers.1) refl,
       )
@@ -111,16 +107,15 @@ module _ (client server other_client other_server : Flow) (c : IsSameFlow client
   same_cuts NoHandshake _ first second = absurd (false≢true (sym first ∙ s.started ∙ second.0))
   same_cuts _ NoHandshake first second = absurd (false≢true (sym second ∙ sym s.started ∙ first.0))
   same_cuts NoPreface NoPreface first second = tt
-  same_cuts NoPreface NotHttp2 first second = absurd (second.1 (short_along _ _ c.bytes first.1))
+  same_cuts NoPreface NotHttp2 first second = absurd (second.1 (rw (← c.bytes) first.1))
   same_cuts NoPreface (Http2 frames tails) first second =
-      absurd (not_both _ _ (short_along _ _ c.bytes first.1) second.1.client_begins)
-  same_cuts NotHttp2 NoPreface first second = absurd (first.1 (short_along _ _ (sym c.bytes) second.1))
+      absurd (not_both _ _ (rw (← c.bytes) first.1) second.1.client_begins)
+  same_cuts NotHttp2 NoPreface first second = absurd (first.1 (rw c.bytes second.1))
   same_cuts NotHttp2 NotHttp2 first second = tt
   same_cuts NotHttp2 (Http2 frames tails) first second = absurd (first.2 _ (c.bytes ∙ second.1.client_begins))
   same_cuts (Http2 frames tails) NoPreface first second =
-      absurd (not_both _ _ (short_along _ _ (sym c.bytes) second.1) first.1.client_begins)
-  same_cuts (Http2 frames tails) NotHttp2 first second =
-      absurd (second.2 _ (sym c.bytes ∙ first.1.client_begins))
+      absurd (not_both _ _ (rw c.bytes second.1) first.1.client_begins)
+  same_cuts (Http2 frames tails) NotHttp2 first second = absurd (second.2 _ (sym c.bytes ∙ first.1.client_begins))
   same_cuts (Http2 frames tails) (Http2 others other_tails) first second =
       same_http2 frames.items others.items tails other_tails first.1 second.1
 
