@@ -29,7 +29,7 @@ with_packet-other past (Carried s) h = absurd (h s refl)
 with_packet-other past _ h = refl
 
 -- a segment bears the number of its index
-numbered_at : (n : ℕ) (packets : List Packet) (i : ℕ) (s : Segment) → AreNumberedFrom n packets
+pub numbered_at : (n : ℕ) (packets : List Packet) (i : ℕ) (s : Segment) → AreNumberedFrom n packets
     → slice_get packets i ≡ Some (Carried s) → s.rec ≡ n + i
 numbered_at n [] i s h at = absurd (none-some (Carried s) at)
 numbered_at n (Carried t ∷ rest) zero s h at = rw (let same : s ≡ t = cc in same) (omega (arith, h.0))

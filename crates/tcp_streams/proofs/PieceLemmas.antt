@@ -14,6 +14,7 @@ use Rattle.tcp_streams.specs.code.Interval.{PayloadsFit, stretch}
 use Rattle.tcp_streams.specs.laws.Flows.{ByteHasOffset}
 use Rattle.tcp_streams.proofs.IntervalLemmas.{at-append}
 use Rattle.tcp_streams.proofs.Lists.{by_Bool, by_lt, by_option}
+use Rattle.tcp_streams.proofs.Numbered.{numbered_at}
 
 -- a payload that stands in the capture
 pub record StandsIn (size : ℕ) (s : Segment) : Type 0 where
@@ -181,27 +182,20 @@ PayloadsRise-end from size [] h = h
 PayloadsRise-end from size (Carried s ∷ rest) h = omega (arith, h.0, h.1, PayloadsRise-end s.hi size rest h.2)
 PayloadsRise-end from size (_ ∷ rest) h = PayloadsRise-end from size rest h
 
+stands-at : (size from : ℕ) (packets : List Packet) (i : ℕ) (s : Segment) → PayloadsRise from size packets
+    → TimesFit packets → slice_get packets i ≡ Some (Carried s) → StandsIn size s × (s.nanos < 2 ^ 63)
+stands-at size from [] i s p t at' = absurd (none-some (Carried s) at')
+stands-at size from (Carried x ∷ rest) zero s p t at' =
+    rw (let same : s ≡ x = cc in same) (record { ordered = p.1; within = PayloadsRise-end x.hi size rest p.2 }, t.0)
+stands-at size from (_ ∷ rest) zero s p t at' = absurd cc
+stands-at size from (Carried x ∷ rest) (suc i) s p t at' = stands-at size x.hi rest i s p.2 t.1 at'
+stands-at size from (_ ∷ rest) (suc i) s p t at' = stands-at size from rest i s p t at'
+
 -- the segment in a record stands in the capture and bears the record's number
 pub record SoundAt (size m : ℕ) (s : Segment) : Type 0 where
   pub stands : StandsIn size s
   pub numbered : s.rec ≡ m
   pub timely : s.nanos < 2 ^ 63
-
-sound-at : (size from n : ℕ) (packets : List Packet) (i : ℕ) (s : Segment) → PayloadsRise from size packets
-    → TimesFit packets → AreNumberedFrom n packets
-    → slice_get packets i ≡ Some (Carried s) → SoundAt size (n + i) s
-sound-at size from n [] i s p t h at' = absurd (none-some (Carried s) at')
-sound-at size from n (Carried x ∷ rest) zero s p t h at' =
-    rw (let same : s ≡ x = cc in same) (record {
-      stands = record { ordered = p.1; within = PayloadsRise-end x.hi size rest p.2 };
-      numbered = omega (arith, h.0);
-      timely = t.0;
-    })
-sound-at size from n (_ ∷ rest) zero s p t h at' = absurd cc
-sound-at size from n (Carried x ∷ rest) (suc i) s p t h at' =
-    rw (let next : n + suc i ≡ n + 1 + i = omega arith in next) (sound-at size x.hi (n + 1) rest i s p.2 t.1 h.1 at')
-sound-at size from n (_ ∷ rest) (suc i) s p t h at' =
-    rw (let next : n + suc i ≡ n + 1 + i = omega arith in next) (sound-at size from (n + 1) rest i s p t h at')
 
 -- a segment found by its record stands at the record's index
 pub found-at : (packets : List Packet) (m : ℕ) (s : Segment) → segment_of packets m ≡ Some s
@@ -215,8 +209,10 @@ found-at packets m s h = by (slice_get packets (m - 1)) h
 module _ (packets : List Packet) (size : ℕ) (rise : PayloadsRise 0 size packets) (times : TimesFit packets)
     (numbered : AreNumberedFrom 1 packets) where
   pub sound-found : (m : ℕ) (s : Segment) → 0 < m → segment_of packets m ≡ Some s → SoundAt size m s
-  sound-found m s some h = rw (let same : 1 + (m - 1) ≡ m = omega arith in same) at
-      (sound-at size 0 1 packets (m - 1) s rise times numbered (found-at packets m s h))
+  sound-found m s some h =
+      let here = found-at packets m s h in
+      let (stands, timely) = stands-at size 0 packets (m - 1) s rise times here in
+      record { stands = stands; numbered = omega (arith, numbered_at 1 packets (m - 1) s numbered here); timely = timely }
 
   -- the members' segments that pass a test are sound
   pub members-sound : (test : Segment → Bool) (low : ℕ) (members : List ℕ) → AreMembers low packets members

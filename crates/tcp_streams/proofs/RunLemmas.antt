@@ -3,7 +3,7 @@ use Rattle.tcp_streams.proofs.Words.{◌≡◌, ℕ, ◌<◌, ◌≤◌, List, [
 use Rattle.tcp_streams.proofs.Words.{suc, ◌+◌, ◌-◌, ◌^◌, ◌++◌, length, drop, take, slice_get, ap, IsSome, All, IfSome}
 use Rattle.tcp_streams.proofs.Words.{IsSomeAnd, slice_range, option_or, ne_eqb, eq-eqb, lt-ltb, le-ltb, nat_tests}
 use Rattle.tcp_streams.proofs.Words.{append-nil, append_assoc, length-append, All-nil, All-weaker, All-cons, All-head}
-use Rattle.tcp_streams.proofs.Words.{All-tail, sum_by-append, sum_by-cons, Rises, IsArrivalOf, IsFlow, IsGap}
+use Rattle.tcp_streams.proofs.Words.{All-tail, if◌then◌else◌, nat_lt, sum_by-append, sum_by-cons, Rises, IsArrivalOf, IsFlow, IsGap}
 use Rattle.tcp_streams.proofs.Words.{arrival_at, Source, arrival, end_of_offsets, AreCaptured, IsInterval, IsCaptured}
 use Rattle.tcp_streams.proofs.Words.{Spans, arrival_with, arrivals_after, arrivals_in, at, bytes_in, run_length}
 use Rattle.tcp_streams.proofs.Words.{size_of, source_in, width, AreTimely, Interval, Arrival}
@@ -145,15 +145,10 @@ up_to a upto = record { upto = upto; rec = a.rec; nanos = a.nanos }
 
 module _ (sources : ℕ → Option Source) where
   -- at an interval's offset, the later of the two records counts
-  later : (p : Option Source) (a : Arrival) (x : Interval) (o : ℕ) → a.rec < x.rec → IsArrivalOf a p
-      → IsArrivalOf (arrival_with x) (later_of p (Some (source_in x o)))
-  later None a x o lt k = absurd k
-  later (Some s) a x o lt k = rw (lt-ltb s.rec x.rec (omega (arith, k.0))) (refl, refl)
-
-  not_later : (p : Option Source) (a : Arrival) (x : Interval) (o : ℕ) → x.rec ≤ a.rec → IsArrivalOf a p
-      → IsArrivalOf a (later_of p (Some (source_in x o)))
-  not_later None a x o le k = absurd k
-  not_later (Some s) a x o le k = rw (le-ltb s.rec x.rec (omega (arith, k.0))) k
+  later : (p : Option Source) (a : Arrival) (x : Interval) (o : ℕ) → IsArrivalOf a p
+      → IsArrivalOf (if nat_lt a.rec x.rec then arrival_with x else a) (later_of p (Some (source_in x o)))
+  later None a x o k = absurd k
+  later (Some s) a x o k = rw (← k.0) (by_lt a.rec x.rec (λ e _. rw e (refl, refl)) (λ e _. rw e (refl, k.1)))
 
   -- along an interval of no later record the arrival stays
   stays : (a : Arrival) (x : Interval) (low : ℕ) → x.rec ≤ a.rec → IsArrivalOf a (arrival sources low)
@@ -163,7 +158,8 @@ module _ (sources : ℕ → Option Source) where
   stays a x low le h brings (suc o) k lt =
       by_lt low (suc o)
       (λ _ after. rw (brings (suc o) after lt)
-      (not_later (arrival sources o) a x (suc o) le (stays a x low le h brings o (omega arith) (omega arith))))
+      (rw (le-ltb a.rec x.rec le) at (later (arrival sources o) a x (suc o)
+      (stays a x low le h brings o (omega arith) (omega arith)))))
       (λ _ here. rw (let e : low ≡ suc o = omega arith in e) at h)
 
   -- the arrival at an offset, by the one before it
@@ -191,12 +187,12 @@ module _ (sources : ℕ → Option Source) where
       (λ e newer. rw e (by_lt o a.upto
       (λ t before. rw t (here o le before))
       (λ t after. rw t (arrivals-from (arrival_with x) xs a.upto (omega (arith, f.0, f.1.some)) f.2
-      (stays (arrival_with x) x a.upto (omega arith) (rw begins (later before a x a.upto newer last))
+      (stays (arrival_with x) x a.upto (omega arith) (rw begins (rw e at (later before a x a.upto last)))
       (λ p q r. brings p (omega arith) r)) past o after lt))))
       (λ e in_time. rw e (arrivals-from (up_to a x.upto) xs low (omega (arith, f.0, f.1.some)) f.2
       (λ p q r. by_lt p a.upto
       (λ _ before. here p q before)
-      (λ _ after. stays a x a.upto in_time (rw begins (not_later before a x a.upto in_time last))
+      (λ _ after. stays a x a.upto in_time (rw begins (rw e at (later before a x a.upto last)))
       (λ p q r. brings p (omega arith) r) p after r)) past o le lt))
 
   -- the entries of a run are its arrivals
@@ -211,36 +207,28 @@ module _ (sources : ℕ → Option Source) where
       (λ p q r. brings p r))
       (λ p q r. same p r ∙ at-past x xs p q) o (omega arith) lt
 
--- they rise, and end at the run's end
-Rises-after : (low rec : ℕ) (a : Arrival) (xs : List Interval) → low < a.upto → rec < a.rec → Follows a.upto xs
-    → Rises low rec (arrivals_after a xs) (run_end a.upto xs)
-Rises-after low rec a [] lt k f = (lt, k, refl)
-Rises-after low rec a (x ∷ xs) lt k f =
+-- they rise, end at the run's end, and their times are the intervals'
+entries : (size low rec : ℕ) (a : Arrival) (xs : List Interval) → low < a.upto → rec < a.rec → a.nanos < 2 ^ 63
+    → Follows a.upto xs → All (IsHeld size) xs
+    → Rises low rec (arrivals_after a xs) (run_end a.upto xs) × AreTimely (arrivals_after a xs)
+entries size low rec a [] lt k timely f h = ((lt, k, refl), All-cons (λ (e : Arrival). e.nanos < 2 ^ 63) a [] timely (All-nil _))
+entries size low rec a (x ∷ xs) lt k timely f h =
+    let head = All-head (IsHeld size) x xs h in
+    let tail = All-tail (IsHeld size) x xs h in
+    let within : a.upto < x.upto = omega (arith, f.0, f.1.some) in
     by_lt a.rec x.rec
-    (λ e newer. rw e (lt, k, Rises-after a.upto a.rec (arrival_with x) xs (omega (arith, f.0, f.1.some)) newer f.2))
-    (λ e _. rw e (Rises-after low rec (up_to a x.upto) xs (omega (arith, f.0, f.1.some)) k f.2))
+    (λ e newer.
+    let rest = entries size a.upto a.rec (arrival_with x) xs within newer head.timely f.2 tail in
+    rw e ((lt, k, rest.0), All-cons (λ (e : Arrival). e.nanos < 2 ^ 63) a _ timely rest.1))
+    (λ e _. rw e (entries size low rec (up_to a x.upto) xs (omega arith) k timely f.2 tail))
 
-run-rises : (size : ℕ) (run : List Interval) → Follows 0 run → All (IsHeld size) run
-    → Rises 0 0 (arrivals_in run) (run_end 0 run)
-run-rises size [] f h = refl
-run-rises size (x ∷ xs) f h = Rises-after 0 0 (arrival_with x) xs (omega (arith, f.1.some))
-    (All-head (IsHeld size) x xs h).numbered f.2
-
--- their times are the intervals'
-timely-after : (size : ℕ) (a : Arrival) (xs : List Interval) → a.nanos < 2 ^ 63 → All (IsHeld size) xs
-    → AreTimely (arrivals_after a xs)
-timely-after size a [] h k = All-cons (λ (e : Arrival). e.nanos < 2 ^ 63) a [] h (All-nil _)
-timely-after size a (x ∷ xs) h k =
-    let rest = All-tail (IsHeld size) x xs k in
-    by_lt a.rec x.rec
-    (λ e _. rw e (All-cons (λ (e : Arrival). e.nanos < 2 ^ 63) a _ h
-    (timely-after size (arrival_with x) xs (All-head (IsHeld size) x xs k).timely rest)))
-    (λ e _. rw e (timely-after size (up_to a x.upto) xs h rest))
-
-arrivals-timely : (size : ℕ) (run : List Interval) → All (IsHeld size) run → AreTimely (arrivals_in run)
-arrivals-timely size [] h = All-nil _
-arrivals-timely size (x ∷ xs) h =
-    timely-after size (arrival_with x) xs (All-head (IsHeld size) x xs h).timely (All-tail (IsHeld size) x xs h)
+run-entries : (size : ℕ) (run : List Interval) → Follows 0 run → All (IsHeld size) run
+    → Rises 0 0 (arrivals_in run) (run_end 0 run) × AreTimely (arrivals_in run)
+run-entries size [] f h = (refl, All-nil _)
+run-entries size (x ∷ xs) f h =
+    let head = All-head (IsHeld size) x xs h in
+    entries size 0 0 (arrival_with x) xs (omega (arith, f.1.some)) head.numbered head.timely f.2
+    (All-tail (IsHeld size) x xs h)
 
 -- a gap where something comes after
 abbrev pub gap_of : List Interval → ℕ → Option ℕ
@@ -264,7 +252,7 @@ module _ (capture : List ℕ) (whole run rest : List Interval) (same : run ++ re
   run-in_capture = All-weaker (IsHeld (length capture)) _ (λ x is. is.within) run run-held
 
   pub run-timely : AreTimely (arrivals_in run)
-  run-timely = arrivals-timely (length capture) run run-held
+  run-timely = (run-entries (length capture) run is.follows run-held).1
 
   run-length : length (bytes_in capture run) ≡ run_end 0 run
   run-length = omega (arith, length-bytes_in capture 0 run is.follows run-held)
@@ -296,7 +284,7 @@ module _ (capture : List ℕ) (whole run rest : List Interval) (same : run ++ re
     });
     bytes_are = λ o lt. rw (here o (omega (arith, run-length))) (rw (let e : o - 0 ≡ o = omega arith in e) at
         (bytes-at capture 0 run o is.follows run-held (omega arith) (omega (arith, run-length))));
-    rises = rw run-length (run-rises (length capture) run is.follows run-held);
+    rises = rw run-length (run-entries (length capture) run is.follows run-held).0;
     arrivals_are = rw run-length (run-arrivals (at whole) run is.follows here);
     gap_is = rw run-length gap-is;
   }

@@ -22,10 +22,7 @@ not-shorter : (F : ℕ → Option Source) (n m : ℕ) → IsLongestRun F n → I
 not-shorter F n m h k lt = none_and_some (F n) (h.longest (omega (arith, k.within))) (k.covered n lt)
 
 run-unique : (F : ℕ → Option Source) (n m : ℕ) → IsLongestRun F n → IsLongestRun F m → n ≡ m
-run-unique F n m h k =
-    by_lt n m
-    (λ _ lt. absurd (not-shorter F n m h k lt))
-    (λ _ le. by_lt m n (λ _ lt. absurd (not-shorter F m n k h lt)) (λ _ ge. omega arith))
+run-unique F n m h k = omega (arith, not-shorter F n m h k, not-shorter F m n k h)
 
 -- one source, one byte
 same-byte : (p : Option Source) (capture : List ℕ) (x y : Option ℕ)
@@ -96,11 +93,7 @@ module _ (S : ℕ → Option Source) (n : ℕ) where
   arrivals-unique low rec rec' (e ∷ l) [] h j are bear = absurd (omega (arith, j, h.0, Rises-end e.upto e.rec l n h.2))
   arrivals-unique low rec rec' (e ∷ l) (f ∷ k) h j are bear =
       let same : e.upto ≡ f.upto =
-      by_lt e.upto f.upto
-      (λ _ lt. absurd (not-before low rec rec' e f l k h j are bear lt))
-      (λ _ le. by_lt f.upto e.upto
-      (λ _ lt. absurd (not-before low rec' rec f e k l j h bear are lt))
-      (λ _ ge. omega arith)) in
+      omega (arith, not-before low rec rec' e f l k h j are bear, not-before low rec' rec f e k l j h bear are) in
       let (recs, times) = first low rec rec' e f l k h j are bear in
       let entry : e ≡ f = (λ i. record { upto = same i; rec = recs i; nanos = times i }) in
       let rest : l ≡ k = arrivals-unique e.upto e.rec f.rec l k h.2 (rw same j.2)
