@@ -1,7 +1,7 @@
 -- Going on in bytes that lie in pieces.
 use Rattle.std.proofs.Common.{◌≡◌, ℕ, zero, suc, ◌+◌, ◌-◌, ◌<◌, ◌≤◌, List, [], ◌∷◌, ◌++◌, length, get_or, take, drop}
 use Rattle.std.proofs.Common.{refl, ap, sym, ◌∙◌, arith, append_assoc, add-one, length-append, length-drop, drop-cons}
-use Rattle.std.proofs.Math.Seq.{take-length}
+use Rattle.std.proofs.lemmas.List.{take_all}
 use Rattle.std.specs.Borrow.{Bor}
 use Rattle.h2_frames.proofs.Words.{Pieces, joined, IsCounted}
 use Rattle.h2_frames.specs.code.Pieces.{bytes_of}
@@ -31,11 +31,8 @@ pub gone_on : (first : List ℕ) (later rest : List (Bor (List ℕ))) (d : Bor (
     → 0 < length later →
     rest ≡ take (length later - 1) (drop 1 later) → (get_or later 0 d).now ++ joined rest ≡ first ++ joined later
 gone_on first later rest d over more rest_is =
-    let from = joined-from later 0 d more in
-    let size : length later - 1 ≡ length (drop 1 later) = sym (length-drop 1 later) in
-    let whole : rest ≡ drop 1 later = rest_is ∙ ap (λ (n : ℕ). take n (drop 1 later)) size
-    ∙ take-length (drop 1 later) in
-    rw whole (sym from ∙ sym (none_before first (joined later) over))
+    rw (rest_is, take_all (length later - 1) (drop 1 later) (omega (arith, length-drop 1 later)))
+    (sym (joined-from later 0 d more) ∙ sym (none_before first (joined later) over))
 
 -- some of the bytes were taken, and so many are still wanted
 pub record IsPartlyTaken (count wanted : ℕ) (old new : Pieces) : Type 0 where
@@ -51,17 +48,12 @@ abbrev pub partly_taken-turn : (count wanted : ℕ) (old now next : Pieces) (par
     bytes_of now ≡ part ++ bytes_of next → length part ≤ wanted → IsCounted next →
     IsPartlyTaken count (wanted - length part) old next
 partly_taken-turn count wanted old now next part taken part_is fits counted =
-    let size : length (bytes_of now) ≡ length part + length (bytes_of next) =
-    ap length part_is ∙ length-append part (bytes_of next) in
-    let before : length taken.front + wanted ≡ count = taken.size in
-    let there : wanted ≤ length (bytes_of now) = taken.there in
     record {
       front = taken.front ++ part;
-      size = omega (arith, length-append taken.front part);
-      bytes = taken.bytes ∙ ap (λ (xs : List ℕ). taken.front ++ xs) part_is
-          ∙ sym (append_assoc taken.front part (bytes_of next));
+      size = omega (arith, length-append taken.front part, taken.size);
+      bytes = rw append_assoc (taken.bytes ∙ ap (λ (xs : List ℕ). taken.front ++ xs) part_is);
       counted = counted;
-      there = omega arith;
+      there = omega (arith, ap length part_is, length-append part (bytes_of next), taken.there);
     }
 
 pub ruleset piece_lengths = (length-from, joined-over)

@@ -32,7 +32,7 @@ IsAscending (x ∷ xs) = IsAscendingFrom x xs
 
 put-ascending : (x : Frame) (xs : List Frame) → IsAscendingFrom x xs → put_by comes_after x xs ≡ x ∷ xs
 put-ascending x [] h = refl
-put-ascending x (y ∷ ys) h = let first = h.0 in rw first refl
+put-ascending x (y ∷ ys) h = rw h.0
 
 rest_ascending : (x : Frame) (xs : List Frame) → IsAscendingFrom x xs → IsAscending xs
 rest_ascending x [] h = tt
@@ -42,14 +42,13 @@ rest_ascending x (y ∷ ys) h = h.1
 ordered-ascending : (xs : List Frame) → IsAscending xs → ordered_by comes_after xs ≡ xs
 ordered-ascending [] h = refl
 ordered-ascending (x ∷ xs) h =
-    let rest = ordered-ascending xs (rest_ascending x xs h) in
-    ap (put_by comes_after x) rest ∙ put-ascending x xs h
+    ap (put_by comes_after x) (ordered-ascending xs (rest_ascending x xs h)) ∙ put-ascending x xs h
 
 -- a frame before those of its side goes where merging puts it
 put-merge : (x : Frame) (xs ys : List Frame) → IsAscendingFrom x xs →
     put_by comes_after x (merged xs ys) ≡ merged (x ∷ xs) ys
 put-merge x [] [] h = refl
-put-merge x (c ∷ xs) [] h = let first = h.0 in rw first refl
+put-merge x (c ∷ xs) [] h = rw h.0
 put-merge x [] (y ∷ ys) h = grind (arith, put-merge x [] ys h)
 put-merge x (c ∷ xs) (y ∷ ys) h = grind (arith, put-merge x (c ∷ xs) ys h, after_trans x c y h.0, h.0)
 
@@ -58,8 +57,7 @@ pub ordered-merge : (xs ys : List Frame) → IsAscending xs → IsAscending ys �
     ordered_by comes_after (xs ++ ys) ≡ merged xs ys
 ordered-merge [] ys h k = ordered-ascending ys k
 ordered-merge (x ∷ xs) ys h k =
-    let rest = ordered-merge xs ys (rest_ascending x xs h) k in
-    ap (put_by comes_after x) rest ∙ put-merge x xs ys h
+    ap (put_by comes_after x) (ordered-merge xs ys (rest_ascending x xs h) k) ∙ put-merge x xs ys h
 
 -- bytes arrive at later and later records
 rec_above : (low rec high o : ℕ) (arrivals : List Arrival) → Rises low rec arrivals high → low ≤ o → o < high →
@@ -91,17 +89,14 @@ captured-ascending : (side : Side) (arrivals : List Arrival) (high : ℕ) → Ri
     IsAscendingFrom x (captured_from side arrivals number offset spelled)
 captured-ascending side arrivals high rises number offset [] bytes tail spells within x last h k e = tt
 captured-ascending side arrivals high rises number offset (s ∷ later) bytes tail spells within x last h k e =
-    let header = spells.0 in let payload = spells.1 in let rest = spells.2 in
     let makes = spells.4 in
-    let size : length bytes ≡ (length header + length payload) + length rest = simp length-append at
-    (ap length spells.3) in
-    let nine : length header ≡ 9 = makes.nine in
-    let whole : length payload ≡ s.header.length = makes.whole in
+    let size = simp length-append at (ap length spells.3) in
     let upto = offset + (9 + s.header.length) in
+    let fits : upto + length spells.2 ≤ high = omega (arith, size, makes.nine, makes.whole) in
     let rec : (byte_arrival arrivals last).rec ≤ (byte_arrival arrivals (upto - 1)).rec =
     rec_rises 0 0 high last (upto - 1) arrivals rises (omega arith) (omega arith) (omega arith) in (
       later_number x (captured side number (byte_arrival arrivals (upto - 1)) s) h (omega arith),
-      captured-ascending side arrivals high rises (number + 1) upto later rest tail spells.5 (omega arith)
+      captured-ascending side arrivals high rises (number + 1) upto later spells.2 tail spells.5 fits
           (captured side number (byte_arrival arrivals (upto - 1)) s) (upto - 1) (omega arith) (omega arith) refl,
     )
 

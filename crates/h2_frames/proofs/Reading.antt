@@ -1,8 +1,8 @@
 -- One frame is read of what is ahead.
-use Rattle.std.proofs.Common.{◌≡◌, ℕ, ◌+◌, ◌-◌, ◌^◌, ◌<◌, ◌≤◌, List, ◌∷◌, ◌++◌, length, get_or, refl, ap, ◌∙◌, arith}
+use Rattle.std.proofs.Common.{◌≡◌, ℕ, ◌+◌, ◌-◌, ◌^◌, ◌<◌, List, ◌∷◌, ◌++◌, length, get_or, refl, ap, ◌∙◌, arith}
 use Rattle.std.proofs.Common.{length-append}
-use Rattle.h2_frames.proofs.Words.{AllByRecursion, Arrival, Side, Frame, promised_in, Spelled, Unread, Makes}
-use Rattle.h2_frames.proofs.Words.{byte_arrival, captured, captured_from, IsCounted, arrivals_from, IsReadable}
+use Rattle.h2_frames.proofs.Words.{AllByRecursion, Arrival, Side, Frame, Spelled, Unread}
+use Rattle.h2_frames.proofs.Words.{byte_arrival, captured, captured_from, arrivals_from, IsReadable}
 use Rattle.h2_frames.proofs.Words.{AreAhead, IsOneTaken, IsPlaced, Pieces}
 use Rattle.h2_frames.specs.code.Pieces.{bytes_of}
 use Rattle.h2_frames.proofs.Arriving.{captured_from-from, get_or-arrivals_from, arrivals_from-not_empty}

@@ -1,6 +1,6 @@
 -- Reading the settings of a payload one after the other.
 use Rattle.std.proofs.Common.{◌≡◌, ℕ, ◌≤◌, ◌+◌, Bool, not, ◌&&◌, List, ◌∷◌, length, take, drop, Option, None, Some}
-use Rattle.std.proofs.Common.{refl, ap, arith, sym, ◌∙◌}
+use Rattle.std.proofs.Common.{refl, arith, sym}
 use Rattle.std.specs.Prelude.{is_none, if◌then◌else◌, find, option_map}
 use Rattle.std.specs.Option.{option_or}
 use Rattle.h2_frames.proofs.Words.{◌==◌, Settings, Setting, setting_at, settings_in, is_in_range, last_value, first_bad}

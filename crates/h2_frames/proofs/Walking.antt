@@ -1,5 +1,5 @@
 -- A walk over the frames of both sides goes on by one frame, or is over.
-use Rattle.std.proofs.Common.{◌≡◌, ℕ, ◌+◌, ◌≤◌, List, [], ◌∷◌, ◌++◌, length, ap, sym, ◌∙◌, arith, append_assoc}
+use Rattle.std.proofs.Common.{◌≡◌, ℕ, ◌+◌, ◌≤◌, List, [], ◌∷◌, ◌++◌, length, ap, ◌∙◌, arith, append_assoc}
 use Rattle.std.proofs.lemmas.List.{length_push}
 use Rattle.h2_frames.proofs.Words.{Flow, Frame, IsInRange, IsOrderlyFrom, FrameWalk, numbered, AreMerged, IsWalkAfter}
 use Rattle.h2_frames.proofs.Words.{taken_of}
@@ -16,11 +16,10 @@ orderly_push : (low k : ℕ) (frames : List Frame) (f : Frame) → IsOrderlyFrom
 orderly_push low k [] f orderly numbers above range number_is = (omega arith, range, tt)
 orderly_push low k (x ∷ frames) f orderly numbers above range number_is =
     let first : record x { number = k } ≡ x = cc in
-    let rest : numbered (k + 1) frames ≡ frames = cc in
     let number : k ≡ x.number = ap (λ (g : Frame). g.number) first in (
       orderly.0,
       orderly.1,
-      orderly_push (x.number + 1) (k + 1) frames f orderly.2 rest (omega arith) range (omega arith),
+      orderly_push (x.number + 1) (k + 1) frames f orderly.2 (cc) (omega arith) range (omega arith),
     )
 
 -- one frame is taken
@@ -35,18 +34,11 @@ walk-turn client server walk walk' frames f frame counted frame_is range first b
     let number_is : frame.number ≡ 1 + length frames = omega (arith, ap (λ (g : Frame). g.number) frame_is) in
     record {
       count = omega arith;
-      numbers = numbered_push 1 frames frame
-          ∙ ap (λ (n : ℕ). numbered 1 frames ++ record frame { number = n } ∷ []) (sym number_is)
-          ∙ ap (λ (fs : List Frame). fs ++ frame ∷ []) before.numbers;
+      numbers = rw (numbered_push 1 frames frame, ← number_is, before.numbers);
       orderly = orderly_push 0 1 frames frame before.orderly before.numbers (omega arith) range number_is;
       whole = λ later tail other merged_are.
-          let all = before.whole (f ∷ later) tail other (first later tail other merged_are) in
           let next : frame ≡ record f { number = length frames + 1 } = frame_is
           ∙ ap (λ (n : ℕ). record f { number = n + 1 }) count in
-          let same : (frames ++ frame ∷ []) ++ numbered (length (frames ++ frame ∷ []) + 1) later
-          ≡ frames ++ numbered (length frames + 1) (f ∷ later) =
-          append_assoc frames (frame ∷ []) _
-          ∙ ap (λ (n : ℕ). frames ++ frame ∷ numbered (n + 1) later) size
-          ∙ ap (λ (g : Frame). frames ++ g ∷ numbered ((length frames + 1) + 1) later) next in
-          rw same all;
+          rw (append_assoc frames (frame ∷ []), size, next)
+          (before.whole (f ∷ later) tail other (first later tail other merged_are));
     }

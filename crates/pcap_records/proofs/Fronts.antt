@@ -30,27 +30,22 @@ same_record number first unit at front later fits =
     cc
 
 -- what a front of 16 bytes or more tells of the next record
-pub next_by_front : (number : ByteOrder) → ReadsFirst number → (unit at size most : ℕ) (front bytes : List ℕ)
-    (found : Option Record)
-    → 16 ≤ length front → length bytes ≡ size - at → front ≡ take most bytes
-    → IfSome found (λ r. (16 + captured_length number front ≤ size - at) × (r ≡ record_at number unit at front))
-    → IfSome found (λ r. r.nanos < 2 ^ 63)
-    → IfNone found (size - at < 16 + captured_length number front)
-    → IsNextRecord number unit at bytes found
-next_by_front number first unit at size most front bytes None long count is some time none =
-    let whole : front ++ drop most bytes ≡ bytes = ap (λ (l : List ℕ). l ++ drop most bytes) is
-    ∙ take-append-drop most bytes in
-    let same : captured_length number bytes ≡ captured_length number front =
-    ap (captured_length number) (sym whole) ∙ in_front number first 8 front (drop most bytes) (omega (arith, long)) in
-    λ begins. omega (arith, begins.1, same, count, none)
-next_by_front number first unit at size most front bytes (Some r) long count is some time none =
-    let whole : front ++ drop most bytes ≡ bytes = ap (λ (l : List ℕ). l ++ drop most bytes) is
-    ∙ take-append-drop most bytes in
-    let same : captured_length number bytes ≡ captured_length number front =
-    ap (captured_length number) (sym whole) ∙ in_front number first 8 front (drop most bytes) (omega (arith, long)) in
-    let record_same : record_at number unit at bytes ≡ record_at number unit at front =
-    ap (record_at number unit at) (sym whole) ∙ same_record number first unit at front (drop most bytes) long in (
-      (omega (arith, count, some.0), omega (arith, count, some.0, same)),
-      some.1 ∙ sym record_same,
-      time,
-    )
+module _ (number : ByteOrder) (first : ReadsFirst number) (unit at size most : ℕ) (front bytes : List ℕ)
+    (long : 16 ≤ length front) (count : length bytes ≡ size - at) (is : front ≡ take most bytes) where
+  same : record_at number unit at bytes ≡ record_at number unit at front
+  same =
+      ap (record_at number unit at) (sym (ap (λ (l : List ℕ). l ++ drop most bytes) is ∙ take-append-drop most bytes))
+      ∙ same_record number first unit at front (drop most bytes) long
+
+  pub next_by_front : (found : Option Record)
+      → IfSome found (λ r. (16 + captured_length number front ≤ size - at) × (r ≡ record_at number unit at front))
+      → IfSome found (λ r. r.nanos < 2 ^ 63)
+      → IfNone found (size - at < 16 + captured_length number front)
+      → IsNextRecord number unit at bytes found
+  next_by_front None some time none =
+      λ begins. omega (arith, begins.1, ap (λ (r : Record). r.length) same, count, none)
+  next_by_front (Some r) some time none = (
+    (omega (arith, count, some.0), omega (arith, count, some.0, ap (λ (r : Record). r.length) same)),
+    some.1 ∙ sym same,
+    time,
+  )

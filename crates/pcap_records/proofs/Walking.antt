@@ -1,15 +1,14 @@
 -- What the loop over the records keeps.
 use Rattle.std.proofs.Common.{◌≡◌, ◌≤◌, ◌<◌, ◌+◌, ◌-◌, ◌*◌, ◌^◌, ℕ, List, [], ◌∷◌, ◌++◌, length, drop, refl, sym, ap}
-use Rattle.std.proofs.Common.{Some, subst, ◌∙◌, arith, length-append, length-drop, append_assoc, append-nil}
-use Rattle.std.proofs.lemmas.List.{drop-append-le, take-append-le}
-use Rattle.std.proofs.Math.Seq.{drop-drop}
+use Rattle.std.proofs.Common.{Some, ◌∙◌, arith, length-append, length-drop, append_assoc, append-nil}
+use Rattle.std.proofs.lemmas.List.{drop-append-le, drop-drop, take-append-le}
 use Rattle.pcap_records.specs.FileHeader.{ByteOrder, format_of, header_of, link_of, number_of}
 use Rattle.pcap_records.specs.laws.Readings.{MoreBytesKeepAWalk}
 use Rattle.pcap_records.specs.code.Place.{AreTimely, RiseFrom}
 use Rattle.pcap_records.specs.Record.{AreRecords, BeginsWithRecord, captured_length, record_at}
 use Rattle.pcap_records.specs.Reading.{IsReading, cut_after}
 use Rattle.pcap_records.specs.code.Walk.{AreRead, Completes, HasPassed, IsNextRecord, IsThrough}
-use Rattle.pcap_records.proofs.Fronts.{ReadsFirst, in_front, same_record}
+use Rattle.pcap_records.proofs.Fronts.{ReadsFirst, same_record}
 use Rattle.pcap_records.specs.declared.capture.Record.{Record}
 use Rattle.pcap_records.specs.declared.capture.Records.{Records}
 use Rattle.pcap_records.specs.declared.walk.RecordWalk.{RecordWalk}
@@ -49,30 +48,26 @@ completes-push : (number : ByteOrder) → ReadsFirst number → (unit : ℕ) (fr
     → r ≡ record_at number unit at (drop at front)
     → Completes number unit front (rows ++ r ∷ []) (r.start + r.length)
 completes-push number first unit front rows at r read begins is more rs rest others =
-    let capture : List ℕ = front ++ more in
-    let bytes : List ℕ = drop at front in
-    let len : ℕ = captured_length number bytes in
-    let high : at ≤ length front = read.high in
-    let behind : drop at capture ≡ bytes ++ more = drop-append-le at front more high in
-    let same_length : captured_length number (drop at capture) ≡ len =
-    ap (captured_length number) behind ∙ in_front number first 8 bytes more (omega (arith, begins.0)) in
-    let same : r ≡ record_at number unit at (drop at capture) =
-    is ∙ sym (ap (record_at number unit at) behind ∙ same_record number first unit at bytes more begins.0) in
-    let size : length (drop at capture) ≡ length bytes + length more = ap length behind ∙ length-append bytes more in
-    let after : r.start + r.length ≡ at + 16 + captured_length number (drop at capture) =
-    after_record number unit at (drop at capture) r same in
-    let dropped : drop (at + 16 + captured_length number (drop at capture)) capture
-    ≡ drop (16 + captured_length number (drop at capture)) (drop at capture) =
-    ap (λ (k : ℕ). drop k capture) (omega arith)
-    ∙ sym (drop-drop (16 + captured_length number (drop at capture)) at capture) in
-    let At : ℕ → Type 0 = λ k. AreRecords number unit k (drop k capture) rs rest in
-    let In : List ℕ → Type 0 = λ left.
-    AreRecords number unit (at + 16 + captured_length number (drop at capture)) left rs rest in
-    let All : List Record → Type 0 = λ l. AreRecords number unit 24 (drop 24 capture) l rest in
-    let whole : BeginsWithRecord number (drop at capture) =
-    (omega (arith, begins.0, size), omega (arith, begins.1, size, same_length)) in
-    subst All (sym (append_assoc rows (r ∷ []) rs))
-    (read.completes more (r ∷ rs) rest (whole, same, subst In dropped (subst At after others)))
+    let bytes : List ℕ = drop at (front ++ more) in
+    let behind : bytes ≡ drop at front ++ more = drop-append-le at front more read.high in
+    let same : r ≡ record_at number unit at bytes =
+    is ∙ sym (rw behind (same_record number first unit at (drop at front) more begins.0)) in
+    let size : length bytes ≡ length (drop at front) + length more =
+    ap length behind ∙ length-append (drop at front) more in
+    let after : r.start + r.length ≡ at + (16 + captured_length number bytes) =
+    omega (arith, ap (λ (x : Record). x.start + x.length) same) in
+    let here : r.length ≡ captured_length number (drop at front) = ap (λ (x : Record). x.length) is in
+    let there : r.length ≡ captured_length number bytes = ap (λ (x : Record). x.length) same in
+    rw (append_assoc rows (r ∷ []) rs)
+    (read.completes more (r ∷ rs) rest (
+      (omega (arith, begins.0, size), omega (arith, begins.1, size, here, there)),
+      same,
+      rw (
+        (let flat : at + 16 + captured_length number bytes ≡ at + (16 + captured_length number bytes) = omega arith in flat),
+        drop-drop (16 + captured_length number bytes) at (front ++ more),
+        ← after,
+      ) others,
+    ))
 
 -- and is one more row
 pub AreRead-push : (number : ByteOrder) → ReadsFirst number → (unit : ℕ) (front : List ℕ) (rows : List Record) (at : ℕ)
@@ -105,34 +100,15 @@ pub AreRead-end : (number : ByteOrder) (unit : ℕ) (capture : List ℕ) (rows :
     → ¬ BeginsWithRecord number (drop at capture)
     → AreRecords number unit 24 (drop 24 capture) rows (drop at capture)
 AreRead-end number unit capture rows at read none =
-    let whole : capture ++ [] ≡ capture = append-nil capture in
-    let Last : List ℕ → Type 0 = λ bytes. AreRecords number unit at (drop at bytes) [] (drop at capture) in
-    let All : List ℕ → List Record → Type 0 = λ bytes l. AreRecords number unit 24 (drop 24 bytes) l
-    (drop at capture) in
-    subst (All capture) (append-nil rows)
-    (subst (λ (bytes : List ℕ). All bytes (rows ++ [])) whole
-    (read.completes [] [] (drop at capture) (subst Last (sym whole) (refl, none))))
-
--- behind the file header nothing was read yet
-pub AreRead-none : (number : ByteOrder) (unit : ℕ) (front : List ℕ) → 24 ≤ length front
-    → AreRead number unit front [] 24
-AreRead-none number unit front long = record {
-  completes = λ more rs rest others. others;
-  high = long;
-  few = omega arith;
-  placed = omega arith;
-  timely = tt;
-}
+    rw (append-nil capture, append-nil rows) at
+    (read.completes [] [] (drop at capture) (rw (append-nil capture) (refl, none)))
 
 -- what was read stays so, whatever comes behind it
 pub AreRead-more : (number : ByteOrder) (unit : ℕ) (front more : List ℕ) (rows : List Record) (at : ℕ)
     → AreRead number unit front rows at → AreRead number unit (front ++ more) rows at
 AreRead-more number unit front more rows at read = record {
-  completes = λ later rs rest others.
-      let same : (front ++ more) ++ later ≡ front ++ (more ++ later) = append_assoc front more later in
-      let All : List ℕ → Type 0 = λ bytes. AreRecords number unit 24 (drop 24 bytes) (rows ++ rs) rest in
-      let Last : List ℕ → Type 0 = λ bytes. AreRecords number unit at (drop at bytes) rs rest in
-      subst All (sym same) (read.completes (more ++ later) rs rest (subst Last same others));
+  completes = λ later rs rest others. rw (append_assoc front more later)
+      (read.completes (more ++ later) rs rest (rw (append_assoc front more later) at others));
   high = omega (arith, read.high, length-append front more);
   few = read.few;
   placed = read.placed;
@@ -160,16 +136,13 @@ pub steps-over : (number : ByteOrder) → ReadsFirst number → (front : List �
     → IsNextRecord number old.format.unit old.at (drop old.at front) (Some row)
     → HasPassed front rows old → HasPassed front (rows ++ row ∷ []) new
 steps-over number first front rows old new row order moved found passed =
-    let endian : ByteOrder = number_of old.format.endian in
-    let found : IsNextRecord endian old.format.unit old.at (drop old.at front) (Some row) =
-    subst (λ (n : ByteOrder). IsNextRecord n old.format.unit old.at (drop old.at front) (Some row)) order found in
-    subst (HasPassed front (rows ++ row ∷ [])) (sym moved) (record {
+    rw moved (record {
       magic = passed.magic;
       unit = passed.unit;
       link = passed.link;
       linked = passed.linked;
-      read = AreRead-push endian (subst ReadsFirst order first) old.format.unit front rows old.at row passed.read
-          found.0 found.1 found.2;
+      read = rw (← order) (AreRead-push number first old.format.unit front rows old.at row (rw (← order) at passed.read)
+          found.0 found.1 found.2);
     })
 
 -- where a walk is through, its records are a reading of the capture

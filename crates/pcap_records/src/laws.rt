@@ -9,26 +9,31 @@ pub fn one_reading()
 {}
 
 /// The first 2^31 bytes of a capture are refused exactly as the whole is, by the same refusal.
+#[tactic(auto, using(crate::proofs::Sizes::front_decides_lem))]
 pub fn front_decides()
     ensures { FrontDecides }
 {}
 
 /// A capture that is not refused has fewer than 2^31 bytes.
+#[tactic(auto, using(crate::proofs::Sizes::allowed_is_short_lem))]
 pub fn allowed_is_short()
     ensures { AllowedIsShort }
 {}
 
 /// A capture of 2^31 - 1 bytes is not too large.
+#[tactic(auto, using(crate::proofs::Sizes::largest_is_taken_lem))]
 pub fn largest_is_taken()
     ensures { LargestIsTaken }
 {}
 
 /// A file header that is refused by itself is refused alike, whatever follows it.
+#[tactic(auto, using(crate::proofs::Sizes::header_refuses_lem))]
 pub fn header_refuses()
     ensures { HeaderRefuses }
 {}
 
 /// What a walk has read of a front of a capture stands, whatever bytes come behind it.
+#[tactic(auto, using(crate::proofs::Walking::more_bytes_keep_a_walk_lem))]
 pub fn more_bytes_keep_a_walk()
     ensures { MoreBytesKeepAWalk }
 {}

@@ -15,17 +15,13 @@ three_parts i j bytes first rest second later a b c d =
 pub returns-clause-found : goal.returns-clause-found
 returns-clause-found c =
     let first = c.in_ok-start.ensures.cases in
-    let second = c.in_ok-payload.ensures.cases in
-    let rest = c.in_ok-start.rest.now in
-    let size : length c.in_ok-start.start.now ≡ 9 = ap length first.0 ∙ length-take-le 9 c.args.bytes.now
-    (omega (arith, first.2)) in (
+    let second = c.in_ok-payload.ensures.cases in (
       c.in_ok-start.start.now,
       c.in_ok-payload.payload.now,
-      three_parts 9 c.read-header.result.length c.args.bytes.now c.in_ok-start.start.now rest
-          c.in_ok-payload.payload.now c.in_ok-payload.later.now
-          first.0 first.1 second.1 second.2,
+      three_parts 9 c.read-header.result.length c.args.bytes.now _ c.in_ok-start.rest.now _ _ first.0 first.1 second.1
+          second.2,
       record {
-        nine = size;
+        nine = ap length first.0 ∙ length-take-le 9 c.args.bytes.now (omega (arith, first.2));
         whole = second.3;
         header_is = c.read-header.ensures.exact;
         body_is = c.body_of-body.ensures.exact;

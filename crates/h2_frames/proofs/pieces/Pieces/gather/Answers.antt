@@ -1,5 +1,4 @@
-use Rattle.std.proofs.Common.{List, [], ◌++◌, refl, ap, sym, ◌∙◌, append_assoc, arith}
-use Rattle.std.specs.Prelude.{ℕ}
+use Rattle.std.proofs.Common.{[], refl, sym, append_assoc, arith}
 use Rattle.h2_frames.proofs.Words.{append-nil}
 use Rattle.h2_frames.proofs.Gathering.{partly_taken-turn}
 use Rattle.h2_frames.proofs.pieces.Pieces.gather.Goals as goal
@@ -22,9 +21,7 @@ loop-wanted-preserved c =
     let before = c.loop-wanted.invariant in
     record {
       taken = partly_taken-turn c.args.count c.loop-wanted.wanted c.args.self.now c.loop-wanted.self part.new.self
-          part.result.now
-          before.taken part.ensures.bytes part.ensures.fits part.ensures.counted;
-      gathered_are = c.in_ok-extend_from_slice.ensures.items
-          ∙ ap (λ (xs : List ℕ). xs ++ part.result.now) before.gathered_are
-          ∙ append_assoc c.args.gathered.now.items before.taken.front part.result.now;
+          part.result.now before.taken part.ensures.bytes part.ensures.fits part.ensures.counted;
+      gathered_are = rw (c.in_ok-extend_from_slice.ensures.items, before.gathered_are)
+          (append_assoc c.args.gathered.now.items before.taken.front part.result.now);
     }

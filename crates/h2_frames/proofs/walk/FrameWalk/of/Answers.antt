@@ -6,19 +6,12 @@ use Rattle.h2_frames.proofs.walk.FrameWalk.of.Goals as goal
 
 pub returns-clause-ready : goal.returns-clause-ready
 returns-clause-ready c =
-    let answered : bytes_left c.of-answers.result ≡ bytes_of c.args.server.now =
-    c.of-answers.ensures.bytes ∙ ap joined c.as_slice.ensures.value in
+    let answered = ap length (c.of-answers.ensures.bytes ∙ ap joined c.as_slice.ensures.value) in
+    let sent = ap length c.requires.begins ∙ length-append preface (bytes_left c.args.rest) in
     record {
       client = c.of-sent.ensures.ready;
       server = c.of-answered.ensures.ready;
-      few = omega (
-        arith,
-        c.of-sent.ensures.weight,
-        c.of-answered.ensures.weight,
-        ap length answered,
-        ap length c.requires.begins ∙ length-append preface (bytes_left c.args.rest),
-        c.requires.together,
-      );
+      few = omega (arith, c.of-sent.ensures.weight, c.of-answered.ensures.weight, answered, sent, c.requires.together);
     }
 
 pub returns-clause-whole : goal.returns-clause-whole
