@@ -38,7 +38,10 @@ all_kept : (marks : List ℕ) (segments more : List Segment)
 all_kept [] segments more known = refl
 all_kept (mark ∷ marks) segments more known =
     let Known = λ (mark : ℕ). mark < 11 + length segments in
-    rw (kept segments more mark (All-head Known mark marks known), all_kept marks segments more (All-tail Known mark marks known))
+    rw (
+      kept segments more mark (All-head Known mark marks known),
+      all_kept marks segments more (All-tail Known mark marks known),
+    )
 
 -- one mark more
 pub push : (marks : List ℕ) (segments : List Segment) (mark : ℕ)

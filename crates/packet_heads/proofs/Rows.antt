@@ -29,7 +29,8 @@ along number from before end size [] [] e within rise times h = record {
   times = tt;
 }
 along number from before end size (row ∷ rows) (Segment s ∷ packets) e within rise times h =
-    let later = along (number + 1) (row.start + row.length) s.hi end size rows packets h.0.4 within rise.1 times.1 h.1 in
+    let later = along (number + 1) (row.start + row.length) s.hi end size rows packets
+    h.0.4 within rise.1 times.1 h.1 in
     record {
       count = omega (arith, later.count);
       numbered = (h.0.0, later.numbered);

@@ -68,9 +68,11 @@ decided-push link number next [] row capture [] packet before is decided stands 
     rw (let here : number ≡ next = omega (arith, is) in here)
     (record { exact = ap (λ (p : Packet). p ∷ []) decided; stand = (stands, tt) })
 decided-push link number next (first ∷ rows) row capture (p ∷ packets) packet before is decided stands =
+    let rest : packets ≡ decisions_from link (number + 1) rows capture = cc (before.exact) in
+    let same : p ≡ packet_decision link number first capture = cc (before.exact) in
     let later = decided-push link (number + 1) next rows row capture packets packet
-    (record { exact = (let e : packets ≡ decisions_from link (number + 1) rows capture = cc (before.exact) in e); stand = before.stand.1 }) (omega (arith, is)) decided stands in
-    record { exact = (let e : p ≡ packet_decision link number first capture = cc (before.exact) in cc (later.exact, e)); stand = (before.stand.0, later.stand) }
+    (record { exact = rest; stand = before.stand.1 }) (omega (arith, is)) decided stands in
+    record { exact = cc (later.exact, same); stand = (before.stand.0, later.stand) }
 decided-push link number next _ row capture _ packet before is decided stands = absurd before.stand
 
 -- the decisions on all records, as the code counts them

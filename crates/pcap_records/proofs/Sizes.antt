@@ -29,7 +29,8 @@ front_decides_lem capture = elim (cases_lt (length capture) (2 ^ 31)) [
   | inl short ↦ ap refusal (take_all (2 ^ 31) capture (omega (arith, short)))
   | inr long ↦
       let size : length (take (2 ^ 31) capture) ≡ 2 ^ 31 = length-take-le (2 ^ 31) capture long in
-      let header : header_of (take (2 ^ 31) capture) ≡ header_of capture = take-take 24 (2 ^ 31) capture (omega arith) in
+      let header : header_of (take (2 ^ 31) capture) ≡ header_of capture =
+      take-take 24 (2 ^ 31) capture (omega arith) in
       rw (refusal-long (take (2 ^ 31) capture) (omega arith), refusal-long capture (omega (arith, long)), header)
       (refusal_by-large (format_of (header_of capture)) (header_of capture) _ (length capture) (omega arith) long)
 ]

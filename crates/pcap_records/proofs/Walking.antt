@@ -63,7 +63,8 @@ completes-push number first unit front rows at r read begins is more rs rest oth
       (omega (arith, begins.0, size), omega (arith, begins.1, size, here, there)),
       same,
       rw (
-        (let flat : at + 16 + captured_length number bytes ≡ at + (16 + captured_length number bytes) = omega arith in flat),
+        (let flat : at + 16 + captured_length number bytes ≡ at + (16 + captured_length number bytes) = omega arith in
+            flat),
         drop-drop (16 + captured_length number bytes) at (front ++ more),
         ← after,
       ) others,
