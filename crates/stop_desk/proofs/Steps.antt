@@ -11,10 +11,11 @@ use Rattle.stop_desk.specs.code.Stop.{past_places}
 use Rattle.stop_desk.specs.code.Rule.{allowance_in, draws_in, drawn_in, seen_in, lowered_in, Dealt, Stops, IsGiven}
 use Rattle.stop_desk.specs.code.Rule.{Fits, knows, share, Kept, Holds, opening_view}
 use Rattle.stop_desk.proofs.Weights.{weigh-set, weigh-snoc, weigh-append, weigh-same, weigh-part, weigh-split}
-use Rattle.stop_desk.proofs.Weights.{weigh-join, once_below-next, once_below-self, mark-here, marks-snoc_cases}
+use Rattle.stop_desk.proofs.Weights.{weigh-join, once_below-next, once_below-self}
 use Rattle.stop_desk.proofs.Weights.{seen-cases}
 use Rattle.std.proofs.lemmas.List.{set-get_or}
-use mathlib.Core.Logic.{dite}
+use Rattle.std.proofs.lemmas.Bool.{cases_lt}
+use Rattle.std.proofs.lemmas.Bool.Decides.{nat_tests}
 use native.Mathlib.Decide.{ℕ_discrete}
 use Rattle.atomic_table.specs.Table.{State, step, keeps, Allows, Splits, Joins, opening}
 use Rattle.stop_desk.specs.declared.rule.Opening.{Opening}
@@ -36,63 +37,29 @@ module _ (o : Opening) (s : State (Unit {0}) Knows) (h : Holds o s) (words : Lis
     each_once = λ x. drawn x ∙ h.0.each_once x ∙ ap (once_below x) (sym same);
   }
 
-  -- what was given is given still
-  given-more : ((c p : ℕ) → 0 < weigh (lowered_in c p) s.views → 0 < weigh (lowered_in c p) views) → (c p : ℕ)
-      → IsGiven o.words.items s.views c p → IsGiven o.words.items views c p
-  given-more more c p given = ⊎_elim (λ is. inl is) (λ low. inr (more c p low)) given
-
-  -- stops are kept where words only fall, to what was lowered, and what is lowered or seen anew fits
-  stops-step : ((c : ℕ) → get_or words (c + 1) 0 ≤ get_or s.words (c + 1) 0)
-      → ((c p : ℕ) → 0 < weigh (lowered_in c p) s.views → 0 < weigh (lowered_in c p) views)
-      → ((c p : ℕ) → 0 < weigh (lowered_in c p) views
-      → (0 < weigh (lowered_in c p) s.views) ⊎ ((get_or words (c + 1) 0 ≤ p) × (p < past_places)))
-      → ((c p : ℕ) → 0 < weigh (seen_in c p) views → (0 < weigh (seen_in c p) s.views)
-      ⊎ ((get_or words (c + 1) 0 ≤ p) × (p < past_places) × IsGiven o.words.items views c p))
-      → ((c : ℕ) → (get_or words (c + 1) 0 ≡ get_or s.words (c + 1) 0)
-      ⊎ (0 < weigh (lowered_in c (get_or words (c + 1) 0)) views))
-      → Stops o.words.items words views
-  stops-step falls more lowered seen reached = record {
-    wide = long ∙ h.1.wide;
-    below_opening = λ c. let d = h.1.below_opening c in let low = falls c in omega arith;
-    below_lowered = λ c p there. ⊎_elim
-        (λ old. let d = h.1.below_lowered c p old in let low = falls c in (omega arith, d.1))
-        (λ new. new)
-        (lowered c p there);
-    below_seen = λ c p there. ⊎_elim
-        (λ old.
-        let d = h.1.below_seen c p old in let low = falls c in (omega arith, d.1, given-more more c p d.2))
-        (λ new. new)
-        (seen c p there);
-    reached = λ c. ⊎_elim
-        (λ same. rw same (given-more more c (get_or s.words (c + 1) 0) (h.1.reached c)))
-        (λ low. inr low)
-        (reached c);
-  }
-
   -- stops are kept where the stop words and the sums are
   stops-kept : ((c : ℕ) → get_or words (c + 1) 0 ≡ get_or s.words (c + 1) 0)
       → ((c p : ℕ) → weigh (lowered_in c p) views ≡ weigh (lowered_in c p) s.views)
       → ((c p : ℕ) → weigh (seen_in c p) views ≡ weigh (seen_in c p) s.views) → Stops o.words.items words views
-  stops-kept same lowered seen =
-      stops-step (λ c. let e = same c in omega arith) (λ c p there. let e = lowered c p in omega arith)
-      (λ c p there. let e = lowered c p in inl (omega arith)) (λ c p there. let e = seen c p in inl (omega arith))
-      (λ c. inl (same c))
+  stops-kept same lowered seen = record {
+    wide = long ∙ h.1.wide;
+    below_opening = λ c. omega (arith, same c, h.1.below_opening c);
+    below_lowered = λ c p there. rw (same c) (h.1.below_lowered c p (rw (lowered c p) at there));
+    below_seen = λ c p there. rw (same c, lowered c p) (h.1.below_seen c p (rw (seen c p) at there));
+    reached = λ c. rw (same c, lowered c (get_or s.words (c + 1) 0)) (h.1.reached c);
+  }
 
 pub fits-set : (opened : List ℕ) (views : List Knows) (id : ℕ) (w : Knows) → Fits opened w
     → ((j : ℕ) (u : Knows) → get_elem? views j ≡ some u → Fits opened u)
     → (j : ℕ) (u : Knows) → get_elem? (set views id w) j ≡ some u → Fits opened u
-fits-set opened views id w new all j u at = ⊎_elim
-    (λ here. subst (Fits opened) here.1 new)
-    (λ there. all j u there.1)
-    (at_set views id j w u at)
+fits-set opened views id w new all j u at = elim (at_set views id j w u at) [
+    inl here ↦ rw here.1 at new | inr there ↦ all j u there.1 ]
 
 pub fits-snoc : (opened : List ℕ) (views : List Knows) (w : Knows) → Fits opened w
     → ((j : ℕ) (u : Knows) → get_elem? views j ≡ some u → Fits opened u)
     → (j : ℕ) (u : Knows) → get_elem? (views ++ w ∷ []) j ≡ some u → Fits opened u
-fits-snoc opened views w new all j u at = ⊎_elim
-    (λ there. all j u there)
-    (λ is. subst (Fits opened) is new)
-    (at_snoc views w u j at)
+fits-snoc opened views w new all j u at = elim (at_snoc views w u j at) [
+    inl there ↦ all j u there | inr is ↦ rw is at new ]
 
 -- a pass with a share knows what the desk was opened with
 pub fits-sharing : (opened : List ℕ) (v w : Knows) → Fits opened v → w.opened ≡ v.opened
@@ -212,24 +179,19 @@ module _ (o : Opening) (s : State (Unit {0}) Knows) (id : ℕ) (v : Knows) (h : 
   look-kept c some_share =
       let n : ℕ = get_or s.words (c + 1) 0 in
       let w : Knows = saw c in
-      let low : (c' p : ℕ) → weigh (lowered_in c' p) (after w) ≡ weigh (lowered_in c' p) s.views =
-      λ c' p. same (lowered_in c' p) w refl in (
+      let low : (c' p : ℕ) → weigh (lowered_in c' p) (after w) ≡ weigh (lowered_in c' p) s.views
+      = λ c' p. same (lowered_in c' p) w refl in (
         dealt-kept o s h s.words (after w) refl refl (same allowance_in w refl) (same draws_in w refl)
             (λ x. same (drawn_in x) w refl),
-        stops-step o s h s.words (after w) refl
-            (λ c'. omega arith)
-            (λ c' p there. let e = low c' p in omega arith)
-            (λ c' p there. let e = low c' p in inl (omega arith))
-            (λ c' p there. let sum = changed (seen_in c' p) w in ⊎_elim
-            (λ same. inl (omega arith))
-            (λ new. rw (new.0, new.1) (inr (
-              omega arith,
-              new.2,
-              given-more o s h s.words (after w) refl (λ c p there'. let e = low c p in omega arith) c n
-                  (h.1.reached c),
-            )))
-            (seen-cases (nat_lt n past_places) c' p c n v.seen refl))
-            (λ c'. inl refl),
+        record {
+          wide = h.1.wide;
+          below_opening = h.1.below_opening;
+          below_lowered = λ c' p there. h.1.below_lowered c' p (rw (low c' p) at there);
+          below_seen = λ c' p there. rw (low c' p) (elim (seen-cases (nat_lt n past_places) c' p c n v.seen refl) [
+              inl old ↦ h.1.below_seen c' p (omega (arith, changed (seen_in c' p) w))
+            | inr (on, at, place) ↦ rw (on, at) (omega arith, place, h.1.reached c) ]);
+          reached = λ c'. rw (low c' (get_or s.words (c' + 1) 0)) (h.1.reached c');
+        },
         fits w refl some_share some_share,
       )
 
@@ -253,6 +215,9 @@ module _ (o : Opening) (s : State (Unit {0}) Knows) (id : ℕ) (v : Knows) (h : 
       let here : get_or words (c + 1) 0 ≡ min n p = get_or-set_same s.words (c + 1) (min n p) 0 inside in
       let elsewhere = λ (c' : ℕ) (apart : c' ≡ c → ⊥).
       get_or-set_other s.words (c + 1) (c' + 1) (min n p) 0 (λ e. apart (omega arith)) in
+      let falls : (c' : ℕ) → get_or words (c' + 1) 0 ≤ get_or s.words (c' + 1) 0
+      = λ c'. (elim (ℕ_discrete c' c) [
+          yes is ↦ rw is (omega arith) | no apart ↦ (let e = elsewhere c' apart in omega arith) ]) in
       let more : (c' p' : ℕ) → weigh (lowered_in c' p') (after w) ≡ weigh (lowered_in c' p') s.views
       + is_mark c' p' (c, p) =
       λ c' p'. (let sum = changed (lowered_in c' p') w in
@@ -260,24 +225,20 @@ module _ (o : Opening) (s : State (Unit {0}) Knows) (id : ℕ) (v : Knows) (h : 
         dealt-kept o s h words (after w) long
             (get_or-set_other s.words (c + 1) 0 (min n p) 0 (λ e. omega arith)) (same allowance_in w refl)
             (same draws_in w refl) (λ x. same (drawn_in x) w refl),
-        stops-step o s h words (after w) long
-            (λ c'. dite (ℕ_discrete c' c)
-            (λ is. rw is (omega arith))
-            (λ apart. let e = elsewhere c' apart in omega arith))
-            (λ c' p' low. let e = more c' p' in omega arith)
-            (λ c' p' low. let e = changed (lowered_in c' p') w in ⊎_elim
-            (λ same. inl (omega arith))
-            (λ new. rw (new.0, new.1) (inr (omega arith, place)))
-            (marks-snoc_cases c' p' c p v.lowered))
-            (λ c' p' low. let e = same (seen_in c' p') w refl in inl (omega arith))
-            (λ c'. dite (ℕ_discrete c' c)
-            (λ is. rw is (dite (ℕ_discrete (min n p) n)
-            (λ unmoved. inl (here ∙ unmoved))
-            (λ moved.
-            let low : get_or words (c + 1) 0 ≡ p = omega arith in
-            let e = more c p in let one = mark-here c p in
-            inr (rw low (omega arith)))))
-            (λ apart. inl (elsewhere c' apart))),
+        record {
+          wide = long ∙ h.1.wide;
+          below_opening = λ c'. omega (arith, falls c', h.1.below_opening c');
+          below_lowered = λ c' p' there. grind (arith, nat_tests, more c' p', falls c', here, h.1.below_lowered c' p');
+          below_seen = λ c' p' there. (let (low, is, given) = h.1.below_seen c' p' (rw (same (seen_in c' p') w refl) at there) in
+              (omega (arith, falls c'), is, grind (arith, more c' p', given)));
+          reached = λ c'. elim (ℕ_discrete c' c) [
+              yes is ↦ rw is (elim (cases_lt p n) [
+                  inl falls ↦ (let low : get_or words (c + 1) 0 ≡ p = omega arith in
+                    rw low (inr (grind (arith, nat_tests, more c p))))
+                | inr stays ↦ (let low : get_or words (c + 1) 0 ≡ n = omega arith in
+                    rw low (grind (arith, more c n, h.1.reached c))) ])
+            | no apart ↦ rw (elsewhere c' apart) (grind (arith, more c' (get_or s.words (c' + 1) 0), h.1.reached c')) ];
+        },
         fits w refl some_share some_share,
       )
 
