@@ -1,32 +1,20 @@
 -- The stops of a desk one by one, that the board of a closed desk is settled, and its parts in the order of their jobs.
-use Rattle.std.proofs.Common.{◌≡◌, ℕ, zero, suc, ◌+◌, ◌<◌, ◌≤◌, ◌⊎◌, inl, inr, List, [], ◌∷◌, length, drop, map, get_or}
-use Rattle.std.proofs.Common.{Option, Some, None, refl, sym, ap, subst, ◌∙◌, arith, Contains, slice_get, All, Bool, cond}
-use Rattle.std.proofs.Common.{nat_lt, if◌then◌else◌, ltb-true, ◌≢◌, ◌==◌, count_by, eqb-true, eq-eqb, ne_eqb, ◌++◌}
-use Rattle.std.proofs.lemmas.Bool.{cases_lt, cond_both}
-use Rattle.std.proofs.lemmas.Bool.Decides.{nat_tests}
-use Rattle.std.proofs.lemmas.List.{length-map, length-drop, get_or-map, get_or-drop, get_or_past}
-use Rattle.std.proofs.lemmas.List.Elements.{All-map, All-contains}
+use Rattle.stop_desk.proofs.Words.{All, All-contains, All-map, BoardPart, Bool, ClosedView, Contains}
+use Rattle.stop_desk.proofs.Words.{Contains-permutation, DeskId, IsAllWorked, IsAtMost, IsConnection, IsDeskSettled}
+use Rattle.stop_desk.proofs.Words.{IsGiven, IsLeast, IsLeastOnDesk, IsNonDecreasingBy, IsPartOf, IsPermutation}
+use Rattle.stop_desk.proofs.Words.{IsPermutation-map, IsPermutation-sym, IsSettled, IsStop, Job, List, None, Option}
+use Rattle.stop_desk.proofs.Words.{Part, PassView, Some, [], ap, arith, board_with, cases_lt, closed_of, cond_both}
+use Rattle.stop_desk.proofs.Words.{count_by, drop, eqb-true, final_stop, get_or, get_or-drop, get_or-map}
+use Rattle.stop_desk.proofs.Words.{get_or-map-range_with_len, get_or-range_with_len, get_or_from_slice_get, get_or_past}
+use Rattle.stop_desk.proofs.Words.{if◌then◌else◌, inl, inr, length, length-drop, length-map, length-map-range_with_len}
+use Rattle.stop_desk.proofs.Words.{length-range_with_len, ltb-true, map, marks, nat_tests, opening_stop, part_of}
+use Rattle.stop_desk.proofs.Words.{parts_of, past_places, place_at, range_with_len, refl, slice_get, slice_get_within}
+use Rattle.stop_desk.proofs.Words.{stop_of, subst, suc, sum_by-IsPermutation, sym, zero, ℕ, ◌+◌, ◌<◌, ◌==◌, ◌∙◌, ◌∷◌}
+use Rattle.stop_desk.proofs.Words.{◌≡◌, ◌≤◌, ◌⊎◌}
 use Rattle.std.proofs.lemmas.List.Folds.{fold-map}
-use Rattle.std.proofs.lemmas.List.FromFn.{length-map-range_with_len, get_or-map-range_with_len, length-range_with_len}
-use Rattle.std.proofs.lemmas.List.FromFn.{get_or-range_with_len}
-use Rattle.std.proofs.lemmas.List.Sorted.{sum_by-IsPermutation, IsPermutation-sym, IsPermutation-map}
-use Rattle.std.proofs.lemmas.List.Sorted.{Contains-permutation}
-use Rattle.std.proofs.lemmas.Option.{slice_get_within, get_or_from_slice_get}
-use Rattle.std.specs.List.{range_with_len}
-use Rattle.std.specs.List.Sorted.{IsPermutation, IsNonDecreasingBy}
-use Rattle.stop_desk.specs.declared.parts.Part.{Part}
-use Rattle.stop_desk.specs.declared.settling.Settled.{Settled}
-use Rattle.stop_desk.specs.code.Counts.{marks, once_below}
-use Rattle.stop_desk.specs.code.Stop.{place_at, past_places, IsStop}
-use Rattle.stop_desk.specs.code.Desk.{DeskId, PassView, ClosedView, closed_of, IsConnection, opening_stop, final_stop}
-use Rattle.stop_desk.specs.code.Calls.{IsAtMost}
-use Rattle.stop_desk.specs.code.Settled.{IsLeast as IsLeastOnDesk, Settled as IsDeskSettled}
-use Rattle.stop_desk.specs.code.Settling.{HasSettled}
-use Rattle.stop_desk.specs.code.Board.{Job, Round, Part as BoardPart, IsLeast, IsPartOf, parts_of, stop_of, IsGiven}
-use Rattle.stop_desk.specs.code.Board.{IsSettled}
-use Rattle.stop_desk.specs.code.Laid.{part_of, board_with}
 use Rattle.stop_desk.specs.code.Crew.{opening_stops, last_stops_from, last_stops, IsDone}
-use Rattle.stop_desk.specs.code.Worked.{IsAllWorked}
+use Rattle.stop_desk.specs.code.Settling.{HasSettled}
+use Rattle.stop_desk.specs.declared.settling.Settled.{Settled}
 use Rattle.stop_desk.proofs.RoundMembers.{contains-none, contains-first, contains-later, contains-cases, map-contains}
 use Rattle.stop_desk.proofs.RoundMembers.{contains-here, contains-got, contains-map, count-cons, count-some, some-count}
 
@@ -120,7 +108,9 @@ module _ {M : Type 0} (makes : ℕ → Option ℕ → M → Type 0) (jobs : List
   least-there c there (Some q) l = (
     given-from c q there l.2,
     λ place given. elim (given-there c place there given) [
-        inl e ↦ at_most q (opening_stop desk c) place e l.0 | inr k ↦ l.1 place k ],
+      | inl e ↦ at_most q (opening_stop desk c) place e l.0
+      | inr k ↦ l.1 place k
+    ],
   )
 
   -- of no other connection is there a place
@@ -133,8 +123,9 @@ module _ {M : Type 0} (makes : ℕ → Option ℕ → M → Type 0) (jobs : List
 
   least : (c : ℕ) → IsLeast (Given c) (stop_of (last_stops closed) c)
   least c = elim (cases_lt (c + 1) (length desk.opened)) [
-      inl there ↦ rw (final-at closed c None there) (least-there c there (final_stop closed c) (s.stops c there))
-    | inr past ↦ rw (final-past closed c past) (not-past c past) ]
+    | inl there ↦ rw (final-at closed c None there) (least-there c there (final_stop closed c) (s.stops c there))
+    | inr past ↦ rw (final-past closed c past) (not-past c past)
+  ]
 
   done : IsDone makes jobs desk round parts closed
   done = record {

@@ -1,22 +1,14 @@
 -- What the fields of a pass and of a desk show, what a pass has after a look, and what the last pass knows.
-use Rattle.std.proofs.Common.{◌≡◌, ℕ, ◌+◌, ◌<◌, ◌≤◌, ◌⊎◌, Bool, true, false, nat_lt, if◌then◌else◌, Some, None, List}
-use Rattle.std.proofs.Common.{[], ◌∷◌, length, get_or, subst, sym, refl, ap, ◌∙◌, inl, inr, ⊎_elim, arith, lt-ltb}
-use Rattle.std.proofs.Common.{le-ltb, zero, suc, Option, map, All, ◌++◌}
-use Rattle.std.proofs.lemmas.Bool.{cases_lt, cond_both}
-use Rattle.atomic_table.specs.Table.{Final, Seen}
-use Rattle.stop_desk.specs.declared.rule.Knows.{Knows}
-use Rattle.stop_desk.specs.declared.rule.Opening.{Opening}
-use Rattle.stop_desk.specs.code.Counts.{weigh, times, once_below, marks}
-use Rattle.stop_desk.specs.code.Stop.{past_places, place_at, IsStop, stop_word}
-use Rattle.stop_desk.specs.code.Desk.{DeskId, closed_of, DeskView, PassView, all_draws, pass_draws, pass_of}
-use Rattle.stop_desk.specs.code.Calls.{IsAtMost, IsLook}
-use Rattle.stop_desk.specs.code.Settled.{IsLeast, Settled}
-use Rattle.stop_desk.specs.code.Rule.{knows, share, allowance_in, draws_in, drawn_in, seen_in, lowered_in, Holds}
-use Rattle.stop_desk.proofs.Weights.{weigh-whole}
-use mathlib.Core.Option.{some, some-injective, some-ne-none}
-use lib.ListN.{get_elem?}
+use Rattle.stop_desk.proofs.Words.{All, DeskId, DeskView, Final, Holds, IsAtMost, IsLook, IsStop, Knows, List, Lowers}
+use Rattle.stop_desk.proofs.Words.{None, Opening, Option, PassState, PassView, Seen, Sees, Settled, Some, [], all_draws}
+use Rattle.stop_desk.proofs.Words.{allowance_in, ap, arith, cases_lt, closed_of, cond_both, drawn_in, draws_in}
+use Rattle.stop_desk.proofs.Words.{get_elem?, get_or, inl, inr, knows, le-ltb, length, lowered_in, lt-ltb, map, marks}
+use Rattle.stop_desk.proofs.Words.{nat_lt, once_below, pass_draws, pass_of, past_places, place_at, refl, seen_in, share}
+use Rattle.stop_desk.proofs.Words.{some, some-injective, some-ne-none, stop_word, subst, suc, sym, times, weigh, zero}
+use Rattle.stop_desk.proofs.Words.{ℕ, ◌++◌, ◌+◌, ◌<◌, ◌∙◌, ◌∷◌, ◌≡◌, ◌≤◌, ◌⊎◌}
 use Rattle.atomic_table.specs.Seated.{TableId}
-use Rattle.stop_desk.specs.code.Plays.{PassState, Sees, Lowers}
+use Rattle.stop_desk.specs.code.Settled.{IsLeast}
+use Rattle.stop_desk.proofs.Weights.{weigh-whole}
 
 nothing-drawn : (x : ℕ) (xs : List ℕ) → length xs ≡ 0 → times x xs ≡ 0
 nothing-drawn x [] none = refl
@@ -40,13 +32,14 @@ least-stop : (d : DeskId) (lowered : List (ℕ × ℕ)) (c n : ℕ) → n ≤ ge
     → (n ≡ get_or d.opened (c + 1) 0) ⊎ (0 < marks c n lowered)
     → IsLeast d lowered c (place_at n)
 least-stop d lowered c n below low reached = elim (cases_lt n past_places) [
-    inl place ↦ rw (place_at-place n place) (
-      at_most-stop n (get_or d.opened (c + 1) 0) below,
-      λ p there. (low p there).0,
-      elim reached [ inl same ↦ inl (rw (← same) (place_at-place n place)) | inr there ↦ inr there ],
-    )
+  | inl place ↦ rw (place_at-place n place) (
+    at_most-stop n (get_or d.opened (c + 1) 0) below,
+    λ p there. (low p there).0,
+    elim reached [ inl same ↦ inl (rw (← same) (place_at-place n place)) | inr there ↦ inr there ],
+  )
   | inr none ↦ rw (place_at-none n none)
-    (place_at-none _ (omega arith), λ p there. (let h = low p there in absurd (omega arith))) ]
+      (place_at-none _ (omega arith), λ p there. (let h = low p there in absurd (omega arith)))
+]
 
 -- the last pass has all draws, places seen and places lowered, so what the rule says of all views it says of that one
 pub closes : (o : Opening) (id : ℕ) (v : Knows) (words : List ℕ) (slots : List (Unit {0})) (d : DeskId) → 0 < share v
@@ -77,7 +70,9 @@ closes o id v words slots d some_share all opened f =
         given = λ c p there.
             (let (below, place, given) = h.1.below_seen c p (rw (seen c p) there) in
             rw (opened, ← (lowered c p)) (elim given [
-              inl is ↦ inl (rw (← is) (place_at-place p place)) | inr low ↦ inr low ]));
+              | inl is ↦ inl (rw (← is) (place_at-place p place))
+              | inr low ↦ inr low
+            ]));
       },
     )
 
@@ -111,18 +106,19 @@ view_in t allowance me = pass_of (desk_in t me) allowance me.0.drawn me.0.seen m
 pub looks : (t t' : TableId) (a c n : ℕ) (me after : PassState) → t' ≡ t → Sees c me n after
     → IsLook c (view_in t a me) (place_at n) (view_in t' a after)
 looks t t' a c n me after same s = rw (same, s.added) (elim (cases_lt n past_places) [
-    inl place ↦ rw (lt-ltb n past_places place) (
-      at_most-stop n (get_or me.0.opened (c + 1) 0) s.opening,
-      λ p there. (s.seen p there).0,
-      λ p there. (s.lowered p there).0,
-      refl,
-    )
+  | inl place ↦ rw (lt-ltb n past_places place) (
+    at_most-stop n (get_or me.0.opened (c + 1) 0) s.opening,
+    λ p there. (s.seen p there).0,
+    λ p there. (s.lowered p there).0,
+    refl,
+  )
   | inr none ↦ rw (le-ltb n past_places none) (
-      refl,
-      place_at-none (get_or me.0.opened (c + 1) 0) (omega (arith, s.opening)),
-      λ p there. (let h = s.seen p there in absurd (omega arith)),
-      λ p there. (let h = s.lowered p there in absurd (omega arith)),
-    ) ])
+    refl,
+    place_at-none (get_or me.0.opened (c + 1) 0) (omega (arith, s.opening)),
+    λ p there. (let h = s.seen p there in absurd (omega arith)),
+    λ p there. (let h = s.lowered p there in absurd (omega arith)),
+  )
+])
 
 pub look-desk : (t t' : TableId) (c n : ℕ) (me after : PassState) → t' ≡ t → Sees c me n after
     → desk_in t' after ≡ desk_in t me

@@ -1,20 +1,12 @@
 -- Cuts of lists in order, cuts put together, and what joins findings that are cut at their stop.
-use Rattle.std.proofs.Common.{◌≡◌, Bool, true, false, nat_le, cond, List, [], ◌∷◌, ◌++◌, refl, sym, ap, subst, ◌∙◌}
-use Rattle.std.proofs.Common.{append-nil, ⊎_elim, filter, not, leb-false}
-use Rattle.std.proofs.lemmas.Bool.{not-true, cond_both}
-use Rattle.std.proofs.Common.{Option, ℕ, arith}
-use Rattle.std.proofs.lemmas.List.Elements.{Contains-append_cases}
-use Rattle.std.proofs.lemmas.List.Sorted.{IsPermutation-filter_both}
-use Rattle.audit_terms.specs.declared.findings.Finding.{Finding}
-use Rattle.audit_terms.specs.Order.{put_by}
-use Rattle.audit_terms.specs.Finding.{stops, comes_after, in_order, upto_stop}
-use Rattle.audit_terms.proofs.OrderedLists.{NoneBefore, IsInOrder, ordered-in_order, in_order-ordered}
-use Rattle.audit_terms.proofs.FindingOrder.{comes_after_is, in_order-append_comm, in_order-append_left}
-use Rattle.audit_terms.proofs.FindingOrder.{in_order-alike, in_order-in_order, in_order-permutation}
+use Rattle.stop_desk.proofs.Words.{Bool, Finding, IsCut, IsInOrder, IsPast, IsPermutation-filter_both, List, NoneBefore}
+use Rattle.stop_desk.proofs.Words.{Option, [], ap, append-nil, arith, comes_after, comes_after_is, cond_both, false}
+use Rattle.stop_desk.proofs.Words.{filter, in_order, in_order-append_comm, in_order-append_left, in_order-in_order}
+use Rattle.stop_desk.proofs.Words.{in_order-ordered, in_order-permutation, leb-false, nat_le, not, not-true}
+use Rattle.stop_desk.proofs.Words.{ordered-in_order, put_by, refl, subst, sym, true, upto_stop, ℕ, ◌++◌, ◌∙◌, ◌∷◌, ◌≡◌}
 use Rattle.stop_desk.specs.laws.Cuts.{FrontIsCut, WholeIsCut, CutsJoin, StopsJoin}
 use Rattle.stop_desk.proofs.RoundMembers.{contains-none, filter-contains}
 use Rattle.stop_desk.proofs.RoundMerge.{Leaves, leaves-both}
-use Rattle.stop_desk.specs.code.Board.{IsPast, IsCut}
 
 -- a filter keeps the order
 module _ (test : Finding → Bool) where

@@ -1,20 +1,15 @@
 -- The worked examples of a round of two workers.
-use Rattle.std.proofs.Common.{◌≡◌, ℕ, zero, suc, ◌<◌, false, List, [], ◌∷◌, refl, sym, ap, subst, ◌∙◌, arith}
-use Rattle.std.proofs.Common.{true≢false, inl, inr, Contains, Some, None, slice_get}
-use Rattle.std.specs.List.{AllByRecursion}
-use Rattle.std.proofs.lemmas.List.Elements.{All-contains, All-from_recursion}
-use Rattle.audit_terms.specs.declared.findings.Finding.{Finding}
-use Rattle.audit_terms.specs.Finding.{stops, in_order}
-use Rattle.stop_desk.specs.code.Board.{Job, StopsAt, IsCut, IsPartOf}
-use Rattle.stop_desk.specs.laws.Machine.{round_start, after_events, AreAllowed, IsFinished}
-use Rattle.stop_desk.specs.laws.Rounds.{HasConnections}
+use Rattle.stop_desk.proofs.Words.{All-contains, All-from_recursion, AllByRecursion, AreAllowed, Contains, Finding}
+use Rattle.stop_desk.proofs.Words.{HasConnections, IsCut, IsFinished, IsPartOf, Job, List, None, Some, StopsAt, []}
+use Rattle.stop_desk.proofs.Words.{after_events, ap, arith, false, in_order, inl, inr, refl, round_start, slice_get}
+use Rattle.stop_desk.proofs.Words.{stops, subst, suc, sym, true≢false, zero, ℕ, ◌<◌, ◌∙◌, ◌∷◌, ◌≡◌}
 use Rattle.stop_desk.specs.examples.Rounds.{overrun, error, job, part, example, example_events, TwoWorkersFinish}
 use Rattle.stop_desk.specs.examples.Rounds.{TwoWorkersSettle, DrawnTwice, LookInvents, CutUnseen, AllSkipped}
 use Rattle.stop_desk.specs.examples.Rounds.{OverrunLowered, ErrorNotLowered}
+use Rattle.stop_desk.proofs.RoundCuts.{front_is_cut_lem, whole_is_cut_lem}
 use Rattle.stop_desk.proofs.RoundMembers.{pair, contains-none, contains-here, contains-cases, contains-one}
 use Rattle.stop_desk.proofs.RoundMembers.{contains-in_order, in_order-contains}
 use Rattle.stop_desk.proofs.RoundSteps.{run_settles_lem}
-use Rattle.stop_desk.proofs.RoundCuts.{whole_is_cut_lem}
 
 abbrev job_0 : Job
 job_0 = job 0 (overrun 6 1 ∷ overrun 9 1 ∷ [])
@@ -33,7 +28,8 @@ the_place = (0, (error 7 3).place) ∷ []
 none_stops : (xs : List Finding) (place : ℕ) → AllByRecursion (λ (x : Finding). stops x ≡ false) xs →
     StopsAt xs place → ⊥
 none_stops xs place none (found, among, s, at) =
-    true≢false (sym s ∙ All-contains _ xs found (All-from_recursion (λ (x : Finding). stops x ≡ false) xs none) among)
+    let all = All-from_recursion (λ (x : Finding). stops x ≡ false) xs none in
+    true≢false (sym s ∙ All-contains (λ (x : Finding). stops x ≡ false) xs found all among)
 
 -- the place of the error, whichever name it has
 among-one : (place : ℕ) → (error 7 3).place ≡ place → Contains the_place (0, place)
@@ -43,12 +39,7 @@ among-one place p = (0, omega arith, ap (pair 0) p)
 part_0 : IsPartOf the_place [] job_0 (part 0 0 (Some (error 7 3).place) (overrun 6 1 ∷ []))
 part_0 = record {
   of_connection = refl;
-  cut = record {
-    ordered = refl;
-    left_out = overrun 9 1 ∷ [];
-    together = refl;
-    past = λ found h. (let p = ap (λ (x : Finding). x.place) (contains-one (overrun 9 1) found h) in omega arith);
-  };
+  cut = front_is_cut_lem job_0.findings (error 7 3).place refl;
   upto_seen = λ place e. among-one place cc;
   stops_lowered = λ place h. absurd (none_stops (overrun 6 1 ∷ []) place (refl, tt) h);
 }
@@ -67,8 +58,9 @@ all-kept seen lowered number j ordered stops_lowered = record {
 part_1 : IsPartOf [] the_place job_1 (part 1 0 None job_1.findings)
 part_1 = all-kept [] the_place 1 job_1 refl
     (λ place h. elim (contains-cases (error 7 3) (overrun 8 3 ∷ []) h.0 h.1) [
-      inl e ↦ among-one place (ap (λ (x : Finding). x.place) e ∙ h.3)
-    | inr k ↦ absurd (none_stops (overrun 8 3 ∷ []) place (refl, tt) (h.0, k, h.2, h.3)) ])
+      | inl e ↦ among-one place (ap (λ (x : Finding). x.place) e ∙ h.3)
+      | inr k ↦ absurd (none_stops (overrun 8 3 ∷ []) place (refl, tt) (h.0, k, h.2, h.3))
+    ])
 
 part_2 : IsPartOf the_place [] job_2 (part 2 1 None job_2.findings)
 part_2 = all-kept the_place [] 2 job_2 refl (λ place h. absurd (none_stops job_2.findings place (refl, tt) h))
@@ -138,15 +130,13 @@ all_skipped (drawn, (drawn', (lowered, (seen, ((j, at_work, is, right), rest))))
     skipped (subst (λ (k : Job). IsCut k.findings (Some (error 7 3).place) []) (let same : j ≡ job_0 = cc in same)
     right.cut)
 
-lowered-wrong : (number : ℕ) (j : Job) → 0 ≡ number → slice_get example.jobs number ≡ Some j →
-    StopsAt j.findings (overrun 6 1).place → ⊥
-lowered-wrong zero j e got h = none_stops job_0.findings (overrun 6 1).place (pair refl (pair refl tt))
-    (subst (λ (k : Job). StopsAt k.findings (overrun 6 1).place) (let same : j ≡ job_0 = cc in same) h)
-lowered-wrong (suc number) j e got h = absurd (omega arith)
-
 pub overrun_lowered : OverrunLowered
 overrun_lowered (drawn, ((number, j, at_work, got, of_it, stopping), rest)) =
-    lowered-wrong number j (ap (λ (x : ℕ × ℕ). x.1) (contains-one (pair 0 0) (pair 0 number) at_work.0)) got stopping
+    let zeroth : number ≡ 0 = ap (λ (x : ℕ × ℕ). x.1) (sym (contains-one (pair 0 0) (pair 0 number) at_work.0)) in
+    let first : Some job_0 ≡ Some j = subst (λ n. slice_get example.jobs n ≡ Some j) zeroth got in
+    let same : j ≡ job_0 = cc in
+    none_stops job_0.findings (overrun 6 1).place (pair refl (pair refl tt))
+    (subst (λ (k : Job). StopsAt k.findings (overrun 6 1).place) same stopping)
 
 pub ruleset two_workers = (two_workers_finish, two_workers_settle)
 

@@ -1,20 +1,12 @@
 -- Membership in lists, in what one worker or all did, and in lists put in order.
-use Rattle.std.proofs.Common.{◌≡◌, ℕ, zero, suc, Bool, true, false, List, [], ◌∷◌, refl, ap, subst, ◌∙◌, length, filter}
-use Rattle.std.proofs.Common.{arith, ◌⊎◌, inl, inr, ⊎_elim, Contains, Some, slice_get, eq-eqb, count_by, flat_map, map}
-use Rattle.std.proofs.Common.{if◌then◌else◌, ◌==◌, ◌+◌, ◌<◌}
-use Rattle.std.proofs.lemmas.Bool.{cond_both}
-use Rattle.std.specs.List.Sorted.{IsPermutation}
-use Rattle.std.proofs.lemmas.List.{length-map, get_or-map}
-use Rattle.std.proofs.lemmas.List.Elements.{Contains-append_left, Contains-append_right, Contains-append_cases}
-use Rattle.std.proofs.lemmas.List.Elements.{All-contains, All-contains_itself, All-filter, filter_passes}
-use Rattle.std.proofs.lemmas.List.Sums.{sum_by-cons, length-filter}
-use Rattle.std.proofs.lemmas.List.Sorted.{IsPermutation-refl, IsPermutation-sym, IsPermutation-cons}
-use Rattle.std.proofs.lemmas.List.Sorted.{IsPermutation-trans, IsPermutation-middle, Contains-permutation}
-use Rattle.std.proofs.lemmas.Option.{slice_get_within, get_or_from_slice_get}
-use Rattle.audit_terms.specs.declared.findings.Finding.{Finding}
-use Rattle.audit_terms.specs.Finding.{comes_after, in_order}
-use Rattle.audit_terms.specs.Order.{put_by}
-use Rattle.stop_desk.specs.laws.Machine.{by_worker, by_all}
+use Rattle.stop_desk.proofs.Words.{All-contains, All-contains_itself, All-filter, Bool, Contains, Contains-append_cases}
+use Rattle.stop_desk.proofs.Words.{Contains-append_left, Contains-append_right, Contains-permutation, Finding}
+use Rattle.stop_desk.proofs.Words.{IsPermutation, IsPermutation-cons, IsPermutation-middle, IsPermutation-refl}
+use Rattle.stop_desk.proofs.Words.{IsPermutation-sym, IsPermutation-trans, List, Some, [], ap, arith, by_all, by_worker}
+use Rattle.stop_desk.proofs.Words.{comes_after, cond_both, count_by, eq-eqb, filter, filter_passes, flat_map}
+use Rattle.stop_desk.proofs.Words.{get_or-map, get_or_from_slice_get, if◌then◌else◌, in_order, inl, inr, length}
+use Rattle.stop_desk.proofs.Words.{length-filter, length-map, map, put_by, refl, slice_get, slice_get_within, subst}
+use Rattle.stop_desk.proofs.Words.{suc, sum_by-cons, true, zero, ℕ, ⊎_elim, ◌+◌, ◌<◌, ◌==◌, ◌∙◌, ◌∷◌, ◌≡◌, ◌⊎◌}
 
 -- a pair, where its type is not known
 abbrev pub pair : {X Y : Type 0} → X → Y → X × Y
@@ -62,31 +54,35 @@ pub map-contains : {X Y : Type 0} (f : X → Y) (xs : List X) (y : Y) → Contai
     (x : X) × Contains xs x × (f x ≡ y)
 map-contains f [] y h = absurd (contains-none y h)
 map-contains f (x ∷ xs) y h = elim (contains-cases (f x) (map f xs) y h) [
-    inl same ↦ (x, contains-here x xs, same)
-  | inr k ↦ (let (z, among, is) = map-contains f xs y k in (z, contains-later x xs z among, is)) ]
+  | inl same ↦ (x, contains-here x xs, same)
+  | inr k ↦ (let (z, among, is) = map-contains f xs y k in (z, contains-later x xs z among, is))
+]
 
 pub contains-flat_map : {X Y : Type 0} (f : X → List Y) (xs : List X) (x : X) (y : Y) → Contains xs x →
     Contains (f x) y → Contains (flat_map f xs) y
 contains-flat_map f [] x y h k = absurd (contains-none x h)
 contains-flat_map f (z ∷ xs) x y h k = elim (contains-cases z xs x h) [
-    inl same ↦ Contains-append_left (f z) _ y (rw same k)
-  | inr l ↦ Contains-append_right (f z) _ y (contains-flat_map f xs x y l k) ]
+  | inl same ↦ Contains-append_left (f z) _ y (rw same k)
+  | inr l ↦ Contains-append_right (f z) _ y (contains-flat_map f xs x y l k)
+]
 
 pub flat_map-contains : {X Y : Type 0} (f : X → List Y) (xs : List X) (y : Y) → Contains (flat_map f xs) y →
     (x : X) × Contains xs x × Contains (f x) y
 flat_map-contains f [] y h = absurd (contains-none y h)
 flat_map-contains f (x ∷ xs) y h = elim (Contains-append_cases (f x) (flat_map f xs) y h) [
-    inl k ↦ (x, contains-here x xs, k)
-  | inr k ↦ (let (z, among, own) = flat_map-contains f xs y k in (z, contains-later x xs z among, own)) ]
+  | inl k ↦ (x, contains-here x xs, k)
+  | inr k ↦ (let (z, among, own) = flat_map-contains f xs y k in (z, contains-later x xs z among, own))
+]
 
 -- what passes a test, and no other
 pub contains-filter : {X : Type 0} (test : X → Bool) (xs : List X) (x : X) → Contains xs x → test x ≡ true →
     Contains (filter test xs) x
 contains-filter test [] x h t = h
 contains-filter test (y ∷ ys) x h t = elim (contains-cases y ys x h) [
-    inl same ↦ rw (ap test same ∙ t) (contains-first y _ x same)
+  | inl same ↦ rw (ap test same ∙ t) (contains-first y _ x same)
   | inr k ↦ (let rest = contains-filter test ys x k t in
-    cond_both (test y) _ _ (λ zs. Contains zs x) (λ _. contains-later y _ x rest) (λ _. rest)) ]
+      cond_both (test y) _ _ (λ zs. Contains zs x) (λ _. contains-later y _ x rest) (λ _. rest))
+]
 
 pub filter-contains : {X : Type 0} (test : X → Bool) (xs : List X) (x : X) → Contains (filter test xs) x →
     Contains xs x × (test x ≡ true)
@@ -116,12 +112,6 @@ contains-own worker entries x h = rw (by_worker-is worker entries)
 module _ {X : Type 0} (test : X → Bool) where
   pub count-cons : (x : X) (xs : List X) → count_by test (x ∷ xs) ≡ (if test x then 1 else 0) + count_by test xs
   count-cons x xs = sum_by-cons (λ (y : X). if test y then 1 else 0) x xs
-
-  pub count-true : (x : X) (xs : List X) → test x ≡ true → count_by test (x ∷ xs) ≡ 1 + count_by test xs
-  count-true x xs t = rw (count-cons x xs, t) refl
-
-  pub count-false : (x : X) (xs : List X) → test x ≡ false → count_by test (x ∷ xs) ≡ count_by test xs
-  count-false x xs t = rw (count-cons x xs, t) (omega arith)
 
   first-of : (xs : List X) → 0 < length xs → (x : X) × Contains xs x
   first-of [] lt = absurd (omega arith)

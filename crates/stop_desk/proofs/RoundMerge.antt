@@ -1,30 +1,23 @@
 -- The parts of a settled board, taken job by job, hold with what they leave out the findings of all jobs. So it gives,
 -- up to the stop, what the whole jobs give: each place seen is a real error, so none lies below the least; each part
 -- has everything up to the least; so the least is kept and was lowered.
-use Rattle.std.proofs.Common.{◌≡◌, ℕ, zero, suc, ◌+◌, ◌<◌, true, List, [], ◌∷◌, ◌++◌, length, refl, sym, ap, subst, ◌∙◌}
-use Rattle.std.proofs.Common.{arith, append_assoc, Contains, Option, Some, None, slice_get, eqb-true, eq-eqb, filter, not}
-use Rattle.std.proofs.Common.{ne_eqb, if◌then◌else◌, ◌==◌, ◌≤◌, Bool, false, ◌⊎◌, inl, inr, flat_map, count_by}
-use Rattle.std.proofs.lemmas.Bool.{not-true}
-use Rattle.std.proofs.lemmas.List.Elements.{Contains-append_cases, Contains-append_left, Contains-append_right}
-use Rattle.std.proofs.lemmas.List.Elements.{filter_passes, All-head}
+use Rattle.stop_desk.proofs.Words.{Board, BoardMerges, Bool, Contains, Contains-append_cases, Contains-append_left}
+use Rattle.stop_desk.proofs.Words.{Contains-append_right, Finding, IsGiven, IsInOrder, IsLeast, IsPartOf, IsPast}
+use Rattle.stop_desk.proofs.Words.{IsSettled, Job, JobStopsAt, List, Merges, None, NoneBefore, Option, Round, Some}
+use Rattle.stop_desk.proofs.Words.{StopsAt, [], add-zero, ap, append-nil, append_assoc, arith, comes_after}
+use Rattle.stop_desk.proofs.Words.{comes_after_is, eq-eqb, eqb-true, false, filter, findings_of_jobs, findings_of_parts}
+use Rattle.stop_desk.proofs.Words.{if◌then◌else◌, in_order, in_order-alike, in_order-append_comm, in_order-ordered, inl}
+use Rattle.stop_desk.proofs.Words.{inr, length, length-filter, ne_eqb, not, not-true, parts_of, put_by, refl, slice_get}
+use Rattle.stop_desk.proofs.Words.{stop_of, stops, subst, suc, sym, true, true≢false, upto_stop, zero, ℕ, ℕ_discrete}
+use Rattle.stop_desk.proofs.Words.{◌++◌, ◌+◌, ◌<◌, ◌==◌, ◌∙◌, ◌∷◌, ◌≡◌, ◌≤◌, ◌⊎◌}
 use Rattle.std.proofs.lemmas.List.Filters.{sum_by-filter_both}
-use Rattle.std.proofs.lemmas.List.Sums.{length-filter}
-use native.Mathlib.Decide.{ℕ_discrete}
+use Rattle.std.specs.Cmp.{nat_cmp_is}
+use Rattle.std.specs.declared.cmp.Ordering.TheVariants.{Greater}
+use Rattle.stop_desk.specs.code.Board.{Part}
 use native.Mathlib.Nat.{zero-add}
-use Rattle.std.proofs.Common.{add-zero, append-nil, true≢false}
-use Rattle.audit_terms.specs.declared.findings.Finding.{Finding}
-use Rattle.audit_terms.specs.Finding.{in_order, stops, comes_after, upto_stop}
-use Rattle.audit_terms.proofs.FindingOrder.{in_order-append_comm, in_order-alike, comes_after_is}
-use Rattle.stop_desk.specs.code.Board.{Job, Part, IsPast, IsPartOf, parts_of, findings_of_jobs, findings_of_parts}
-use Rattle.stop_desk.specs.code.Board.{Round, Board, stop_of, StopsAt, IsLeast, IsGiven, JobStopsAt, IsSettled}
-use Rattle.stop_desk.proofs.RoundMembers.{contains-none, contains-here, contains-later, contains-cases, count-cons}
+use Rattle.stop_desk.proofs.RoundMembers.{contains-none, contains-here, contains-later, contains-cases}
 use Rattle.stop_desk.proofs.RoundMembers.{contains-flat_map, flat_map-contains, contains-in_order, in_order-contains}
 use Rattle.stop_desk.proofs.RoundMembers.{filter-contains}
-use Rattle.std.specs.declared.cmp.Ordering.TheVariants.{Greater}
-use Rattle.std.specs.Cmp.{nat_cmp_is}
-use Rattle.audit_terms.specs.Order.{put_by}
-use Rattle.audit_terms.proofs.OrderedLists.{NoneBefore, IsInOrder, in_order-ordered}
-use Rattle.stop_desk.specs.laws.Rounds.{Merges, BoardMerges}
 use Rattle.stop_desk.proofs.RoundSteps.{least-holds, least-moves}
 
 -- the same findings in another order
@@ -49,7 +42,9 @@ leaves-both kept whole kept' whole' h k = record {
       ∙ ap in_order (sym (append_assoc kept h.left_out (kept' ++ k.left_out)))
       ∙ in_order-alike (kept ++ h.left_out) whole (kept' ++ k.left_out) whole' h.together k.together;
   beyond = λ found c. elim (Contains-append_cases h.left_out k.left_out found c) [
-      inl l ↦ h.beyond found l | inr l ↦ k.beyond found l ];
+    | inl l ↦ h.beyond found l
+    | inr l ↦ k.beyond found l
+  ];
 }
 
 leaves-alike : {IsOut : Finding → Type 0} (kept kept' whole : List Finding) → in_order kept ≡ in_order kept' →
@@ -99,12 +94,13 @@ module _ (seen lowered : List (ℕ × ℕ)) (connection : ℕ) where
   whole-part : (job : Job) (part : Part) → IsPartOf seen lowered job part →
       IsWhole (of_part connection part) (of_job connection job)
   whole-part job part h = rw (← h.of_connection) (elim (ℕ_discrete part.connection connection) [
-      yes same ↦ rw (eq-eqb part.connection connection same) (record {
-        left_out = h.cut.left_out;
-        together = h.cut.together;
-        beyond = λ found k. past-seen part same h.upto_seen part.upto refl found (h.cut.past found k);
-      })
-    | no other ↦ rw (ne_eqb part.connection connection other) whole-none ])
+    | yes same ↦ rw (eq-eqb part.connection connection same) (record {
+      left_out = h.cut.left_out;
+      together = h.cut.together;
+      beyond = λ found k. past-seen part same h.upto_seen part.upto refl found (h.cut.past found k);
+    })
+    | no other ↦ rw (ne_eqb part.connection connection other) whole-none
+  ])
 
   -- parts that pass a test, and the others
   abbrev own : List Part → List Finding
@@ -189,16 +185,19 @@ after-none : (x : Finding) (ys : List Finding) (y : Finding) → NoneBefore come
     Contains ys y → comes_after x y ≡ false
 after-none x [] y o h = absurd (contains-none y h)
 after-none x (z ∷ ys) y o h = elim (contains-cases z ys y h) [
-    inl same ↦ rw same at o.0 | inr k ↦ after-none x ys y o.1 k ]
+  | inl same ↦ rw same at o.0
+  | inr k ↦ after-none x ys y o.1 k
+]
 
 -- what comes after a finding that stops is cut
 cut-put : (x y : Finding) (zs : List Finding) → IsInOrder comes_after comes_after_is zs → Contains zs y →
     stops y ≡ true → comes_after x y ≡ true → upto_stop (put_by comes_after x zs) ≡ upto_stop zs
 cut-put x y [] o h s l = absurd (contains-none y h)
 cut-put x y (z ∷ zs) o h s l = elim (contains-cases z zs y h) [
-    inl same ↦ rw (rw (sym same) at l, rw (sym same) at s)
+  | inl same ↦ rw (rw (sym same) at l, rw (sym same) at s)
   | inr k ↦ rw (comes_after_is.above x z y l (after-none z zs y o.0 k))
-    (ap (λ us. if stops z then z ∷ [] else z ∷ us) (cut-put x y zs o.1 k s l)) ]
+      (ap (λ us. if stops z then z ∷ [] else z ∷ us) (cut-put x y zs o.1 k s l))
+]
 
 -- so it is with all that comes after it
 pub cut-all : (xs ys : List Finding) →
@@ -219,7 +218,9 @@ stops-right xs ys place h = (h.0, Contains-append_right xs ys h.0 h.1, h.2, h.3)
 
 stops-cases : (xs ys : List Finding) (place : ℕ) → StopsAt (xs ++ ys) place → StopsAt xs place ⊎ StopsAt ys place
 stops-cases xs ys place h = elim (Contains-append_cases xs ys h.0 h.1) [
-    inl k ↦ inl (h.0, k, h.2, h.3) | inr k ↦ inr (h.0, k, h.2, h.3) ]
+  | inl k ↦ inl (h.0, k, h.2, h.3)
+  | inr k ↦ inr (h.0, k, h.2, h.3)
+]
 
 -- what a job of the connection finds is among all findings of its jobs
 stops-job : (round : Round) (connection place : ℕ) → JobStopsAt round connection place →
@@ -258,14 +259,16 @@ module _ (round : Round) (board : Board) (settled : IsSettled round board) (conn
   kept_before : (bound place : ℕ) → place < bound → StopsAt (earlier ++ whole) place → HasKeptBefore place
   kept_before zero place l h = absurd (omega arith)
   kept_before (suc bound) place l h = elim (stops-cases earlier whole place h) [
-      inl k ↦ (place, omega arith, stops-left earlier kept place k)
+    | inl k ↦ (place, omega arith, stops-left earlier kept place k)
     | inr (found, among, stopping, at) ↦ elim (Contains-append_cases kept parts.left_out found
-      (in_order-contains _ found (rw (sym parts.together) at (contains-in_order whole found among)))) [
-        inl own ↦ (place, omega arith, stops-right earlier kept place (found, own, stopping, at))
-      | inr left ↦ (let (stop, seen, low) = parts.beyond found left in
-        let (least, before, there) = kept_before bound stop (omega arith)
-        (real stop (settled.seen_given connection stop seen)) in
-        (least, omega arith, there)) ] ]
+        (in_order-contains _ found (rw (sym parts.together) at (contains-in_order whole found among)))) [
+          | inl own ↦ (place, omega arith, stops-right earlier kept place (found, own, stopping, at))
+          | inr left ↦ (let (stop, seen, low) = parts.beyond found left in
+              let (least, before, there) = kept_before bound stop (omega arith)
+              (real stop (settled.seen_given connection stop seen)) in
+              (least, omega arith, there))
+        ]
+  ]
 
   before : (place : ℕ) → StopsAt (earlier ++ whole) place → HasKeptBefore place
   before place h = kept_before (suc place) place (omega arith) h
@@ -304,10 +307,11 @@ module _ (round : Round) (board : Board) (settled : IsSettled round board) (conn
 
   given : (place : ℕ) → StopsAt (earlier ++ kept) place → HasGivenBefore place
   given place h = elim (stops-cases earlier kept place h) [
-      inl k ↦ opened _ place refl opening k
+    | inl k ↦ opened _ place refl opening k
     | inr (found, among, s, at) ↦
-      (let (part, there, own) = flat_map-contains (of_part connection) board.parts found among in
-      (found.place, omega arith, inr (lowered_part part found _ there refl own s))) ]
+        (let (part, there, own) = flat_map-contains (of_part connection) board.parts found among in
+        (found.place, omega arith, inr (lowered_part part found _ there refl own s)))
+  ]
 
   -- so the board's stop is the least error of all, and of what was kept
   merges : Merges round board connection earlier

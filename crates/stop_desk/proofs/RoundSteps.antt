@@ -1,14 +1,11 @@
 -- What the machine of workers keeps true after each event, from which a finished run is settled.
-use Rattle.std.proofs.Common.{◌≡◌, ℕ, ◌<◌, ◌≤◌, min, List, [], ◌∷◌, length, refl, sym, ap, ◌+◌, subst, ◌∙◌, arith, ◌⊎◌, inl}
-use Rattle.std.proofs.Common.{inr, Bool, Contains, Option, Some, None, slice_get, slice_set, eqb-true, eq-eqb, ◌==◌}
-use Rattle.std.proofs.Common.{length-set, get_or-set_same, get_or-set_other}
-use Rattle.std.proofs.lemmas.Bool.{cases_lt}
-use Rattle.std.proofs.lemmas.Bool.Decides.{nat_tests}
-use native.Mathlib.Decide.{ℕ_discrete}
-use Rattle.stop_desk.specs.code.Board.{Job, Round, Part, stop_of, IsLeast, IsPartOf, parts_of, JobStopsAt, IsGiven}
-use Rattle.stop_desk.specs.laws.Machine.{RoundState, Event, Draw, Look, Lower, Finish, by_worker, by_all, round_start}
-use Rattle.stop_desk.specs.laws.Machine.{IsAtWork, IsAllowed, lesser, after_event, after_events, AreAllowed}
-use Rattle.stop_desk.specs.laws.Rounds.{HasConnections, RunSettles}
+use Rattle.stop_desk.proofs.Words.{AreAllowed, Bool, Contains, Draw, Event, Finish, HasConnections, IsAllowed, IsAtWork}
+use Rattle.stop_desk.proofs.Words.{IsGiven, IsLeast, IsPartOf, Job, JobStopsAt, List, Look, Lower, None, Option, Round}
+use Rattle.stop_desk.proofs.Words.{RoundState, RunSettles, Some, [], after_event, after_events, ap, arith, by_all}
+use Rattle.stop_desk.proofs.Words.{by_worker, cases_lt, eq-eqb, eqb-true, get_or-set_other, get_or-set_same, inl, inr}
+use Rattle.stop_desk.proofs.Words.{length, length-set, lesser, min, nat_tests, parts_of, refl, round_start, slice_get}
+use Rattle.stop_desk.proofs.Words.{slice_set, stop_of, subst, sym, ℕ, ℕ_discrete, ◌<◌, ◌==◌, ◌∙◌, ◌∷◌, ◌≡◌, ◌≤◌, ◌⊎◌}
+use Rattle.stop_desk.specs.code.Board.{Part}
 use Rattle.stop_desk.proofs.RoundMembers.{contains-none, contains-here, contains-later, contains-cases, contains-each}
 use Rattle.stop_desk.proofs.RoundMembers.{contains-pair, own-all, contains-own, map-contains, count-cons, count-some}
 use Rattle.stop_desk.proofs.RoundMembers.{some-count, contains-got}
@@ -59,8 +56,9 @@ least-lesser : (Holds Holds' : ℕ → Type 0) (stop : Option ℕ) (place : ℕ)
 least-lesser Holds Holds' None place more here back h = (here, λ q k. grind (arith, back q k, h q))
 least-lesser Holds Holds' (Some stop) place more here back h = (
   elim (cases_lt stop place) [
-    inl low ↦ (let e : min stop place ≡ stop = omega arith in rw e (more stop h.0))
-  | inr high ↦ (let e : min stop place ≡ place = omega arith in rw e here) ],
+    | inl low ↦ (let e : min stop place ≡ stop = omega arith in rw e (more stop h.0))
+    | inr high ↦ (let e : min stop place ≡ place = omega arith in rw e here)
+  ],
   λ q k. grind (arith, back q k, h.1 q),
 )
 
@@ -113,8 +111,14 @@ module _ (round : Round) (state : RoundState) (h : IsKept round state) where
       let cases = contains-cases (worker, number) state.drawn in record {
         draws = record {
           below = λ w n k. grind (arith, cases (w, n) k, h.draws.below w n);
-          by_one = λ v w n j k. grind (arith, cases (v, n) j, cases (w, n) k, h.draws.below v n, h.draws.below w n,
-          h.draws.by_one v w n);
+          by_one = λ v w n j k. grind (
+            arith,
+            cases (v, n) j,
+            cases (w, n) k,
+            h.draws.below v n,
+            h.draws.below w n,
+            h.draws.by_one v w n,
+          );
           parts_drawn = λ w part k. contains-later _ state.drawn _ (h.draws.parts_drawn w part k);
           parts_once = h.draws.parts_once;
         };
@@ -156,15 +160,16 @@ module _ (round : Round) (state : RoundState) (h : IsKept round state) where
     stops-least : (c : ℕ) → IsLeast (IsGiven round now c)
         (stop_of (slice_set state.stops connection (Some (lesser (stop_of state.stops connection) place))) c)
     stops-least c = elim (ℕ_discrete connection c) [
-        yes same ↦ (let wide : connection < length state.stops = omega (arith, h.places.wide) in
-        rw (← same) (rw (get_or-set_same state.stops connection (Some _) None wide)
-        (least-lesser (IsGiven round lowered connection) _ _ place (given-more connection)
-        (inr (contains-here (connection, place) lowered))
-        (λ q k. grind (arith, given-cases connection q k)) (h.places.stops_right connection))))
+      | yes same ↦ (let wide : connection < length state.stops = omega (arith, h.places.wide) in
+          rw (← same) (rw (get_or-set_same state.stops connection (Some _) None wide)
+          (least-lesser (IsGiven round lowered connection) _ _ place (given-more connection)
+          (inr (contains-here (connection, place) lowered))
+          (λ q k. grind (arith, given-cases connection q k)) (h.places.stops_right connection))))
       | no other ↦ rw (get_or-set_other state.stops connection c (Some _) None (λ e. other (sym e)))
-        (least-moves (IsGiven round lowered c) _ _ (λ q k. (q, omega arith, given-more c q k))
-        (λ q k. (q, omega arith, elim (given-cases c q k) [ inl new ↦ absurd (other new.0) | inr old ↦ old ]))
-        (h.places.stops_right c)) ]
+          (least-moves (IsGiven round lowered c) _ _ (λ q k. (q, omega arith, given-more c q k))
+          (λ q k. (q, omega arith, elim (given-cases c q k) [ inl new ↦ absurd (other new.0) | inr old ↦ old ]))
+          (h.places.stops_right c))
+    ]
 
     lower-kept : IsKept round (after_event state (Lower worker connection place))
     lower-kept = record {
@@ -214,9 +219,12 @@ module _ (round : Round) (state : RoundState) (h : IsKept round state) where
             h.draws.parts_drawn;
         parts_once = once;
       };
-      parts = contains-each part (by_all state.parts) _
-          (job, is_job, part-grows (λ c q. own-all worker state.seen (c, q))
-          (λ c q. own-all worker state.lowered (c, q)) is_part)
+      parts = contains-each part (by_all state.parts) _ (
+        job,
+        is_job,
+        part-grows (λ c q. own-all worker state.seen (c, q))
+            (λ c q. own-all worker state.lowered (c, q)) is_part,
+      )
           h.parts;
       places = h.places;
     }

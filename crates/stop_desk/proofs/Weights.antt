@@ -1,13 +1,7 @@
 -- How a sum over a list changes with the list, and numbers and marks in lists, by cases.
-use Rattle.std.proofs.Common.{◌≡◌, ℕ, zero, suc, ◌+◌, ◌≤◌, List, [], ◌∷◌, ◌++◌, set, sym, ap, arith, ◌<◌, ◌⊎◌, Bool}
-use Rattle.std.proofs.Common.{true, false, if◌then◌else◌, nat_lt, refl, inl, inr, ⊎_elim, eq-eqb, ne_eqb}
-use mathlib.Core.Option.{some, some-injective, some-ne-none}
-use lib.ListN.{get_elem?}
-use Rattle.stop_desk.specs.code.Counts.{weigh, is_number, once_below, is_mark, marks}
-use Rattle.std.proofs.lemmas.Bool.Decides.{nat_tests}
-use mathlib.Core.Logic.{dite}
-use native.Mathlib.Decide.{ℕ_discrete}
-use Rattle.stop_desk.specs.code.Stop.{past_places}
+use Rattle.stop_desk.proofs.Words.{Bool, List, [], ap, arith, false, get_elem?, if◌then◌else◌, inl, is_mark, marks}
+use Rattle.stop_desk.proofs.Words.{nat_lt, nat_tests, past_places, refl, set, some, some-injective, some-ne-none, suc}
+use Rattle.stop_desk.proofs.Words.{sym, true, weigh, zero, ℕ, ◌++◌, ◌+◌, ◌<◌, ◌∷◌, ◌≡◌, ◌≤◌, ◌⊎◌}
 
 module _ {X : Type 0} where
   pub weigh-append : (f : X → ℕ) (xs ys : List X) → weigh f (xs ++ ys) ≡ weigh f xs + weigh f ys
@@ -70,12 +64,6 @@ module _ {X : Type 0} where
       let here = idle 0 x (λ _. some x) (omega arith) in
       let rest = weigh-whole f g xs i v at (omega arith) (λ j y there. idle (suc j) y there) in
       omega arith
-
-pub once_below-next : (x n : ℕ) → once_below x (n + 1) ≡ once_below x n + is_number x n
-once_below-next x n = grind (arith, nat_tests)
-
-pub once_below-self : (n : ℕ) → once_below n n ≡ 0
-once_below-self n = grind (arith, nat_tests)
 
 -- what a look adds to the places seen is a place
 pub seen-cases : (b : Bool) (c p c' n : ℕ) (ms : List (ℕ × ℕ)) → b ≡ nat_lt n past_places

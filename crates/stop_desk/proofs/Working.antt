@@ -1,28 +1,17 @@
 -- A job that is done, and what a worker has done after one draw more, and when no job is left.
-use Rattle.std.proofs.Common.{◌≡◌, ℕ, ◌<◌, true, false, List, [], ◌∷◌, ◌++◌, length, refl, sym, ap, subst, ◌∙◌, inl, inr}
-use Rattle.std.proofs.Common.{Option, Some, None, Contains, slice_get, get_or, All, filter, ◌+◌, ◌≤◌, length-append, map}
-use Rattle.std.proofs.Common.{arith, if◌then◌else◌, ◌==◌, eqb, append_assoc, append-nil, flat_map}
-use Rattle.std.proofs.lemmas.Bool.{cases_lt}
-use Rattle.std.proofs.lemmas.Bool.Decides.{nat_tests}
-use Rattle.std.proofs.lemmas.List.{map-append}
-use Rattle.std.proofs.lemmas.List.Elements.{Contains-append_left, Contains-append_right, Contains-append_cases}
-use Rattle.std.proofs.lemmas.List.Elements.{Contains-push_cases}
-use Rattle.std.proofs.lemmas.List.Sums.{sum_by-append}
+use Rattle.stop_desk.proofs.Words.{All, AllByRecursion, Asked, BoardPart, Contains, Contains-append_cases}
+use Rattle.stop_desk.proofs.Words.{Contains-append_left, Contains-append_right, Contains-push_cases, DeskId, DoesJob}
+use Rattle.stop_desk.proofs.Words.{Draws, DrewJobs, Finding, IsAllWorked, IsClaim, IsConnection, IsCut, IsLaid, IsLook}
+use Rattle.stop_desk.proofs.Words.{IsWorked, Job, List, Looked, None, Option, Part, PassView, Some, StopsAt, [], ap}
+use Rattle.stop_desk.proofs.Words.{append-nil, append_assoc, arith, cases_lt, eqb, false, filter, flat_map, get_or}
+use Rattle.stop_desk.proofs.Words.{if◌then◌else◌, inl, inr, is_number, length, length-append, list_any, map, map-append}
+use Rattle.stop_desk.proofs.Words.{nat_tests, part_of, parts_of, pass_draws, pass_of, refl, slice_get, slice_get-get_or}
+use Rattle.stop_desk.proofs.Words.{stops, stops_on, subst, sum_by-append, sym, times, true, ℕ, ◌++◌, ◌+◌, ◌<◌, ◌==◌}
+use Rattle.stop_desk.proofs.Words.{◌∙◌, ◌∷◌, ◌≡◌, ◌≤◌}
 use Rattle.std.proofs.lemmas.Map.Steps.{length-le_from_distinct_below}
-use Rattle.std.proofs.lemmas.Option.{slice_get-get_or}
-use Rattle.std.specs.List.{AllByRecursion, IsDistinct, list_any}
-use Rattle.audit_terms.specs.declared.findings.Finding.{Finding}
-use Rattle.audit_terms.specs.Finding.{stops}
-use Rattle.audit_terms.specs.code.runs.Look.{Asked, Looked}
+use Rattle.std.specs.List.{IsDistinct}
 use Rattle.stop_desk.specs.declared.claims.Claim.{Claim}
 use Rattle.stop_desk.specs.declared.claims.Claim.TheVariants.{Spent, Job as Drawn, Done}
-use Rattle.stop_desk.specs.declared.parts.Part.{Part}
-use Rattle.stop_desk.specs.code.Board.{Job, StopsAt, IsCut, Part as BoardPart, parts_of}
-use Rattle.stop_desk.specs.code.Calls.{IsLook, Draws, IsClaim}
-use Rattle.stop_desk.specs.code.Counts.{is_number, times}
-use Rattle.stop_desk.specs.code.Desk.{DeskId, PassView, pass_of, IsConnection, pass_draws}
-use Rattle.stop_desk.specs.code.Laid.{part_of}
-use Rattle.stop_desk.specs.code.Worked.{stops_on, Goes, DoesJob, IsLaid, IsWorked, IsAllWorked, DrewJobs}
 use Rattle.stop_desk.proofs.RoundMembers.{pair, contains-none, contains-here, contains-one, contains-got, contains-map}
 use Rattle.stop_desk.proofs.RoundMembers.{map-contains, contains-in_order, in_order-contains, contains-filter}
 use Rattle.stop_desk.proofs.RoundMembers.{filter-contains, count-cons, contains-flat_map, flat_map-contains}
@@ -125,16 +114,22 @@ module _ {M : Type 0} (makes : ℕ → Option ℕ → M → Type 0) (jobs : List
         seen_kept = λ c p. Contains-append_left before.seen answers (c, p);
         lowered_kept = λ c p. Contains-append_left before.lowered errors (c, p);
         seen_there = λ c p k. elim (Contains-append_cases before.seen answers (c, p) k) [
-            inl old ↦ inl old
+          | inl old ↦ inl old
           | inr new ↦ (let (one, among, is) = flat_map-contains _ asked (c, p) new in
-            inr (job-there before.desk jobs part.job c lt all
-            (sym (answer-on part.connection c p one.answer is) ∙ connection_is))) ];
+              inr (job-there before.desk jobs part.job c lt all
+              (sym (answer-on part.connection c p one.answer is) ∙ connection_is)))
+        ];
         lowered_real = λ c p k. elim (Contains-append_cases before.lowered errors (c, p) k) [
-            inl old ↦ inl old
+          | inl old ↦ inl old
           | inr new ↦ (let job = job_at jobs part.job in
-            let (is, stopping) = stops_on-contains part.connection part.findings.items c p new in
-            inr (job, contains-got jobs part.job job (at-job jobs part.job lt), sym connection_is ∙ is,
-            cut-stops job.findings part.upto part.findings.items p cut stopping)) ];
+              let (is, stopping) = stops_on-contains part.connection part.findings.items c p new in
+              inr (
+                job,
+                contains-got jobs part.job job (at-job jobs part.job lt),
+                sym connection_is ∙ is,
+                cut-stops job.findings part.upto part.findings.items p cut stopping,
+              ))
+        ];
       },
       record {
         in_round = in_round;
@@ -170,8 +165,9 @@ has-times q (x ∷ xs) h = grind (arith, nat_tests, has-times q xs)
 
 few-distinct : (n : ℕ) (xs : List ℕ) → ((x : ℕ) → n ≤ x → times x xs ≡ 0) → ((x : ℕ) → times x xs ≤ 1) → length xs ≤ n
 few-distinct n xs none once = length-le_from_distinct_below xs n (distinct xs once) (λ q h. elim (cases_lt q n) [
-    inl low ↦ low
-  | inr past ↦ (let some = has-times q xs h in let no = none q past in absurd (omega arith)) ])
+  | inl low ↦ low
+  | inr past ↦ (let some = has-times q xs h in let no = none q past in absurd (omega arith))
+])
 
 module _ {M : Type 0} (makes : ℕ → Option ℕ → M → Type 0) (jobs : List Job) (round : ℕ) where
   -- a part stays one where more was seen and lowered
@@ -229,17 +225,27 @@ module _ {M : Type 0} (makes : ℕ → Option ℕ → M → Type 0) (jobs : List
           record {
             desk_is = ap (λ (v : PassView). v.desk) goes.kept ∙ ap (λ (v : PassView). v.desk) draws.added ∙ h.desk_is;
             whole_is = ap pass_draws goes.kept ∙ same-whole;
-            drawn = λ job l. grind (arith, nat_tests, after-times job, h.drawn job l, number,
-            parts_of-append job parts (part ∷ []), count-cons (λ (p : BoardPart). p.job == job) (part_of part) []);
+            drawn = λ job l. grind (
+              arith,
+              nat_tests,
+              after-times job,
+              h.drawn job l,
+              number,
+              parts_of-append job parts (part ∷ []),
+              count-cons (λ (p : BoardPart). p.job == job) (part_of part) [],
+            );
             laid = λ other k. elim (Contains-push_cases parts part other k) [
-                inl old ↦ laid-grows goes.seen_kept goes.lowered_kept (rw draws.added (h.laid other old))
-              | inr new ↦ rw new at laid ];
+              | inl old ↦ laid-grows goes.seen_kept goes.lowered_kept (rw draws.added (h.laid other old))
+              | inr new ↦ rw new at laid
+            ];
             seen_there = λ c p k. elim (goes.seen_there c p k) [
-                inl old ↦ h.seen_there c p (rw draws.added at old)
-              | inr there ↦ rw (ap (λ (v : PassView). v.desk) draws.added ∙ h.desk_is) at there ];
+              | inl old ↦ h.seen_there c p (rw draws.added at old)
+              | inr there ↦ rw (ap (λ (v : PassView). v.desk) draws.added ∙ h.desk_is) at there
+            ];
             lowered_real = λ c p k. elim (goes.lowered_real c p k) [
-                inl old ↦ h.lowered_real c p (rw draws.added at old)
-              | inr real ↦ real ];
+              | inl old ↦ h.lowered_real c p (rw draws.added at old)
+              | inr real ↦ real
+            ];
           },
           (
             λ x past. grind (arith, nat_tests, after-times x, drew.0 x past),
@@ -272,17 +278,27 @@ module _ {M : Type 0} (makes : ℕ → Option ℕ → M → Type 0) (jobs : List
         record {
           desk_is = w.desk_is;
           whole_is = omega (arith, w.whole_is, v.whole_is, length-append mine.drawn theirs.drawn);
-          drawn = λ job lt. omega (arith, w.drawn job lt, v.drawn job lt, parts_of-append job parts more,
-          weigh-append (is_number job) mine.drawn theirs.drawn);
+          drawn = λ job lt. omega (
+            arith,
+            w.drawn job lt,
+            v.drawn job lt,
+            parts_of-append job parts more,
+            weigh-append (is_number job) mine.drawn theirs.drawn,
+          );
           laid = λ part l. elim (Contains-append_cases parts more part l) [
-              inl k ↦ laid-grows (λ c p. Contains-append_left mine.seen theirs.seen (c, p))
-              (λ c p. Contains-append_left mine.lowered theirs.lowered (c, p)) (w.laid part k)
+            | inl k ↦ laid-grows (λ c p. Contains-append_left mine.seen theirs.seen (c, p))
+                (λ c p. Contains-append_left mine.lowered theirs.lowered (c, p)) (w.laid part k)
             | inr k ↦ laid-grows (λ c p. Contains-append_right mine.seen theirs.seen (c, p))
-              (λ c p. Contains-append_right mine.lowered theirs.lowered (c, p)) (v.laid part k) ];
+                (λ c p. Contains-append_right mine.lowered theirs.lowered (c, p)) (v.laid part k)
+          ];
           seen_there = λ c p l. elim (Contains-append_cases mine.seen theirs.seen (c, p) l) [
-              inl k ↦ w.seen_there c p k | inr k ↦ v.seen_there c p k ];
+            | inl k ↦ w.seen_there c p k
+            | inr k ↦ v.seen_there c p k
+          ];
           lowered_real = λ c p l. elim (Contains-append_cases mine.lowered theirs.lowered (c, p) l) [
-              inl k ↦ w.lowered_real c p k | inr k ↦ v.lowered_real c p k ];
+            | inl k ↦ w.lowered_real c p k
+            | inr k ↦ v.lowered_real c p k
+          ];
         },
         (n, past, omega (arith, weigh-append (is_number n) mine.drawn theirs.drawn)),
       )

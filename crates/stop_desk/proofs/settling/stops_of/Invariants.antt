@@ -1,6 +1,4 @@
-use Rattle.std.proofs.Common.{◌≡◌, map}
-use Rattle.std.specs.List.{range_with_len}
-use Rattle.stop_desk.specs.code.Desk.{final_stop}
+use Rattle.stop_desk.proofs.Words.{final_stop, map, range_with_len, ◌≡◌}
 use Rattle.stop_desk.proofs.settling.stops_of.Given as goal
 
 -- the stops of the connections so far

@@ -1,10 +1,6 @@
-use Rattle.std.proofs.Common.{◌≡◌, ℕ, ◌++◌, Option, List, refl, ap, subst, ◌∙◌}
-use Rattle.audit_terms.specs.code.runs.Look.{Asked}
-use Rattle.stop_desk.specs.code.Desk.{PassView, pass_of}
-use Rattle.stop_desk.specs.code.Calls.{IsLook}
-use Rattle.stop_desk.specs.declared.desk_looks.DeskLook.{DeskLook}
+use Rattle.stop_desk.proofs.Words.{Asked, IsLook, List, Option, PassView, ap, refl, subst, ℕ, ◌∙◌, ◌≡◌}
 use Rattle.stop_desk.specs.code.Heeding.{Heeds}
-use Rattle.stop_desk.specs.code.Worked.{stops_on}
+use Rattle.stop_desk.specs.declared.desk_looks.DeskLook.{DeskLook}
 use Rattle.stop_desk.proofs.Working.{saw_more, answers_on, watched, job_at, at-job, job-there, job-done}
 use Rattle.stop_desk.proofs.workers.do_job.Goals as goal
 
