@@ -55,7 +55,8 @@ length-last_stops closed = ap length (last_from-is closed 0 _) ∙ length-map-ra
 final-at : (closed : ClosedView) (c : ℕ) (d : Option ℕ) → IsConnection closed.desk c →
     get_or (last_stops closed) c d ≡ final_stop closed c
 final-at closed c d there = rw (last_from-is closed 0 (drop 1 closed.desk.opened))
-    (get_or-map-range_with_len (final_stop closed) 0 _ c c d (omega (arith, length-drop 1 closed.desk.opened)) (omega arith))
+    (get_or-map-range_with_len (final_stop closed) 0 _ c c d (omega (arith, length-drop 1 closed.desk.opened))
+    (omega arith))
 
 final-past : (closed : ClosedView) (c : ℕ) → length closed.desk.opened ≤ c + 1 → stop_of (last_stops closed) c ≡ None
 final-past closed c past = get_or_past (last_stops closed) c None
@@ -98,7 +99,8 @@ module _ {M : Type 0} (makes : ℕ → Option ℕ → M → Type 0) (jobs : List
   given-from c p there (inl e) = inl (opening-at desk c there ∙ e)
   given-from c p there (inr k) = inr (marks-contains c p last.lowered k)
 
-  given-there : (c p : ℕ) → IsConnection desk c → Given c p → (opening_stop desk c ≡ Some p) ⊎ (0 < marks c p last.lowered)
+  given-there : (c p : ℕ) → IsConnection desk c → Given c p →
+      (opening_stop desk c ≡ Some p) ⊎ (0 < marks c p last.lowered)
   given-there c p there (inl e) = inl (sym (opening-at desk c there) ∙ e)
   given-there c p there (inr k) = inr (contains-marks c p last.lowered k)
 
@@ -158,7 +160,8 @@ module _ {X : Type 0} (number : X → ℕ) where
       ((x : X) → Contains xs x → (first ≤ number x) × (number x < first + count)) →
       ((n : ℕ) → first ≤ n → n < first + count → count_by (has n) xs ≡ 1) → map number xs ≡ range_with_len first count
   in-turn first zero [] rise among once = refl
-  in-turn first (suc count) [] rise among once = (let o = once first (omega arith) (omega arith) in absurd (omega arith))
+  in-turn first (suc count) [] rise among once =
+      let o = once first (omega arith) (omega arith) in absurd (omega arith)
   in-turn first zero (x ∷ xs) rise among once = (let b = among x (contains-here x xs) in absurd (omega arith))
   in-turn first (suc count) (x ∷ xs) rise among once =
       rw head (ap (λ ns. first ∷ ns) (in-turn (first + 1) count xs

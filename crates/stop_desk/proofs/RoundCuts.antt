@@ -22,7 +22,8 @@ module _ (test : Finding → Bool) where
   in_order-filter [] h = tt
   in_order-filter (x ∷ xs) h =
       let rest = in_order-filter xs h.1 in
-      cond_both (test x) _ _ (IsInOrder comes_after comes_after_is) (λ _. (none_before-filter x xs h.0, rest)) (λ _. rest)
+      cond_both (test x) _ _ (IsInOrder comes_after comes_after_is) (λ _. (none_before-filter x xs h.0, rest))
+      (λ _. rest)
 
 pub front_is_cut_lem : FrontIsCut
 front_is_cut_lem whole upto e =

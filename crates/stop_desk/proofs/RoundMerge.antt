@@ -152,12 +152,13 @@ module _ (seen lowered : List (ℕ × ℕ)) (connection : ℕ) where
         omega arith
 
     later : (p : Part) → Contains others p → IsOneOf seen lowered (suc first) jobs p
-    later p k = (let (among, apart) = filter-contains (λ p. not (of_it p)) parts p k in by_number (are p among) apart) where
-      by_number : IsOneOf seen lowered first (job ∷ jobs) p → not (of_it p) ≡ true →
-          IsOneOf seen lowered (suc first) jobs p
-      by_number (zero, j, e, got, h) apart =
-          absurd (true≢false (sym (eq-eqb p.job first (omega arith)) ∙ not-true (of_it p) apart))
-      by_number (suc at, j, e, got, h) apart = (at, j, omega arith, got, h)
+    later p k =
+        let (among, apart) = filter-contains (λ p. not (of_it p)) parts p k in by_number (are p among) apart where
+          by_number : IsOneOf seen lowered first (job ∷ jobs) p → not (of_it p) ≡ true →
+              IsOneOf seen lowered (suc first) jobs p
+          by_number (zero, j, e, got, h) apart =
+              absurd (true≢false (sym (eq-eqb p.job first (omega arith)) ∙ not-true (of_it p) apart))
+          by_number (suc at, j, e, got, h) apart = (at, j, omega arith, got, h)
 
     parts-alike : in_order (own parts) ≡ in_order (of_part connection taken.0 ++ own others)
     parts-alike = both-alike of_it parts ∙ ap (λ ps. in_order (own ps ++ own others)) taken.1

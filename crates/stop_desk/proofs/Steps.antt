@@ -157,7 +157,8 @@ module _ (o : Opening) (s : State (Unit {0}) Knows) (id : ℕ) (v : Knows) (h : 
     opening = subst (λ os. get_or s.words (c + 1) 0 ≤ get_or os (c + 1) 0) (sym ((h.2 id v at).knowing some_share))
         (h.1.below_opening c);
     lowered = λ p there. h.1.below_lowered c p (omega (arith, part (lowered_in c p)));
-    seen = λ p there. (let (low, place, given) = h.1.below_seen c p (omega (arith, part (seen_in c p))) in (low, place));
+    seen = λ p there.
+        (let (low, place, given) = h.1.below_seen c p (omega (arith, part (seen_in c p))) in (low, place));
     added = refl;
   }
 
@@ -218,7 +219,8 @@ module _ (o : Opening) (s : State (Unit {0}) Knows) (id : ℕ) (v : Knows) (h : 
           wide = long ∙ h.1.wide;
           below_opening = λ c'. omega (arith, falls c', h.1.below_opening c');
           below_lowered = λ c' p' there. grind (arith, nat_tests, more c' p', falls c', here, h.1.below_lowered c' p');
-          below_seen = λ c' p' there. (let (low, is, given) = h.1.below_seen c' p' (rw (same (seen_in c' p') w refl) at there) in
+          below_seen = λ c' p' there.
+              (let (low, is, given) = h.1.below_seen c' p' (rw (same (seen_in c' p') w refl) at there) in
               (omega (arith, falls c'), is, grind (arith, more c' p', given)));
           reached = λ c'. elim (ℕ_discrete c' c) [
             | yes is ↦ rw is (elim (cases_lt p n) [
