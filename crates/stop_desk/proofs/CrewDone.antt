@@ -1,5 +1,5 @@
 -- The stops of a desk one by one, that the board of a closed desk is settled, and its parts in the order of their jobs.
-use Rattle.stop_desk.proofs.Words.{All, All-contains, All-map, BoardPart, Bool, ClosedView, Contains}
+use Rattle.stop_desk.proofs.Words.{All, All-contains, All-map, BoardPart, Bool, ClosedView, Contains, ⊎_elim}
 use Rattle.stop_desk.proofs.Words.{Contains-permutation, DeskId, IsAllWorked, IsAtMost, IsConnection, IsDeskSettled}
 use Rattle.stop_desk.proofs.Words.{IsGiven, IsLeast, IsLeastOnDesk, IsNonDecreasingBy, IsPartOf, IsPermutation}
 use Rattle.stop_desk.proofs.Words.{IsPermutation-map, IsPermutation-sym, IsSettled, IsStop, Job, List, None, Option}
@@ -109,10 +109,8 @@ module _ {M : Type 0} (makes : ℕ → Option ℕ → M → Type 0) (jobs : List
   least-there c there None l = λ place given. grind (arith, given-there c place there given, l.0, l.1 place)
   least-there c there (Some q) l = (
     given-from c q there l.2,
-    λ place given. elim (given-there c place there given) [
-      | inl e ↦ at_most q (opening_stop desk c) place e l.0
-      | inr k ↦ l.1 place k
-    ],
+    λ place given. ⊎_elim (λ e. at_most q (opening_stop desk c) place e l.0) (l.1 place)
+        (given-there c place there given),
   )
 
   -- of no other connection is there a place

@@ -69,10 +69,8 @@ closes o id v words slots d some_share all opened f =
             (rw (opened, ← (lowered c (get_or s.words (c + 1) 0))) (h.1.reached c));
         given = λ c p there.
             (let (below, place, given) = h.1.below_seen c p (rw (seen c p) there) in
-            rw (opened, ← (lowered c p)) (elim given [
-              | inl is ↦ inl (rw (← is) (place_at-place p place))
-              | inr low ↦ inr low
-            ]));
+            rw (opened, ← (lowered c p))
+            (elim given [ inl is ↦ inl (rw (← is) (place_at-place p place)) | inr low ↦ inr low ]));
       },
     )
 

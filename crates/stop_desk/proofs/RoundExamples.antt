@@ -2,7 +2,7 @@
 use Rattle.stop_desk.proofs.Words.{All-contains, All-from_recursion, AllByRecursion, AreAllowed, Contains, Finding}
 use Rattle.stop_desk.proofs.Words.{HasConnections, IsCut, IsFinished, IsPartOf, Job, List, None, Some, StopsAt, []}
 use Rattle.stop_desk.proofs.Words.{after_events, ap, arith, false, in_order, inl, inr, refl, round_start, slice_get}
-use Rattle.stop_desk.proofs.Words.{stops, subst, suc, sym, true≢false, zero, ℕ, ◌<◌, ◌∙◌, ◌∷◌, ◌≡◌}
+use Rattle.stop_desk.proofs.Words.{stops, subst, suc, sym, true≢false, zero, ℕ, ◌<◌, ◌∙◌, ◌∷◌, ◌≡◌, ⊎_elim}
 use Rattle.stop_desk.specs.examples.Rounds.{overrun, error, job, part, example, example_events, TwoWorkersFinish}
 use Rattle.stop_desk.specs.examples.Rounds.{TwoWorkersSettle, DrawnTwice, LookInvents, CutUnseen, AllSkipped}
 use Rattle.stop_desk.specs.examples.Rounds.{OverrunLowered, ErrorNotLowered}
@@ -57,10 +57,9 @@ all-kept seen lowered number j ordered stops_lowered = record {
 
 part_1 : IsPartOf [] the_place job_1 (part 1 0 None job_1.findings)
 part_1 = all-kept [] the_place 1 job_1 refl
-    (λ place h. elim (contains-cases (error 7 3) (overrun 8 3 ∷ []) h.0 h.1) [
-      | inl e ↦ among-one place (ap (λ (x : Finding). x.place) e ∙ h.3)
-      | inr k ↦ absurd (none_stops (overrun 8 3 ∷ []) place (refl, tt) (h.0, k, h.2, h.3))
-    ])
+    (λ place h. ⊎_elim (λ e. among-one place (ap (λ (x : Finding). x.place) e ∙ h.3))
+    (λ k. absurd (none_stops (overrun 8 3 ∷ []) place (refl, tt) (h.0, k, h.2, h.3)))
+    (contains-cases (error 7 3) (overrun 8 3 ∷ []) h.0 h.1))
 
 part_2 : IsPartOf the_place [] job_2 (part 2 1 None job_2.findings)
 part_2 = all-kept the_place [] 2 job_2 refl (λ place h. absurd (none_stops job_2.findings place (refl, tt) h))

@@ -53,26 +53,22 @@ contains-map f xs x (k, lt, is) = (k, rw length-map lt, get_or-map f xs k x (f x
 pub map-contains : {X Y : Type 0} (f : X → Y) (xs : List X) (y : Y) → Contains (map f xs) y →
     (x : X) × Contains xs x × (f x ≡ y)
 map-contains f [] y h = absurd (contains-none y h)
-map-contains f (x ∷ xs) y h = elim (contains-cases (f x) (map f xs) y h) [
-  | inl same ↦ (x, contains-here x xs, same)
-  | inr k ↦ (let (z, among, is) = map-contains f xs y k in (z, contains-later x xs z among, is))
-]
+map-contains f (x ∷ xs) y h = ⊎_elim (λ same. (x, contains-here x xs, same))
+    (λ k. (let (z, among, is) = map-contains f xs y k in (z, contains-later x xs z among, is)))
+    (contains-cases (f x) (map f xs) y h)
 
 pub contains-flat_map : {X Y : Type 0} (f : X → List Y) (xs : List X) (x : X) (y : Y) → Contains xs x →
     Contains (f x) y → Contains (flat_map f xs) y
 contains-flat_map f [] x y h k = absurd (contains-none x h)
-contains-flat_map f (z ∷ xs) x y h k = elim (contains-cases z xs x h) [
-  | inl same ↦ Contains-append_left (f z) _ y (rw same k)
-  | inr l ↦ Contains-append_right (f z) _ y (contains-flat_map f xs x y l k)
-]
+contains-flat_map f (z ∷ xs) x y h k = ⊎_elim (λ same. Contains-append_left (f z) _ y (rw same k))
+    (λ l. Contains-append_right (f z) _ y (contains-flat_map f xs x y l k)) (contains-cases z xs x h)
 
 pub flat_map-contains : {X Y : Type 0} (f : X → List Y) (xs : List X) (y : Y) → Contains (flat_map f xs) y →
     (x : X) × Contains xs x × Contains (f x) y
 flat_map-contains f [] y h = absurd (contains-none y h)
-flat_map-contains f (x ∷ xs) y h = elim (Contains-append_cases (f x) (flat_map f xs) y h) [
-  | inl k ↦ (x, contains-here x xs, k)
-  | inr k ↦ (let (z, among, own) = flat_map-contains f xs y k in (z, contains-later x xs z among, own))
-]
+flat_map-contains f (x ∷ xs) y h = ⊎_elim (λ k. (x, contains-here x xs, k))
+    (λ k. (let (z, among, own) = flat_map-contains f xs y k in (z, contains-later x xs z among, own)))
+    (Contains-append_cases (f x) (flat_map f xs) y h)
 
 -- what passes a test, and no other
 pub contains-filter : {X : Type 0} (test : X → Bool) (xs : List X) (x : X) → Contains xs x → test x ≡ true →

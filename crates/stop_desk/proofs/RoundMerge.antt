@@ -4,7 +4,7 @@
 use Rattle.stop_desk.proofs.Words.{Board, BoardMerges, Bool, Contains, Contains-append_cases, Contains-append_left}
 use Rattle.stop_desk.proofs.Words.{Contains-append_right, Finding, IsGiven, IsInOrder, IsLeast, IsPartOf, IsPast}
 use Rattle.stop_desk.proofs.Words.{IsSettled, Job, JobStopsAt, List, Merges, None, NoneBefore, Option, Round, Some}
-use Rattle.stop_desk.proofs.Words.{StopsAt, [], add-zero, ap, append-nil, append_assoc, arith, comes_after}
+use Rattle.stop_desk.proofs.Words.{StopsAt, [], add-zero, ap, append-nil, append_assoc, arith, comes_after, ⊎_elim}
 use Rattle.stop_desk.proofs.Words.{comes_after_is, eq-eqb, eqb-true, false, filter, findings_of_jobs, findings_of_parts}
 use Rattle.stop_desk.proofs.Words.{if◌then◌else◌, in_order, in_order-alike, in_order-append_comm, in_order-ordered, inl}
 use Rattle.stop_desk.proofs.Words.{inr, length, length-filter, ne_eqb, not, not-true, parts_of, put_by, refl, slice_get}
@@ -41,10 +41,8 @@ leaves-both kept whole kept' whole' h k = record {
       ∙ in_order-alike kept kept _ _ refl (swap-front kept' h.left_out k.left_out)
       ∙ ap in_order (sym (append_assoc kept h.left_out (kept' ++ k.left_out)))
       ∙ in_order-alike (kept ++ h.left_out) whole (kept' ++ k.left_out) whole' h.together k.together;
-  beyond = λ found c. elim (Contains-append_cases h.left_out k.left_out found c) [
-    | inl l ↦ h.beyond found l
-    | inr l ↦ k.beyond found l
-  ];
+  beyond = λ found c.
+      ⊎_elim (h.beyond found) (k.beyond found) (Contains-append_cases h.left_out k.left_out found c);
 }
 
 leaves-alike : {IsOut : Finding → Type 0} (kept kept' whole : List Finding) → in_order kept ≡ in_order kept' →
@@ -185,10 +183,8 @@ after-place x y l = rw (sym (nat_cmp_is x.place y.place Greater l)) refl
 after-none : (x : Finding) (ys : List Finding) (y : Finding) → NoneBefore comes_after comes_after_is x ys →
     Contains ys y → comes_after x y ≡ false
 after-none x [] y o h = absurd (contains-none y h)
-after-none x (z ∷ ys) y o h = elim (contains-cases z ys y h) [
-  | inl same ↦ rw same at o.0
-  | inr k ↦ after-none x ys y o.1 k
-]
+after-none x (z ∷ ys) y o h =
+    elim (contains-cases z ys y h) [ inl same ↦ rw same at o.0 | inr k ↦ after-none x ys y o.1 k ]
 
 -- what comes after a finding that stops is cut
 cut-put : (x y : Finding) (zs : List Finding) → IsInOrder comes_after comes_after_is zs → Contains zs y →
@@ -218,10 +214,8 @@ stops-right : (xs ys : List Finding) (place : ℕ) → StopsAt ys place → Stop
 stops-right xs ys place h = (h.0, Contains-append_right xs ys h.0 h.1, h.2, h.3)
 
 stops-cases : (xs ys : List Finding) (place : ℕ) → StopsAt (xs ++ ys) place → StopsAt xs place ⊎ StopsAt ys place
-stops-cases xs ys place h = elim (Contains-append_cases xs ys h.0 h.1) [
-  | inl k ↦ inl (h.0, k, h.2, h.3)
-  | inr k ↦ inr (h.0, k, h.2, h.3)
-]
+stops-cases xs ys place h =
+    elim (Contains-append_cases xs ys h.0 h.1) [ inl k ↦ inl (h.0, k, h.2, h.3) | inr k ↦ inr (h.0, k, h.2, h.3) ]
 
 -- what a job of the connection finds is among all findings of its jobs
 stops-job : (round : Round) (connection place : ℕ) → JobStopsAt round connection place →

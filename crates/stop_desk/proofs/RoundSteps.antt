@@ -1,4 +1,5 @@
 -- What the machine of workers keeps true after each event, from which a finished run is settled.
+use Rattle.stop_desk.proofs.Words.{⊎_elim}
 use Rattle.stop_desk.proofs.Words.{AreAllowed, Bool, Contains, Draw, Event, Finish, HasConnections, IsAllowed, IsAtWork}
 use Rattle.stop_desk.proofs.Words.{IsGiven, IsLeast, IsPartOf, Job, JobStopsAt, List, Look, Lower, None, Option, Round}
 use Rattle.stop_desk.proofs.Words.{RoundState, RunSettles, Some, [], after_event, after_events, ap, arith, by_all}
@@ -55,10 +56,8 @@ least-lesser : (Holds Holds' : ℕ → Type 0) (stop : Option ℕ) (place : ℕ)
     IsLeast Holds' (Some (lesser stop place))
 least-lesser Holds Holds' None place more here back h = (here, λ q k. grind (arith, back q k, h q))
 least-lesser Holds Holds' (Some stop) place more here back h = (
-  elim (cases_lt stop place) [
-    | inl low ↦ (let e : min stop place ≡ stop = omega arith in rw e (more stop h.0))
-    | inr high ↦ (let e : min stop place ≡ place = omega arith in rw e here)
-  ],
+  ⊎_elim (λ low. (let e : min stop place ≡ stop = omega arith in rw e (more stop h.0)))
+      (λ high. (let e : min stop place ≡ place = omega arith in rw e here)) (cases_lt stop place),
   λ q k. grind (arith, back q k, h.1 q),
 )
 

@@ -41,18 +41,14 @@ module _ (o : Opening) (s : State (Unit {0}) Knows) (h : Holds o s) (words : Lis
 pub fits-set : (opened : List ℕ) (views : List Knows) (id : ℕ) (w : Knows) → Fits opened w
     → ((j : ℕ) (u : Knows) → get_elem? views j ≡ some u → Fits opened u)
     → (j : ℕ) (u : Knows) → get_elem? (set views id w) j ≡ some u → Fits opened u
-fits-set opened views id w new all j u at = elim (at_set views id j w u at) [
-  | inl here ↦ rw here.1 at new
-  | inr there ↦ all j u there.1
-]
+fits-set opened views id w new all j u at =
+    elim (at_set views id j w u at) [ inl here ↦ rw here.1 at new | inr there ↦ all j u there.1 ]
 
 pub fits-snoc : (opened : List ℕ) (views : List Knows) (w : Knows) → Fits opened w
     → ((j : ℕ) (u : Knows) → get_elem? views j ≡ some u → Fits opened u)
     → (j : ℕ) (u : Knows) → get_elem? (views ++ w ∷ []) j ≡ some u → Fits opened u
-fits-snoc opened views w new all j u at = elim (at_snoc views w u j at) [
-  | inl there ↦ all j u there
-  | inr is ↦ rw is at new
-]
+fits-snoc opened views w new all j u at =
+    elim (at_snoc views w u j at) [ inl there ↦ all j u there | inr is ↦ rw is at new ]
 
 -- a pass with a share knows what the desk was opened with
 pub fits-sharing : (opened : List ℕ) (v w : Knows) → Fits opened v → w.opened ≡ v.opened

@@ -1,5 +1,5 @@
 -- A job that is done, and what a worker has done after one draw more, and when no job is left.
-use Rattle.stop_desk.proofs.Words.{All, AllByRecursion, Asked, BoardPart, Contains, Contains-append_cases}
+use Rattle.stop_desk.proofs.Words.{All, AllByRecursion, Asked, BoardPart, Contains, Contains-append_cases, ⊎_elim}
 use Rattle.stop_desk.proofs.Words.{Contains-append_left, Contains-append_right, Contains-push_cases, DeskId, DoesJob}
 use Rattle.stop_desk.proofs.Words.{Draws, DrewJobs, Finding, IsAllWorked, IsClaim, IsConnection, IsCut, IsLaid, IsLook}
 use Rattle.stop_desk.proofs.Words.{IsWorked, Job, List, Looked, None, Option, Part, PassView, Some, StopsAt, [], ap}
@@ -123,12 +123,9 @@ module _ {M : Type 0} (makes : ℕ → Option ℕ → M → Type 0) (jobs : List
           | inl old ↦ inl old
           | inr new ↦ (let job = job_at jobs part.job in
               let (is, stopping) = stops_on-contains part.connection part.findings.items c p new in
-              inr (
-                job,
-                contains-got jobs part.job job (at-job jobs part.job lt),
-                sym connection_is ∙ is,
-                cut-stops job.findings part.upto part.findings.items p cut stopping,
-              ))
+              let whole = cut-stops job.findings part.upto part.findings.items p cut stopping in
+              let among = contains-got jobs part.job job (at-job jobs part.job lt) in
+              inr (job, among, sym connection_is ∙ is, whole))
         ];
       },
       record {
@@ -164,10 +161,8 @@ has-times q [] h = cc
 has-times q (x ∷ xs) h = grind (arith, nat_tests, has-times q xs)
 
 few-distinct : (n : ℕ) (xs : List ℕ) → ((x : ℕ) → n ≤ x → times x xs ≡ 0) → ((x : ℕ) → times x xs ≤ 1) → length xs ≤ n
-few-distinct n xs none once = length-le_from_distinct_below xs n (distinct xs once) (λ q h. elim (cases_lt q n) [
-  | inl low ↦ low
-  | inr past ↦ (let some = has-times q xs h in let no = none q past in absurd (omega arith))
-])
+few-distinct n xs none once = length-le_from_distinct_below xs n (distinct xs once) (λ q h. ⊎_elim (λ low. low)
+    (λ past. (let some = has-times q xs h in let no = none q past in absurd (omega arith))) (cases_lt q n))
 
 module _ {M : Type 0} (makes : ℕ → Option ℕ → M → Type 0) (jobs : List Job) (round : ℕ) where
   -- a part stays one where more was seen and lowered
@@ -291,14 +286,10 @@ module _ {M : Type 0} (makes : ℕ → Option ℕ → M → Type 0) (jobs : List
             | inr k ↦ laid-grows (λ c p. Contains-append_right mine.seen theirs.seen (c, p))
                 (λ c p. Contains-append_right mine.lowered theirs.lowered (c, p)) (v.laid part k)
           ];
-          seen_there = λ c p l. elim (Contains-append_cases mine.seen theirs.seen (c, p) l) [
-            | inl k ↦ w.seen_there c p k
-            | inr k ↦ v.seen_there c p k
-          ];
-          lowered_real = λ c p l. elim (Contains-append_cases mine.lowered theirs.lowered (c, p) l) [
-            | inl k ↦ w.lowered_real c p k
-            | inr k ↦ v.lowered_real c p k
-          ];
+          seen_there = λ c p l. ⊎_elim (w.seen_there c p) (v.seen_there c p)
+              (Contains-append_cases mine.seen theirs.seen (c, p) l);
+          lowered_real = λ c p l. ⊎_elim (w.lowered_real c p) (v.lowered_real c p)
+              (Contains-append_cases mine.lowered theirs.lowered (c, p) l);
         },
         (n, past, omega (arith, weigh-append (is_number n) mine.drawn theirs.drawn)),
       )
