@@ -1,7 +1,7 @@
 -- The worked examples of a round of two workers.
 use Rattle.stop_desk.proofs.Words.{All-contains, All-from_recursion, AllByRecursion, AreAllowed, Contains, Finding}
 use Rattle.stop_desk.proofs.Words.{HasConnections, IsCut, IsFinished, IsPartOf, Job, List, None, Some, StopsAt, []}
-use Rattle.stop_desk.proofs.Words.{after_events, ap, arith, false, in_order, inl, inr, refl, round_start, slice_get}
+use Rattle.stop_desk.proofs.Words.{after_events, ap, arith, false, in_order, refl, round_start, slice_get}
 use Rattle.stop_desk.proofs.Words.{stops, subst, suc, sym, true≢false, zero, ℕ, ◌<◌, ◌∙◌, ◌∷◌, ◌≡◌, ⊎_elim}
 use Rattle.stop_desk.specs.examples.Rounds.{overrun, error, job, part, example, example_events, TwoWorkersFinish}
 use Rattle.stop_desk.specs.examples.Rounds.{TwoWorkersSettle, DrawnTwice, LookInvents, CutUnseen, AllSkipped}
