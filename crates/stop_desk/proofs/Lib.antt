@@ -1,3 +1,4 @@
+mod Words
 pub mod Weights
 pub mod Steps
 pub mod PassViews

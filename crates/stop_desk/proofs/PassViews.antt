@@ -1,21 +1,14 @@
 -- What the fields of a pass and of a desk show, what a pass has after a look, and what the last pass knows.
-use Rattle.std.proofs.Common.{◌≡◌, ℕ, ◌+◌, ◌<◌, ◌≤◌, ◌⊎◌, Bool, true, false, nat_lt, if◌then◌else◌, Some, None, List}
-use Rattle.std.proofs.Common.{[], ◌∷◌, length, get_or, subst, sym, refl, ap, ◌∙◌, inl, inr, ⊎_elim, arith, lt-ltb}
-use Rattle.std.proofs.Common.{le-ltb, ltb-true, ltb-false, zero, suc, Option, map, All, ◌++◌}
-use Rattle.atomic_table.specs.Table.{Final, Seen}
-use Rattle.stop_desk.specs.declared.rule.Knows.{Knows}
-use Rattle.stop_desk.specs.declared.rule.Opening.{Opening}
-use Rattle.stop_desk.specs.code.Counts.{weigh, times, once_below, marks}
-use Rattle.stop_desk.specs.code.Stop.{past_places, place_at, IsStop, stop_word}
-use Rattle.stop_desk.specs.code.Desk.{DeskId, closed_of, DeskView, PassView, all_draws, pass_draws, pass_of}
-use Rattle.stop_desk.specs.code.Calls.{IsAtMost, IsLook}
-use Rattle.stop_desk.specs.code.Settled.{IsLeast, Settled}
-use Rattle.stop_desk.specs.code.Rule.{knows, share, allowance_in, draws_in, drawn_in, seen_in, lowered_in, Holds}
-use Rattle.stop_desk.proofs.Weights.{weigh-whole}
-use mathlib.Core.Option.{some, some-injective, some-ne-none}
-use lib.ListN.{get_elem?}
+use Rattle.stop_desk.proofs.Words.{All, DeskId, DeskView, Final, Holds, IsAtMost, IsLook, IsStop, Knows, List, Lowers}
+use Rattle.stop_desk.proofs.Words.{None, Opening, Option, PassState, PassView, Seen, Sees, Settled, Some, [], all_draws}
+use Rattle.stop_desk.proofs.Words.{allowance_in, ap, arith, cases_lt, closed_of, cond_both, drawn_in, draws_in}
+use Rattle.stop_desk.proofs.Words.{get_elem?, get_or, inl, inr, knows, le-ltb, length, lowered_in, lt-ltb, map, marks}
+use Rattle.stop_desk.proofs.Words.{nat_lt, once_below, pass_draws, pass_of, past_places, place_at, refl, seen_in, share}
+use Rattle.stop_desk.proofs.Words.{some, some-injective, some-ne-none, stop_word, subst, suc, sym, times, weigh, zero}
+use Rattle.stop_desk.proofs.Words.{ℕ, ◌++◌, ◌+◌, ◌<◌, ◌∙◌, ◌∷◌, ◌≡◌, ◌≤◌, ◌⊎◌}
 use Rattle.atomic_table.specs.Seated.{TableId}
-use Rattle.stop_desk.specs.code.Plays.{PassState, Sees, Lowers}
+use Rattle.stop_desk.specs.code.Settled.{IsLeast}
+use Rattle.stop_desk.proofs.Weights.{weigh-whole}
 
 nothing-drawn : (x : ℕ) (xs : List ℕ) → length xs ≡ 0 → times x xs ≡ 0
 nothing-drawn x [] none = refl
@@ -31,28 +24,22 @@ place_at-place n low = rw (lt-ltb n past_places low) refl
 pub place_at-none : (n : ℕ) → past_places ≤ n → place_at n ≡ None
 place_at-none n high = rw (le-ltb n past_places high) refl
 
-pub at_most-stop : (b : Bool) (n m : ℕ) → n ≤ m → IsAtMost n (if b then Some m else None)
-at_most-stop true n m low = low
-at_most-stop false n m low = tt
+pub at_most-stop : (n m : ℕ) → n ≤ m → IsAtMost n (place_at m)
+at_most-stop n m low = cond_both (nat_lt m past_places) (Some m) None (IsAtMost n) (λ _. low) (λ _. tt)
 
-least-stop : (b : Bool) (d : DeskId) (lowered : List (ℕ × ℕ)) (c n : ℕ) → b ≡ nat_lt n past_places
-    → n ≤ get_or d.opened (c + 1) 0
+least-stop : (d : DeskId) (lowered : List (ℕ × ℕ)) (c n : ℕ) → n ≤ get_or d.opened (c + 1) 0
     → ((p : ℕ) → 0 < marks c p lowered → (n ≤ p) × (p < past_places))
     → (n ≡ get_or d.opened (c + 1) 0) ⊎ (0 < marks c n lowered)
-    → IsLeast d lowered c (if b then Some n else None)
-least-stop true d lowered c n is below low reached = (
-  at_most-stop (nat_lt (get_or d.opened (c + 1) 0) past_places) n (get_or d.opened (c + 1) 0) below,
-  (λ p there. (low p there).0),
-  ⊎_elim
-      (λ same. inl (ap place_at (sym same) ∙ place_at-place n (ltb-true n past_places (sym is))))
-      (λ there. inr there)
-      reached,
-)
-least-stop false d lowered c n is below low reached =
-    let high : past_places ≤ n = ltb-false n past_places (sym is) in (
-      place_at-none (get_or d.opened (c + 1) 0) (omega arith),
-      (λ p there. let h = low p there in absurd (omega arith)),
-    )
+    → IsLeast d lowered c (place_at n)
+least-stop d lowered c n below low reached = elim (cases_lt n past_places) [
+  | inl place ↦ rw (place_at-place n place) (
+    at_most-stop n (get_or d.opened (c + 1) 0) below,
+    λ p there. (low p there).0,
+    elim reached [ inl same ↦ inl (rw (← same) (place_at-place n place)) | inr there ↦ inr there ],
+  )
+  | inr none ↦ rw (place_at-none n none)
+      (place_at-none _ (omega arith), λ p there. (let h = low p there in absurd (omega arith)))
+]
 
 -- the last pass has all draws, places seen and places lowered, so what the rule says of all views it says of that one
 pub closes : (o : Opening) (id : ℕ) (v : Knows) (words : List ℕ) (slots : List (Unit {0})) (d : DeskId) → 0 < share v
@@ -62,38 +49,28 @@ closes o id v words slots d some_share all opened f =
     let s = f.0 in
     let h = f.1.0 in
     let at = f.1.1 in
-    let whole_is = h.0.whole_is in
-    let lengths = h.0.lengths in
-    let whole : weigh share s.views ≡ share v = (let sum = weigh-share s.views in omega arith) in
-    let drawn : length v.drawn ≡ get_or s.words 0 0 =
-    sym (weigh-whole share draws_in s.views id v at whole (λ j u there none. omega arith)) ∙ lengths in
-    let numbers : (x : ℕ) → weigh (drawn_in x) s.views ≡ times x v.drawn =
-    λ x. weigh-whole share (drawn_in x) s.views id v at whole
-    (λ j u there none. nothing-drawn x u.drawn (omega arith)) in
-    let seen : (c p : ℕ) → weigh (seen_in c p) s.views ≡ marks c p v.seen =
-    λ c p. weigh-whole share (seen_in c p) s.views id v at whole
-    (λ j u there none. ap (marks c p) ((h.2 j u there).idle none).0) in
-    let lowered : (c p : ℕ) → weigh (lowered_in c p) s.views ≡ marks c p v.lowered =
-    λ c p. weigh-whole share (lowered_in c p) s.views id v at whole
-    (λ j u there none. ap (marks c p) ((h.2 j u there).idle none).1) in
-    subst (λ ws. (length v.drawn ≡ get_or ws 0 0) × Settled (closed_of d ws v.drawn v.seen v.lowered)) f.2 (
+    let whole : weigh share s.views ≡ share v
+    = omega (arith, h.0.whole_is, h.0.lengths, weigh-share s.views) in
+    let only = λ (g : Knows → ℕ)
+    (idle : (j : ℕ) (u : Knows) → get_elem? s.views j ≡ some u → share u ≡ 0 → g u ≡ 0).
+    weigh-whole share g s.views id v at whole idle in
+    let drawn : length v.drawn ≡ get_or s.words 0 0
+    = sym (only draws_in (λ j u there none. omega arith)) ∙ h.0.lengths in
+    let seen = λ (c p : ℕ). only (seen_in c p) (λ j u there none. ap (marks c p) ((h.2 j u there).idle none).0) in
+    let lowered = λ (c p : ℕ). only (lowered_in c p) (λ j u there none. ap (marks c p) ((h.2 j u there).idle none).1) in
+    rw (← f.2) (
       drawn,
       record {
-        numbers = λ x. sym (numbers x) ∙ h.0.each_once x ∙ ap (once_below x) (sym drawn);
-        stops = λ c there. least-stop _ d v.lowered c (get_or s.words (c + 1) 0) refl
+        numbers = λ x. sym (only (drawn_in x) (λ j u there none. nothing-drawn x u.drawn (omega arith)))
+            ∙ h.0.each_once x ∙ ap (once_below x) (sym drawn);
+        stops = λ c there. least-stop d v.lowered c (get_or s.words (c + 1) 0)
             (rw opened (h.1.below_opening c))
-            (λ p low. let e = lowered c p in h.1.below_lowered c p (omega arith))
-            (rw opened (⊎_elim
-            (λ is. inl is)
-            (λ low. let e = lowered c (get_or s.words (c + 1) 0) in inr (omega arith))
-            (h.1.reached c)));
+            (λ p low. h.1.below_lowered c p (rw (lowered c p) low))
+            (rw (opened, ← (lowered c (get_or s.words (c + 1) 0))) (h.1.reached c));
         given = λ c p there.
-            let e = seen c p in
-            let fact = h.1.below_seen c p (omega arith) in
-            rw opened (⊎_elim
-            (λ is. inl (ap place_at (sym is) ∙ place_at-place p fact.1))
-            (λ low. let e' = lowered c p in inr (omega arith))
-            fact.2);
+            (let (below, place, given) = h.1.below_seen c p (rw (seen c p) there) in
+            rw (opened, ← (lowered c p))
+            (elim given [ inl is ↦ inl (rw (← is) (place_at-place p place)) | inr low ↦ inr low ]));
       },
     )
 
@@ -124,32 +101,22 @@ desk_in t me = record { table = t; opened = me.0.opened }
 abbrev view_in : TableId → ℕ → PassState → PassView
 view_in t allowance me = pass_of (desk_in t me) allowance me.0.drawn me.0.seen me.0.lowered
 
-look-cases : (b : Bool) (d : DeskId) (a c n : ℕ) (v : Knows) → b ≡ nat_lt n past_places
-    → n ≤ get_or d.opened (c + 1) 0
-    → ((p : ℕ) → 0 < marks c p v.seen → (n ≤ p) × (p < past_places))
-    → ((p : ℕ) → 0 < marks c p v.lowered → (n ≤ p) × (p < past_places))
-    → IsLook c (pass_of d a v.drawn v.seen v.lowered) (if b then Some n else None)
-    (pass_of d a v.drawn (if b then v.seen ++ (c, n) ∷ [] else v.seen) v.lowered)
-look-cases true d a c n v is below seen lowered = (
-  at_most-stop (nat_lt (get_or d.opened (c + 1) 0) past_places) n (get_or d.opened (c + 1) 0) below,
-  (λ p there. (seen p there).0),
-  (λ p there. (lowered p there).0),
-  refl,
-)
-look-cases false d a c n v is below seen lowered =
-    let high : past_places ≤ n = ltb-false n past_places (sym is) in (
-      refl,
-      place_at-none (get_or d.opened (c + 1) 0) (omega arith),
-      (λ p there. let h = seen p there in absurd (omega arith)),
-      (λ p there. let h = lowered p there in absurd (omega arith)),
-    )
-
 pub looks : (t t' : TableId) (a c n : ℕ) (me after : PassState) → t' ≡ t → Sees c me n after
     → IsLook c (view_in t a me) (place_at n) (view_in t' a after)
-looks t t' a c n me after same s = subst (λ (m : TableId × PassState). IsLook c (view_in t a me) (place_at n)
-    (view_in m.0 a m.1))
-    (λ i. (sym same i, sym s.added i))
-    (look-cases (nat_lt n past_places) (desk_in t me) a c n me.0 refl s.opening s.seen s.lowered)
+looks t t' a c n me after same s = rw (same, s.added) (elim (cases_lt n past_places) [
+  | inl place ↦ rw (lt-ltb n past_places place) (
+    at_most-stop n (get_or me.0.opened (c + 1) 0) s.opening,
+    λ p there. (s.seen p there).0,
+    λ p there. (s.lowered p there).0,
+    refl,
+  )
+  | inr none ↦ rw (le-ltb n past_places none) (
+    refl,
+    place_at-none (get_or me.0.opened (c + 1) 0) (omega (arith, s.opening)),
+    λ p there. (let h = s.seen p there in absurd (omega arith)),
+    λ p there. (let h = s.lowered p there in absurd (omega arith)),
+  )
+])
 
 pub look-desk : (t t' : TableId) (c n : ℕ) (me after : PassState) → t' ≡ t → Sees c me n after
     → desk_in t' after ≡ desk_in t me

@@ -1,38 +1,29 @@
 -- Cuts of lists in order, cuts put together, and what joins findings that are cut at their stop.
-use Rattle.std.proofs.Common.{◌≡◌, Bool, true, false, nat_le, cond, List, [], ◌∷◌, ◌++◌, refl, sym, ap, subst, ◌∙◌}
-use Rattle.std.proofs.Common.{append-nil, ⊎_elim, filter, not, leb-false}
-use Rattle.std.proofs.lemmas.Bool.{not-true}
-use Rattle.std.proofs.lemmas.List.Elements.{Contains-append_cases}
-use Rattle.std.proofs.lemmas.List.Sorted.{IsPermutation-filter_both}
-use Rattle.audit_terms.specs.declared.findings.Finding.{Finding}
-use Rattle.audit_terms.specs.Order.{put_by}
-use Rattle.audit_terms.specs.Finding.{stops, comes_after, in_order, upto_stop}
-use Rattle.audit_terms.proofs.OrderedLists.{NoneBefore, IsInOrder, ordered-in_order, in_order-ordered}
-use Rattle.audit_terms.proofs.FindingOrder.{comes_after_is, in_order-append_comm, in_order-append_left}
-use Rattle.audit_terms.proofs.FindingOrder.{in_order-alike, in_order-in_order, in_order-permutation}
+use Rattle.stop_desk.proofs.Words.{Bool, Finding, IsCut, IsInOrder, IsPast, IsPermutation-filter_both, List, NoneBefore}
+use Rattle.stop_desk.proofs.Words.{Option, [], ap, append-nil, arith, comes_after, comes_after_is, cond_both, false}
+use Rattle.stop_desk.proofs.Words.{filter, in_order, in_order-append_comm, in_order-append_left, in_order-in_order}
+use Rattle.stop_desk.proofs.Words.{in_order-ordered, in_order-permutation, leb-false, nat_le, not, not-true}
+use Rattle.stop_desk.proofs.Words.{ordered-in_order, put_by, refl, subst, sym, true, upto_stop, ℕ, ◌++◌, ◌∙◌, ◌∷◌, ◌≡◌}
 use Rattle.stop_desk.specs.laws.Cuts.{FrontIsCut, WholeIsCut, CutsJoin, StopsJoin}
 use Rattle.stop_desk.proofs.RoundMembers.{contains-none, filter-contains}
-use Rattle.stop_desk.proofs.RoundMerge.{swap-middle}
+use Rattle.stop_desk.proofs.RoundMerge.{Leaves, leaves-both}
 
 -- a filter keeps the order
 module _ (test : Finding → Bool) where
   none_before-filter : (x : Finding) (ys : List Finding) → NoneBefore comes_after comes_after_is x ys →
       NoneBefore comes_after comes_after_is x (filter test ys)
   none_before-filter x [] h = tt
-  none_before-filter x (y ∷ ys) h = by_test (test y) (none_before-filter x ys h.1) where
-    by_test : (b : Bool) → NoneBefore comes_after comes_after_is x (filter test ys) →
-        NoneBefore comes_after comes_after_is x (cond b (y ∷ filter test ys) (filter test ys))
-    by_test true ih = (h.0, ih)
-    by_test false ih = ih
+  none_before-filter x (y ∷ ys) h =
+      let rest = none_before-filter x ys h.1 in
+      cond_both (test y) _ _ (NoneBefore comes_after comes_after_is x) (λ _. (h.0, rest)) (λ _. rest)
 
   in_order-filter : (xs : List Finding) → IsInOrder comes_after comes_after_is xs →
       IsInOrder comes_after comes_after_is (filter test xs)
   in_order-filter [] h = tt
-  in_order-filter (x ∷ xs) h = by_test (test x) (in_order-filter xs h.1) where
-    by_test : (b : Bool) → IsInOrder comes_after comes_after_is (filter test xs) →
-        IsInOrder comes_after comes_after_is (cond b (x ∷ filter test xs) (filter test xs))
-    by_test true ih = (none_before-filter x xs h.0, ih)
-    by_test false ih = ih
+  in_order-filter (x ∷ xs) h =
+      let rest = in_order-filter xs h.1 in
+      cond_both (test x) _ _ (IsInOrder comes_after comes_after_is) (λ _. (none_before-filter x xs h.0, rest))
+      (λ _. rest)
 
 pub front_is_cut_lem : FrontIsCut
 front_is_cut_lem whole upto e =
@@ -58,43 +49,41 @@ whole_is_cut_lem whole upto e = record {
   past = λ found h. absurd (contains-none found h);
 }
 
-pub cuts_join_lem : CutsJoin
-cuts_join_lem one other kept_of_one kept_of_other upto upto_of_one upto_of_other h k before before' = record {
-  ordered = in_order-in_order (kept_of_one ++ kept_of_other);
-  left_out = h.left_out ++ k.left_out;
-  together =
-      in_order-append_left (kept_of_one ++ kept_of_other) (h.left_out ++ k.left_out)
-      ∙ swap-middle kept_of_one kept_of_other h.left_out k.left_out
-      ∙ in_order-alike (kept_of_one ++ h.left_out) one (kept_of_other ++ k.left_out) other h.together k.together;
-  past = λ found c. ⊎_elim
-      (λ l. before found.place (h.past found l))
-      (λ l. before' found.place (k.past found l))
-      (Contains-append_cases h.left_out k.left_out found c);
+-- what a cut leaves out, where it lies past another place
+leaves : (whole kept : List Finding) (upto upto' : Option ℕ) → ((place : ℕ) → IsPast upto place → IsPast upto' place) →
+    IsCut whole upto kept → Leaves (λ found. IsPast upto' found.place) kept whole
+leaves whole kept upto upto' past h = record {
+  left_out = h.left_out;
+  together = h.together;
+  beyond = λ found k. past found.place (h.past found k);
 }
+
+pub cuts_join_lem : CutsJoin
+cuts_join_lem one other kept_of_one kept_of_other upto upto_of_one upto_of_other h k before before' =
+    let both = leaves-both kept_of_one one kept_of_other other (leaves one kept_of_one upto_of_one upto before h)
+    (leaves other kept_of_other upto_of_other upto before' k) in record {
+      ordered = in_order-in_order (kept_of_one ++ kept_of_other);
+      left_out = both.left_out;
+      together = in_order-append_left (kept_of_one ++ kept_of_other) both.left_out ∙ both.together;
+      past = both.beyond;
+    }
 
 -- what is cut stays so
 cut-again : (xs : List Finding) → upto_stop (upto_stop xs) ≡ upto_stop xs
 cut-again [] = refl
-cut-again (x ∷ xs) = by_test _ refl (cut-again xs) where
-  by_test : (b : Bool) → stops x ≡ b → upto_stop (upto_stop xs) ≡ upto_stop xs →
-      upto_stop (upto_stop (x ∷ xs)) ≡ upto_stop (x ∷ xs)
-  by_test true e ih = rw (e, e) refl
-  by_test false e ih = rw (e, e) (ap (λ ys. x ∷ ys) ih)
+cut-again (x ∷ xs) = grind (arith, cut-again xs)
 
 -- one finding joins a list that is cut already
 put-cut : (x : Finding) (ys : List Finding) →
     upto_stop (put_by comes_after x ys) ≡ upto_stop (put_by comes_after x (upto_stop ys))
 put-cut x [] = refl
-put-cut x (y ∷ ys) = by_tests _ _ _ refl refl refl (put-cut x ys) where
-  by_tests : (a b c : Bool) → comes_after x y ≡ a → stops y ≡ b → stops x ≡ c →
+put-cut x (y ∷ ys) = by_test _ refl (put-cut x ys) (cut-again ys) where
+  by_test : (b : Bool) → comes_after x y ≡ b →
       upto_stop (put_by comes_after x ys) ≡ upto_stop (put_by comes_after x (upto_stop ys)) →
+      upto_stop (upto_stop ys) ≡ upto_stop ys →
       upto_stop (put_by comes_after x (y ∷ ys)) ≡ upto_stop (put_by comes_after x (upto_stop (y ∷ ys)))
-  by_tests true true c p q r ih = simp (p, q)
-  by_tests true false c p q r ih = simp (p, q) (ap (λ zs. y ∷ zs) ih)
-  by_tests false true true p q r ih = simp (p, q, r)
-  by_tests false true false p q r ih = simp (p, q, r)
-  by_tests false false true p q r ih = simp (p, q, r)
-  by_tests false false false p q r ih = simp (p, q, r) (ap (λ zs. x ∷ y ∷ zs) (sym (cut-again ys)))
+  by_test true p ih again = grind (arith, p, ih)
+  by_test false p ih again = grind (arith, p, again)
 
 joined-before : (more one other : List Finding) → upto_stop (in_order one) ≡ upto_stop (in_order other) →
     upto_stop (in_order (more ++ one)) ≡ upto_stop (in_order (more ++ other))

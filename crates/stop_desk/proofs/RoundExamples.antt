@@ -1,20 +1,15 @@
 -- The worked examples of a round of two workers.
-use Rattle.std.proofs.Common.{◌≡◌, ℕ, zero, suc, ◌<◌, false, List, [], ◌∷◌, refl, sym, ap, subst, ◌∙◌, arith}
-use Rattle.std.proofs.Common.{true≢false, ⊎_elim, Contains, Some, None, slice_get}
-use Rattle.std.specs.List.{AllByRecursion}
-use Rattle.std.proofs.lemmas.List.Elements.{All-contains, All-from_recursion}
-use Rattle.audit_terms.specs.declared.findings.Finding.{Finding}
-use Rattle.audit_terms.specs.Finding.{stops, in_order}
-use Rattle.stop_desk.specs.code.Board.{Job, StopsAt, IsCut, IsPartOf}
-use Rattle.stop_desk.specs.laws.Machine.{round_start, after_events, AreAllowed, IsFinished}
-use Rattle.stop_desk.specs.laws.Rounds.{HasConnections}
+use Rattle.stop_desk.proofs.Words.{All-contains, All-from_recursion, AllByRecursion, AreAllowed, Contains, Finding}
+use Rattle.stop_desk.proofs.Words.{HasConnections, IsCut, IsFinished, IsPartOf, Job, List, None, Some, StopsAt, []}
+use Rattle.stop_desk.proofs.Words.{after_events, ap, arith, false, in_order, refl, round_start, slice_get}
+use Rattle.stop_desk.proofs.Words.{stops, subst, suc, sym, true≢false, zero, ℕ, ◌<◌, ◌∙◌, ◌∷◌, ◌≡◌, ⊎_elim}
 use Rattle.stop_desk.specs.examples.Rounds.{overrun, error, job, part, example, example_events, TwoWorkersFinish}
 use Rattle.stop_desk.specs.examples.Rounds.{TwoWorkersSettle, DrawnTwice, LookInvents, CutUnseen, AllSkipped}
 use Rattle.stop_desk.specs.examples.Rounds.{OverrunLowered, ErrorNotLowered}
+use Rattle.stop_desk.proofs.RoundCuts.{front_is_cut_lem, whole_is_cut_lem}
 use Rattle.stop_desk.proofs.RoundMembers.{pair, contains-none, contains-here, contains-cases, contains-one}
 use Rattle.stop_desk.proofs.RoundMembers.{contains-in_order, in_order-contains}
 use Rattle.stop_desk.proofs.RoundSteps.{run_settles_lem}
-use Rattle.stop_desk.proofs.RoundCuts.{whole_is_cut_lem}
 
 abbrev job_0 : Job
 job_0 = job 0 (overrun 6 1 ∷ overrun 9 1 ∷ [])
@@ -44,61 +39,48 @@ among-one place p = (0, omega arith, ap (pair 0) p)
 part_0 : IsPartOf the_place [] job_0 (part 0 0 (Some (error 7 3).place) (overrun 6 1 ∷ []))
 part_0 = record {
   of_connection = refl;
-  cut = record {
-    ordered = refl;
-    left_out = overrun 9 1 ∷ [];
-    together = refl;
-    past = λ found h.
-        let p = ap (λ (x : Finding). x.place) (contains-one (overrun 9 1) found h) in omega arith;
-  };
+  cut = front_is_cut_lem job_0.findings (error 7 3).place refl;
   upto_seen = λ place e. among-one place cc;
   stops_lowered = λ place h. absurd (none_stops (overrun 6 1 ∷ []) place (refl, tt) h);
 }
 
--- of job 1 all is kept, and the error was lowered
-part_1 : IsPartOf [] the_place job_1 (part 1 0 None (error 7 3 ∷ overrun 8 3 ∷ []))
-part_1 = record {
+-- of the other jobs all is kept, and an error was lowered
+all-kept : (seen lowered : List (ℕ × ℕ)) (number : ℕ) (j : Job) → in_order j.findings ≡ j.findings →
+    ((place : ℕ) → StopsAt j.findings place → Contains lowered (j.connection, place)) →
+    IsPartOf seen lowered j (part number j.connection None j.findings)
+all-kept seen lowered number j ordered stops_lowered = record {
   of_connection = refl;
-  cut = whole_is_cut_lem (error 7 3 ∷ overrun 8 3 ∷ []) None refl;
+  cut = whole_is_cut_lem j.findings None ordered;
   upto_seen = λ place e. cc;
-  stops_lowered = λ place h. ⊎_elim
-      (λ e. among-one place (ap (λ (x : Finding). x.place) e ∙ h.3))
-      (λ k. absurd (none_stops (overrun 8 3 ∷ []) place (refl, tt) (h.0, k, h.2, h.3)))
-      (contains-cases (error 7 3) (overrun 8 3 ∷ []) h.0 h.1);
+  stops_lowered = stops_lowered;
 }
 
--- of job 2 all is kept
-part_2 : IsPartOf the_place [] job_2 (part 2 1 None (overrun 10 1 ∷ []))
-part_2 = record {
-  of_connection = refl;
-  cut = whole_is_cut_lem (overrun 10 1 ∷ []) None refl;
-  upto_seen = λ place e. cc;
-  stops_lowered = λ place h. absurd (none_stops (overrun 10 1 ∷ []) place (refl, tt) h);
-}
+part_1 : IsPartOf [] the_place job_1 (part 1 0 None job_1.findings)
+part_1 = all-kept [] the_place 1 job_1 refl
+    (λ place h. ⊎_elim (λ e. among-one place (ap (λ (x : Finding). x.place) e ∙ h.3))
+    (λ k. absurd (none_stops (overrun 8 3 ∷ []) place (refl, tt) (h.0, k, h.2, h.3)))
+    (contains-cases (error 7 3) (overrun 8 3 ∷ []) h.0 h.1))
+
+part_2 : IsPartOf the_place [] job_2 (part 2 1 None job_2.findings)
+part_2 = all-kept the_place [] 2 job_2 refl (λ place h. absurd (none_stops job_2.findings place (refl, tt) h))
 
 -- the error of job 1
-error_stops : StopsAt (error 7 3 ∷ overrun 8 3 ∷ []) (error 7 3).place
+error_stops : StopsAt job_1.findings (error 7 3).place
 error_stops = (error 7 3, contains-here (error 7 3) (overrun 8 3 ∷ []), refl, refl)
 
--- number n was drawn by worker w, last or before the last
-last_drawn : (w n : ℕ) (drawn : List (ℕ × ℕ)) → Contains ((w, n) ∷ drawn) (w, n)
-last_drawn w n drawn = (0, omega arith, refl)
-
+-- what was drawn before the last
 drawn_before : (w n : ℕ) (last : ℕ × ℕ) (drawn : List (ℕ × ℕ)) → Contains (last ∷ (w, n) ∷ drawn) (w, n)
 drawn_before w n last drawn = (1, omega arith, refl)
 
 allowed : AreAllowed example (round_start example) example_events
 allowed =
     pair refl (pair refl (pair refl (
-      (1, job_1, (last_drawn 1 1 ((0, 0) ∷ []), refl), refl, refl, error_stops),
+      (1, job_1, (contains-here (pair 1 1) ((0, 0) ∷ []), refl), refl, refl, error_stops),
       pair refl (
         (job_0, (drawn_before 0 0 (1, 1) [], refl), refl, part_0),
         pair refl (
           (job_1, (drawn_before 1 1 (0, 2) ((0, 0) ∷ []), refl), refl, part_1),
-          pair refl (
-            (job_2, (drawn_before 0 2 (1, 3) ((1, 1) ∷ (0, 0) ∷ []), refl), refl, part_2),
-            pair refl tt,
-          ),
+          pair refl ((job_2, (drawn_before 0 2 (1, 3) ((1, 1) ∷ (0, 0) ∷ []), refl), refl, part_2), pair refl tt),
         ),
       ),
     )))
@@ -113,10 +95,8 @@ pub two_workers_finish : TwoWorkersFinish
 two_workers_finish = record { allowed = allowed; finished = finished; left = refl }
 
 connections : HasConnections example
-connections j h =
-    let small = λ (k : Job). k.connection < 2 in
-    All-contains small example.jobs j (All-from_recursion small example.jobs
-    (pair (omega arith) (pair (omega arith) (pair (omega arith) tt)))) h
+connections = λ j h. All-contains (λ (k : Job). k.connection < 2) example.jobs j (All-from_recursion
+    (λ (k : Job). k.connection < 2) example.jobs (pair (omega arith) (pair (omega arith) (pair (omega arith) tt)))) h
 
 pub two_workers_settle : TwoWorkersSettle
 two_workers_settle = run_settles_lem example connections example_events allowed finished
@@ -136,30 +116,26 @@ error_not_lowered (drawn, (drawn', (finish, rest))) =
     absurd (contains-none (pair 0 (error 7 3).place) (finish.3.stops_lowered (error 7 3).place error_stops))
 
 -- what is left out of a part that is empty, and goes up to the error, lies past the error
-skipped : (j : Job) → job_0 ≡ j → IsCut j.findings (Some (error 7 3).place) [] → ⊥
-skipped j same cut =
-    let has : Contains (in_order j.findings) (overrun 6 1)
-    = subst (λ (k : Job). Contains (in_order k.findings) (overrun 6 1)) same
-    (contains-in_order job_0.findings (overrun 6 1) (contains-here (overrun 6 1) (overrun 9 1 ∷ []))) in
-    let past : (error 7 3).place < (overrun 6 1).place
-    = cut.past (overrun 6 1)
-    (in_order-contains cut.left_out (overrun 6 1) (subst (λ xs. Contains xs (overrun 6 1)) (sym cut.together) has)) in
+skipped : (cut : IsCut job_0.findings (Some (error 7 3).place) []) → ⊥
+skipped cut =
+    let first = overrun 6 1 in
+    let past : (error 7 3).place < first.place
+    = cut.past first (in_order-contains cut.left_out first (rw cut.together
+    (contains-in_order job_0.findings first (contains-here first (overrun 9 1 ∷ []))))) in
     absurd (omega arith)
 
 pub all_skipped : AllSkipped
-all_skipped (drawn, (drawn', (lowered, (seen, ((j, at_work, is, right), rest))))) = skipped j (cc) right.cut
-
-lowered-wrong : (number : ℕ) (j : Job) → 0 ≡ number → slice_get example.jobs number ≡ Some j →
-    StopsAt j.findings (overrun 6 1).place → ⊥
-lowered-wrong zero j e got h =
-    let same : job_0 ≡ j = cc in
-    none_stops job_0.findings (overrun 6 1).place (pair refl (pair refl tt))
-    (subst (λ (k : Job). StopsAt k.findings (overrun 6 1).place) (sym same) h)
-lowered-wrong (suc number) j e got h = absurd (omega arith)
+all_skipped (drawn, (drawn', (lowered, (seen, ((j, at_work, is, right), rest))))) =
+    skipped (subst (λ (k : Job). IsCut k.findings (Some (error 7 3).place) []) (let same : j ≡ job_0 = cc in same)
+    right.cut)
 
 pub overrun_lowered : OverrunLowered
 overrun_lowered (drawn, ((number, j, at_work, got, of_it, stopping), rest)) =
-    lowered-wrong number j (ap (λ (x : ℕ × ℕ). x.1) (contains-one (pair 0 0) (pair 0 number) at_work.0)) got stopping
+    let zeroth : number ≡ 0 = ap (λ (x : ℕ × ℕ). x.1) (sym (contains-one (pair 0 0) (pair 0 number) at_work.0)) in
+    let first : Some job_0 ≡ Some j = subst (λ n. slice_get example.jobs n ≡ Some j) zeroth got in
+    let same : j ≡ job_0 = cc in
+    none_stops job_0.findings (overrun 6 1).place (pair refl (pair refl tt))
+    (subst (λ (k : Job). StopsAt k.findings (overrun 6 1).place) same stopping)
 
 pub ruleset two_workers = (two_workers_finish, two_workers_settle)
 

@@ -1,25 +1,15 @@
 -- How the parts of the rule go over a step, that each step of a pass keeps the rule, and what its play says.
-use Rattle.std.proofs.Common.{◌≡◌, ℕ, ◌+◌, ◌<◌, ◌≤◌, ◌⊎◌, List, [], ◌∷◌, ◌++◌, length, get_or, set, subst, sym, ap}
-use Rattle.std.proofs.Common.{◌∙◌, inl, inr, ⊎_elim, arith, length-append, ◌-◌, ◌%◌, ◌^◌, min, nat_lt, if◌then◌else◌}
-use Rattle.std.proofs.Common.{refl, length-set, get_or-set_same, get_or-set_other, le-ltb}
-use mathlib.Core.Option.{some, none, some-ne-none}
-use lib.ListN.{get_elem?}
+use Rattle.stop_desk.proofs.Words.{Allows, Dealt, Fits, Holds, Joins, Kept, Knows, List, Lowers, Opening, PassState}
+use Rattle.stop_desk.proofs.Words.{Sees, Splits, State, Stops, [], allowance_in, ap, arith, cases_lt, drawn_by}
+use Rattle.stop_desk.proofs.Words.{drawn_in, draws_in, get_elem?, get_or, get_or-set_other, get_or-set_same, given_part}
+use Rattle.stop_desk.proofs.Words.{if◌then◌else◌, inl, inr, is_mark, is_number, joined, keeps, kept_part, knows, le-ltb}
+use Rattle.stop_desk.proofs.Words.{learned_by, length, length-append, length-set, lowered_by, lowered_in, min, nat_lt}
+use Rattle.stop_desk.proofs.Words.{nat_tests, none, once_below, opening, opening_view, past_places, refl, seen_by}
+use Rattle.stop_desk.proofs.Words.{seen_in, set, set-get_or, share, some, some-ne-none, spent, step, subst, sym, times}
+use Rattle.stop_desk.proofs.Words.{weigh, ℕ, ℕ_discrete, ◌%◌, ◌++◌, ◌+◌, ◌-◌, ◌<◌, ◌^◌, ◌∙◌, ◌∷◌, ◌≡◌, ◌≤◌}
 use Rattle.atomic_table.proofs.Lists.{at_set, at_snoc, set_again}
-use Rattle.stop_desk.specs.declared.rule.Knows.{Knows}
-use Rattle.stop_desk.specs.code.Counts.{weigh, times, is_number, once_below, is_mark}
-use Rattle.stop_desk.specs.code.Stop.{past_places}
-use Rattle.stop_desk.specs.code.Rule.{allowance_in, draws_in, drawn_in, seen_in, lowered_in, Dealt, Stops, IsGiven}
-use Rattle.stop_desk.specs.code.Rule.{Fits, knows, share, Kept, Holds, opening_view}
 use Rattle.stop_desk.proofs.Weights.{weigh-set, weigh-snoc, weigh-append, weigh-same, weigh-part, weigh-split}
-use Rattle.stop_desk.proofs.Weights.{weigh-join, once_below-next, once_below-self, mark-here, marks-snoc_cases}
-use Rattle.stop_desk.proofs.Weights.{seen-cases}
-use Rattle.std.proofs.lemmas.List.{set-get_or}
-use mathlib.Core.Logic.{dite}
-use native.Mathlib.Decide.{ℕ_discrete}
-use Rattle.atomic_table.specs.Table.{State, step, keeps, Allows, Splits, Joins, opening}
-use Rattle.stop_desk.specs.declared.rule.Opening.{Opening}
-use Rattle.stop_desk.specs.code.Plays.{PassState, drawn_by, Sees, seen_by, Lowers, lowered_by, learned_by, kept_part}
-use Rattle.stop_desk.specs.code.Plays.{given_part, joined, spent}
+use Rattle.stop_desk.proofs.Weights.{weigh-join, seen-cases}
 
 -- a step from the words and views of a state to others
 module _ (o : Opening) (s : State (Unit {0}) Knows) (h : Holds o s) (words : List ℕ) (views : List Knows)
@@ -30,69 +20,35 @@ module _ (o : Opening) (s : State (Unit {0}) Knows) (h : Holds o s) (words : Lis
       → ((x : ℕ) → weigh (drawn_in x) views ≡ weigh (drawn_in x) s.views) → Dealt o.whole words views
   dealt-kept same allowances draws drawn = record {
     in_word = h.0.in_word;
-    some_word = let d = h.0.some_word in omega arith;
-    whole_is = let d = h.0.whole_is in omega arith;
-    lengths = let d = h.0.lengths in omega arith;
+    some_word = omega (arith, h.0.some_word);
+    whole_is = omega (arith, h.0.whole_is);
+    lengths = omega (arith, h.0.lengths);
     each_once = λ x. drawn x ∙ h.0.each_once x ∙ ap (once_below x) (sym same);
-  }
-
-  -- what was given is given still
-  given-more : ((c p : ℕ) → 0 < weigh (lowered_in c p) s.views → 0 < weigh (lowered_in c p) views) → (c p : ℕ)
-      → IsGiven o.words.items s.views c p → IsGiven o.words.items views c p
-  given-more more c p given = ⊎_elim (λ is. inl is) (λ low. inr (more c p low)) given
-
-  -- stops are kept where words only fall, to what was lowered, and what is lowered or seen anew fits
-  stops-step : ((c : ℕ) → get_or words (c + 1) 0 ≤ get_or s.words (c + 1) 0)
-      → ((c p : ℕ) → 0 < weigh (lowered_in c p) s.views → 0 < weigh (lowered_in c p) views)
-      → ((c p : ℕ) → 0 < weigh (lowered_in c p) views
-      → (0 < weigh (lowered_in c p) s.views) ⊎ ((get_or words (c + 1) 0 ≤ p) × (p < past_places)))
-      → ((c p : ℕ) → 0 < weigh (seen_in c p) views → (0 < weigh (seen_in c p) s.views)
-      ⊎ ((get_or words (c + 1) 0 ≤ p) × (p < past_places) × IsGiven o.words.items views c p))
-      → ((c : ℕ) → (get_or words (c + 1) 0 ≡ get_or s.words (c + 1) 0)
-      ⊎ (0 < weigh (lowered_in c (get_or words (c + 1) 0)) views))
-      → Stops o.words.items words views
-  stops-step falls more lowered seen reached = record {
-    wide = long ∙ h.1.wide;
-    below_opening = λ c. let d = h.1.below_opening c in let low = falls c in omega arith;
-    below_lowered = λ c p there. ⊎_elim
-        (λ old. let d = h.1.below_lowered c p old in let low = falls c in (omega arith, d.1))
-        (λ new. new)
-        (lowered c p there);
-    below_seen = λ c p there. ⊎_elim
-        (λ old.
-        let d = h.1.below_seen c p old in let low = falls c in (omega arith, d.1, given-more more c p d.2))
-        (λ new. new)
-        (seen c p there);
-    reached = λ c. ⊎_elim
-        (λ same. rw same (given-more more c (get_or s.words (c + 1) 0) (h.1.reached c)))
-        (λ low. inr low)
-        (reached c);
   }
 
   -- stops are kept where the stop words and the sums are
   stops-kept : ((c : ℕ) → get_or words (c + 1) 0 ≡ get_or s.words (c + 1) 0)
       → ((c p : ℕ) → weigh (lowered_in c p) views ≡ weigh (lowered_in c p) s.views)
       → ((c p : ℕ) → weigh (seen_in c p) views ≡ weigh (seen_in c p) s.views) → Stops o.words.items words views
-  stops-kept same lowered seen =
-      stops-step (λ c. let e = same c in omega arith) (λ c p there. let e = lowered c p in omega arith)
-      (λ c p there. let e = lowered c p in inl (omega arith)) (λ c p there. let e = seen c p in inl (omega arith))
-      (λ c. inl (same c))
+  stops-kept same lowered seen = record {
+    wide = long ∙ h.1.wide;
+    below_opening = λ c. omega (arith, same c, h.1.below_opening c);
+    below_lowered = λ c p there. rw (same c) (h.1.below_lowered c p (rw (lowered c p) at there));
+    below_seen = λ c p there. rw (same c, lowered c p) (h.1.below_seen c p (rw (seen c p) at there));
+    reached = λ c. rw (same c, lowered c (get_or s.words (c + 1) 0)) (h.1.reached c);
+  }
 
 pub fits-set : (opened : List ℕ) (views : List Knows) (id : ℕ) (w : Knows) → Fits opened w
     → ((j : ℕ) (u : Knows) → get_elem? views j ≡ some u → Fits opened u)
     → (j : ℕ) (u : Knows) → get_elem? (set views id w) j ≡ some u → Fits opened u
-fits-set opened views id w new all j u at = ⊎_elim
-    (λ here. subst (Fits opened) here.1 new)
-    (λ there. all j u there.1)
-    (at_set views id j w u at)
+fits-set opened views id w new all j u at =
+    elim (at_set views id j w u at) [ inl here ↦ rw here.1 at new | inr there ↦ all j u there.1 ]
 
 pub fits-snoc : (opened : List ℕ) (views : List Knows) (w : Knows) → Fits opened w
     → ((j : ℕ) (u : Knows) → get_elem? views j ≡ some u → Fits opened u)
     → (j : ℕ) (u : Knows) → get_elem? (views ++ w ∷ []) j ≡ some u → Fits opened u
-fits-snoc opened views w new all j u at = ⊎_elim
-    (λ there. all j u there)
-    (λ is. subst (Fits opened) is new)
-    (at_snoc views w u j at)
+fits-snoc opened views w new all j u at =
+    elim (at_snoc views w u j at) [ inl there ↦ all j u there | inr is ↦ rw is at new ]
 
 -- a pass with a share knows what the desk was opened with
 pub fits-sharing : (opened : List ℕ) (v w : Knows) → Fits opened v → w.opened ≡ v.opened
@@ -156,25 +112,23 @@ module _ (o : Opening) (s : State (Unit {0}) Knows) (id : ℕ) (v : Knows) (h : 
   draw-kept left =
       let n : ℕ = get_or s.words 0 0 in
       let words : List ℕ = set s.words 0 ((n + 1) % 18446744073709551616) in
-      let whole = h.0.whole_is in
-      let small = h.0.in_word in
-      let some = part allowance_in in
-      let wraps : (n + 1) % 18446744073709551616 ≡ n + 1 = omega arith in
+      let wraps : (n + 1) % 18446744073709551616 ≡ n + 1
+      = omega (arith, h.0.whole_is, h.0.in_word, part allowance_in) in
       let next : get_or words 0 0 ≡ n + 1 = get_or-set_same s.words 0 _ 0 h.0.some_word ∙ wraps in
       let more = length-append v.drawn (n ∷ []) in
       let long : length words ≡ length s.words = length-set s.words 0 _ in (
         record {
           in_word = h.0.in_word;
-          some_word = let d = h.0.some_word in omega arith;
-          whole_is = let sum = changed allowance_in drew in omega arith;
-          lengths = let d = h.0.lengths in let sum = changed draws_in drew in omega arith;
-          each_once = λ x.
-              let d = h.0.each_once x in
-              let sum = changed (drawn_in x) drew in
-              let one = weigh-snoc (is_number x) v.drawn n in
-              let once = once_below-next x n in
-              let all : weigh (drawn_in x) (after drew) ≡ once_below x (n + 1) = omega arith in
-              all ∙ ap (once_below x) (sym next);
+          some_word = omega (arith, h.0.some_word);
+          whole_is = omega (arith, h.0.whole_is, changed allowance_in drew);
+          lengths = omega (arith, h.0.lengths, changed draws_in drew);
+          each_once = λ x. rw next (grind (
+            arith,
+            nat_tests,
+            h.0.each_once x,
+            changed (drawn_in x) drew,
+            weigh-snoc (is_number x) v.drawn n,
+          ));
         },
         stops-kept o s h words (after drew) long (λ c. get_or-set_other s.words 0 (c + 1) _ 0 (λ e. omega arith))
             (λ c p. same (lowered_in c p) drew refl) (λ c p. same (seen_in c p) drew refl),
@@ -183,11 +137,7 @@ module _ (o : Opening) (s : State (Unit {0}) Knows) (id : ℕ) (v : Knows) (h : 
 
   draw-fresh : times (get_or s.words 0 0) v.drawn ≡ 0
   draw-fresh =
-      let n : ℕ = get_or s.words 0 0 in
-      let one = part (drawn_in n) in
-      let once = h.0.each_once n in
-      let none_yet = once_below-self n in
-      omega arith
+      grind (arith, nat_tests, part (drawn_in (get_or s.words 0 0)), h.0.each_once (get_or s.words 0 0))
 
   -- a look at the stop of connection c
   abbrev saw : (c : ℕ) → Knows
@@ -202,9 +152,9 @@ module _ (o : Opening) (s : State (Unit {0}) Knows) (id : ℕ) (v : Knows) (h : 
   sees-below c me some_share = record {
     opening = subst (λ os. get_or s.words (c + 1) 0 ≤ get_or os (c + 1) 0) (sym ((h.2 id v at).knowing some_share))
         (h.1.below_opening c);
-    lowered = λ p there. let some = part (lowered_in c p) in h.1.below_lowered c p (omega arith);
+    lowered = λ p there. h.1.below_lowered c p (omega (arith, part (lowered_in c p)));
     seen = λ p there.
-        let some = part (seen_in c p) in let fact = h.1.below_seen c p (omega arith) in (fact.0, fact.1);
+        (let (low, place, given) = h.1.below_seen c p (omega (arith, part (seen_in c p))) in (low, place));
     added = refl;
   }
 
@@ -212,24 +162,20 @@ module _ (o : Opening) (s : State (Unit {0}) Knows) (id : ℕ) (v : Knows) (h : 
   look-kept c some_share =
       let n : ℕ = get_or s.words (c + 1) 0 in
       let w : Knows = saw c in
-      let low : (c' p : ℕ) → weigh (lowered_in c' p) (after w) ≡ weigh (lowered_in c' p) s.views =
-      λ c' p. same (lowered_in c' p) w refl in (
+      let low : (c' p : ℕ) → weigh (lowered_in c' p) (after w) ≡ weigh (lowered_in c' p) s.views
+      = λ c' p. same (lowered_in c' p) w refl in (
         dealt-kept o s h s.words (after w) refl refl (same allowance_in w refl) (same draws_in w refl)
             (λ x. same (drawn_in x) w refl),
-        stops-step o s h s.words (after w) refl
-            (λ c'. omega arith)
-            (λ c' p there. let e = low c' p in omega arith)
-            (λ c' p there. let e = low c' p in inl (omega arith))
-            (λ c' p there. let sum = changed (seen_in c' p) w in ⊎_elim
-            (λ same. inl (omega arith))
-            (λ new. rw (new.0, new.1) (inr (
-              omega arith,
-              new.2,
-              given-more o s h s.words (after w) refl (λ c p there'. let e = low c p in omega arith) c n
-                  (h.1.reached c),
-            )))
-            (seen-cases (nat_lt n past_places) c' p c n v.seen refl))
-            (λ c'. inl refl),
+        record {
+          wide = h.1.wide;
+          below_opening = h.1.below_opening;
+          below_lowered = λ c' p there. h.1.below_lowered c' p (rw (low c' p) at there);
+          below_seen = λ c' p there. rw (low c' p) (elim (seen-cases (nat_lt n past_places) c' p c n v.seen refl) [
+            | inl old ↦ h.1.below_seen c' p (omega (arith, changed (seen_in c' p) w))
+            | inr (on, at, place) ↦ rw (on, at) (omega arith, place, h.1.reached c)
+          ]);
+          reached = λ c'. rw (low c' (get_or s.words (c' + 1) 0)) (h.1.reached c');
+        },
         fits w refl some_share some_share,
       )
 
@@ -253,6 +199,11 @@ module _ (o : Opening) (s : State (Unit {0}) Knows) (id : ℕ) (v : Knows) (h : 
       let here : get_or words (c + 1) 0 ≡ min n p = get_or-set_same s.words (c + 1) (min n p) 0 inside in
       let elsewhere = λ (c' : ℕ) (apart : c' ≡ c → ⊥).
       get_or-set_other s.words (c + 1) (c' + 1) (min n p) 0 (λ e. apart (omega arith)) in
+      let falls : (c' : ℕ) → get_or words (c' + 1) 0 ≤ get_or s.words (c' + 1) 0
+      = λ c'. (elim (ℕ_discrete c' c) [
+        | yes is ↦ rw is (omega arith)
+        | no apart ↦ (let e = elsewhere c' apart in omega arith)
+      ]) in
       let more : (c' p' : ℕ) → weigh (lowered_in c' p') (after w) ≡ weigh (lowered_in c' p') s.views
       + is_mark c' p' (c, p) =
       λ c' p'. (let sum = changed (lowered_in c' p') w in
@@ -260,24 +211,23 @@ module _ (o : Opening) (s : State (Unit {0}) Knows) (id : ℕ) (v : Knows) (h : 
         dealt-kept o s h words (after w) long
             (get_or-set_other s.words (c + 1) 0 (min n p) 0 (λ e. omega arith)) (same allowance_in w refl)
             (same draws_in w refl) (λ x. same (drawn_in x) w refl),
-        stops-step o s h words (after w) long
-            (λ c'. dite (ℕ_discrete c' c)
-            (λ is. rw is (omega arith))
-            (λ apart. let e = elsewhere c' apart in omega arith))
-            (λ c' p' low. let e = more c' p' in omega arith)
-            (λ c' p' low. let e = changed (lowered_in c' p') w in ⊎_elim
-            (λ same. inl (omega arith))
-            (λ new. rw (new.0, new.1) (inr (omega arith, place)))
-            (marks-snoc_cases c' p' c p v.lowered))
-            (λ c' p' low. let e = same (seen_in c' p') w refl in inl (omega arith))
-            (λ c'. dite (ℕ_discrete c' c)
-            (λ is. rw is (dite (ℕ_discrete (min n p) n)
-            (λ unmoved. inl (here ∙ unmoved))
-            (λ moved.
-            let low : get_or words (c + 1) 0 ≡ p = omega arith in
-            let e = more c p in let one = mark-here c p in
-            inr (rw low (omega arith)))))
-            (λ apart. inl (elsewhere c' apart))),
+        record {
+          wide = long ∙ h.1.wide;
+          below_opening = λ c'. omega (arith, falls c', h.1.below_opening c');
+          below_lowered = λ c' p' there. grind (arith, nat_tests, more c' p', falls c', here, h.1.below_lowered c' p');
+          below_seen = λ c' p' there.
+              (let (low, is, given) = h.1.below_seen c' p' (rw (same (seen_in c' p') w refl) at there) in
+              (omega (arith, falls c'), is, grind (arith, more c' p', given)));
+          reached = λ c'. elim (ℕ_discrete c' c) [
+            | yes is ↦ rw is (elim (cases_lt p n) [
+              | inl falls ↦ (let low : get_or words (c + 1) 0 ≡ p = omega arith in
+                  rw low (inr (grind (arith, nat_tests, more c p))))
+              | inr stays ↦ (let low : get_or words (c + 1) 0 ≡ n = omega arith in
+                  rw low (grind (arith, more c n, h.1.reached c)))
+            ])
+            | no apart ↦ rw (elsewhere c' apart) (grind (arith, more c' (get_or s.words (c' + 1) 0), h.1.reached c'))
+          ];
+        },
         fits w refl some_share some_share,
       )
 
@@ -354,16 +304,13 @@ lowers o slots id me c p some_share there place s h _ at _ = (
 -- a load of word 0 that changes nothing
 pub learns : (o : Opening) (slots id : ℕ) (me : PassState)
     → Allows (Holds o) slots id me 0 (λ n. n) (learned_by (step slots 0 0 0 none) me)
-learns o slots id me s h _ at _ =
-    let part = weigh-part allowance_in s.views id me.0 at in
-    let whole = h.0.whole_is in
-    let small = h.0.in_word in (
-      me.0,
-      keeps,
-      tt,
-      rw (set-get_or s.words 0 0, set_again s.views id me.0 at) h,
-      (omega arith, refl),
-    )
+learns o slots id me s h _ at _ = (
+  me.0,
+  keeps,
+  tt,
+  rw (set-get_or s.words 0 0, set_again s.views id me.0 at) h,
+  (omega (arith, h.0.whole_is, h.0.in_word, weigh-part allowance_in s.views id me.0 at), refl),
+)
 
 pub splits : (o : Opening) (id amount : ℕ) (v : Knows) → 0 < amount → amount < v.allowance
     → Splits (Holds o) id v (kept_part amount v) (given_part amount v)

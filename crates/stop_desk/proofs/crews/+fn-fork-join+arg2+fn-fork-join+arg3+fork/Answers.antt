@@ -1,4 +1,4 @@
-use Rattle.std.proofs.Common.{◌≡◌, ℕ, ◌+◌, ◌-◌, ◌*◌, ◌/◌, ◌≤◌, ap, sym, arith}
+use Rattle.stop_desk.proofs.Words.{ap, arith, sym, ℕ, ◌*◌, ◌+◌, ◌-◌, ◌/◌, ◌≡◌, ◌≤◌}
 use Rattle.std.proofs.lemmas.Result.{IfOk-at_ok, IfOk-weaker}
 use Rattle.stop_desk.proofs.Working.{worked-both}
 use Rattle.stop_desk.proofs.crews.+fn-fork-join+arg2+fn-fork-join+arg3+fork.Goals as goal

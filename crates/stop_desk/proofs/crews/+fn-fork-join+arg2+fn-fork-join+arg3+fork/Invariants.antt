@@ -1,4 +1,4 @@
-use Rattle.std.proofs.Common.{◌+◌, ◌*◌}
+use Rattle.stop_desk.proofs.Words.{◌*◌, ◌+◌}
 use Rattle.stop_desk.proofs.crews.+fn-fork-join+arg2+fn-fork-join+arg3+fork.Given as goal
 
 abbrev pub decreases-join+arg2 : goal.decreases-join+arg2

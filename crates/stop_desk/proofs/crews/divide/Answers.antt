@@ -1,4 +1,4 @@
-use Rattle.std.proofs.Common.{◌≡◌, ℕ, ◌+◌, ◌-◌, ◌*◌, mul_comm}
+use Rattle.stop_desk.proofs.Words.{mul_comm, ℕ, ◌*◌, ◌+◌, ◌-◌, ◌≡◌}
 use Rattle.std.proofs.Math.Nat.{mul-sub}
 use Rattle.stop_desk.proofs.crews.divide.Goals as goal
 

@@ -1,5 +1,4 @@
-use Rattle.std.proofs.Common.{◌≡◌, ◌∷◌, map, take}
-use Rattle.stop_desk.specs.code.Stop.{stop_word}
+use Rattle.stop_desk.proofs.Words.{map, stop_word, take, ◌∷◌, ◌≡◌}
 use Rattle.stop_desk.proofs.desks.opening_words.Given as goal
 
 -- the words of the stops so far

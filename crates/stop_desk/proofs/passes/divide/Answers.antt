@@ -1,5 +1,4 @@
-use Rattle.std.proofs.Common.{sym, ap, ◌∙◌, arith}
-use Rattle.stop_desk.specs.code.Desk.{DeskView}
+use Rattle.stop_desk.proofs.Words.{DeskView, ap, arith, sym, ◌∙◌}
 use Rattle.stop_desk.proofs.Steps.{splits}
 use Rattle.stop_desk.proofs.passes.divide.Goals as goal
 

@@ -1,10 +1,14 @@
-use Rattle.std.proofs.Common.{◌++◌, ◌∷◌, [], sym, ◌∙◌, arith}
-use Rattle.stop_desk.proofs.CrewDone.{last_stops-more}
+use Rattle.stop_desk.proofs.Words.{[], arith, final_stop, map-range_with_len_more, sym, ◌++◌, ◌∙◌, ◌∷◌}
+use Rattle.stop_desk.proofs.CrewDone.{last_stops-is}
 use Rattle.stop_desk.proofs.settling.stops_of.Goals as goal
 
 pub loop-connection-preserved : goal.loop-connection-preserved
 loop-connection-preserved c =
     c.in_ok-push.ensures.items
     ∙ (λ i. c.loop-connection.invariant i ++ c.stop.ensures i ∷ [])
-    ∙ sym (last_stops-more c.args.closed.now c.loop-connection.connection
-    (omega (arith, c.requires, c.loop-connection-test.true)))
+    ∙ sym (map-range_with_len_more (final_stop c.args.closed.now) 0 c.loop-connection.connection _ (omega arith))
+
+pub returns : goal.returns
+returns c =
+    c.loop-connection.invariant
+    ∙ last_stops-is c.args.closed.now c.loop-connection.connection (omega (arith, c.requires))

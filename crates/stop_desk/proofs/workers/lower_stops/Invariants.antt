@@ -1,6 +1,4 @@
-use Rattle.std.proofs.Common.{◌≡◌, ◌++◌, take}
-use Rattle.stop_desk.specs.code.Desk.{pass_of}
-use Rattle.stop_desk.specs.code.Worked.{stops_on}
+use Rattle.stop_desk.proofs.Words.{pass_of, stops_on, take, ◌++◌, ◌≡◌}
 use Rattle.stop_desk.proofs.workers.lower_stops.Given as goal
 
 -- the places of the findings so far

@@ -1,4 +1,4 @@
-use Rattle.std.proofs.Common.{◌<◌, subst}
+use Rattle.stop_desk.proofs.Words.{subst, ◌<◌}
 use Rattle.stop_desk.proofs.Working.{worked-job, worked-ends}
 use Rattle.stop_desk.proofs.workers.work.Goals as goal
 

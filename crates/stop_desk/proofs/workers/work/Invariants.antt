@@ -1,5 +1,4 @@
-use Rattle.std.proofs.Common.{◌+◌}
-use Rattle.stop_desk.specs.code.Worked.{IsWorked, DrewJobs}
+use Rattle.stop_desk.proofs.Words.{DrewJobs, IsWorked, ◌+◌}
 use Rattle.stop_desk.proofs.workers.work.Given as goal
 
 -- the jobs that were drawn are done, and nothing else was drawn

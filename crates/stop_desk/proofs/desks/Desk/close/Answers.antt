@@ -1,7 +1,5 @@
-use Rattle.std.proofs.Common.{length, refl, subst, sym, ap, ◌∙◌, arith}
+use Rattle.stop_desk.proofs.Words.{DeskId, PassView, Settled, ap, arith, closed_of, length, refl, subst, sym, ◌∙◌}
 use Rattle.std.specs.Slots.{slots_items}
-use Rattle.stop_desk.specs.code.Desk.{DeskId, PassView, closed_of}
-use Rattle.stop_desk.specs.code.Settled.{Settled}
 use Rattle.stop_desk.proofs.PassViews.{same_desk, same_draws, closes}
 use Rattle.stop_desk.proofs.desks.Desk.close.Goals as goal
 

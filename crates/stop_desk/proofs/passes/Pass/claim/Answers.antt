@@ -1,5 +1,4 @@
-use Rattle.std.proofs.Common.{ap, arith}
-use Rattle.stop_desk.specs.code.Desk.{DeskId}
+use Rattle.stop_desk.proofs.Words.{DeskId, ap, arith}
 use Rattle.stop_desk.proofs.PassViews.{same_desk}
 use Rattle.stop_desk.proofs.Steps.{draws}
 use Rattle.stop_desk.proofs.passes.Pass.claim.Goals as goal

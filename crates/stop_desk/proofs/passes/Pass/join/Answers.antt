@@ -1,5 +1,4 @@
-use Rattle.std.proofs.Common.{ap, ◌∙◌}
-use Rattle.stop_desk.specs.code.Desk.{DeskId}
+use Rattle.stop_desk.proofs.Words.{DeskId, ap, ◌∙◌}
 use Rattle.stop_desk.proofs.PassViews.{same_desk}
 use Rattle.stop_desk.proofs.Steps.{joins, learns}
 use Rattle.stop_desk.proofs.passes.Pass.join.Goals as goal

@@ -1,5 +1,4 @@
-use Rattle.std.proofs.Common.{◌+◌, ◌<◌, length, refl, ap, ◌∙◌, arith, sym, subst}
-use Rattle.stop_desk.specs.code.Desk.{DeskId, DeskView, PassView}
+use Rattle.stop_desk.proofs.Words.{DeskId, DeskView, PassView, ap, arith, length, refl, subst, sym, ◌+◌, ◌<◌, ◌∙◌}
 use Rattle.stop_desk.proofs.PassViews.{same_desk, looks, look-desk, same-fields}
 use Rattle.stop_desk.proofs.Steps.{sees}
 use Rattle.stop_desk.proofs.passes.Pass.look.Goals as goal

@@ -1,6 +1,4 @@
-use Rattle.std.proofs.Common.{◌+◌, ◌<◌, length, refl, ap, arith, sym, subst}
-use Rattle.stop_desk.specs.code.Desk.{DeskId, DeskView}
-use Rattle.stop_desk.specs.code.Stop.{past_places}
+use Rattle.stop_desk.proofs.Words.{DeskId, DeskView, ap, arith, length, past_places, refl, subst, sym, ◌+◌, ◌<◌}
 use Rattle.stop_desk.proofs.PassViews.{same_desk, same-fields, lowered-view}
 use Rattle.stop_desk.proofs.Steps.{lowers}
 use Rattle.stop_desk.proofs.passes.Pass.lower.Goals as goal
