@@ -1,25 +1,22 @@
 -- What the plain pass keeps between two frames, beside the state of the pass, and what it says at a frame.
-use Rattle.std.proofs.Common.{◌≡◌, ℕ, pos, ◌^◌, ◌≤◌, Bool, true, false, ◌==◌, ◌&&◌, List, [], ◌∷◌, ◌++◌}
-use Rattle.std.proofs.Common.{map, Option, refl, ap, ◌∙◌, append_assoc, ◌+◌, Some, None}
-use Rattle.std.proofs.Common.{is_some, arith, if◌then◌else◌, not, ◌*◌}
+use Rattle.std.proofs.Common.{◌≡◌, ℕ, pos, ◌^◌, ◌≤◌, Bool, true, false, ◌==◌, ◌&&◌, List, [], ◌∷◌, ◌++◌, map, Option}
+use Rattle.std.proofs.Common.{refl, ap, ◌∙◌, append_assoc, ◌+◌, Some, None, is_some, arith, if◌then◌else◌, not, ◌*◌}
 use Rattle.std.proofs.lemmas.Simd.{map-map}
 use Rattle.std.proofs.lemmas.List.Folds.{flat_map-map}
 use Rattle.audit_core.proofs.Words.{flat_map, list_any, find, eq-eqb, eqb-true, Sides, UnmatchedAck, Frame, Change}
 use Rattle.audit_core.proofs.Words.{Item, ConnectionState, Finding, side_of, is_ack, meets, finding_at, in_order, say}
 use Rattle.audit_core.proofs.Words.{local_said, change_of, InForce, in_force_after, change_taking, taken, settings_said}
-use Rattle.audit_core.proofs.Words.{connection_said, connection_after, is_opening, PassState, full_from}
-use Rattle.audit_core.proofs.Words.{next, streams_of, streams_said, item_of, opens_stream, step_of, room-wider}
-use Rattle.audit_core.proofs.Words.{StreamRow, rows_in, idle_rows, row_opens, row_said, row_after, RowFits}
-use Rattle.audit_core.proofs.Words.{option_to_list, Settings, changes_from, IsOrderlyFrom, IsAcknowledged, initial_after}
-use Rattle.audit_core.proofs.Words.{AllByRecursion, HasRoom, nat_tests, cond_both, previous_after, ne_eqb}
-use Rattle.audit_core.proofs.Words.{pass_start, full, connection_start, initial_in_force, changes_of, ints, IsOrderly}
+use Rattle.audit_core.proofs.Words.{connection_said, connection_after, is_opening, PassState, full_from, next}
+use Rattle.audit_core.proofs.Words.{streams_of, streams_said, item_of, opens_stream, step_of, room-wider, StreamRow}
+use Rattle.audit_core.proofs.Words.{rows_in, idle_rows, row_opens, row_said, row_after, RowFits, option_to_list}
+use Rattle.audit_core.proofs.Words.{Settings, changes_from, IsOrderlyFrom, IsAcknowledged, initial_after}
+use Rattle.audit_core.proofs.Words.{AllByRecursion, HasRoom, nat_tests, cond_both, previous_after, ne_eqb, pass_start}
+use Rattle.audit_core.proofs.Words.{full, connection_start, initial_in_force, changes_of, ints, IsOrderly}
 use Rattle.audit_core.proofs.Pairs.{all-map}
 use Rattle.audit_core.proofs.PassOrder.{rows_of, AreStreams, streams-streams_of}
 use Rattle.audit_core.proofs.StreamsMet.{streams_met_lem}
 use Rattle.audit_core.proofs.StreamSteps.{all-change_numbers}
 use Rattle.audit_core.proofs.ErrorSides.{change-ack}
-
--- ---- the change of a frame, among all changes
 
 -- is it the change of this number?
 abbrev pub is_at : ℕ → Change → Bool
@@ -47,16 +44,13 @@ find-on now frame later number h = by_taken (taken now frame) where
       cond_both (frame.number == number) None _ (λ found. find (is_at number) rest ≡ found)
       (λ e. none-later number rest
       (all-change_numbers (λ n. number + 1 ≤ n) (frame.number + 1) (in_force_after now frame) later
-      (λ m l. let same = eqb-true frame.number number e in omega arith) h))
-      (λ e. refl)
+      (λ m l. let same = eqb-true frame.number number e in omega arith) h)) (λ e. refl)
 
 -- a frame that brings a change is an acknowledgement
 pub step_of-acknowledged : (now : InForce) (frame : Frame) (stream : ℕ) → IsAcknowledged (step_of now frame stream)
 step_of-acknowledged now frame stream change e one f =
     let ack = change-ack now frame (ap is_some e) in
     grind (arith, ack)
-
--- ---- the opening of a frame's stream
 
 module _ (state : PassState) (frame : Frame) where
   abbrev opens_it : ℕ → Bool
@@ -71,8 +65,6 @@ module _ (state : PassState) (frame : Frame) where
   -- no frame promises its own stream, and none opens stream 0
   zero-unopened : (frame.stream == 0) ≡ true → opens_it frame.stream ≡ false
   zero-unopened e = grind (arith, nat_tests)
-
--- ---- the pass between two frames
 
 -- what counts has room
 pub record Fits (bound : ℕ) (now : ConnectionState) (entries : List StreamRow) : Type 0 where
@@ -130,8 +122,6 @@ pass-begins all changes h e = record {
     rows = idle_rows-fit (2 ^ 17) (streams_of all) (streams-streams_of 0 all h);
   };
 }
-
--- ---- a frame, as the code meets it
 
 module _ {all : List Frame} {changes : List Change} {frame : Frame} {rest : List Frame} {last : Sides (Option Frame)}
     {windows : Sides ℕ} {now : ConnectionState} {entries : List StreamRow} {shown : List Finding}

@@ -1,14 +1,10 @@
-use Rattle.std.proofs.Common.{◌≡◌, ℕ, true, List, ◌++◌, length, take, refl, sym, ◌∙◌, subst, arith}
+use Rattle.std.proofs.Common.{◌≡◌, true, length, refl, sym, ◌∙◌, subst, arith}
 use Rattle.std.proofs.Math.Seq.{take-append_seam}
 use Rattle.std.proofs.lemmas.List.Folds.{list_any_at}
 use Rattle.audit_core.proofs.passes.one_pass.Goals as goal
 use Rattle.audit_core.proofs.Words.{list_any, meets, eq-eqb, Frame}
 use Rattle.audit_core.proofs.OrderlyRest.{drop-at}
 use Rattle.audit_core.proofs.PassRows.{step_of-acknowledged, pass-begins, pass-next, brings, room}
-
--- the vector whose slice was written has what the slice has
-front : {A : Type 0} (n : ℕ) (xs ys : List A) → n ≡ length xs → take n (xs ++ ys) ≡ xs
-front n xs ys e = rw (e, take-append_seam) refl
 
 pub loop-frame-init : goal.loop-frame-init
 loop-frame-init c =
@@ -43,7 +39,7 @@ loop-frame-preserved c =
     let rows = c.deref_mut.ensures.value in
     let long : c.loop-frame.rows.len ≡ length c.meet_all.new.rows =
     omega (arith, c.meet_all.auto.rows, c.deref_mut.ensures.len) in
-    rw (front c.loop-frame.rows.len c.meet_all.new.rows _ long)
+    rw (long, take-append_seam)
     (pass-next at c.opens.result c.is_none.result c.change_at-change.result
     (rw c.deref.ensures.value at c.change_at-change.ensures) c.is_none.ensures
     (rw c.deref-in-loop-frame.ensures.value at c.opens.ensures) own
