@@ -72,8 +72,8 @@ pub record Fits (bound : ℕ) (now : ConnectionState) (entries : List StreamRow)
   pub server : HasRoom bound now.credit.server
   pub rows : AllByRecursion (RowFits bound) entries
 
-fits-wider : {bound more : ℕ} {now : ConnectionState} {entries : List StreamRow} → bound ≤ more → Fits bound now entries →
-    Fits more now entries
+fits-wider : {bound more : ℕ} {now : ConnectionState} {entries : List StreamRow} → bound ≤ more →
+    Fits bound now entries → Fits more now entries
 fits-wider {bound} {more} l h = record {
   client = room-wider bound more _ l h.client;
   server = room-wider bound more _ l h.server;
