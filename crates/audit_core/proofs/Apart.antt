@@ -1,11 +1,11 @@
 -- No two findings of a connection share place and side: at one frame they stand in different rows of the table or are
 -- of different streams, and different frames have different places.
-use Rattle.std.proofs.Common.{◌≡◌, ◌≢◌, ℕ, ◌+◌, ◌*◌, ◌^◌, ◌<◌, Bool, true, false, not, ◌==◌, List, [], ◌∷◌, refl, sym}
-use Rattle.std.proofs.Common.{◌∙◌, arith, filter, true≢false, if◌then◌else◌, ap}
+use Rattle.std.proofs.Common.{◌≢◌, ℕ, ◌+◌, ◌*◌, ◌^◌, ◌<◌, not, ◌==◌, List, [], ◌∷◌, sym}
+use Rattle.std.proofs.Common.{◌∙◌, arith, filter, true≢false, ap}
 use Rattle.audit_core.proofs.Words.{AllByRecursion, eq-eqb, Frame, Finding, comes_after, promised_by, IsInRange}
 use Rattle.audit_core.proofs.Words.{IsOrderlyFrom, IsOrderly, PassState, pass_start, said, full_from, full, next}
 use Rattle.audit_core.proofs.Words.{first_of, streams_of, EachPair, AreApart, StandApart, AreWithin, AreFrom, other}
-use Rattle.audit_core.proofs.Words.{place_rank, Side, AreApartAsErrors}
+use Rattle.audit_core.proofs.Words.{place_rank, Side, AreApartAsErrors, cond_both}
 use Rattle.audit_core.proofs.Pairs.{Across, pairs-append, pairs-ordered, all-ordered, pairs-filter, pairs-refine}
 use Rattle.audit_core.proofs.PassOrder.{AreStreams, at-said, from-full_from, streams-streams_of}
 use Rattle.audit_core.proofs.FrameRows.{Any, rows-at}
@@ -14,18 +14,15 @@ use Rattle.audit_core.proofs.TableRows.{error_side, IsRow}
 not_among-others : (stream : ℕ) (streams : List ℕ)
     → AllByRecursion (λ other. stream ≢ other) (filter (λ other. not (other == stream)) streams)
 not_among-others stream [] = tt
-not_among-others stream (other ∷ others) = step _ refl (not_among-others stream others) where
-  step : (b : Bool) → (other == stream) ≡ b
-      → AllByRecursion (λ x. stream ≢ x) (filter (λ x. not (x == stream)) others)
-      → AllByRecursion (λ x. stream ≢ x) (filter (λ x. not (x == stream)) (other ∷ others))
-  step true e ih = rw e ih
-  step false e ih = rw e (λ p. true≢false (sym (eq-eqb other stream (sym p)) ∙ e), ih)
+not_among-others stream (other ∷ others) =
+    let rest = not_among-others stream others in
+    cond_both (not (other == stream)) _ _ (AllByRecursion (λ x. stream ≢ x))
+    (λ e. (λ p. true≢false (sym (rw (eq-eqb other stream (sym p)) at e)), rest)) (λ e. rest)
 
 distinct-first_of : (stream : ℕ) (streams : List ℕ) → EachPair ◌≢◌ streams → EachPair ◌≢◌ (first_of stream streams)
-distinct-first_of stream streams h = by_test (stream == 0) where
-  by_test : (b : Bool) → EachPair ◌≢◌ (if b then streams else stream ∷ filter (λ other. not (other == stream)) streams)
-  by_test true = h
-  by_test false = (not_among-others stream streams, pairs-filter ◌≢◌ _ streams h)
+distinct-first_of stream streams h =
+    cond_both (stream == 0) _ _ (EachPair ◌≢◌) (λ e. h)
+    (λ e. (not_among-others stream streams, pairs-filter ◌≢◌ _ streams h))
 
 -- no stream is named twice
 pub distinct-streams_of : (frames : List Frame) → EachPair ◌≢◌ (streams_of frames)

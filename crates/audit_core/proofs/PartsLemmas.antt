@@ -1,5 +1,5 @@
 -- The pass, put together from its parts.
-use Rattle.std.proofs.Common.{◌≡◌, ℕ, List, [], ◌∷◌, ◌++◌, refl, sym, ap, ◌∙◌, append_assoc, append-nil}
+use Rattle.std.proofs.Common.{◌≡◌, ℕ, List, [], ◌∷◌, ◌++◌, refl, sym, ap, ap₂, ◌∙◌, append_assoc, append-nil}
 use Rattle.std.proofs.lemmas.Grind.{flat_map-append}
 use Rattle.audit_core.proofs.Words.{flat_map, Frame, Item, ConnectionState, Finding, side_of, IsOrderly, in_order}
 use Rattle.audit_core.proofs.Words.{local_said, local_run_from, settings_said, settings_run_from, changes_of}
@@ -120,8 +120,7 @@ group-alone : (frames : List Frame) (streams : List ℕ) → IsOrderly frames �
     ≡ flat_map (λ stream. alone stream pass_start frames) streams
 group-alone frames [] h = refl
 group-alone frames (stream ∷ streams) h =
-    ap (λ l. l ++ group_run frames streams) (run-alone stream frames h)
-    ∙ ap (λ l. alone stream pass_start frames ++ l) (group-alone frames streams h)
+    ap₂ ◌++◌ (run-alone stream frames h) (group-alone frames streams h)
 
 pub parts_make_full_lem : PartsMakeFull
 parts_make_full_lem frames groups blocks h same_streams same_items =

@@ -1,8 +1,6 @@
 -- A step without a frame and without a new initial window shows and changes nothing.
-use Rattle.std.proofs.Common.{◌≡◌, ℕ, ℤ, Bool, true, false, not, ◌&&◌, [], ◌++◌, refl, ap, ◌∙◌, arith, Option, Some}
-use Rattle.std.proofs.Common.{None, is_some, int_lt, cond, ap₂}
-use Rattle.std.specs.declared.cmp.Ordering.TheVariants.{Less, Equal, Greater}
-use Rattle.std.proofs.lemmas.Cmp.{int_cmp_total, tied_itself}
+use Rattle.std.proofs.Common.{◌≡◌, ℕ, ℤ, Bool, false, not, ◌&&◌, [], ◌++◌, refl, ap, ◌∙◌, arith, Option, Some}
+use Rattle.std.proofs.Common.{None, is_some, int_lt, ap₂}
 use Rattle.audit_core.proofs.Words.{ints, Side, Client, Server, Sides, Change, Step, Stream, say_of, side_of}
 use Rattle.audit_core.proofs.Words.{new_initial, is_used_up, window_step, live_window_said, window_after}
 use Rattle.audit_core.proofs.Words.{stream_window_said, stream_said, stream_after, counted, initial_after, and-false}
@@ -18,12 +16,8 @@ not_either : (a : Bool) → (not a && a) ≡ false
 not_either a = grind arith
 
 -- no credit is below itself
-tied_test : (b : Bool) → cond b Less (cond b Greater Equal) ≡ Equal → b ≡ false
-tied_test true e = cc
-tied_test false e = refl
-
 not_less : (x : ℤ) → int_lt x x ≡ false
-not_less x = tied_test (int_lt x x) (tied_itself int_cmp_total x)
+not_less x = grind (arith, ints)
 
 module _ (stream : ℕ) (initial : Sides ℕ) (number : ℕ) (change : Option Change) where
   -- one window, whose initial window stays

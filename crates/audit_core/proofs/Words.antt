@@ -26,7 +26,7 @@ pub use Rattle.audit_terms.specs.Frame.{sends_end, is_reset}
 pub use Rattle.audit_terms.specs.InForce.{change_of, settings_said, InForce, taken, change_taking, in_force_after}
 pub use Rattle.audit_terms.specs.InForce.{initial_in_force}
 pub use Rattle.audit_terms.specs.Life.{is_last_of, is_opening, life_after, ends_window}
-pub use Rattle.audit_terms.specs.LocalFault.{body_said, reading_fault, fault, local_said}
+pub use Rattle.audit_terms.specs.LocalFault.{body_said, reading_fault, fault, local_said, previous_after}
 pub use Rattle.audit_terms.specs.Pass.{first_of, next, PassState, step_of, pass_start, item_of, streams_said, full}
 pub use Rattle.audit_terms.specs.Pass.{streams_of, said, full_from, opens_stream}
 pub use Rattle.audit_terms.specs.Stream.{opens, window_at_opening, window_after, step_test, stream_said}

@@ -1,6 +1,5 @@
-ghost use Rattle.std.specs.Prelude.{◌≡◌, ◌==◌, ◌&&◌, is_none, IfOk};
+ghost use Rattle.std.specs.Prelude.{◌≡◌, ◌==◌, IfOk};
 ghost use Rattle.std.specs.List.{find};
-ghost use Rattle.audit_terms.specs.Frame.{is_ack};
 ghost use Rattle.audit_terms.specs.code.runs.Orderly.{IsOrderly};
 ghost use Rattle.audit_terms.specs.Pass.{pass};
 
@@ -36,14 +35,15 @@ pub fn one_pass(alloc: Global, frames: &[Frame]) -> Result<Vec<Finding>, AllocEr
         let change = change_at(&pairs.changes, frame.number);
         let kind = Kind::UnmatchedAck;
         let ack = Finding::at(kind, frame.number, frame.stream, frame.side, 0);
-        say_if(&mut said, is_unmatched(frame, &change), ack)?;
+        let is_unmatched = frame.body.is_ack() & change.is_none();
+        say_if(&mut said, is_unmatched, ack)?;
         let item = Item {
             frame: *frame,
             opens: opens(&rows, frame),
             change,
         };
         connection.meet(&mut said, &item)?;
-        rows = meet_all(alloc, &rows, &mut said, &in_force, &item)?;
+        meet_all(&mut rows, &mut said, &in_force, &item)?;
         put_in_order(&mut said)?;
         found.append(&mut said)?;
         previous = previous_after(&previous, frame);
@@ -51,16 +51,6 @@ pub fn one_pass(alloc: Global, frames: &[Frame]) -> Result<Vec<Finding>, AllocEr
     }
     cut_at_stop(&mut found);
     Ok(found)
-}
-
-/// Is it an acknowledgement that brings no change?
-fn is_unmatched(frame: &Frame, change: &Option<Change>) -> bool
-    ensures { result ≡ (is_ack frame.now.body && is_none change.now) }
-{
-    match change {
-        Some(_) => false,
-        None => frame.body.is_ack(),
-    }
 }
 
 /// The change of this number.

@@ -1,5 +1,5 @@
-ghost use Rattle.std.specs.Prelude.{◌≡◌, ℕ, ◌+◌, ◌-◌, ◌^◌, ◌≤◌, ◌++◌, List, map, All, IfOk, OnOk};
-ghost use Rattle.std.specs.List.{flat_map, list_any};
+ghost use Rattle.std.specs.Prelude.{◌≡◌, ℕ, ◌+◌, ◌-◌, ◌^◌, ◌≤◌, ◌++◌, List, map, IfOk, OnOk};
+ghost use Rattle.std.specs.List.{flat_map, list_any, AllByRecursion};
 ghost use Rattle.audit_terms.specs.Pass.{first_of, streams_of};
 ghost use Rattle.audit_terms.specs.code.runs.Streams.{IsAcknowledged};
 ghost use Rattle.audit_core.specs.code.StreamRows.{idle_rows, row_opens, step_at, row_said, row_after, RowFits};
@@ -18,35 +18,24 @@ pub struct StreamRow {
 pub fn idle_rows(alloc: Global, frames: &[Frame]) -> Result<Vec<StreamRow>, AllocError>
     ensures { IfOk result (λ rows. rows.items ≡ idle_rows (streams_of frames.now)) }
 {
-    let mut rows = Vec::new(alloc);
-    for stream in &streams_of(alloc, frames)? {
-        let entry = Stream::idle();
-        let stream = *stream;
-        rows.push(StreamRow { stream, entry })?;
-    }
-    Ok(rows)
-}
-
-/// Each stream other than 0 that meets one of the frames, in order of its first frame.
-fn streams_of(alloc: Global, frames: &[Frame]) -> Result<Vec<u32>, AllocError>
-    ensures { IfOk result (λ streams. streams.items ≡ streams_of frames.now) }
-{
     let Some((frame, later)) = frames.split_first() else {
         return Ok(Vec::new(alloc));
     };
-    let mut streams = streams_of(alloc, later)?;
-    put_first(&mut streams, frame.promised_by())?;
-    put_first(&mut streams, frame.stream)?;
-    Ok(streams)
+    let mut rows = idle_rows(alloc, later)?;
+    put_first(&mut rows, frame.promised_by())?;
+    put_first(&mut rows, frame.stream)?;
+    Ok(rows)
 }
 
-/// Puts a stream before the others, unless it is 0.
-fn put_first(streams: &mut Vec<u32>, stream: u32) -> Result<(), AllocError>
-    ensures { OnOk result (streams.new.items ≡ first_of stream streams.old.items) }
+/// Puts the row of a stream before the others, unless the stream is 0.
+fn put_first(rows: &mut Vec<StreamRow>, stream: u32) -> Result<(), AllocError>
+    ensures { OnOk result ((streams : List ℕ) → rows.old.items ≡ idle_rows streams
+        → rows.new.items ≡ idle_rows (first_of stream streams)) }
 {
     if stream != 0 {
-        streams.retain(|other| *other != stream);
-        streams.insert(0, stream)?;
+        let entry = Stream::idle();
+        rows.retain(|row| row.stream != stream);
+        rows.insert(0, StreamRow { stream, entry })?;
     }
     Ok(())
 }
@@ -71,30 +60,27 @@ fn step_at(item: &Item, stream: u32) -> Step
     }
 }
 
-/// Adds what each stream shows at an item, and gives the streams after it; `initial` are the initial windows in force
-/// before it.
+/// Adds what each stream shows at an item, and brings it to its state after the item; `initial` are the initial windows
+/// in force before it.
 pub fn meet_all(
-    alloc: Global,
-    rows: &[StreamRow],
+    rows: &mut [StreamRow],
     found: &mut Vec<Finding>,
     initial: &Sides<u32>,
     item: &Item,
-) -> Result<Vec<StreamRow>, AllocError>
+) -> Result<(), AllocError>
     requires numbered { item.now.frame.number ≤ 2 ^ 28 - 2 }
     requires acknowledged { (stream : ℕ) → IsAcknowledged (step_at item.now stream) }
-    requires fits { All (RowFits (2 ^ 60)) rows.now }
+    requires fits { AllByRecursion (RowFits (2 ^ 60)) rows.old }
     ensures said { OnOk result (found.new.items
-        ≡ found.old.items ++ flat_map (row_said initial.now item.now) rows.now) }
-    ensures after { IfOk result (λ after. after.items ≡ map (row_after initial.now item.now) rows.now) }
-    ensures fits { IfOk result (λ after. (bound : ℕ) → All (RowFits bound) rows.now
-        → All (RowFits (bound + 2 ^ 32)) after.items) }
+        ≡ found.old.items ++ flat_map (row_said initial.now item.now) rows.old) }
+    ensures after { OnOk result (rows.new ≡ map (row_after initial.now item.now) rows.old) }
+    ensures fits { OnOk result ((bound : ℕ) → AllByRecursion (RowFits bound) rows.old
+        → AllByRecursion (RowFits (bound + 2 ^ 32)) rows.new) }
 {
-    let mut after = Vec::new(alloc);
-    for row in rows {
-        let stream = row.stream;
-        let mut entry = row.entry;
-        entry.meet(found, stream, initial, &step_at(item, stream))?;
-        after.push(StreamRow { stream, entry })?;
-    }
-    Ok(after)
+    let Some((row, others)) = rows.split_first_mut() else {
+        return Ok(());
+    };
+    let step = step_at(item, row.stream);
+    row.entry.meet(found, row.stream, initial, &step)?;
+    meet_all(others, found, initial, item)
 }

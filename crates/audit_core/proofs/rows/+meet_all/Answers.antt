@@ -1,0 +1,19 @@
+use Rattle.std.proofs.lemmas.Result.{on_ok_weaker}
+use Rattle.audit_core.proofs.rows.+meet_all.Goals as goal
+
+pub meet-requires-clause-acknowledged : goal.meet-requires-clause-acknowledged
+meet-requires-clause-acknowledged t c = rw c.step_at-step.ensures (c.requires.acknowledged _)
+
+pub returns-clause-fits : goal.returns-clause-fits
+returns-clause-fits t c =
+    on_ok_weaker c.meet_all.result
+    (λ others bound h.
+    let all = rw c.in-Some.ensures.cases.0 at h in (
+      record {
+        stream = all.0.stream;
+        client = c.in_ok-meet.ensures.client bound all.0.client;
+        server = c.in_ok-meet.ensures.server bound all.0.server;
+      },
+      others bound all.1,
+    ))
+    c.meet_all.ensures.fits
