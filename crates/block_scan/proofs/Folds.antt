@@ -1,97 +1,132 @@
--- The plain fold over two lists, one after the other, and over blocks.
-use Rattle.std.proofs.Common.{◌≡◌, ◌+◌, ◌-◌, ◌<◌, ℕ, suc, List, [], ◌∷◌, ◌++◌, map, length, get_or, take, drop}
+-- What the laws of a summary give: of items that fit, to advance by their summary is to take their steps.
+use Rattle.std.proofs.Common.{◌≡◌, ◌+◌, ◌-◌, ◌<◌, ℕ, zero, suc, List, [], ◌∷◌, ◌++◌, map, length, get_or, take, drop}
 use Rattle.std.proofs.Common.{drop-drop, get_or-drop, take-append-drop, Option, Some, None, Bor, refl, sym, ap, ◌∙◌}
 use Rattle.std.proofs.Common.{append_assoc, arith}
 use Rattle.std.specs.List.{AllZip, range_with_len}
-use Rattle.block_scan.specs.code.Shown.{append_nil}
-use Rattle.block_scan.specs.code.List.{items_of, state_after, states_after, states_before}
-use Rattle.std.proofs.lemmas.List.{drop_more}
-use Rattle.std.specs.Prelude.{slice_get, unwrap_or, Result, Ok, Err, IfOk, MatchResult, Contains}
 use Rattle.std.specs.Option.{option_copied}
-
-module _ {State Item : Type 0} (step : State → Item → State) where
-  pub states_after-append : (s : State) (a b : List Item)
-      → states_after step s (a ++ b) ≡ states_after step s a ++ states_after step (state_after step s a) b
-  states_after-append s [] b = refl
-  states_after-append s (x ∷ a) b = ap (λ l. step s x ∷ l) (states_after-append (step s x) a b)
+use Rattle.std.specs.Prelude.{slice_get, unwrap_or, Result, Ok, IfOk}
+use Rattle.std.proofs.lemmas.List.{append-nil, drop_more, get_or_push, length_push, take_more}
+use Rattle.std.proofs.lemmas.Option.{unwrap_or-slice_get}
+use Rattle.block_scan.specs.code.Summary.{SummaryLaws, summary_of}
+use Rattle.block_scan.specs.code.List.{items_of, state_after, states_after, states_before}
+use Rattle.block_scan.specs.code.Carried.{carried}
 
 -- one block more
-pub items_of-push-now : {Item : Type 0} (blocks : List (Bor (List Item))) (block : Bor (List Item))
+pub items_of-push : {Item : Type 0} (blocks : List (Bor (List Item))) (block : Bor (List Item))
     → items_of (map (λ b. b.now) (blocks ++ block ∷ [])) ≡ items_of (map (λ b. b.now) blocks) ++ block.now
-items_of-push-now [] block = append_nil block.now
-items_of-push-now (b ∷ blocks) block = rw (items_of-push-now blocks block, append_assoc) refl
+items_of-push [] block = append-nil block.now
+items_of-push (b ∷ blocks) block = rw (items_of-push blocks block, append_assoc) refl
 
-module _ {State Item : Type 0} (step : State → Item → State) where
-  length-states_after : (s : State) (a : List Item) → length (states_after step s a) ≡ length a
-  length-states_after s [] = refl
-  length-states_after s (x ∷ a) = ap suc (length-states_after (step s x) a)
-
-  last_of_some : (s : State) (x : Item) (a : List Item) (other : State)
-      → unwrap_or (slice_get (states_after step s (x ∷ a)) (length a)) other ≡ state_after step s (x ∷ a)
-  last_of_some s x [] other = refl
-  last_of_some s x (y ∷ a) other = last_of_some (step s x) y a other
-
-  last_of : (s : State) (a : List Item)
-      → unwrap_or (slice_get (states_after step s a) (length (states_after step s a) - 1)) s ≡ state_after step s a
-  last_of s [] = refl
-  last_of s (x ∷ a) =
-      let place : length (states_after step s (x ∷ a)) - 1 ≡ length a = omega (arith, length-states_after s (x ∷ a)) in
-      rw place (last_of_some s x a s)
-
-  -- the last of the states, or the first state where there is none
-  pub last_or-state_after : (start : Bor State) (a : List Item) (last : Option (Bor State))
-      → option_copied last ≡ slice_get (states_after step start.now a) (length (states_after step start.now a) - 1)
-      → (unwrap_or last start).now ≡ state_after step start.now a
-  last_or-state_after start a None e = ap (λ o. unwrap_or o start.now) e ∙ last_of start.now a
-  last_or-state_after start a (Some y) e = ap (λ o. unwrap_or o start.now) e ∙ last_of start.now a
-
--- the rest of a list from a place within it
+-- what is left of a list from a place within it
 pub drop_next : {X : Type 0} (xs : List X) (i : ℕ) (x : X) → i < length xs → x ≡ get_or xs i x
     → drop i xs ≡ x ∷ drop (i + 1) xs
 drop_next xs i x lt read = rw (drop_more xs i x lt, ← read) refl
 
--- a list cut in two
-pub halves : {X : Type 0} (n : ℕ) (xs a b : List X) → a ≡ take n xs → b ≡ drop n xs → a ++ b ≡ xs
-halves n xs a b front back = rw (front, back) (take-append-drop n xs)
+-- the last of the states, or the first state where there is none
+abbrev pub last_or : {State : Type 0} → List State → State → State
+last_or states start = get_or states (length states - 1) start
 
-pub map-now : {A B : Type 0} (f : A → B) (xs : List (Bor A)) → map (λ x. f x.now) xs ≡ map f (map (λ x. x.now) xs)
-map-now f [] = refl
-map-now f (x ∷ xs) = ap (λ l. f x.now ∷ l) (map-now f xs)
+pub last_or-is : {State : Type 0} (last : Option (Bor State)) (start : Bor State) (states : List State)
+    → option_copied last ≡ slice_get states (length states - 1) → (unwrap_or last start).now ≡ last_or states start.now
+last_or-is None start states e = ap (λ o. unwrap_or o start.now) e ∙ unwrap_or-slice_get states _ start.now
+last_or-is (Some y) start states e = ap (λ o. unwrap_or o start.now) e ∙ unwrap_or-slice_get states _ start.now
+
+module _ {Sum Item State : Type 0} {empty : Sum} {of : Item → Sum} {join : Sum → Sum → Sum} {advance : State → Sum
+    → State} {step : State → Item → State} {fits : State → List Item → Type 0}
+    (laws : SummaryLaws empty of join advance step fits) where
+  advance-state_after : (s : State) (a : List Item) → fits s a
+      → advance s (summary_of empty of join a) ≡ state_after step s a
+  advance-state_after s [] f = laws.advance_by_none s f
+  advance-state_after s (x ∷ a) f =
+      let front = laws.first_fit s (x ∷ []) a f in
+      let one = laws.one s x front in
+      rw (← advance-state_after (step s x) a (laws.rest_fits s (x ∷ []) a f), ← laws.advance_by_one s x front, ← one)
+      (sym (laws.advance_twice s (x ∷ []) a f))
+
+  pub carried-before : (s : State) (blocks : List (List Item)) → fits s (items_of blocks)
+      → carried advance s (map (summary_of empty of join) blocks) ≡ states_before step s blocks
+  carried-before s [] f = refl
+  carried-before s (b ∷ blocks) f = rw (
+    advance-state_after s b (laws.first_fit s b (items_of blocks) f),
+    carried-before (state_after step s b) blocks (laws.rest_fits s b (items_of blocks) f),
+  ) refl
+
+  -- the summary of the items up to a place, and of one more
+  pub next_summary : (s : State) (items : List Item) (i : ℕ) (x : Item) → fits s items → i < length items
+      → x ≡ get_or items i x → fits s (take i items ++ x ∷ []) × (summary_of empty of join (x ∷ []) ≡ of x)
+      × (summary_of empty of join (take (i + 1) items) ≡ join (summary_of empty of join (take i items)) (of x))
+  next_summary s items i x f lt read =
+      let more : take (i + 1) items ≡ take i items ++ x ∷ [] = rw (take_more items i x lt, ← read) refl in
+      let front = rw more at (laws.first_fit s (take (i + 1) items) (drop (i + 1) items)
+      (rw (take-append-drop (i + 1) items) f)) in
+      let one = laws.one _ x (laws.rest_fits s (take i items) (x ∷ []) front) in
+      (front, one, rw (more, ← one) (laws.appended s (take i items) (x ∷ []) front))
+
+  -- the items that are left fit the last of the states so far, and their states come behind these
+  abbrev pub GoesOn : State → (all left : List Item) → List State → Type 0
+  GoesOn start all left states = fits (last_or states start) left
+      × (states_after step start all ≡ states ++ states_after step (last_or states start) left)
+
+  pub goes_on : (start : State) (all left : List Item) (states : List State) (x : Item) (next : State)
+      → GoesOn start all (x ∷ left) states → next ≡ advance (last_or states start) (of x)
+      → GoesOn start all left (states ++ next ∷ [])
+  goes_on start all left states x next h e =
+      let now = last_or states start in
+      let stepped = e ∙ laws.advance_by_one now x (laws.first_fit now (x ∷ []) left h.0) in
+      let long = length_push states next in
+      let last = get_or_push states next start (length (states ++ next ∷ []) - 1) (omega (arith, long)) in
+      rw (last, append_assoc, stepped) (laws.rest_fits now (x ∷ []) left h.0, h.1)
+
+  -- there is a state before each block, and the block fits it
+  pub block_fits : (s : State) (blocks : List (Bor (List Item))) → let plain = map (λ b. b.now) blocks in
+      fits s (items_of plain) → (k : ℕ) → k < length blocks → (k < length (states_before step s plain))
+      × ((t : State) (d : Bor (List Item)) → fits (get_or (states_before step s plain) k t) (get_or blocks k d).now)
+  block_fits s [] f k lt = absurd (omega arith)
+  block_fits s (b ∷ blocks) f zero lt = (omega arith, λ t d. laws.first_fit s b.now _ f)
+  block_fits s (b ∷ blocks) f (suc k) lt =
+      let h = block_fits (state_after step s b.now) blocks (laws.rest_fits s b.now _ f) k (omega arith) in
+      (omega (arith, h.0), h.1)
+
+  -- summaries of blocks whose items fit
+  abbrev pub AreSums : State → List Sum → Type 0
+  AreSums s sums = (blocks : List (List Item)) × fits s (items_of blocks)
+      × (sums ≡ map (summary_of empty of join) blocks)
+
+  pub next_sum : (s : State) (x : Sum) (sums : List Sum) → AreSums s (x ∷ sums)
+      → ((a : List Item) × fits s a × (x ≡ summary_of empty of join a)) × AreSums (advance s x) sums
+  next_sum s x sums ([], f, e) = absurd (omega (arith, ap length e))
+  next_sum s x sums (b ∷ blocks, f, e) =
+      let front = laws.first_fit s b (items_of blocks) f in
+      let is : x ≡ summary_of empty of join b = cc in
+      let moved = rw (← is) at (advance-state_after s b front) in
+      ((b, front, is), (blocks, rw moved (laws.rest_fits s b (items_of blocks) f), cc))
 
 module _ {State Item : Type 0} (step : State → Item → State) where
-  pub length-states_before : (s : State) (blocks : List (Bor (List Item)))
-      → length (states_before step s (map (λ b. b.now) blocks)) ≡ length blocks
-  length-states_before s [] = refl
-  length-states_before s (b ∷ blocks) = ap suc (length-states_before (state_after step s b.now) blocks)
+  states_after-append : (s : State) (a b : List Item)
+      → states_after step s (a ++ b) ≡ states_after step s a ++ states_after step (state_after step s a) b
+  states_after-append s [] b = refl
+  states_after-append s (x ∷ a) b = ap (λ l. step s x ∷ l) (states_after-append (step s x) a b)
 
-module _ {State Item Part : Type 0} (Fault : Type 0) (step : State → Item → State) (items : Part → List State)
-    (carries : List State) (all : List (Bor (List Item))) where
-  -- the states of the block at a place
-  abbrev pub IsPart : ℕ → Result Part Fault → Type 0
-  IsPart k part = (s : State) (b : Bor (List Item))
-      → IfOk part (λ v. items v ≡ states_after step (get_or carries k s) (get_or all k b).now)
+  module _ {Part : Type 0} (Fault : Type 0) (items : Part → List State) (carries : List State)
+      (all : List (Bor (List Item))) where
+    -- the states of the block at a place
+    abbrev pub IsPart : ℕ → Result Part Fault → Type 0
+    IsPart k part = (s : State) (b : Bor (List Item))
+        → IfOk part (λ v. items v ≡ states_after step (get_or carries k s) (get_or all k b).now)
 
-  pub parts_joined : (k : ℕ) (start : State) (blocks : List (Bor (List Item))) (parts : List Part)
-      → drop k carries ≡ states_before step start (map (λ b. b.now) blocks) → drop k all ≡ blocks
-      → AllZip IsPart (range_with_len k (length blocks)) (map Ok parts)
-      → items_of (map items parts) ≡ states_after step start (items_of (map (λ b. b.now) blocks))
-  parts_joined k start [] [] c e h = refl
-  parts_joined k start [] (p ∷ parts) c e h = absurd h
-  parts_joined k start (b ∷ blocks) [] c e h = absurd h
-  parts_joined k start (b ∷ blocks) (p ∷ parts) c e h =
-      let carry : get_or carries k start ≡ start = let at = get_or-drop k carries 0 start in grind arith in
-      let block : get_or all k b ≡ b = let at = get_or-drop k all 0 b in grind arith in
-      rw (
-        states_after-append step start b.now (items_of (map (λ b. b.now) blocks)),
-        ← rw (carry, block) at (h.0 start b),
-        ← parts_joined (k + 1) (state_after step start b.now) blocks parts (rw c at (sym (drop-drop 1 k carries)))
-            (rw e at (sym (drop-drop 1 k all))) h.1,
-      ) refl
-
--- what a list of results is, where it was collected into a list of values
-pub collected : {Values Value Fault : Type 0} (items : Values → List Value) (r : Result Values Fault)
-    (xs : List (Result Value Fault)) (Is : Values → Type 0)
-    → MatchResult r (λ v. (ys : List Value) × (xs ≡ map Ok ys) × (items v ≡ ys)) (λ e. Contains xs (Err e))
-    → ((v : Values) → xs ≡ map Ok (items v) → Is v) → IfOk r Is
-collected items (Ok v) xs Is h f = f v (h.1 ∙ ap (map Ok) (sym h.2))
-collected items (Err e) xs Is h f = tt
+    pub parts_joined : (k : ℕ) (start : State) (blocks : List (Bor (List Item))) (parts : List Part)
+        → drop k carries ≡ states_before step start (map (λ b. b.now) blocks) → drop k all ≡ blocks
+        → AllZip IsPart (range_with_len k (length blocks)) (map Ok parts)
+        → items_of (map items parts) ≡ states_after step start (items_of (map (λ b. b.now) blocks))
+    parts_joined k start [] [] c e h = refl
+    parts_joined k start [] (_ ∷ _) c e h = absurd h
+    parts_joined k start (_ ∷ _) [] c e h = absurd h
+    parts_joined k start (b ∷ blocks) (p ∷ parts) c e h =
+        let carry : get_or carries k start ≡ start = let at = get_or-drop k carries 0 start in grind arith in
+        let block : get_or all k b ≡ b = let at = get_or-drop k all 0 b in grind arith in
+        rw (
+          states_after-append start b.now (items_of (map (λ b. b.now) blocks)),
+          ← rw (carry, block) at (h.0 start b),
+          ← parts_joined (k + 1) (state_after step start b.now) blocks parts (rw c at (sym (drop-drop 1 k carries)))
+              (rw e at (sym (drop-drop 1 k all))) h.1,
+        ) refl

@@ -103,7 +103,7 @@ where
         → IfOk result (λ v. items_of (map (λ part. part.items) v.items)
         ≡ states_after S.step start (items_of (map (λ b. b.now) blocks.now))) }
 {
-    (0..blocks.len())
+    let parts = (0..blocks.len())
         .into_par_iter()
         .with_min_len(1)
         .map(
@@ -116,7 +116,8 @@ where
                     (slice_index_or blocks.entry.now k b).now) }
             { scan_block::<S>(alloc, &carries[k], blocks[k]) },
         )
-        .collect::<Result<Vec<_>, AllocError>>(rt, alloc)?
+        .collect::<Result<Vec<_>, AllocError>>(rt, alloc)??;
+    Ok(parts)
 }
 
 /// So many items of some parts, one part after the other.

@@ -1,7 +1,7 @@
 -- What is known of quiet streams as rows are added, as streams meet frames, and after the last one.
-use Rattle.split_merge.proofs.Terms.{◌≡◌, ◌≢◌, ℕ, zero, suc, ◌+◌, ◌<◌, ◌≤◌, ◌⊎◌, inl, inr, Bool, true, List, [], ◌∷◌}
-use Rattle.split_merge.proofs.Terms.{◌++◌, length, get_or, slice_get, set, drop, filter, Some, refl, sym, ◌∙◌, arith}
-use Rattle.split_merge.proofs.Terms.{All, drop_more, length-set, get_or-set_same, get_or-set_other, get_or_append_left}
+use Rattle.split_merge.proofs.Terms.{◌≡◌, ◌≢◌, ℕ, zero, suc, ◌+◌, ◌<◌, ◌≤◌, inl, inr, Bool, true, List, [], ◌∷◌, ◌++◌}
+use Rattle.split_merge.proofs.Terms.{length, get_or, slice_get, set, drop, filter, Some, refl, sym, ◌∙◌, arith, All}
+use Rattle.split_merge.proofs.Terms.{drop_more, length-set, get_or-set_same, get_or-set_other, get_or_append_left}
 use Rattle.split_merge.proofs.Terms.{get_or_at, length_push, slice_get-get_or, get_or_from_slice_get, slice_get_within}
 use Rattle.split_merge.proofs.Terms.{cases_lt, nat_tests, Frame, Change, promised_by, meets, IsInRange, frames_of}
 use Rattle.split_merge.proofs.Terms.{QuietStream, NotAmong, AreDistinct, with_next, AreAhead, ◌^◌, All-filter, cases_eq}
@@ -54,18 +54,18 @@ promised-small frame range = let small = range.promised in grind arith
 
 each-set : {X : Type 0} (P : ℕ → X → Type 0) (xs : List X) (i : ℕ) (x : X) → i < length xs → P i x
     → ((r : ℕ) (d : X) → r ≢ i → P r (get_or xs r d)) → (r : ℕ) (d : X) → P r (get_or (set xs i x) r d)
-each-set P xs i x l here others r d = by_case (cases_eq r i) where
-  by_case : (r ≡ i) ⊎ (r ≡ i → ⊥) → P r (get_or (set xs i x) r d)
-  by_case (inl same) = rw (same, get_or-set_same xs i x d l) here
-  by_case (inr apart) = rw (get_or-set_other xs i r x d apart) (others r d apart)
+each-set P xs i x l here others r d = elim (cases_eq r i) [
+  | inl same ↦ rw (same, get_or-set_same xs i x d l) here
+  | inr apart ↦ rw (get_or-set_other xs i r x d apart) (others r d apart)
+]
 
 each-push : {X : Type 0} (P : ℕ → X → Type 0) (xs : List X) (x : X) → P (length xs) x
     → ((r : ℕ) (d : X) → r < length xs → P r (get_or xs r d))
     → (r : ℕ) (d : X) → r < length xs + 1 → P r (get_or (xs ++ x ∷ []) r d)
-each-push P xs x here others r d l = by_case (cases_lt r (length xs)) where
-  by_case : (r < length xs) ⊎ (length xs ≤ r) → P r (get_or (xs ++ x ∷ []) r d)
-  by_case (inl w) = rw (get_or_append_left xs (x ∷ []) d r w) (others r d w)
-  by_case (inr w) = let e : r ≡ length xs = omega (arith, l, w) in rw (e, get_or_at xs x [] d (length xs) refl) here
+each-push P xs x here others r d l = elim (cases_lt r (length xs)) [
+  | inl w ↦ rw (get_or_append_left xs (x ∷ []) d r w) (others r d w)
+  | inr w ↦ let e : r ≡ length xs = omega (arith, l, w) in rw (e, get_or_at xs x [] d (length xs) refl) here
+]
 
 -- ---- streams and what they have still to meet
 

@@ -11,10 +11,9 @@ use Rattle.split_merge.proofs.Terms.{filter-append, Frame, promised_by, noted, n
 use Rattle.split_merge.proofs.Terms.{take-append-drop, HasPlace, IsPut}
 use Rattle.std.proofs.lemmas.List.Edits.{between_more}
 use Rattle.std.proofs.lemmas.Slice.{between_is}
-use Rattle.split_merge.proofs.Visited.{noted_positions-append, positions-push}
+use Rattle.split_merge.proofs.Visited.{noted_positions-append, positions-push, above-at}
 use Rattle.split_merge.proofs.Positions.{notes-append, notes-push}
 use Rattle.split_merge.proofs.LoudStreams.{heard-none, heard-one}
-use Rattle.split_merge.proofs.Visited.{above-at}
 
 pub length-row_streams : (rows : List StreamRow) → length (row_streams rows) ≡ length rows
 length-row_streams rows = length-map rows (λ (row : StreamRow). row.stream)

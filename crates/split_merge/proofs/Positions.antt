@@ -1,9 +1,10 @@
 -- What is noted frame by frame is where the frames stand that each stream meets.
-use Rattle.split_merge.proofs.Terms.{◌≡◌, ◌≢◌, ℕ, ◌+◌, ◌<◌, ◌≤◌, ◌==◌, Bool, true, false, if◌then◌else◌, List, [], ◌∷◌}
-use Rattle.split_merge.proofs.Terms.{◌++◌, length, slice_get, Some, refl, ap, ◌∙◌, arith, All, nat_tests, append_assoc}
-use Rattle.split_merge.proofs.Terms.{append-nil, length_push, Frame, promised_by, meets, frames_of, positions_of, noted}
-use Rattle.split_merge.proofs.Terms.{notes_from, noted_positions, AllByRecursion, All-from_recursion, promises}
-use Rattle.split_merge.proofs.Terms.{positions_from, frames_at}
+use Rattle.split_merge.proofs.Terms.{◌≡◌, ◌≢◌, ℕ, ◌+◌, ◌<◌, ◌≤◌, ◌==◌, if◌then◌else◌, List, [], ◌∷◌, ◌++◌, inl, inr}
+use Rattle.split_merge.proofs.Terms.{length, refl, ap, ◌∙◌, arith, All, nat_tests, append_assoc, append-nil}
+use Rattle.split_merge.proofs.Terms.{length_push, Frame, promised_by, meets, frames_of, positions_of, noted, notes_from}
+use Rattle.split_merge.proofs.Terms.{noted_positions, AllByRecursion, All-from_recursion, promises, positions_from}
+use Rattle.split_merge.proofs.Terms.{frames_at}
+use Rattle.std.proofs.lemmas.Bool.{cases_Bool}
 use Rattle.split_merge.proofs.Visited.{slice_get-last, noted_positions-append}
 
 -- ---- a stream other than 0
@@ -42,14 +43,10 @@ frames-from stream front (frame ∷ frames) position e =
     let later = rw append_assoc at (frames-from stream (front ++ frame ∷ []) frames (position + 1)
     (omega (arith, length_push front frame, e))) in
     let here = rw e at (slice_get-last front frames frame) in
-    by_test _ refl later here where
-      by_test : (b : Bool) → meets stream frame ≡ b
-          → frames_at (front ++ frame ∷ frames) (positions_from (position + 1) stream frames) ≡ frames_of stream frames
-          → slice_get (front ++ frame ∷ frames) position ≡ Some frame
-          → frames_at (front ++ frame ∷ frames) (positions_from position stream (frame ∷ frames))
-          ≡ frames_of stream (frame ∷ frames)
-      by_test true t later here = rw (t, here) (ap (λ l. frame ∷ l) later)
-      by_test false t later here = rw t later
+    elim (cases_Bool (meets stream frame)) [
+      | inl t ↦ rw (t, here) (ap (λ l. frame ∷ l) later)
+      | inr t ↦ rw t later
+    ]
 
 -- the frames at the positions of a stream are those that it meets
 pub frames_at-positions : (stream : ℕ) (frames : List Frame)

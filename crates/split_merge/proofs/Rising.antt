@@ -3,11 +3,10 @@ use Rattle.split_merge.proofs.Terms.{◌≡◌, ◌≢◌, ℕ, ◌+◌, ◌-◌
 use Rattle.split_merge.proofs.Terms.{length, get_or, slice_get, take, drop, Some, refl, sym, ap, ◌∙◌, subst, arith}
 use Rattle.split_merge.proofs.Terms.{cases_lt, nat_tests, common_steps, length-take-le, length-append, drop_all}
 use Rattle.split_merge.proofs.Terms.{get_or_append_left, get_or_at, slice_get-get_or, get_or_from_slice_get}
-use Rattle.split_merge.proofs.Terms.{slice_get_within, find, RowIndex, Visited, NotAmong, is_among, streams_in, nat_lt}
-use Rattle.split_merge.proofs.Terms.{OnTrue_from, get_or-take, get_or-drop, length-drop, drop-append-le}
-use Rattle.split_merge.proofs.Terms.{position_or_len, AreBelow, IsIndex, IsRowOf, NotBefore}
+use Rattle.split_merge.proofs.Terms.{slice_get_within, find, RowIndex, Visited, NotAmong, is_among, streams_in}
+use Rattle.split_merge.proofs.Terms.{get_or-take, get_or-drop, length-drop, drop-append-le, position_or_len, AreBelow}
+use Rattle.split_merge.proofs.Terms.{IsIndex, IsRowOf, NotBefore}
 use Rattle.std.proofs.lemmas.List.Sums.{position_or_len_is}
-use Rattle.std.specs.Bool.{OnTrue}
 use Rattle.std.specs.List.Sorted.{IsNonDecreasingBy, IsPartitionPoint}
 use Rattle.std.specs.Ordering.{nat_cmp, ordering_index}
 use Rattle.std.specs.declared.cmp.Ordering.TheVariants.{Less, Equal, Greater}
@@ -61,13 +60,13 @@ module _ (rows : List Visited) (many : ℕ) (m : many ≤ length rows) where
 -- all rows rise, and the last is below the stream
 pub all-below : (rows : List Visited) (index : RowIndex) (stream : ℕ) (last : Visited)
     → IsIndex (streams_in rows) index → index.rising ≡ length rows → slice_get rows (length rows - 1) ≡ Some last
-    → OnTrue (nat_lt last.stream stream) (AreBelow stream (streams_in rows))
-all-below rows index stream last is all at = OnTrue_from (nat_lt last.stream stream) _ (λ e i l.
+    → last.stream < stream → AreBelow stream (streams_in rows)
+all-below rows index stream last is all at below = λ i l.
     let n = length-streams_in rows in
     let top = stream-at rows (length rows - 1) last (omega (arith, n, l)) in
     let here = get_or_from_slice_get rows (length rows - 1) last last at in
     let up = is.rises i (length rows - 1) in
-    grind (arith, nat_tests, cases_lt i (length rows - 1)))
+    grind (arith, cases_lt i (length rows - 1))
 
 -- ---- behind it
 

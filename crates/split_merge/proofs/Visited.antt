@@ -1,13 +1,14 @@
 -- The streams that frames name, gathered one by one, and what the table of them says after one more visit.
 use Rattle.split_merge.proofs.Terms.{◌≡◌, ◌≢◌, ℕ, ◌<◌, zero, suc, Bool, true, false, not, ◌==◌, List, [], ◌∷◌, ◌++◌}
-use Rattle.split_merge.proofs.Terms.{length, get_or, slice_get, filter, arith, refl, sym, ap, ◌∙◌, Some, append_assoc}
-use Rattle.split_merge.proofs.Terms.{find, nat_tests, common_steps, get_or-map, length-map, get_or_from_slice_get}
-use Rattle.split_merge.proofs.Terms.{slice_get-get_or, slice_get_within, first_of, Visited, NotAmong, AreDistinct}
-use Rattle.split_merge.proofs.Terms.{is_among, with_stream, streams_in, ◌||◌, ◌&&◌, places, map_push, filter_agree}
-use Rattle.split_merge.proofs.Terms.{slice_get-map, HasAtMost, ◌+◌, ◌≤◌, ◌⊎◌, if◌then◌else◌, set, append-nil, cases_lt}
-use Rattle.split_merge.proofs.Terms.{get_or-set_at, length-set, length_push, get_or-set_other, get_or_append_left}
-use Rattle.split_merge.proofs.Terms.{get_or_at, filter-append, row_positions, noted_positions, total_of, counted, noted}
-use Rattle.split_merge.proofs.Terms.{IsListed, map-append, with_row}
+use Rattle.split_merge.proofs.Terms.{length, get_or, slice_get, inl, inr, filter, arith, refl, sym, ap, ◌∙◌, Some}
+use Rattle.split_merge.proofs.Terms.{append_assoc, find, nat_tests, common_steps, get_or-map, length-map}
+use Rattle.split_merge.proofs.Terms.{get_or_from_slice_get, slice_get-get_or, slice_get_within, first_of, Visited}
+use Rattle.split_merge.proofs.Terms.{NotAmong, AreDistinct, is_among, with_stream, streams_in, ◌||◌, ◌&&◌, places}
+use Rattle.split_merge.proofs.Terms.{map_push, filter_agree, slice_get-map, HasAtMost, ◌+◌, ◌≤◌, if◌then◌else◌, set}
+use Rattle.split_merge.proofs.Terms.{append-nil, cases_lt, get_or-set_at, length-set, length_push, get_or-set_other}
+use Rattle.split_merge.proofs.Terms.{get_or_append_left, get_or_at, filter-append, row_positions, noted_positions}
+use Rattle.split_merge.proofs.Terms.{total_of, counted, noted, IsListed, map-append, with_row}
+use Rattle.std.proofs.lemmas.Bool.{cases_Bool}
 use Rattle.split_merge.specs.declared.visits.Visits.{Visits}
 
 -- ---- which streams are among some
@@ -170,28 +171,22 @@ streams-counted (x ∷ rows) zero d = refl
 streams-counted (x ∷ rows) (suc i) d = ap (λ l. x.stream ∷ l) (streams-counted rows i d)
 
 module _ (notes : List (ℕ × ℕ)) (rows : List Visited) (listed : IsListed notes rows) (stream : ℕ) where
-  abbrev more : List Visited
-  more = rows ++ record { stream = stream; count = 0 } ∷ []
-
   listed-new : NotAmong stream (streams_in rows) → IsListed notes (rows ++ record { stream = stream; count = 0 } ∷ [])
   listed-new new = record {
-    counts = λ r d h. by_case r d h (cases_lt r (length rows));
-    none = listed.none;
-    absent = λ q h. listed.absent q (not_among-front q stream (streams_in rows) (rw streams_in-push at h)).0;
-  } where
-    by_case : (r : ℕ) (d : Visited) → r < length more → (r < length rows) ⊎ (length rows ≤ r)
-        → (get_or more r d).count ≡ length (row_positions r (streams_in more) notes)
-    by_case r d h c =
+    counts = λ r d h.
         let n = length-streams_in rows in
         let named = streams_in-push rows (record { stream = stream; count = 0 }) in
         let none = listed.absent stream new in
-        grind (arith, listed.counts r d, get_or_append_left, get_or_at, length_push)
+        grind (arith, cases_lt r (length rows), listed.counts r d, get_or_append_left, get_or_at, length_push);
+    none = listed.none;
+    absent = λ q h. listed.absent q (not_among-front q stream (streams_in rows) (rw streams_in-push at h)).0;
+  }
 
   listed-row : IsListed notes (with_row stream rows)
-  listed-row = by_test _ refl where
-    by_test : (b : Bool) → is_among stream (streams_in rows) ≡ b → IsListed notes (with_row stream rows)
-    by_test true e = rw e listed
-    by_test false e = rw e (listed-new (none-from_test stream (streams_in rows) e))
+  listed-row = elim (cases_Bool (is_among stream (streams_in rows))) [
+    | inl e ↦ rw e listed
+    | inr e ↦ rw e (listed-new (none-from_test stream (streams_in rows) e))
+  ]
 
 -- ---- one more visit
 

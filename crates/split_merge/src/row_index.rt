@@ -73,7 +73,7 @@ impl RowIndex {
             return false;
         }
         match rows.last() {
-            Some(last) => last.stream < stream,
+            Some(last) => is_below(last, stream),
             None => true,
         }
     }
@@ -91,4 +91,11 @@ impl RowIndex {
             Err(_) => None,
         }
     }
+}
+
+/// Is the stream of a row below this one?
+fn is_below(row: &Visited, stream: u32) -> bool
+    ensures { OnTrue result (row.now.stream < stream) }
+{
+    row.stream < stream
 }

@@ -1,14 +1,9 @@
-use Rattle.std.proofs.Common.{append_assoc}
-use Rattle.block_scan.proofs.Folds.{items_of-push-now, halves}
+use Rattle.std.proofs.Common.{append_assoc, take-append-drop}
+use Rattle.block_scan.proofs.Folds.{items_of-push}
 use Rattle.block_scan.proofs.blocks.cut.Goals as goal
 
 pub loop-rest-preserved : goal.loop-rest-preserved
 loop-rest-preserved g c =
-    let (first, later) = c.split_at.result in
-    rw (
-      c.in_ok-push.ensures.items,
-      items_of-push-now c.loop-rest.blocks.items first,
-      append_assoc,
-      halves c.min.result c.loop-rest.rest.now first.now later.now c.split_at.ensures.front c.split_at.ensures.back,
-    )
-    c.loop-rest.invariant
+    let split = c.split_at.ensures in
+    let whole = rw (← split.front, ← split.back) at (take-append-drop c.min.result c.loop-rest.rest.now) in
+    rw (c.in_ok-push.ensures.items, items_of-push, append_assoc, whole) c.loop-rest.invariant

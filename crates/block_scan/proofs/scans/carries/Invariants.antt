@@ -1,11 +1,10 @@
-use Rattle.std.proofs.Common.{◌≡◌, ◌≤◌, ◌++◌, length, drop}
+use Rattle.std.proofs.Common.{◌≡◌, ◌++◌, drop}
 use Rattle.block_scan.specs.code.Carried.{carried}
-use Rattle.block_scan.proofs.Joined.{AreSums}
+use Rattle.block_scan.proofs.Folds.{AreSums}
 use Rattle.block_scan.proofs.scans.carries.Given as goal
 
 abbrev pub invariant-loop-sum : goal.invariant-loop-sum
 invariant-loop-sum g l = let s = g.S.Summary in record {
-  within : l.sum-index ≤ length l.sums;
   states : carried s.advance l.fn.start l.sums ≡ l.states.items ++ carried s.advance l.state (drop l.sum-index l.sums);
   left : AreSums g.met.S.Summary.laws l.state (drop l.sum-index l.sums);
 }

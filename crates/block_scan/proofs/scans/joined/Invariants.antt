@@ -4,5 +4,5 @@ use Rattle.block_scan.proofs.scans.joined.Given as goal
 
 abbrev pub invariant-loop-part : goal.invariant-loop-part
 invariant-loop-part g l =
-    items_of (map (λ part. part.items) l.initial.part-iterator.rest.items)
-    ≡ l.all.items ++ items_of (map (λ part. part.items) l.part-iterator.rest.items)
+    l.all.items ++ items_of (map (λ part. part.items) l.part-iterator.rest.items)
+    ≡ items_of (map (λ part. part.items) l.fn.parts.items)

@@ -1,9 +1,7 @@
-use Rattle.std.proofs.Common.{◌≡◌, ◌≤◌, length, take}
-use Rattle.block_scan.specs.code.List.{states_after}
+use Rattle.std.proofs.Common.{drop}
+use Rattle.block_scan.proofs.Folds.{GoesOn}
 use Rattle.block_scan.proofs.scans.scan_block.Given as goal
 
 abbrev pub invariant-loop-item : goal.invariant-loop-item
-invariant-loop-item g l = let s = g.S.Summary in record {
-  within : l.item-index ≤ length l.items;
-  states : l.states.items ≡ states_after s.step l.start (take l.item-index l.items);
-}
+invariant-loop-item g l =
+    GoesOn g.met.S.Summary.laws l.start l.items (drop l.item-index l.items) l.states.items

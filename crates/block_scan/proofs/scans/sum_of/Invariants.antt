@@ -1,9 +1,7 @@
-use Rattle.std.proofs.Common.{◌≡◌, ◌≤◌, length, take}
+use Rattle.std.proofs.Common.{◌≡◌, take}
 use Rattle.block_scan.specs.code.Summary.{summary_of}
 use Rattle.block_scan.proofs.scans.sum_of.Given as goal
 
 abbrev pub invariant-loop-item : goal.invariant-loop-item
-invariant-loop-item g l = let s = g.S.Summary in record {
-  within : l.item-index ≤ length l.items;
-  summed : l.sum ≡ summary_of s.empty s.of s.join (take l.item-index l.items);
-}
+invariant-loop-item g l =
+    let s = g.S.Summary in l.sum ≡ summary_of s.empty s.of s.join (take l.item-index l.items)

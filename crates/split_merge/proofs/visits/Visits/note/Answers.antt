@@ -1,8 +1,6 @@
 use Rattle.split_merge.proofs.Terms.{length, ap, ◌∙◌, arith, length-set, slice_get_within, frames_of, streams_in}
 use Rattle.split_merge.proofs.Terms.{counted, total_of, with_next}
-use Rattle.split_merge.proofs.Visited.{row_inside}
-use Rattle.split_merge.proofs.Visited.{named-row, noted-listed, streams-counted, total-counted}
-use Rattle.split_merge.proofs.Visited.{total-row}
+use Rattle.split_merge.proofs.Visited.{row_inside, named-row, noted-listed, streams-counted, total-counted, total-row}
 use Rattle.split_merge.proofs.Ahead.{ahead-zero, ahead-next, ahead-met}
 use Rattle.split_merge.proofs.visits.Visits.note.Goals as goal
 
