@@ -212,7 +212,8 @@ module _ (packets : List Packet) (size : ℕ) (rise : PayloadsRise 0 size packet
   sound-found m s some h =
       let here = found-at packets m s h in
       let (stands, timely) = stands-at size 0 packets (m - 1) s rise times here in
-      record { stands = stands; numbered = omega (arith, numbered_at 1 packets (m - 1) s numbered here); timely = timely }
+      let number = numbered_at 1 packets (m - 1) s numbered here in
+      record { stands = stands; numbered = omega (arith, number); timely = timely }
 
   -- the members' segments that pass a test are sound
   pub members-sound : (test : Segment → Bool) (low : ℕ) (members : List ℕ) → AreMembers low packets members

@@ -3,7 +3,8 @@ use Rattle.tcp_streams.proofs.Words.{◌≡◌, ℕ, ◌<◌, ◌≤◌, List, [
 use Rattle.tcp_streams.proofs.Words.{suc, ◌+◌, ◌-◌, ◌^◌, ◌++◌, length, drop, take, slice_get, ap, IsSome, All, IfSome}
 use Rattle.tcp_streams.proofs.Words.{IsSomeAnd, slice_range, option_or, ne_eqb, eq-eqb, lt-ltb, le-ltb, nat_tests}
 use Rattle.tcp_streams.proofs.Words.{append-nil, append_assoc, length-append, All-nil, All-weaker, All-cons, All-head}
-use Rattle.tcp_streams.proofs.Words.{All-tail, if◌then◌else◌, nat_lt, sum_by-append, sum_by-cons, Rises, IsArrivalOf, IsFlow, IsGap}
+use Rattle.tcp_streams.proofs.Words.{if◌then◌else◌, nat_lt}
+use Rattle.tcp_streams.proofs.Words.{All-tail, sum_by-append, sum_by-cons, Rises, IsArrivalOf, IsFlow, IsGap}
 use Rattle.tcp_streams.proofs.Words.{arrival_at, Source, arrival, end_of_offsets, AreCaptured, IsInterval, IsCaptured}
 use Rattle.tcp_streams.proofs.Words.{Spans, arrival_with, arrivals_after, arrivals_in, at, bytes_in, run_length}
 use Rattle.tcp_streams.proofs.Words.{size_of, source_in, width, AreTimely, Interval, Arrival}
@@ -211,7 +212,8 @@ module _ (sources : ℕ → Option Source) where
 entries : (size low rec : ℕ) (a : Arrival) (xs : List Interval) → low < a.upto → rec < a.rec → a.nanos < 2 ^ 63
     → Follows a.upto xs → All (IsHeld size) xs
     → Rises low rec (arrivals_after a xs) (run_end a.upto xs) × AreTimely (arrivals_after a xs)
-entries size low rec a [] lt k timely f h = ((lt, k, refl), All-cons (λ (e : Arrival). e.nanos < 2 ^ 63) a [] timely (All-nil _))
+entries size low rec a [] lt k timely f h =
+    ((lt, k, refl), All-cons (λ (e : Arrival). e.nanos < 2 ^ 63) a [] timely (All-nil _))
 entries size low rec a (x ∷ xs) lt k timely f h =
     let head = All-head (IsHeld size) x xs h in
     let tail = All-tail (IsHeld size) x xs h in
