@@ -1,4 +1,5 @@
 mod Terms
+pub mod Words
 pub mod SumLemmas
 pub mod WalkLemmas
 pub mod ClearLemmas
