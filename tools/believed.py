@@ -26,13 +26,13 @@ CALLS = {
     "h2audit/src/running.rt": ["run"],
     "h2audit/src/program.rt": ["program_words", "run_program"],
     "h2audit/src/status.rt": ["ending"],
-    "command_line/src/words.rt": ["parse"],
+    "h2audit/src/command_line/words.rt": ["parse"],
 }
 SPLITTER_CALLS = {
     "h2audit_split/src/splitting.rt": ["split_capture", "split_file", "split_last"],
     "h2audit_split/src/laws.rt": ["one_part", "segments_name", "either_order", "same_records"],
 }
-VIEWS = {"byte_accounts/src/kept_bytes.rt": ["KeptBytes"]}
+VIEWS = {"input_output/src/kept_bytes.rt": ["KeptBytes"]}
 # The folders of specs/ that hold what is not believed.
 BESIDE = {"code": "bookkeeping of code", "laws": "the statement of a law", "examples": "a worked example"}
 

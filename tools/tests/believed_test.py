@@ -238,14 +238,13 @@ class Definitions(unittest.TestCase):
     """What docs/PROOFS.md says of the definitions that are run."""
 
     PROOFS = (TOP / "docs" / "PROOFS.md").read_text(encoding="utf-8")
-    NEVER_RUN = ("byte_accounts", "command_line", "parted_list")
+    NEVER_RUN = {f"h2audit/specs/{name}.antt" for name in ("Account", "Asked", "CommandLine", "Program")}
 
     def test_modules_within_reach(self) -> None:
         """The reports of a capture with a stall, and of one with a packet that is refused, use all that it says."""
         rows = believed.read(TOP / "crates", believed.CALLS | believed.VIEWS).by_crate()
         names = {believed.name_of(module) for _, modules in rows for module, _, _ in modules}
-        never = {name for name in names if name.partition("/")[0] in self.NEVER_RUN}
-        never |= {"h2audit/specs/Account.antt", "h2audit/specs/Program.antt"}
+        never = {name for name in names if name.startswith("input_output/")} | self.NEVER_RUN
         (row,) = [row for name, row in reports_test.rows() if name == "short_ethernet"]
         script = row.partition("-- ")[0].encode()
         used = self.used("examples/negative_window.pcap") | self.used("--script", given=script)

@@ -43,7 +43,7 @@ PROGRAMS = {name: options_of(name) for name in (*HELP_TEXTS, *(f"h2audit-{end}" 
 class Version(unittest.TestCase):
     def test_package(self) -> None:
         """The package has the version that the program prints."""
-        source = (TOP / "crates" / "command_line" / "src" / "command.rt").read_text()
+        source = (TOP / "crates" / "h2audit" / "src" / "command_line" / "command.rt").read_text()
         (version,) = re.findall(r'const VERSION: &str = "(.*)";', source)
         changelog = (TOP / "tools" / "package" / "changelog").read_text()
         self.assertTrue(changelog.startswith(f"h2audit ({version}) "))

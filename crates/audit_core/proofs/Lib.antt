@@ -9,7 +9,6 @@ pub mod StreamSteps
 pub mod StreamAlone
 pub mod PartsLemmas
 pub mod QuietSteps
-pub mod NamedStreams
 pub mod StopLemmas
 pub mod Pairs
 pub mod TableRows

@@ -33,7 +33,8 @@ pub use Rattle.audit_terms.specs.Stream.{opens, window_at_opening, window_after,
 pub use Rattle.audit_terms.specs.Stream.{stream_window_said, window_step, frame_said, live_window_said, life_at}
 pub use Rattle.audit_terms.specs.Stream.{step_amount, stream_after, idle_stream}
 pub use Rattle.audit_terms.specs.Window.{first_window, overflows, is_used_up}
-pub use Rattle.audit_terms.specs.code.{Places.place_rank, Room.HasRoom, StreamSteps.counted, StreamSteps.window_ends}
+pub use Rattle.audit_terms.specs.code.{Places.place_rank, Room.HasRoom}
+pub use Rattle.fault_rules.specs.code.StreamSteps.{counted, window_ends}
 pub use Rattle.audit_terms.specs.code.{runs.LocalFaults.local_run_from, runs.States.state_from, runs.States.items_from}
 pub use Rattle.audit_terms.specs.code.runs.Blocks.{block_run, connection_after_all, block_runs}
 pub use Rattle.audit_terms.specs.code.runs.Changes.{changes_from, changes_of, settings_run_from}

@@ -20,7 +20,7 @@
 //! number says nothing there. From this the law on parts follows.
 //!
 //! Wrong bodies that the prover refuses: a change that counts before its acknowledgement, promised streams that are
-//! left out, a frame that does not meet the stream which it promises. Tested, in `crate_tests`: that `one_pass`
+//! left out, a frame that does not meet the stream which it promises. Tested, in `round_tests`: that `one_pass`
 //! succeeds where there is memory, and that the rounds show what it does of random frames.
 #![tactic(auto)]
 

@@ -6,8 +6,9 @@ ghost use Rattle.audit_terms.specs.Pass.{pass};
 use crate::rows::{idle_rows, meet_all, opens};
 use audit_terms::{
     Change, ConnectionState, FIRST_WINDOW, Finding, Frame, Item, Kind, Sides, cut_at_stop,
-    initial_after, previous_after, put_in_order, say_if, say_local,
+    initial_after, put_in_order, say_if,
 };
+use fault_rules::{keep_last, say_connection, say_local};
 use settings_pair::pair;
 use std::alloc::{AllocError, Global};
 
@@ -42,11 +43,11 @@ pub fn one_pass(alloc: Global, frames: &[Frame]) -> Result<Vec<Finding>, AllocEr
             opens: opens(&rows, frame),
             change,
         };
-        connection.meet(&mut said, &item)?;
+        say_connection(&mut said, &mut connection, &item)?;
         meet_all(&mut rows, &mut said, &in_force, &item)?;
         put_in_order(&mut said)?;
         found.append(&mut said)?;
-        previous = previous_after(&previous, frame);
+        keep_last(&mut previous, frame);
         in_force = initial_after(&change, &in_force);
     }
     cut_at_stop(&mut found);

@@ -5,6 +5,7 @@ ghost use Rattle.audit_terms.specs.code.runs.Streams.{IsAcknowledged};
 ghost use Rattle.audit_core.specs.code.StreamRows.{idle_rows, row_opens, step_at, row_said, row_after, RowFits};
 
 use audit_terms::{Finding, Frame, Item, Sides, Step, Stream};
+use fault_rules::say_stream;
 use std::alloc::{AllocError, Global};
 
 /// A stream and what it is between two frames.
@@ -81,6 +82,6 @@ pub fn meet_all(
         return Ok(());
     };
     let step = step_at(item, row.stream);
-    row.entry.meet(found, row.stream, initial, &step)?;
+    say_stream(found, &mut row.entry, row.stream, initial, &step)?;
     meet_all(others, found, initial, item)
 }

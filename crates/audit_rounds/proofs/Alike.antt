@@ -2,10 +2,12 @@
 use Rattle.audit_rounds.proofs.Words.{◌≡◌, ℕ, ◌+◌, ◌<◌, List, [], ◌∷◌, ◌++◌, All, Bor, Vec, Global, get_or, length, map}
 use Rattle.audit_rounds.proofs.Words.{take, sym, ap, ◌∙◌, subst, arith, ◌==◌, if◌then◌else◌, false, append-nil, set}
 use Rattle.audit_rounds.proofs.Words.{get_or-set_same, get_or-set_other, ⊎_elim, sum_by, cases_eq, ne_eqb, nat_tests}
-use Rattle.audit_rounds.proofs.Words.{length-map, get_or-map, map-append, All-map, Finding, Frame}
+use Rattle.audit_rounds.proofs.Words.{length-map, get_or-map, map-append, All-map, Finding, Frame, AllZip, zero, suc}
+use Rattle.audit_rounds.proofs.Words.{Some, refl, slice_get, All-nil, All-head, All-tail}
 use Rattle.std.specs.List.{sum}
 use Rattle.std.proofs.lemmas.Bool.{eq-eqb}
 use Rattle.std.proofs.lemmas.List.{map_more}
+use Rattle.std.proofs.lemmas.List.Elements.{All-cons}
 use Rattle.std.proofs.lemmas.List.Sums.{sum-map}
 use Rattle.std.proofs.lemmas.Simd.{map-map}
 
@@ -42,6 +44,25 @@ module _ {X Y Z : Type 0} (f : X → Z) (g : Y → Z) where
   map-grows made one all at d l is e =
       map-append f made (one ∷ []) ∙ ap (λ l. l ++ f one ∷ []) e ∙ ap (λ c. map g (take at all) ++ c ∷ []) is
       ∙ sym (map_more g all at d l)
+
+-- ---- lists of which each goes with the other's
+
+-- what follows for each of a list from the other
+pub zip-all : {X Y : Type 0} (P : X → Type 0) (R : X → Y → Type 0) (Q : Y → Type 0)
+    → ((x : X) (y : Y) → P x → R x y → Q y) → (xs : List X) (ys : List Y) → All P xs → AllZip R xs ys → All Q ys
+zip-all P R Q follows [] [] p h = All-nil Q
+zip-all P R Q follows [] (y ∷ ys) p h = absurd h
+zip-all P R Q follows (x ∷ xs) [] p h = absurd h
+zip-all P R Q follows (x ∷ xs) (y ∷ ys) p h =
+    All-cons Q y ys (follows x y (All-head P x xs p) h.0) (zip-all P R Q follows xs ys (All-tail P x xs p) h.1)
+
+-- what goes with an element
+pub zip-at : {X Y : Type 0} (R : X → Y → Type 0) (xs : List X) (ys : List Y) (n : ℕ) (x : X) → AllZip R xs ys
+    → slice_get xs n ≡ Some x → (y : Y) × (slice_get ys n ≡ Some y) × R x y
+zip-at R [] ys n x h e = cc
+zip-at R (z ∷ xs) [] n x h e = absurd h
+zip-at R (z ∷ xs) (y ∷ ys) zero x h e = (y, refl, let same : z ≡ x = cc in rw (← same) h.0)
+zip-at R (z ∷ xs) (y ∷ ys) (suc n) x h e = zip-at R xs ys n x h.1 e
 
 -- an element, where there is one
 pub some_of : {X : Type 0} (xs : List X) (n : ℕ) → n < length xs → X

@@ -1,20 +1,17 @@
 -- A batch has few frames, and so its rounds have few jobs.
 use Rattle.audit_rounds.proofs.Words.{◌≡◌, ℕ, suc, ◌+◌, ◌*◌, ◌<◌, ◌≤◌, Bool, not, min, List, [], ◌∷◌, map, take, drop}
 use Rattle.audit_rounds.proofs.Words.{length, get_or, All, ap, arith, Option, None, Vec, Global, Bor, AllZip, sum_by}
-use Rattle.audit_rounds.proofs.Words.{length-map, All-head, All-tail, sum_by-cons, Frame, is_past, Block, SplitFrames}
-use Rattle.audit_rounds.proofs.Words.{groups, Streams, frames_within, Prepared, AreRests, AreFew, RowsAreFew}
-use Rattle.audit_rounds.proofs.Words.{IsPrepared, job_at, plan_from, IsStreamsOf}
-use Rattle.std.proofs.Common.{length-append}
+use Rattle.audit_rounds.proofs.Words.{length-map, length-append, sum_by-cons, Frame, is_past, Block, SplitFrames}
+use Rattle.audit_rounds.proofs.Words.{groups, Streams, Prepared, AreRests, AreFew, RowsAreFew, IsPrepared, job_at}
+use Rattle.audit_rounds.proofs.Words.{plan_from, IsStreamsOf, All-take, All-drop, IsOrderly, IsBatch, AllZip-long}
+use Rattle.audit_rounds.proofs.Words.{slice_get-get_or, get_or_from_slice_get}
 use Rattle.std.proofs.Math.Nat.{min-le_right}
 use Rattle.std.proofs.lemmas.List.FromFn.{length-map-range_with_len}
-use Rattle.std.proofs.lemmas.List.Sums.{sum_by-take-drop, length-filter}
-use Rattle.std.proofs.lemmas.List.Sums.{count_by-le-length}
+use Rattle.std.proofs.lemmas.List.Sums.{sum_by-take-drop}
 use Rattle.split_merge.specs.code.Groups.{group_at}
 use Rattle.audit_rounds.specs.code.Few.{PreparedAreFew, RestsAreFew}
-use Rattle.audit_rounds.proofs.Alike.{frames_in, some_of, sums-alike}
-use Rattle.audit_rounds.proofs.Words.{All-take, All-drop, IsOrderly}
-use Rattle.audit_rounds.specs.code.Batch.{IsBatch}
-use Rattle.audit_rounds.proofs.StreamReady.{length-rows}
+use Rattle.audit_rounds.proofs.Alike.{frames_in, some_of, sums-alike, zip-at}
+use Rattle.audit_rounds.proofs.StreamReady.{length-rows, filter-shorter}
 
 abbrev pub lent : Bor (List Frame) → ℕ
 lent = λ (frames : Bor (List Frame)). length frames.now
@@ -48,23 +45,15 @@ few-ready connections made e h =
 
 -- ---- lists of which each element has no more than that of another list
 
-sums-less : {X Y : Type 0} (f : X → ℕ) (g : Y → ℕ) (xs : List X) (ys : List Y) → length xs ≡ length ys
-    → ((n : ℕ) (x : X) (y : Y) → n < length xs → f (get_or xs n x) ≤ g (get_or ys n y))
-    → sum_by f xs ≤ sum_by g ys
-sums-less f g [] ys e each = omega arith
-sums-less f g (x ∷ xs) [] e each = absurd (omega (arith, e))
-sums-less f g (x ∷ xs) (y ∷ ys) e each =
-    let first : f x ≤ g y = each 0 x y (omega arith) in
-    let rest = sums-less f g xs ys (omega (arith, e)) (λ n a b l. each (suc n) a b (omega (arith, l))) in
-    let left = sum_by-cons f x xs in
-    let right = sum_by-cons g y ys in
-    omega (arith, first, rest, left, right)
-
-within-shorter : (stop : Option ℕ) (frames : List Frame) → length (frames_within stop frames) ≤ length frames
-within-shorter stop frames =
-    let test = λ (frame : Frame). not (is_past stop frame.number) in
-    let kept = length-filter test frames in
-    let less = count_by-le-length test frames in omega (arith, kept, less)
+sums-less : {X Y : Type 0} (k : ℕ) (f : X → ℕ) (g : Y → ℕ) (xs : List X) (ys : List Y) → length xs ≡ length ys
+    → ((n : ℕ) (x : X) (y : Y) → n < length xs → f (get_or xs n x) ≤ k * g (get_or ys n y))
+    → sum_by f xs ≤ k * sum_by g ys
+sums-less k f g [] ys e each = omega arith
+sums-less k f g (x ∷ xs) [] e each = absurd (omega arith)
+sums-less k f g (x ∷ xs) (y ∷ ys) e each =
+    let first : f x ≤ k * g y = each 0 x y (omega arith) in
+    let rest = sums-less k f g xs ys (omega arith) (λ n a b l. each (suc n) a b (omega (arith, l))) in
+    rw (sum_by-cons f x xs, sum_by-cons g y ys) (omega arith)
 
 -- what is left of each connection
 pub few-rests : (connections : List Prepared) (stops : List (Option ℕ)) (opened : List (Vec ℕ Global))
@@ -72,12 +61,13 @@ pub few-rests : (connections : List Prepared) (stops : List (Option ℕ)) (opene
     → PreparedAreFew connections → RestsAreFew rests
 few-rests connections stops opened rests opens are h =
     let number = are.number in
-    let less = sums-less (λ (whole : Block). length whole.frames.now) (λ (one : Prepared). length one.frames.now)
+    let less = sums-less 1 (λ (whole : Block). length whole.frames.now) (λ (one : Prepared). length one.frames.now)
     rests connections number (λ n rest connection l.
     let inside : n < length connections = omega (arith, l, number) in
     let numbers = some_of opened n (omega (arith, inside, opens)) in
     let is = ap length (are.each n connection None numbers rest inside).frames in
-    let shorter = within-shorter (get_or stops n None) (get_or connections n connection).frames.now in
+    let shorter = filter-shorter (λ (frame : Frame). not (is_past (get_or stops n None) frame.number))
+    (get_or connections n connection).frames.now in
     omega (arith, is, shorter)) in
     omega (arith, less, h)
 
@@ -93,25 +83,19 @@ rows-one credits_shown connection streams p is =
     let twice = length-rows credits_shown connection.changes.items connection.frames.now connection.split p.split in
     omega (arith, same, twice)
 
-rows-twice : (credits_shown : Bool) (connections : List Prepared) (streams : List Streams)
-    → All (IsPrepared credits_shown) connections → AllZip IsStreamsOf connections streams
-    → sum_by rows-in streams ≤ 2 * sum_by (λ (one : Prepared). length one.frames.now) connections
-rows-twice credits_shown [] [] p h = omega arith
-rows-twice credits_shown [] (y ∷ ys) p h = absurd h
-rows-twice credits_shown (x ∷ xs) [] p h = absurd h
-rows-twice credits_shown (x ∷ xs) (y ∷ ys) p h =
-    let first = rows-one credits_shown x y (All-head (IsPrepared credits_shown) x xs p) h.0 in
-    let rest = rows-twice credits_shown xs ys (All-tail (IsPrepared credits_shown) x xs p) h.1 in
-    let left = sum_by-cons rows-in y ys in
-    let right = sum_by-cons (λ (one : Prepared). length one.frames.now) x xs in
-    omega (arith, first, rest, left, right)
-
 -- the rows of connections that are ready
 pub few-rows : (credits_shown : Bool) (connections : List Prepared) (streams : List Streams)
     → All (IsPrepared credits_shown) connections → AllZip IsStreamsOf connections streams
     → PreparedAreFew connections → RowsAreFew streams
-few-rows credits_shown connections streams p is h =
-    let twice = rows-twice credits_shown connections streams p is in omega (arith, twice, h)
+few-rows credits_shown connections streams p are h =
+    let as_many = AllZip-long IsStreamsOf connections streams are in
+    let twice = sums-less 2 rows-in (λ (one : Prepared). length one.frames.now) streams connections as_many
+    (λ n x y l.
+    let m : n < length connections = omega arith in
+    let (got, at, is) = zip-at IsStreamsOf connections streams n (get_or connections n y) are
+    (slice_get-get_or connections n y m) in
+    rw (get_or_from_slice_get streams n got x at) (rows-one credits_shown (get_or connections n y) got (p n y m) is)) in
+    omega arith
 
 -- no more jobs than rows
 pub jobs-few : (count at : ℕ) (streams : List Streams) → length (plan_from count at streams) ≤ sum_by rows-in streams

@@ -14,15 +14,12 @@ pub mod MadeReady
 pub mod BothHalves
 pub mod Batches
 pub mod Cuts
-pub mod Layouts
 pub mod Plans
 pub mod Jobs
-pub mod Clears
 pub mod Settles
 pub mod StreamOrder
 pub mod StreamWork
 pub mod StreamJobs
-pub mod StreamPlan
 pub mod Few
 pub mod Frameless
 pub mod StreamReady

@@ -1,35 +1,35 @@
 -- What the jobs of a plan find.
-use Rattle.audit_rounds.proofs.Words.{◌≡◌, ℕ, zero, suc, ◌+◌, ◌<◌, ◌≤◌, ◌==◌, Bool, true, false, if◌then◌else◌, List}
-use Rattle.audit_rounds.proofs.Words.{[], ◌∷◌, ◌++◌, append_assoc, append-nil, map, take, length, get_or, refl, sym, ap}
-use Rattle.audit_rounds.proofs.Words.{◌∙◌, arith, map-append, take_more, take_all, length-take-le, All-push}
-use Rattle.audit_rounds.proofs.Words.{flat_map-append, ne_eqb, Finding, Item, connection_start, items_of, Job}
-use Rattle.audit_rounds.proofs.Words.{findings_of_jobs, ReadyBlock, block_job, where_of, whole_shown, shown_at, IsPlan}
+use Rattle.audit_rounds.proofs.Words.{◌≡◌, ℕ, zero, suc, ◌+◌, ◌<◌, ◌≤◌, ◌==◌, Bool, if◌then◌else◌, List, [], ◌∷◌}
+use Rattle.audit_rounds.proofs.Words.{◌++◌, append_assoc, append-nil, map, length, get_or, All, All-head, All-tail, sym}
+use Rattle.audit_rounds.proofs.Words.{ap, ◌∙◌, arith, map-append, All-append, flat_map-append, ne_eqb, AllByRecursion}
+use Rattle.audit_rounds.proofs.Words.{ConnectionState, Finding, Item, in_order, connection_said, connection_start}
+use Rattle.audit_rounds.proofs.Words.{connection_after, connection_after_all, block_run, shown, items_of, Job, Block}
+use Rattle.audit_rounds.proofs.Words.{items_in, BlockFits, ConnSum, IsSum, AreSums, AreShort, findings_of_jobs}
+use Rattle.audit_rounds.proofs.Words.{ReadyBlock, block_job, where_of, whole_shown, shown_at, IsPlan, ConnectionBlock}
+use Rattle.audit_rounds.proofs.Words.{blocks_of_connection, shown-append, refl, drop, drop-at, length-append, IsBlock}
 use Rattle.std.proofs.lemmas.Bool.{eq-eqb}
-use Rattle.audit_rounds.specs.code.Blocks.{IsReady}
-use Rattle.audit_rounds.proofs.Cuts.{said_from, said-joined}
+use Rattle.conn_scan.specs.code.Block.{ItemsFit, MovesLittle}
+use Rattle.conn_scan.specs.code.ConnSum.{conn_advance}
+use Rattle.conn_scan.specs.code.ConnSumLaws.{moved}
+use Rattle.conn_scan.specs.code.FitLaws.{first_fit, rest_fit}
+use Rattle.conn_scan.specs.code.Each.{all-append}
+use Rattle.audit_rounds.specs.code.Blocks.{AreBlocksOf, AreFit, IsReady, after_of, before_of, laid_out}
+use Rattle.audit_rounds.specs.code.Plans.{AreReady, shown_from}
+use Rattle.audit_rounds.proofs.Alike.{differ_back}
+use Rattle.audit_rounds.proofs.Cuts.{Little}
 
 where-append : (connection n : ℕ) (xs ys : List Finding)
     → where_of connection n xs ++ where_of connection n ys ≡ where_of connection n (xs ++ ys)
-where-append connection n xs ys = by_test (connection == n) where
-  by_test : (b : Bool) → (if b then xs else []) ++ (if b then ys else []) ≡ (if b then xs ++ ys else [])
-  by_test true = refl
-  by_test false = refl
-
-abbrev nothing : List Finding
-nothing = []
+where-append connection n xs ys = grind arith
 
 where-none : (connection n : ℕ) → where_of connection n [] ≡ []
-where-none connection n = by_test (connection == n) where
-  by_test : (b : Bool) → (if b then nothing else nothing) ≡ nothing
-  by_test true = refl
-  by_test false = refl
+where-none connection n = grind arith
 
-items-more : (said : List (List Finding)) (at : ℕ) → at < length said
-    → items_of (take (at + 1) said) ≡ items_of (take at said) ++ get_or said at []
-items-more said at l = ap items_of (take_more said at [] l) ∙ of-push (take at said) (get_or said at []) where
-  of-push : (xs : List (List Finding)) (x : List Finding) → items_of (xs ++ x ∷ []) ≡ items_of xs ++ x
-  of-push [] x = append-nil x
-  of-push (y ∷ xs) x = ap (λ l. y ++ l) (of-push xs x) ∙ sym (append_assoc y (items_of xs) x)
+block_run-append : (now : ConnectionState) (xs ys : List Item)
+    → block_run now (xs ++ ys) ≡ block_run now xs ++ block_run (connection_after_all now xs) ys
+block_run-append now [] ys = refl
+block_run-append now (x ∷ xs) ys =
+    rw (block_run-append (connection_after now x) xs ys) (sym (append_assoc (in_order (connection_said now x)) _ _))
 
 -- the same plan, whose jobs find the same
 pub plan-as : (c : Bool) (connections : ℕ) (f g : ℕ → List Finding) (plan : List ReadyBlock)
@@ -37,126 +37,186 @@ pub plan-as : (c : Bool) (connections : ℕ) (f g : ℕ → List Finding) (plan 
 plan-as c connections f g plan h e =
     record { ready = h.ready; within = h.within; of_each = λ n. h.of_each n ∙ e n }
 
--- a plan of one job more
-plan-push : (c : Bool) (connections : ℕ) (f : ℕ → List Finding) (plan : List ReadyBlock) (one : ReadyBlock)
-    → IsPlan c connections f plan → IsReady one.before one.block → one.connection < connections
-    → IsPlan c connections (λ n. f n ++ where_of one.connection n (block_job c one).findings) (plan ++ one ∷ [])
-plan-push c connections f plan one h ready within = record {
-  ready = All-push (λ (one : ReadyBlock). IsReady one.before one.block) plan one h.ready ready;
-  within = All-push (λ (one : ReadyBlock). one.connection < connections) plan one h.within within;
-  of_each = λ n. ap (findings_of_jobs n) (map-append (block_job c) plan (one ∷ []))
-      ∙ flat_map-append (λ (job : Job). if job.connection == n then job.findings else []) (map (block_job c) plan)
-      (block_job c one ∷ [])
-      ∙ ap (λ l. findings_of_jobs n (map (block_job c) plan) ++ l)
-      (append-nil (where_of one.connection n (block_job c one).findings))
-      ∙ ap (λ l. l ++ where_of one.connection n (block_job c one).findings) (h.of_each n);
+-- ---- one block after the other
+
+-- what is planned so far of blocks, of which these are left
+pub record ArePlanned (credits_shown : Bool) (blocks rest : List ConnectionBlock) (last : ℕ) (now : ConnectionState)
+    (plan : List ReadyBlock) : Type 0 where
+  pub fits : AreFit last now rest
+  pub ready : AreReady plan
+  pub within : (bound : ℕ) → All (λ (one : ConnectionBlock). one.connection < bound) blocks
+      → All (λ (one : ReadyBlock). one.connection < bound) plan
+  pub shows : (n : ℕ) → findings_of_jobs n (map (block_job credits_shown) plan) ++ shown_from credits_shown last now
+      rest n
+      ≡ shown_from credits_shown 0 connection_start blocks n
+  pub few : length plan + length rest ≤ length blocks
+
+-- the jobs of one block: one, or none where nothing is shown of it
+pub record AreJobs (credits_shown : Bool) (one : ConnectionBlock) (before : ConnectionState) (jobs : List ReadyBlock)
+    : Type 0 where
+  pub ready : AreReady jobs
+  pub within : (bound : ℕ) → one.connection < bound → All (λ (job : ReadyBlock). job.connection < bound) jobs
+  pub shows : (n : ℕ) → findings_of_jobs n (map (block_job credits_shown) jobs)
+      ≡ where_of one.connection n (shown credits_shown (block_run before (items_in one.block)))
+  pub few : length jobs ≤ 1
+
+pub no-job : (c : Bool) (one : ConnectionBlock) (before : ConnectionState)
+    → shown c (block_run before (items_in one.block)) ≡ [] → AreJobs c one before []
+no-job c one before e = record {
+  ready = λ n d l. absurd (omega arith);
+  within = λ bound b n d l. absurd (omega arith);
+  shows = λ n. rw e (sym (where-none one.connection n));
+  few = omega arith;
 }
 
--- ---- the blocks of one connection
+one-job : {X : Type 0} (P : X → Type 0) (x : X) → P x → All P (x ∷ [])
+one-job P x h zero d l = h
+one-job P x h (suc n) d l = absurd (omega arith)
 
--- what was found before, and what the first blocks of a connection show
-abbrev pub finds_upto : (finds : ℕ → List Finding) → (connection at : ℕ) → List (List Finding) → ℕ → List Finding
-finds_upto finds connection at said n = finds n ++ where_of connection n (items_of (take at said))
+pub own-job : (c : Bool) (one : ConnectionBlock) (before : ConnectionState) → IsReady before one.block
+    → AreJobs c one before (record { connection = one.connection; block = one.block; before = before } ∷ [])
+own-job c one before h = record {
+  ready = one-job (λ (one : ReadyBlock). IsReady one.before one.block) _ h;
+  within = λ bound. one-job (λ (one : ReadyBlock). one.connection < bound) _;
+  shows = λ n. append-nil _;
+  few = omega arith;
+}
 
-more-found : (finds : ℕ → List Finding) (connection at : ℕ) (said : List (List Finding)) (n : ℕ) → at < length said
-    → finds_upto finds connection at said n ++ where_of connection n (get_or said at [])
-    ≡ finds_upto finds connection (at + 1) said n
-more-found finds connection at said n l =
-    append_assoc (finds n) (where_of connection n (items_of (take at said))) _
-    ∙ ap (λ l. finds n ++ l) (where-append connection n (items_of (take at said)) (get_or said at [])
-    ∙ ap (where_of connection n) (sym (items-more said at l)))
+-- one of the blocks, and the connection before it
+module _ (c : Bool) (blocks : List ConnectionBlock) (at : ℕ) (one : ConnectionBlock) (l : at < length blocks)
+    (is : one ≡ get_or blocks at one) (last : ℕ) (now before : ConnectionState) (e : before ≡ before_of last now one)
+  where
+    pub here-fits : AreFit last now (drop at blocks) → BlockFits before (items_in one.block)
+    here-fits h = rw e (rw (drop-at blocks at one is l) at h).0
 
--- no block yet
-pub plan-none : (c : Bool) (connections : ℕ) (finds : ℕ → List Finding) (connection : ℕ) (said : List (List Finding))
-    (plan : List ReadyBlock) → IsPlan c connections finds plan
-    → IsPlan c connections (finds_upto finds connection 0 said) plan
-plan-none c connections finds connection said plan h =
-    plan-as c connections finds (finds_upto finds connection 0 said) plan h
-    (λ n. sym (append-nil (finds n)) ∙ ap (λ l. finds n ++ l) (sym (where-none connection n)))
+    pub here-sum : (sums : List ConnSum) (sum : ConnSum) → AreSums blocks sums → IsSum one.block (get_or sums at sum)
+    here-sum sums sum h = rw (← is) at (h.each at one sum l)
 
--- a block more
-pub plan-more : (c : Bool) (connections : ℕ) (finds : ℕ → List Finding) (connection at : ℕ)
-    (said : List (List Finding)) (plan : List ReadyBlock) (one : ReadyBlock) → at < length said
-    → connection < connections → one.connection ≡ connection → IsReady one.before one.block
-    → (block_job c one).findings ≡ get_or said at [] → IsPlan c connections (finds_upto finds connection at said) plan
-    → IsPlan c connections (finds_upto finds connection (at + 1) said) (plan ++ one ∷ [])
-plan-more c connections finds connection at said plan one l within own ready is h =
-    let inside : one.connection < connections = omega arith in
-    plan-as c connections _ (finds_upto finds connection (at + 1) said) (plan ++ one ∷ [])
-    (plan-push c connections (finds_upto finds connection at said) plan one h ready inside)
-    (λ n. ap (λ k. finds_upto finds connection at said n ++ where_of k n (block_job c one).findings) own
-    ∙ ap (λ f. finds_upto finds connection at said n ++ where_of connection n f) is
-    ∙ more-found finds connection at said n l)
+    pub here-short : AreShort blocks → IsBlock one.block
+    here-short h = (rw (← is) at (h at one l)).is_block
 
--- a block more, of which nothing is shown
-pub plan-skips : (c : Bool) (connections : ℕ) (finds : ℕ → List Finding) (connection at : ℕ)
-    (said : List (List Finding)) (plan : List ReadyBlock) → at < length said → get_or said at [] ≡ []
-    → IsPlan c connections (finds_upto finds connection at said) plan
-    → IsPlan c connections (finds_upto finds connection (at + 1) said) plan
-plan-skips c connections finds connection at said plan l none h =
-    plan-as c connections (finds_upto finds connection at said) (finds_upto finds connection (at + 1) said) plan h
-    (λ n. sym (append-nil (finds_upto finds connection at said n))
-    ∙ ap (λ l. finds_upto finds connection at said n ++ l) (sym (where-none connection n)
-    ∙ ap (where_of connection n) (sym none))
-    ∙ more-found finds connection at said n l)
+    pub plan-next : (sum : ConnSum) (next : ConnectionState) (plan new jobs : List ReadyBlock) → IsSum one.block sum
+        → next ≡ conn_advance before sum → new ≡ plan ++ jobs → AreJobs c one before jobs
+        → ArePlanned c blocks (drop at blocks) last now plan
+        → ArePlanned c blocks (drop (at + 1) blocks) one.connection next new
+    plan-next sum next plan new jobs summed moves more own so_far =
+        let left = drop-at blocks at one is l in
+        let fits = rw left at so_far.fits in
+        let after : next ≡ after_of last now one = moves ∙ rw (summed.is, e)
+        (moved (before_of last now one) (items_in one.block)) in
+        let longer = ap length more ∙ length-append plan jobs in
+        let shorter = ap length left in
+        let few = so_far.few in
+        let added = own.few in
+        record {
+          fits = rw after fits.1;
+          ready = rw more (All-append (λ (one : ReadyBlock). IsReady one.before one.block) plan jobs so_far.ready
+              own.ready);
+          within = λ bound h. rw more (All-append (λ (one : ReadyBlock). one.connection < bound) plan jobs
+              (so_far.within bound h) (own.within bound (rw (← is) at (h at one l))));
+          shows = λ n. rw (
+            more,
+            after,
+            map-append (block_job c) plan jobs,
+            flat_map-append (λ (job : Job). if job.connection == n then job.findings else []) (map (block_job c) plan)
+                (map (block_job c) jobs),
+            own.shows n,
+            e,
+            append_assoc,
+          ) (rw left at (so_far.shows n));
+          few = omega arith;
+        }
 
--- all its blocks
-pub plan-all : (c : Bool) (connections : ℕ) (finds : ℕ → List Finding) (connection at : ℕ)
-    (blocks : List (List Item)) (plan : List ReadyBlock) → length (said_from c connection_start blocks) ≤ at
-    → IsPlan c connections (finds_upto finds connection at (said_from c connection_start blocks)) plan
-    → IsPlan c connections (λ n. finds n ++ where_of connection n (whole_shown c (items_of blocks))) plan
-plan-all c connections finds connection at blocks plan l h =
-    let said = said_from c connection_start blocks in
-    plan-as c connections (finds_upto finds connection at said) _ plan h
-    (λ n. ap (λ l. finds n ++ where_of connection n l) (ap items_of (take_all at said l)
-    ∙ said-joined c connection_start blocks))
+-- ---- all blocks of all connections
 
--- ---- all connections
+-- these blocks may be gone through from here, and this is shown of each connection
+pub record IsWalk (c : Bool) (last : ℕ) (now : ConnectionState) (blocks : List ConnectionBlock)
+    (shows : ℕ → List Finding) : Type 0 where
+  pub fits : AreFit last now blocks
+  pub shown : (n : ℕ) → shown_from c last now blocks n ≡ shows n
 
-shown-push : (c : Bool) (connection : ℕ) (done : List (List Item)) (items : List Item) (n : ℕ)
-    → shown_at c connection (done ++ items ∷ []) n
-    ≡ shown_at c connection done n ++ where_of (connection + length done) n (whole_shown c items)
-shown-push c connection [] items n =
-    let e : connection ≡ connection + 0 = omega arith in
-    append-nil (where_of connection n (whole_shown c items)) ∙ ap (λ k. where_of k n (whole_shown c items)) e
-shown-push c connection (first ∷ done) items n =
-    let e : (connection + 1) + length done ≡ connection + length (first ∷ done) = omega arith in
-    let own = where_of connection n (whole_shown c first) in
-    ap (λ l. own ++ l) (shown-push c (connection + 1) done items n)
-    ∙ sym (append_assoc own (shown_at c (connection + 1) done n)
-    (where_of ((connection + 1) + length done) n (whole_shown c items)))
-    ∙ ap (λ k. (own ++ shown_at c (connection + 1) done n) ++ where_of k n (whole_shown c items)) e
+-- no block was met of this connection, or of a later one
+abbrev IsNew : (connection last : ℕ) → ConnectionState → Type 0
+IsNew connection last now =
+    (m : ℕ) → connection ≤ m → (if m == last then now else connection_start) ≡ connection_start
 
--- one connection more
-pub plan-next : (c : Bool) (connections at : ℕ) (wholes : List (List Item)) (plan : List ReadyBlock)
-    → at < length wholes
-    → IsPlan c connections
-    (λ n. shown_at c 0 (take at wholes) n ++ where_of at n (whole_shown c (get_or wholes at []))) plan
-    → IsPlan c connections (shown_at c 0 (take (at + 1) wholes)) plan
-plan-next c connections at wholes plan l h =
-    let number = length-take-le at wholes (omega arith) in
-    let e : 0 + length (take at wholes) ≡ at = omega arith in
-    plan-as c connections _ (shown_at c 0 (take (at + 1) wholes)) plan h
-    (λ n. sym (ap (λ l. shown_at c 0 l n) (take_more wholes at [] l)
-    ∙ shown-push c 0 (take at wholes) (get_or wholes at []) n
-    ∙ ap (λ k. shown_at c 0 (take at wholes) n ++ where_of k n (whole_shown c (get_or wholes at []))) e))
+module _ (c : Bool) (connection : ℕ) (rest : List ConnectionBlock) (later : ℕ → List Finding)
+    (walk : (last : ℕ) (now : ConnectionState) → IsNew (connection + 1) last now → IsWalk c last now rest later) where
+  own-walk : (last : ℕ) (now before : ConnectionState) (cut : List Block)
+      → (if connection == last then now else connection_start) ≡ before
+      → ItemsFit before (items_of (map items_in cut)) → IsNew (connection + 1) last now
+      → IsWalk c last now (blocks_of_connection connection cut ++ rest)
+      (λ n. where_of connection n (shown c (block_run before (items_of (map items_in cut)))) ++ later n)
+  own-walk last now before [] e fits new =
+      let others = walk last now new in
+      record {
+        fits = others.fits;
+        shown = λ n. others.shown n ∙ ap (λ l. l ++ later n) (sym (where-none connection n));
+      }
+  own-walk last now before (block ∷ cut) e fits new =
+      let items = items_in block in
+      let others = items_of (map items_in cut) in
+      let after = connection_after_all before items in
+      let here = eq-eqb connection connection refl in
+      let next = own-walk connection after after cut (rw here refl) (rest_fit before items others fits)
+      (λ m l. rw (differ_back connection m (omega arith)) refl) in
+      record {
+        fits = rw e ((first_fit before items others fits).0, next.fits);
+        shown = λ n. rw (e, next.shown n, block_run-append before items others) (
+            sym (append_assoc _ _ (later n))
+            ∙ ap (λ l. l ++ later n) (where-append connection n _ _
+            ∙ ap (where_of connection n) (sym (shown-append c (block_run before items) (block_run after others)))));
+      }
+
+-- the items of a connection's blocks move credits by little
+little-joined : (connection : ℕ) (cut : List Block) (rest : List ConnectionBlock)
+    → All Little (blocks_of_connection connection cut ++ rest)
+    → AllByRecursion MovesLittle (items_of (map items_in cut)) × All Little rest
+little-joined connection [] rest h = (tt, h)
+little-joined connection (block ∷ cut) rest h =
+    let later = little-joined connection cut rest (All-tail Little _ _ h) in
+    (all-append MovesLittle (items_in block) _ (All-head Little _ _ h) later.0, later.1)
+
+laid-walk : (c : Bool) (connection last : ℕ) (now : ConnectionState) (cuts : List (List Block))
+    → IsNew connection last now
+    → All (BlockFits connection_start) (map (λ (cut : List Block). items_of (map items_in cut)) cuts)
+    → All Little (laid_out connection cuts)
+    → IsWalk c last now (laid_out connection cuts)
+    (shown_at c connection (map (λ (cut : List Block). items_of (map items_in cut)) cuts))
+laid-walk c connection last now [] new fits little = record { fits = tt; shown = λ n. refl }
+laid-walk c connection last now (cut ∷ cuts) new fits little =
+    let own = little-joined connection cut (laid_out (connection + 1) cuts) little in
+    own-walk c connection (laid_out (connection + 1) cuts) _
+    (λ last' now' new'. laid-walk c (connection + 1) last' now' cuts new'
+    (All-tail (BlockFits connection_start) _ _ fits) own.1)
+    last now connection_start cut (new connection (omega arith))
+    (All-head (BlockFits connection_start) _ _ fits, own.0) (λ m l. new m (omega arith))
+
+pub cut-walk : (c : Bool) (wholes : List (List Item)) (blocks : List ConnectionBlock) → AreBlocksOf wholes blocks
+    → All (BlockFits connection_start) wholes → All Little blocks
+    → IsWalk c 0 connection_start blocks (shown_at c 0 wholes)
+cut-walk c wholes blocks h fits little =
+    rw (h.laid, h.items) (laid-walk c 0 0 connection_start h.cuts (λ m l. either (m == 0)) (rw h.items at fits)
+    (rw h.laid at little)) where
+      either : (b : Bool) → (if b then connection_start else connection_start) ≡ connection_start
+      either b = grind arith
+
+-- ---- what is shown of one of the connections
 
 shown-below : (c : Bool) (connection : ℕ) (wholes : List (List Item)) (n : ℕ) → n < connection
     → shown_at c connection wholes n ≡ []
 shown-below c connection [] n l = refl
 shown-below c connection (items ∷ wholes) n l =
-    rw (ne_eqb connection n (λ e. absurd (omega arith))) (shown-below c (connection + 1) wholes n (omega arith))
+    rw (differ_back n connection l) (shown-below c (connection + 1) wholes n (omega arith))
 
--- what is shown of one of the connections
 pub shown-at : (c : Bool) (connection : ℕ) (wholes : List (List Item)) (k : ℕ) (d : List Item) → k < length wholes
     → shown_at c connection wholes (connection + k) ≡ whole_shown c (get_or wholes k d)
 shown-at c connection [] k d l = absurd (omega arith)
 shown-at c connection (items ∷ wholes) zero d l =
     let e : connection ≡ connection + 0 = omega arith in
-    rw (eq-eqb connection (connection + 0) e)
-    (ap (λ l. whole_shown c items ++ l) (shown-below c (connection + 1) wholes (connection + 0) (omega arith))
-    ∙ append-nil (whole_shown c items))
+    rw (eq-eqb connection (connection + 0) e, shown-below c (connection + 1) wholes (connection + 0) (omega arith))
+    (append-nil (whole_shown c items))
 shown-at c connection (items ∷ wholes) (suc k) d l =
     let e : connection + suc k ≡ (connection + 1) + k = omega arith in
-    rw (ne_eqb connection (connection + suc k) (λ e. absurd (omega arith)))
-    (ap (shown_at c (connection + 1) wholes) e ∙ shown-at c (connection + 1) wholes k d (omega arith))
+    rw (ne_eqb connection (connection + suc k) (λ e. absurd (omega arith)), e)
+    (shown-at c (connection + 1) wholes k d (omega arith))

@@ -1,6 +1,6 @@
 -- What settled rounds over blocks give.
-use Rattle.audit_rounds.proofs.Words.{◌≡◌, ℕ, ◌+◌, ◌<◌, Bool, List, ◌++◌, map, length, get_or, All, Option, Some, None}
-use Rattle.audit_rounds.proofs.Words.{slice_get, sym, ap, ◌∙◌, subst, arith, Vec, Global, length-map, get_or-map}
+use Rattle.audit_rounds.proofs.Words.{◌≡◌, ℕ, ◌+◌, ◌<◌, Bool, List, ◌++◌, map, length, get_or, All, Option, None}
+use Rattle.audit_rounds.proofs.Words.{sym, ap, ◌∙◌, subst, arith, Vec, Global, length-map, get_or-map}
 use Rattle.audit_rounds.proofs.Words.{slice_get_within, get_or_from_slice_get, slice_get-get_or, Finding, in_order}
 use Rattle.audit_rounds.proofs.Words.{upto_stop, connection_start, Block, items_in, IsBlock, BlockFits, ConnSum, IsStop}
 use Rattle.audit_rounds.proofs.Words.{Job, IsLeast, StopsAt, findings_of_parts, board_merges_lem, Part, Settled}
@@ -28,24 +28,16 @@ sums-settled blocks stops settled h =
           subst (IsSum (get_or blocks n one).block) (sym (get_or-map made parts n d sum inside)) (own.1 one);
     }
 
-job-within : (jobs : List Job) (bound k : ℕ) (job : Job) → All (λ (job : Job). job.connection < bound) jobs
-    → slice_get jobs k ≡ Some job → job.connection < bound
-job-within jobs bound k job all e =
-    subst (λ (job : Job). job.connection < bound) (get_or_from_slice_get jobs k job job e)
-    (all k job (slice_get_within jobs k job e))
-
 -- each part is of one of the connections
 pub parts-within : {M : Type 0} (jobs : List Job) (stops : List (Option ℕ)) (parts : List (Part M)) (bound : ℕ)
     → AreParts jobs stops parts → All (λ (job : Job). job.connection < bound) jobs
     → All (λ (part : Part M). part.connection < bound) parts
 parts-within jobs stops parts bound h all k d l =
-    let part = get_or parts k d in
     let number = length-map parts part_of in
-    let own = h.board.parts_of_jobs (part_of part)
-    (k, omega arith, get_or-map part_of parts k d (part_of part) l) in
-    let job = job-within jobs bound part.job own.0 all own.1 in
-    let same = own.2.of_connection in
-    omega arith
+    let part = part_of (get_or parts k d) in
+    let (job, at, is) = h.board.parts_of_jobs part (k, omega arith, get_or-map part_of parts k d part l) in
+    rw (is.of_connection, ← get_or_from_slice_get jobs part.job job job at)
+    (all part.job job (slice_get_within jobs part.job job at))
 
 -- each job of a plan is of one of the connections
 pub jobs-inside : (c : Bool) (connections bound : ℕ) (finds : ℕ → List Finding) (plan : List ReadyBlock)
@@ -67,13 +59,12 @@ pub merged : {M : Type 0} (c : Bool) (connections : List Block) (bound : ℕ) (p
 merged c connections bound plan stops parts found last n whole planned h least l is =
     let number : length (wholes connections) ≡ length connections = length-map connections items_in in
     let at : n ≡ 0 + n = omega arith in
-    ap (λ l. upto_stop (in_order l)) is
-    ∙ (board_merges_lem (record { jobs = map (block_job c) plan; opening_stops = stops }) _ h.board n found
+    rw is ((board_merges_lem (record { jobs = map (block_job c) plan; opening_stops = stops }) _ h.board n found
     least).findings
     ∙ ap (λ l. upto_stop (in_order (found ++ l)))
     (planned.of_each n ∙ ap (shown_at c 0 (wholes connections)) at
     ∙ shown-at c 0 (wholes connections) n (items_in whole) (omega arith)
-    ∙ ap (whole_shown c) (get_or-map items_in connections n whole (items_in whole) l))
+    ∙ ap (whole_shown c) (get_or-map items_in connections n whole (items_in whole) l)))
 
 -- ---- what is left to do of each connection
 

@@ -1,93 +1,73 @@
 -- What a job of the round over streams has to find and to tell.
-use Rattle.audit_rounds.proofs.Words.{◌≡◌, ℕ, ◌-◌, ◌<◌, ◌≤◌, arith, Bool, List, [], take, drop, length, map, get_or}
-use Rattle.audit_rounds.proofs.Words.{All, Option, Some, slice_get, sym, ap, ◌∙◌, subst, slice_get-get_or}
-use Rattle.audit_rounds.proofs.Words.{get_or_from_slice_get, All-take, All-drop, option_map_or, Finding, Asked}
-use Rattle.audit_rounds.proofs.Words.{StreamRow, Job, IsCut, Streams, StreamJob, IsRow, AreOpenedUpTo, RowsLook}
-use Rattle.audit_rounds.proofs.Words.{rows_shown, rows_opened, length-map, IsJobOf, IsReady, job_of, of_rows}
+use Rattle.audit_rounds.proofs.Words.{◌≡◌, ℕ, ◌-◌, ◌<◌, ◌≤◌, arith, List, take, drop, length, map, get_or, All, Option}
+use Rattle.audit_rounds.proofs.Words.{Some, slice_get, slice_get-get_or, get_or_from_slice_get, All-take, All-drop}
+use Rattle.audit_rounds.proofs.Words.{Finding, Asked, StreamRow, Job, IsCut, Streams, StreamJob, IsRow, AreOpenedUpTo}
+use Rattle.audit_rounds.proofs.Words.{RowsLook, rows_shown, rows_opened, length-map, IsJobOf, IsReady, job_of}
 use Rattle.audit_rounds.specs.code.StreamJobs.{JobLooks, Makes}
+use Rattle.audit_rounds.specs.declared.stream_jobs.StreamsRound.{StreamsRound}
 use Rattle.audit_rounds.proofs.Jobs.{job-is}
 
 -- the rows of a job
 abbrev pub rows_in : StreamJob → List StreamRow → List StreamRow
 rows_in job rows = take (job.to - job.from) (drop job.from rows)
 
-module _ (credits_shown : Bool) (connections : List Streams) (plan : List StreamJob) (number : ℕ) (d : StreamJob)
-    (planned : All (IsJobOf connections) plan) (inside : number < length (map (job_of credits_shown connections) plan))
-  where
-    -- the job is in the plan
-    pub job-planned : IsJobOf connections (get_or plan number d)
-    job-planned = let long = length-map plan (job_of credits_shown connections) in
-        planned number d (omega (arith, inside, long))
+abbrev pub no_job : StreamJob
+no_job = record { connection = 0; from = 0; to = 0 }
 
-module _ (credits_shown : Bool) (connections : List Streams) (plan : List StreamJob) (number : ℕ) (d : StreamJob)
-    (planned : All (IsJobOf connections) plan) (inside : number < length (map (job_of credits_shown connections) plan))
-    (streams : Streams) (rows : List StreamRow)
-    (same : rows ≡ (get_or connections (get_or plan number d).connection streams).split.now.rows.items) where
-  within : (get_or plan number d).connection < length connections
-  within = (job-planned credits_shown connections plan number d planned inside).connection
+module _ (round : StreamsRound) (number : ℕ)
+    (inside : number < length (map (job_of round.credits_shown round.connections.now) round.plan.now)) where
+  abbrev connections : List Streams
+  connections = round.connections.now
 
-  of-rows : {X : Type 0} (said : Streams → List StreamRow → List X)
-      → said (get_or connections (get_or plan number d).connection streams) (rows_in (get_or plan number d) rows)
-      ≡ of_rows said connections (get_or plan number d)
-  of-rows said =
-      let job = get_or plan number d in
-      let mine = get_or connections job.connection streams in
-      ap (λ (rows : List StreamRow). said mine (rows_in job rows)) same
-      ∙ ap (λ (one : Option Streams). option_map_or (λ (streams : Streams). said streams
-      (rows_in job streams.split.now.rows.items)) one [])
-      (sym (slice_get-get_or connections job.connection streams within))
+  abbrev job : StreamJob
+  job = get_or round.plan.now number no_job
 
-  -- what a run of the rows kept is a cut of the job
-  pub job-cut : (one : Job) (upto : Option ℕ) (kept : List Finding)
-      → slice_get (map (job_of credits_shown connections) plan) number ≡ Some one
-      → IsCut (rows_shown credits_shown (get_or connections (get_or plan number d).connection streams)
-      (rows_in (get_or plan number d) rows)) upto kept
-      → IsCut one.findings upto kept
-  job-cut one upto kept is cut =
-      subst (λ (whole : List Finding). IsCut whole upto kept)
-      (of-rows (rows_shown credits_shown)
-      ∙ sym (ap (λ (job : Job). job.findings) (job-is (job_of credits_shown connections) plan number one d is))) cut
+  -- the job is in the plan
+  pub job-planned : IsJobOf connections job
+  job-planned =
+      let long = length-map round.plan.now (job_of round.credits_shown connections) in
+      round.planned number no_job (omega arith)
 
-  -- the openings that it tells are the job's
-  pub job-makes : (upto : Option ℕ) (made : List ℕ)
-      → AreOpenedUpTo upto made (rows_opened (get_or connections (get_or plan number d).connection streams)
-      (rows_in (get_or plan number d) rows))
-      → Makes connections plan number upto made
-  job-makes upto made opens job is =
-      subst (AreOpenedUpTo upto made)
-      (of-rows rows_opened
-      ∙ ap (of_rows rows_opened connections) (get_or_from_slice_get plan number job d is)) opens
+  module _ (streams : Streams) where
+    abbrev mine : Streams
+    mine = get_or connections job.connection streams
 
-  -- the looks of the rows are those of the job
-  pub job-looks : (asked : List Asked) (upto : Option ℕ)
-      → RowsLook credits_shown (get_or connections (get_or plan number d).connection streams)
-      (rows_in (get_or plan number d) rows) asked upto
-      → JobLooks credits_shown connections plan number asked upto
-  job-looks asked upto looks job mine is there =
-      let same_job : job ≡ get_or plan number d = sym (get_or_from_slice_get plan number job d is) in
-      let at = subst (λ (one : StreamJob). slice_get connections one.connection ≡ Some mine) same_job there in
-      let same_streams : get_or connections (get_or plan number d).connection streams ≡ mine =
-      get_or_from_slice_get connections (get_or plan number d).connection mine streams at in
-      subst (λ (one : StreamJob). RowsLook credits_shown mine (rows_in one mine.split.now.rows.items) asked upto)
-      (sym same_job)
-      (subst (λ (s : Streams). RowsLook credits_shown s (rows_in (get_or plan number d) s.split.now.rows.items) asked
-      upto)
-      same_streams
-      (subst (λ (rows : List StreamRow). RowsLook credits_shown
-      (get_or connections (get_or plan number d).connection streams) (rows_in (get_or plan number d) rows) asked upto)
-      same looks))
+    there : slice_get connections job.connection ≡ Some mine
+    there = slice_get-get_or connections job.connection streams job-planned.connection
 
-  -- it ends within the rows
-  pub job-ends : (get_or plan number d).to ≤ length rows
-  job-ends = rw same ((job-planned credits_shown connections plan number d planned inside).within _
-      (slice_get-get_or connections (get_or plan number d).connection streams within))
+    -- its streams may be gone through
+    pub job-ready : IsReady mine
+    job-ready = round.ready job.connection streams job-planned.connection
 
-  -- its rows may be gone through
-  pub job-rows : All IsReady connections
-      → All (IsRow (get_or connections (get_or plan number d).connection streams)) (rows_in (get_or plan number d) rows)
-  job-rows ready =
-      let job = get_or plan number d in
-      let mine = get_or connections job.connection streams in
-      All-take (IsRow mine) (job.to - job.from) (drop job.from rows)
-      (All-drop (IsRow mine) job.from rows
-      (subst (All (IsRow mine)) (sym same) (ready job.connection streams within).rows))
+    module _ (rows : List StreamRow) (same : rows ≡ mine.split.now.rows.items) where
+      -- it ends within the rows
+      pub job-ends : job.to ≤ length rows
+      job-ends = rw same (job-planned.within mine there)
+
+      pub job-rows : All (IsRow mine) (rows_in job rows)
+      job-rows = All-take (IsRow mine) (job.to - job.from) (drop job.from rows)
+          (All-drop (IsRow mine) job.from rows (rw same job-ready.rows))
+
+      -- what a run of the rows kept is a cut of the job
+      pub job-cut : (one : Job) (upto : Option ℕ) (kept : List Finding)
+          → slice_get (map (job_of round.credits_shown connections) round.plan.now) number ≡ Some one
+          → IsCut (rows_shown round.credits_shown mine (rows_in job rows)) upto kept → IsCut one.findings upto kept
+      job-cut one upto kept is cut =
+          rw (job-is (job_of round.credits_shown connections) round.plan.now number one no_job is, there, ← same) cut
+
+      -- the openings that it tells are the job's
+      pub job-makes : (upto : Option ℕ) (made : List ℕ) → AreOpenedUpTo upto made (rows_opened mine (rows_in job rows))
+          → Makes connections round.plan.now number upto made
+      job-makes upto made opens own is =
+          rw (← get_or_from_slice_get round.plan.now number own no_job is, there, ← same) opens
+
+      -- the looks of the rows are those of the job
+      pub job-looks : (asked : List Asked) (upto : Option ℕ)
+          → RowsLook round.credits_shown mine (rows_in job rows) asked upto
+          → JobLooks round.credits_shown connections round.plan.now number asked upto
+      job-looks asked upto looks own other is at =
+          let same_job : job ≡ own = get_or_from_slice_get round.plan.now number own no_job is in
+          let at_job : slice_get connections job.connection ≡ Some other = rw same_job at in
+          let got = there in
+          let same_streams : mine ≡ other = cc in
+          rw (← same_job, ← same_streams, ← same) looks

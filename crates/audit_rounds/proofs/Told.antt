@@ -1,11 +1,10 @@
 -- Openings as runs tell them that went up to some place.
-use Rattle.audit_rounds.proofs.Words.{◌≡◌, ℕ, suc, ◌≤◌, ◌==◌, ◌||◌, Bool, true, false, All, List, [], ◌∷◌, ◌++◌, not}
-use Rattle.audit_rounds.proofs.Words.{map, filter, refl, sym, ap, ◌∙◌, arith, Option, Some, None, true≢false}
-use Rattle.audit_rounds.proofs.Words.{option_to_list, list_any, IsPermutation, flat_map-append, list_any-append}
-use Rattle.audit_rounds.proofs.Words.{list_any-IsPermutation, eqb-true, Frame, changes_of, is_past, streams_of}
-use Rattle.audit_rounds.proofs.Words.{place_number, frames_of, stream_at_end, opened_up_to, openings_of, Reaches}
+use Rattle.audit_rounds.proofs.Words.{◌≡◌, ℕ, suc, ◌==◌, Bool, false, All, List, [], ◌∷◌, ◌++◌, not, map}
+use Rattle.audit_rounds.proofs.Words.{filter, refl, sym, ap, ◌∙◌, arith, Option, Some, None, nat_tests}
+use Rattle.audit_rounds.proofs.Words.{option_to_list, list_any, IsPermutation, flat_map, flat_map-append}
+use Rattle.audit_rounds.proofs.Words.{list_any-append, list_any-IsPermutation, Frame, changes_of, is_past, streams_of}
+use Rattle.audit_rounds.proofs.Words.{frames_of, stream_at_end, opened_up_to, openings_of, Reaches}
 use Rattle.audit_rounds.proofs.Words.{AgreeWithin}
-use Rattle.std.proofs.Common.{le-ltb, ltb-false}
 use Rattle.std.proofs.lemmas.List.Sorted.{IsPermutation-filter_both}
 use Rattle.audit_rounds.specs.code.Openings.{opening_of}
 use Rattle.audit_rounds.specs.laws.Settling.{RunUpto, openings_told, OpeningsAreTold}
@@ -15,28 +14,16 @@ use Rattle.audit_rounds.specs.laws.Settling.{RunUpto, openings_told, OpeningsAre
 pub agree-append : (stop : Option ℕ) (xs ys us vs : List ℕ) → AgreeWithin stop xs ys → AgreeWithin stop us vs →
     AgreeWithin stop (xs ++ us) (ys ++ vs)
 agree-append stop xs ys us vs h k number e =
-    list_any-append (λ one. one == number) xs us
-    ∙ ap (λ b. b || list_any (λ one. one == number) us) (h number e)
-    ∙ ap (λ b. list_any (λ one. one == number) ys || b) (k number e)
-    ∙ sym (list_any-append (λ one. one == number) ys vs)
-
-pub agree-permuted : (stop : Option ℕ) (xs ys us : List ℕ) → AgreeWithin stop xs ys → IsPermutation xs us →
-    AgreeWithin stop us ys
-agree-permuted stop xs ys us h p number e =
-    sym (list_any-IsPermutation (λ one. one == number) xs us p) ∙ h number e
-
-pub agree-on : (stop : Option ℕ) (xs ys zs : List ℕ) → AgreeWithin stop xs ys → AgreeWithin stop ys zs →
-    AgreeWithin stop xs zs
-agree-on stop xs ys zs h k number e = h number e ∙ k number e
+    let left = h number e in
+    let right = k number e in
+    simp (list_any-append, left, right)
 
 -- what is not past the stop is not past what reached it
 reached : (upto stop : Option ℕ) (number : ℕ) → Reaches upto stop → is_past stop number ≡ false →
     is_past upto number ≡ false
 reached None stop number r e = refl
 reached (Some place) None number r e = absurd r
-reached (Some place) (Some stop) number r e =
-    let within : number ≤ place_number stop = ltb-false (place_number stop) number e in
-    le-ltb (place_number place) number (omega arith)
+reached (Some place) (Some stop) number r e = grind (arith, nat_tests)
 
 pub agree-reached : (upto stop : Option ℕ) (xs ys : List ℕ) → Reaches upto stop → AgreeWithin upto xs ys →
     AgreeWithin stop xs ys
@@ -47,14 +34,7 @@ agree-reached upto stop xs ys r h number e = h number (reached upto stop number 
 pub agree-opened : (upto opened : Option ℕ) →
     AgreeWithin upto (option_to_list (opened_up_to upto opened)) (option_to_list opened)
 agree-opened upto None number e = refl
-agree-opened upto (Some n) number e = by_tests _ _ refl refl where
-  by_tests : (a b : Bool) → is_past upto n ≡ a → (n == number) ≡ b →
-      list_any (λ one. one == number) (option_to_list (opened_up_to upto (Some n)))
-      ≡ list_any (λ one. one == number) (option_to_list (Some n))
-  by_tests false b p q = rw p refl
-  by_tests true false p q = rw (p, q) refl
-  by_tests true true p q =
-      absurd (true≢false (sym p ∙ ap (is_past upto) (eqb-true n number q) ∙ e))
+agree-opened upto (Some n) number e = grind (arith, nat_tests)
 
 -- ---- of all runs
 
@@ -63,19 +43,22 @@ agree-told : (frames : List Frame) (stop : Option ℕ) (runs : List RunUpto) →
     AgreeWithin stop (openings_told frames runs) (openings_of frames (map (λ (run : RunUpto). run.stream) runs))
 agree-told frames stop [] h = λ number e. refl
 agree-told frames stop (run ∷ runs) h =
-    let opened = (stream_at_end run.stream (frames_of run.stream frames) (changes_of frames)).life.opened in
-    agree-append stop (option_to_list (opened_up_to run.upto opened)) (option_to_list opened)
-    (openings_told frames runs) (openings_of frames (map (λ (run : RunUpto). run.stream) runs))
-    (agree-reached run.upto stop _ _ (h 0 run (omega arith)) (agree-opened run.upto opened))
+    agree-append stop _ _ (openings_told frames runs) _
+    (agree-reached run.upto stop _ _ (h 0 run (omega arith)) (agree-opened run.upto
+    (stream_at_end run.stream (frames_of run.stream frames) (changes_of frames)).life.opened))
     (agree-told frames stop runs (λ k d l. h (suc k) d (omega arith)))
 
-any-openings : (frames : List Frame) (number : ℕ) (streams : List ℕ) →
-    list_any (λ one. one == number) (openings_of frames streams)
-    ≡ list_any (λ stream. list_any (λ one. one == number) (opening_of frames stream)) streams
-any-openings frames number [] = refl
-any-openings frames number (stream ∷ streams) =
-    list_any-append (λ one. one == number) (opening_of frames stream) (openings_of frames streams)
-    ∙ ap (λ b. list_any (λ one. one == number) (opening_of frames stream) || b) (any-openings frames number streams)
+-- a number among joined lists is in one of them
+pub any-joined : {X : Type 0} (number : ℕ) (f : X → List ℕ) (xs : List X)
+    → list_any (λ one. one == number) (flat_map f xs) ≡ list_any (λ x. list_any (λ one. one == number) (f x)) xs
+any-joined number f [] = refl
+any-joined number f (x ∷ xs) = rw (list_any-append (λ one. one == number) (f x) (flat_map f xs), any-joined number f xs)
+
+-- so their order does not count
+agree-joined : {X : Type 0} (stop : Option ℕ) (f : X → List ℕ) (xs ys : List X) → IsPermutation xs ys
+    → AgreeWithin stop (flat_map f xs) (flat_map f ys)
+agree-joined stop f xs ys p number e =
+    any-joined number f xs ∙ list_any-IsPermutation _ xs ys p ∙ sym (any-joined number f ys)
 
 -- the openings of some streams and of the others are those of all
 pub agree-parted : (frames : List Frame) (stop : Option ℕ) (test : ℕ → Bool) (streams : List ℕ) →
@@ -84,21 +67,14 @@ pub agree-parted : (frames : List Frame) (stop : Option ℕ) (test : ℕ → Boo
     (openings_of frames streams)
 agree-parted frames stop test streams number e =
     let others = filter (λ stream. not (test stream)) streams in
-    let ones = filter test streams in
-    ap (list_any (λ one. one == number)) (sym (flat_map-append (opening_of frames) others ones))
-    ∙ any-openings frames number (others ++ ones)
-    ∙ sym (list_any-IsPermutation _ streams (others ++ ones)
-    (IsPermutation-filter_both (λ stream. not (test stream)) test (λ stream. twice (test stream)) streams))
-    ∙ sym (any-openings frames number streams) where
-      twice : (b : Bool) → b ≡ not (not b)
-      twice true = refl
-      twice false = refl
+    ap (list_any (λ one. one == number)) (sym (flat_map-append (opening_of frames) others (filter test streams)))
+    ∙ sym (agree-joined stop (opening_of frames) streams (others ++ filter test streams)
+    (IsPermutation-filter_both (λ stream. not (test stream)) test (λ stream. twice (test stream)) streams) number e)
+  where
+    twice : (b : Bool) → b ≡ not (not b)
+    twice b = grind arith
 
 pub openings_are_told_lem : OpeningsAreTold
 openings_are_told_lem frames runs stop opened s h p number e =
-    let streams = map (λ (run : RunUpto). run.stream) runs in
-    agree-permuted stop (openings_told frames runs) (openings_of frames streams) opened
-    (agree-told frames stop runs h) p number e
-    ∙ any-openings frames number streams
-    ∙ list_any-IsPermutation _ streams (streams_of frames) s
-    ∙ sym (any-openings frames number (streams_of frames))
+    sym (list_any-IsPermutation _ (openings_told frames runs) opened p) ∙ agree-told frames stop runs h number e
+    ∙ agree-joined stop (opening_of frames) (map (λ (run : RunUpto). run.stream) runs) (streams_of frames) s number e

@@ -1,7 +1,9 @@
 //! What the round over streams begins from.
 
-ghost use Rattle.std.specs.Prelude.{◌≡◌, IfOk};
+ghost use Rattle.std.specs.Prelude.{◌≡◌, if◌then◌else◌, IfOk, Some};
 ghost use Rattle.std.specs.List.{AllZip};
+ghost use Rattle.audit_terms.specs.Finding.{stops};
+ghost use Rattle.audit_rounds.specs.code.Streams.{lesser};
 ghost use Rattle.audit_rounds.specs.code.StreamRound.{IsFirstStop, IsStreamsOf, changes_in};
 
 use crate::prepared::Prepared;
@@ -44,15 +46,23 @@ pub(crate) fn streams_each<'a>(
     Ok(all)
 }
 
+/// Where the first error stands among some findings, with one finding more.
+fn stop_with(stop: Option<Place>, one: &Finding) -> Option<Place>
+    ensures { result ≡ (if stops one.now then lesser stop (Some one.now.place) else stop) }
+{
+    if one.stops() {
+        return lesser(&stop, &Some(one.place));
+    }
+    stop
+}
+
 /// Where the first error of the connection stands among these findings, if there is one.
 fn first_stop(found: &[Finding]) -> Option<Place>
     ensures { IsFirstStop found.now result }
 {
     let mut stop = None;
     for one in found {
-        if one.stops() {
-            stop = lesser(&stop, &Some(one.place));
-        }
+        stop = stop_with(stop, one);
     }
     stop
 }

@@ -7,10 +7,8 @@ ghost use Rattle.audit_terms.specs.code.runs.Blocks.{block_run};
 ghost use Rattle.audit_terms.specs.Finding.{in_order, upto_stop, shown};
 ghost use Rattle.stop_desk.specs.code.Stop.{IsStop};
 ghost use Rattle.stop_desk.specs.code.Board.{Job};
-ghost use Rattle.conn_scan.specs.declared.sums.ConnSum.{ConnSum as ConnSumTerm};
 ghost use Rattle.conn_scan.specs.code.Items.{items_in, IsBlock};
 ghost use Rattle.conn_scan.specs.code.Block.{BlockFits};
-ghost use Rattle.stop_desk.specs.declared.parts.Part.{Part as PartTerm};
 ghost use Rattle.audit_rounds.specs.declared.blocks.ConnectionBlock.{ConnectionBlock as BlockTerm};
 ghost use Rattle.audit_rounds.specs.code.Blocks.{AreShort, AreSums, wholes};
 ghost use Rattle.audit_rounds.specs.code.Few.{RestsAreFew};
@@ -36,13 +34,6 @@ const SUM_ROUND: u8 = 2;
 /// The number of the round in which blocks are gone through.
 const BLOCK_ROUND: u8 = 3;
 
-/// The summaries that parts hold.
-fn summaries(alloc: Global, parts: Vec<Part<ConnSum>>) -> Result<Vec<ConnSum>, AllocError>
-    ensures { IfOk result (λ sums. sums.items ≡ map (λ (part : PartTerm ConnSumTerm). part.made) parts.items) }
-{
-    parts.into_iter().map(|part| part.made).collect(alloc)
-}
-
 /// The summary of each block.
 fn sums_of<R: Threads + Sync, G: Gate>(
     crew: &Crew<'_, R, G>,
@@ -57,7 +48,11 @@ fn sums_of<R: Threads + Sync, G: Gate>(
 {
     let round = SumRound { blocks };
     let settled = settle(&crew.team(), SUM_ROUND, stops, &round)?;
-    summaries(crew.setup.alloc, settled.parts)
+    settled
+        .parts
+        .into_iter()
+        .map(|part| part.made)
+        .collect(crew.setup.alloc)
 }
 
 /// What the planned blocks show, each as far as its connection's stop has it.
@@ -97,14 +92,11 @@ fn planned<'a, R: Threads + Sync, G: Gate>(
         (shown_at crew.now.setup.credits_shown 0 (wholes connections.now)) plan.items) }
     ensures few { IfOk result (λ plan. length plan.items < 2 ^ 32) }
 {
-    let cut = cut_into_blocks(crew.setup.alloc, crew.setup.block as usize, connections)?;
-    let sums = sums_of(crew, stops, cut.blocks.as_slice())?;
-    plan_of(
-        crew.setup.alloc,
-        crew.setup.credits_shown,
-        &cut,
-        sums.as_slice(),
-    )
+    let setup = &crew.setup;
+    let blocks = cut_into_blocks(setup.alloc, setup.block as usize, connections)?;
+    let blocks = blocks.as_slice();
+    let sums = sums_of(crew, stops, blocks)?;
+    plan_of(setup.alloc, setup.credits_shown, blocks, sums.as_slice())
 }
 
 /// What was found of each connection, and what its blocks show, up to where it is known to stop.

@@ -2,7 +2,7 @@
 
 ghost use Rattle.std.specs.Prelude.{◌≡◌, ◌^◌, ◌<◌, All, IfOk, OnOk, length};
 ghost use Rattle.conn_scan.specs.code.Items.{IsBlock};
-ghost use Rattle.audit_rounds.specs.code.Blocks.{AddsBlocks, AreCut, AreShort, wholes};
+ghost use Rattle.audit_rounds.specs.code.Blocks.{AddsBlocks, AreBlocksOf, AreShort, wholes};
 ghost use Rattle.audit_rounds.specs.code.Few.{RestsAreFew};
 
 use conn_scan::{Block, changes_from, numbers_from};
@@ -13,16 +13,6 @@ use std::alloc::{AllocError, Global};
 pub(crate) struct ConnectionBlock<'a> {
     pub(crate) connection: usize,
     pub(crate) block: Block<'a>,
-}
-
-/// Connections whose frames are cut into blocks.
-#[derive(Drop)]
-pub(crate) struct Cut<'c, 'a> {
-    pub(crate) connections: &'c [Block<'a>],
-    /// The blocks of all connections, one connection's after the other's.
-    pub(crate) blocks: Vec<ConnectionBlock<'a>>,
-    /// How many blocks each connection has.
-    pub(crate) counts: Vec<usize>,
 }
 
 /// Adds the frames of a connection in blocks of at most so many, each with the numbers and the changes from its first
@@ -52,30 +42,22 @@ fn add_blocks<'a>(
     Ok(())
 }
 
-/// The frames of all connections in blocks of at most so many.
-pub(crate) fn cut_into_blocks<'c, 'a>(
+/// The frames of all connections in blocks of at most so many, one connection's after the other's.
+pub(crate) fn cut_into_blocks<'a>(
     alloc: Global,
     size: usize,
-    connections: &'c [Block<'a>],
-) -> Result<Cut<'c, 'a>, AllocError>
+    connections: &[Block<'a>],
+) -> Result<Vec<ConnectionBlock<'a>>, AllocError>
     requires size { 0 < size }
     requires whole { All IsBlock connections.now }
     requires few { RestsAreFew connections.now }
-    ensures of { IfOk result (λ cut. cut.connections.now ≡ connections.now) }
-    ensures cut { IfOk result (λ cut. AreCut 0 (wholes connections.now) cut.counts.items cut.blocks.items) }
-    ensures short { IfOk result (λ cut. AreShort cut.blocks.items) }
-    ensures few { IfOk result (λ cut. length cut.blocks.items < 2 ^ 32) }
+    ensures of { IfOk result (λ blocks. AreBlocksOf (wholes connections.now) blocks.items) }
+    ensures short { IfOk result (λ blocks. AreShort blocks.items) }
+    ensures few { IfOk result (λ blocks. length blocks.items < 2 ^ 32) }
 {
     let mut blocks = Vec::new(alloc);
-    let mut counts = Vec::with_capacity(alloc, connections.len())?;
-    for connection in connections {
-        let before = blocks.len();
-        add_blocks(&mut blocks, size, counts.len(), connection)?;
-        counts.push(blocks.len() - before)?;
+    for (connection, whole) in connections.iter().enumerate() {
+        add_blocks(&mut blocks, size, connection, whole)?;
     }
-    Ok(Cut {
-        connections,
-        blocks,
-        counts,
-    })
+    Ok(blocks)
 }

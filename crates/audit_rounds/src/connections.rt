@@ -126,42 +126,25 @@ fn prepare_each<'a, R: Threads + Sync, G: Gate>(
     ensures { IfOk result (λ made. AreMadeReady crew.now.setup.credits_shown connections.now made.prepared.items
         made.found.items) }
 {
-    if crew.setup.workers == 1 || connections.len() < 2 {
+    if crew.workers == 1 || connections.len() < 2 {
         return prepare_in_turn(crew, connections);
     }
     let (front, back) = connections.split_at(middle(connections));
-    let (few, others) = crew.setup.halves();
-    let (rt, gate) = (crew.rt, crew.gate);
+    let (rt, gate, setup) = (crew.rt, crew.gate, crew.setup);
+    let few = crew.workers / 2;
+    let others = crew.workers - few;
     let (one, other) = join(
         rt,
         || -> Result<MadeReady<'_>, AllocError>
-            requires { IsSync R.row × IsSync G.row × All (λ frames. IsOrderly frames.now) front.now }
-            ensures { IfOk result (λ made. AreMadeReady few.credits_shown front.entry.now made.prepared.items
+            requires { IsSync R.row × IsSync G.row × (0 < few) × All (λ frames. IsOrderly frames.now) front.now }
+            ensures { IfOk result (λ made. AreMadeReady setup.credits_shown front.entry.now made.prepared.items
                 made.found.items) }
-        {
-            prepare_each(
-                &Crew {
-                    rt,
-                    gate,
-                    setup: few,
-                },
-                front,
-            )
-        },
+        { prepare_each(&Crew::of(rt, gate, setup, few), front) },
         || -> Result<MadeReady<'_>, AllocError>
-            requires { IsSync R.row × IsSync G.row × All (λ frames. IsOrderly frames.now) back.now }
-            ensures { IfOk result (λ made. AreMadeReady others.credits_shown back.entry.now made.prepared.items
+            requires { IsSync R.row × IsSync G.row × (0 < others) × All (λ frames. IsOrderly frames.now) back.now }
+            ensures { IfOk result (λ made. AreMadeReady setup.credits_shown back.entry.now made.prepared.items
                 made.found.items) }
-        {
-            prepare_each(
-                &Crew {
-                    rt,
-                    gate,
-                    setup: others,
-                },
-                back,
-            )
-        },
+        { prepare_each(&Crew::of(rt, gate, setup, others), back) },
     );
     let mut made = one?;
     let mut more = other?;

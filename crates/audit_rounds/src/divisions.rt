@@ -7,10 +7,10 @@ ghost use Rattle.audit_rounds.specs.code.Few.{AreFew};
 use crate::crew::{Crew, Setup};
 use crate::halves::by_halves;
 use audit_terms::{Finding, Frame};
+use input_output::TableHash;
 use std::alloc::{AllocError, Global};
 use std::thread::Threads;
 use stop_desk::Gate;
-use table_hash::TableHash;
 
 /// How an audit is divided. Whatever is chosen, the findings are the same.
 #[derive(Clone, Copy)]
@@ -62,7 +62,7 @@ pub fn findings_of_each<R: Threads + Sync, G: Gate>(
         ≡ map (λ frames. shown credits_shown (pass frames.now)) connections.now) }
 {
     let setup = Setup::of(alloc, division, credits_shown);
-    let crew = Crew { rt, gate, setup };
+    let crew = Crew::of(rt, gate, setup, division.workers.max(1));
     let mut all = Vec::with_capacity(alloc, connections.len())?;
     let mut done = 0;
     while done < connections.len() {

@@ -48,41 +48,24 @@ pub(crate) fn by_halves<R: Threads + Sync, G: Gate>(
     requires { IsBatch connections.now }
     ensures { IfOk result (λ found. AreShown crew.now.setup.credits_shown connections.now found.items) }
 {
-    let workers = crew.setup.workers;
+    let workers = crew.workers;
     if workers == 1 || connections.len() < MANY || !are_short(workers, connections) {
         return findings_by_fronts(crew, connections);
     }
     let (front, back) = in_halves(connections);
-    let (few, others) = crew.setup.halves();
-    let (rt, gate) = (crew.rt, crew.gate);
+    let (rt, gate, setup) = (crew.rt, crew.gate, crew.setup);
+    let few = workers / 2;
+    let others = workers - few;
     let (one, other) = join(
         rt,
         || -> Result<Vec<Vec<Finding>>, AllocError>
-            requires { IsSync R.row × IsSync G.row × IsBatch front.now }
-            ensures { IfOk result (λ found. AreShown few.credits_shown front.entry.now found.items) }
-        {
-            by_halves(
-                &Crew {
-                    rt,
-                    gate,
-                    setup: few,
-                },
-                front,
-            )
-        },
+            requires { IsSync R.row × IsSync G.row × (0 < few) × IsBatch front.now }
+            ensures { IfOk result (λ found. AreShown setup.credits_shown front.entry.now found.items) }
+        { by_halves(&Crew::of(rt, gate, setup, few), front) },
         || -> Result<Vec<Vec<Finding>>, AllocError>
-            requires { IsSync R.row × IsSync G.row × IsBatch back.now }
-            ensures { IfOk result (λ found. AreShown others.credits_shown back.entry.now found.items) }
-        {
-            by_halves(
-                &Crew {
-                    rt,
-                    gate,
-                    setup: others,
-                },
-                back,
-            )
-        },
+            requires { IsSync R.row × IsSync G.row × (0 < others) × IsBatch back.now }
+            ensures { IfOk result (λ found. AreShown setup.credits_shown back.entry.now found.items) }
+        { by_halves(&Crew::of(rt, gate, setup, others), back) },
     );
     let mut found = one?;
     let mut more = other?;

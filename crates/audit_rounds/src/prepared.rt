@@ -50,13 +50,13 @@ fn faults_and_split<R: Threads + Sync, G: Gate>(
     let hash = crew.setup.hash;
     let credits_shown = crew.setup.credits_shown;
     let rt = crew.rt;
-    if crew.setup.workers == 1 || frames.len() < MANY {
+    if crew.workers == 1 || frames.len() < MANY {
         return (
             local_faults(rt, alloc, 1, frames),
             split(alloc, hash, credits_shown, changes, frames),
         );
     }
-    let others = crew.setup.workers as usize - 1;
+    let others = crew.workers as usize - 1;
     join(
         rt,
         || -> Result<Vec<Finding>, AllocError>

@@ -1,6 +1,5 @@
 pub mod Packing
 pub mod Room
-pub mod StreamSteps
 pub mod Watch
 pub mod Widths
 pub mod Settings

@@ -75,24 +75,6 @@ pub fn say_if(found: &mut Vec<Finding>, holds: bool, finding: Finding) -> Result
     Ok(())
 }
 
-/// Adds the finding of a kind at a frame's number and a stream, of a side, where a test holds.
-pub(crate) fn say_at(
-    found: &mut Vec<Finding>,
-    holds: bool,
-    kind: Kind,
-    number: u32,
-    stream: u32,
-    side: Side,
-    value: u32,
-) -> Result<(), AllocError>
-    requires numbered { number ≤ 2 ^ 28 - 2 }
-    requires streamed { stream < 2 ^ 31 }
-    ensures { OnOk result (found.new.items
-        ≡ found.old.items ++ say holds (finding_at kind number stream side (pos value))) }
-{
-    say_if(found, holds, Finding::at(kind, number, stream, side, value))
-}
-
 /// Puts findings in order, in n log n steps.
 pub fn put_in_order(found: &mut Vec<Finding>) -> Result<(), AllocError>
     ensures ok { OnOk result (found.new.items ≡ in_order found.old.items) }

@@ -6,30 +6,30 @@ use crate::sides::Side;
 use crate::widths::{Length, Word};
 
 /// The type bytes that rules of an audit name (RFC 9113, 6).
-pub const DATA: u8 = 0;
+const DATA: u8 = 0;
 
-pub const HEADERS: u8 = 1;
+const HEADERS: u8 = 1;
 
-pub const PRIORITY: u8 = 2;
+const PRIORITY: u8 = 2;
 
-pub const RST_STREAM: u8 = 3;
+const RST_STREAM: u8 = 3;
 
-pub const SETTINGS: u8 = 4;
+const SETTINGS: u8 = 4;
 
 pub const PUSH_PROMISE: u8 = 5;
 
-pub const PING: u8 = 6;
+const PING: u8 = 6;
 
-pub const GOAWAY: u8 = 7;
+const GOAWAY: u8 = 7;
 
 pub const CONTINUATION: u8 = 9;
 
 /// END_STREAM, of DATA and HEADERS (RFC 9113, 6.1 and 6.2).
 pub const END_STREAM: u8 = 0x1;
 /// ACK, of SETTINGS (6.5).
-pub const ACK: u8 = 0x1;
+const ACK: u8 = 0x1;
 /// END_HEADERS, of HEADERS, PUSH_PROMISE and CONTINUATION (6.2, 6.6, 6.10).
-pub const END_HEADERS: u8 = 0x4;
+const END_HEADERS: u8 = 0x4;
 
 /// What a frame carries, by its type (RFC 9113, 6.1 to 6.10).
 #[derive(Clone, Copy)]
@@ -151,6 +151,8 @@ impl Frame {
     ghost use Rattle.audit_terms.specs.Frame.{is_server_promise, is_client_headers, promises, promised_by, meets};
     ghost use Rattle.audit_terms.specs.Frame.{needs_opening};
     ghost use Rattle.audit_terms.specs.Life.{is_last_of, ends_window};
+    ghost use Rattle.audit_terms.specs.LocalFault.{is_settings, leaves_block_open, is_on_wrong_stream};
+    ghost use Rattle.audit_terms.specs.Connection.{is_length_fatal};
 
     /// The flow-controlled length in bytes that a side sends with this frame (RFC 9113, 6.9.1): all of a DATA frame,
     /// padding included; 0 of any other frame, and of a frame of the other side.
@@ -261,4 +263,62 @@ impl Frame {
     {
         self.sends_end(side) || self.body.is_reset()
     }
+
+    /// Is it a SETTINGS frame that is no acknowledgement?
+    pub fn is_settings(&self) -> bool
+        ensures { result ≡ is_settings self.now }
+    {
+        self.code == SETTINGS && self.flags & ACK == 0
+    }
+
+    /// Does a field block go on with CONTINUATION frames after this one (4.3)?
+    pub fn leaves_block_open(&self) -> bool
+        ensures { result ≡ leaves_block_open self.now }
+    {
+        (self.code == HEADERS || self.code == PUSH_PROMISE || self.code == CONTINUATION)
+            && self.flags & END_HEADERS == 0
+    }
+
+    /// Is it a frame of a stream on stream 0, or one of the connection on another?
+    pub fn is_on_wrong_stream(&self) -> bool
+        ensures { result ≡ is_on_wrong_stream self.now }
+    {
+        if self.stream == 0 {
+            needs_stream(self.code)
+        } else {
+            needs_connection(self.code)
+        }
+    }
+
+    /// Is the excess length of such a frame an error of the connection (4.2)?
+    pub fn is_length_fatal(&self) -> bool
+        ensures { result ≡ is_length_fatal self.now }
+    {
+        self.code == HEADERS
+            || self.code == SETTINGS
+            || self.code == PUSH_PROMISE
+            || self.code == CONTINUATION
+            || self.stream == 0
+    }
+}
+
+ghost use Rattle.audit_terms.specs.LocalFault.{needs_stream, needs_connection};
+
+/// Are frames of this type of a stream (6.1 to 6.4, 6.6, 6.10)?
+fn needs_stream(code: u8) -> bool
+    ensures { result ≡ needs_stream code }
+{
+    code == DATA
+        || code == HEADERS
+        || code == PRIORITY
+        || code == RST_STREAM
+        || code == PUSH_PROMISE
+        || code == CONTINUATION
+}
+
+/// Are frames of this type of the connection (6.5, 6.7, 6.8)?
+fn needs_connection(code: u8) -> bool
+    ensures { result ≡ needs_connection code }
+{
+    code == SETTINGS || code == PING || code == GOAWAY
 }

@@ -1,4 +1,4 @@
-//! The vocabulary of an HTTP/2 flow-control audit (RFC 9113, sections 4 to 6): frames, places and findings, and the
+//! The vocabulary of an audit of HTTP/2 flow control (RFC 9113, sections 4 to 6): frames, places and findings, and the
 //! definitions that every part of the audit cites.
 //!
 //! `specs/` holds the rules, each beside its section of the RFC: what a frame shows by itself (`LocalFault`), settings
@@ -7,10 +7,9 @@
 //! parts of a pass show by themselves, and when a run looks for the stop of its connection; `specs/laws/` what laws
 //! say, as credit in closed form. The contracts of the program's calls rest on neither of the two.
 //!
-//! - [`Frame`], [`Change`], [`Item`] and [`Step`] are what an audit reads: frames, and what they bring.
-//! - [`Stream`], [`StreamLife`] and [`ConnectionState`] are a stream and a connection between two frames, and their
-//!   calls count one frame as the definitions say; so do [`say_local`] and [`say_window`]. The plain pass and the
-//!   rounds take them from here: both say each rule by the same code, and differ only in how they walk.
+//! - [`Frame`], [`Change`], [`Item`] and [`Step`] are what an audit reads: frames, what they bring, and tests of one.
+//! - [`Stream`], [`StreamLife`] and [`ConnectionState`] are a stream and a connection between two frames. What a frame
+//!   shows of them, and makes of them, is said by the calls of `fault_rules`; a life goes on by itself.
 //! - [`PackedSettings`], [`Word`] and [`Length`] need no alignment, so that a frame takes 40 bytes; contracts see the
 //!   settings and the numbers that they hold.
 //! - [`Place`], [`Kind`] and [`Finding`] say where a finding stands, what it says and whether it stops the audit;
@@ -21,24 +20,19 @@
 //! - [`laws`]: places stand in the order of frame number, rank and stream, and none is all ones.
 //!
 //! Each contract gives exactly what its definition says. The order of findings goes on from the place to side, kind and
-//! value, so it is total, and putting in order asks for no condition. A step with a change has an acknowledgement for
-//! its frame (`IsAcknowledged`), so one thing alone moves a window at a step: content, a grant, or a difference of
-//! initial windows. Each is below 2^32, so credits stay below 2^60 over the fewer than 2^28 frames of a connection, and
-//! no sum wraps; that bound is bookkeeping of code (`specs/code/`).
+//! value, so it is total, and putting in order asks for no condition.
 //!
 //! Wrong bodies that the prover refuses: a cut by the frame, an order with the server first, padding that does not
-//! count, an overflowing grant that is added. That calls succeed where there is memory is tested by those above them.
+//! count. That calls succeed where there is memory is tested by those above them.
 #![tactic(auto)]
 
 mod connections;
-mod counts;
 mod findings;
 mod frames;
 mod items;
 mod kinds;
 pub mod laws;
 mod lives;
-mod local_faults;
 mod looks;
 mod places;
 mod settings;
@@ -48,17 +42,15 @@ mod widths;
 mod windows;
 
 pub use connections::{ConnectionState, FIRST_LIMIT};
-pub use counts::LARGEST_WINDOW;
 pub use findings::{Finding, cut_at_stop, keep_shown, keep_up_to, put_in_order, say_if};
-pub use frames::{Body, END_STREAM, Frame};
+pub use frames::{Body, CONTINUATION, END_STREAM, Frame, PUSH_PROMISE};
 pub use items::{Change, Item, Step};
 pub use kinds::Kind;
 pub use lives::StreamLife;
-pub use local_faults::{previous_after, say_local};
 pub use looks::{Look, Watch};
 pub use places::Place;
 pub use settings::{PackedSettings, Settings};
 pub use sides::{Side, Sides};
 pub use streams::Stream;
 pub use widths::{Length, Word};
-pub use windows::{FIRST_WINDOW, initial_after, say_window};
+pub use windows::{FIRST_WINDOW, LARGEST_WINDOW, initial_after, new_initial};

@@ -16,7 +16,7 @@
 //! `carries`, and what a summary is; its blocks are summed by workers that draw them.
 //!
 //! Wrong bodies that the prover refuses: the sum of one item or the state before one block left out, an item of which
-//! only one of two summaries hears. Tested, in `crate_tests`: that `scan` succeeds where there is memory, for several
+//! only one of two summaries hears. Tested, in `round_tests`: that `scan` succeeds where there is memory, for several
 //! block lengths. Trusted: the port of `rayon`.
 #![tactic(auto)]
 

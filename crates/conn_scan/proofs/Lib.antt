@@ -1,5 +1,4 @@
 mod Terms
-pub mod Words
 pub mod SumLemmas
 pub mod WalkLemmas
 pub mod ClearLemmas

@@ -1,18 +1,15 @@
 -- A clear block shows connection credit alone.
 use Rattle.conn_scan.proofs.Terms.{◌||◌, ◌%◌, ◌==◌, is_server_promise, promised_in, is_opened_by_headers, nat_lt, ◌≡◌}
-use Rattle.conn_scan.proofs.Terms.{ℕ, ◌<◌, ◌≤◌, ℤ, pos, ◌+ℤ◌, ◌-ℤ◌, ◌<ℤ◌, int_lt, nat_le, Bool, true, false, ◌&&◌, not}
-use Rattle.conn_scan.proofs.Terms.{cond, if◌then◌else◌, List, [], ◌∷◌, ◌++◌, refl, ap, ◌∙◌, arith, AllByRecursion}
+use Rattle.conn_scan.proofs.Terms.{ℕ, ◌≤◌, ℤ, pos, int_lt, nat_le, Bool, true, false, ◌&&◌, not}
+use Rattle.conn_scan.proofs.Terms.{List, [], ◌∷◌, refl, arith, AllByRecursion}
 use Rattle.conn_scan.proofs.Terms.{list_all, ints, nat_tests, Side, Client, Server, ConnectionState, Item, Frame}
-use Rattle.conn_scan.proofs.Terms.{Finding, largest_window, is_used_up, overflows, overruns, new_limit, say, in_order}
+use Rattle.conn_scan.proofs.Terms.{Finding, largest_window, is_used_up, overflows, overruns, new_limit, in_order}
 use Rattle.conn_scan.proofs.Terms.{shown, credit_after, connection_window_said, connection_said, connection_after}
 use Rattle.conn_scan.proofs.Terms.{block_run, each-append, each-in_order, each-said, length_by, longest_by, connections}
 use Rattle.conn_scan.proofs.Terms.{is_usable, keeps_credit, grants_something, openings_rise, promises_allowed}
-use Rattle.conn_scan.proofs.Terms.{promises_rise, not_above, is_content, content_by, grant_to, grants_nothing}
-use Rattle.conn_scan.proofs.Terms.{increment}
+use Rattle.conn_scan.proofs.Terms.{promises_rise, not_above, content_by, grants_nothing}
 use Rattle.std.proofs.lemmas.Bool.{and_parts, or_parts, not-true, and_left, and_right}
-use Rattle.audit_terms.specs.declared.kinds.Kind.{Kind}
 use Rattle.audit_terms.specs.declared.kinds.Kind.TheVariants.{ConnectionCredit}
-use Rattle.audit_terms.specs.Kind.{is_credit}
 use Rattle.audit_terms.specs.Side.{other, is_side}
 use Rattle.audit_terms.specs.Sides.{side_of}
 use Rattle.conn_scan.specs.laws.Clear.{ClearShowsCredit}
@@ -24,36 +21,18 @@ IsCredit found = found.kind ≡ ConnectionCredit
 abbrev Only : List Finding → Type 0
 Only = AllByRecursion IsCredit
 
--- ---- lists of credits
-
-both_only : (a b : List Finding) → Only a → Only b → Only (a ++ b)
-both_only = each-append IsCredit
-
-ordered_only : (a : List Finding) → Only a → Only (in_order a)
-ordered_only = each-in_order IsCredit
-
-credit_said : (b : Bool) (found : Finding) → IsCredit found → Only (say b found)
-credit_said = each-said IsCredit
-
 hidden : (found : List Finding) → Only found → shown false found ≡ []
 hidden [] h = refl
-hidden (x ∷ found) h =
-    ap (λ (kind : Kind). cond (not (is_credit kind)) (x ∷ shown false found) (shown false found)) h.0
-    ∙ hidden found h.1
+hidden (x ∷ found) h = rw h.0 (hidden found h.1)
 
 -- ---- windows
 
 -- a frame that carries content of side d grants nothing to d
-no_grant : (d s : Side) (b c : Bool) (length amount : ℕ) → 0 < (if is_side d s && b then length else 0)
-    → (if is_side (other d) s && c then amount else 0) ≡ 0
-no_grant Client Client b c length amount h = refl
-no_grant Client Server b c length amount h = absurd (omega (arith, h))
-no_grant Server Client b c length amount h = absurd (omega (arith, h))
-no_grant Server Server b c length amount h = refl
-
-no_overrun : (before : ℤ) (grant content : ℕ) → (0 < content → grant ≡ 0)
-    → pos 0 <ℤ (before +ℤ (pos grant -ℤ pos content)) → overruns before content ≡ false
-no_overrun before grant content none left = grind (arith, ints, nat_tests)
+one_side : (d s : Side) → (is_side (other d) s && is_side d s) ≡ false
+one_side Client Client = refl
+one_side Client Server = refl
+one_side Server Client = refl
+one_side Server Server = refl
 
 window_only : (d : Side) (before : ℤ) (frame : Frame) → is_usable before ≡ true
     → is_usable (credit_after d before frame) ≡ true → grants_nothing d 0 frame ≡ false
@@ -65,13 +44,12 @@ window_only d before frame entry left grants =
     let overflow : overflows before after ≡ false =
     and_right (int_lt before after) (int_lt largest_window after) (not_above largest_window after kept.1) in
     let overrun : overruns before (content_by d frame) ≡ false =
-    no_overrun before (grant_to d 0 frame) (content_by d frame)
-    (no_grant d frame.side (is_content frame.body) _ frame.length (increment frame.body)) kept.0 in
+    grind (arith, ints, nat_tests, kept.0, one_side d frame.side) in
     let full : is_used_up before ≡ false = not_most before (pos 0) some in
     let still : is_used_up after ≡ false = not_most after (pos 0) kept.0 in
     let ends = and_left (is_used_up before) (not (is_used_up after)) full in
     let begins = and_right (not (is_used_up before)) (is_used_up after) still in
-    rw (grants, overflow, overrun, ends, begins) (credit_said _ _ refl)
+    rw (grants, overflow, overrun, ends, begins) (each-said IsCredit _ _ refl)
 
 -- ---- an item
 
@@ -133,7 +111,7 @@ module _ (longest : Side → ℕ) (now : ConnectionState) (item : Item) (items :
       && ((promised_in item.frame.body % 2 == 1) || nat_le (promised_in item.frame.body) now.promised) ≡ false =
       not-true _ (and_parts _ _ h.promises).0 in
       rw (length, allowed, opening, promise)
-      (both_only _ _
+      (each-append IsCredit _ _
       (window_only Client now.credit.client item.frame (and_parts _ _ (h.credit Client)).0 client grants.0)
       (window_only Server now.credit.server item.frame (and_parts _ _ (h.credit Server)).0 server grants.1))
 
@@ -141,8 +119,8 @@ items_only : (longest : Side → ℕ) (now : ConnectionState) (items : List Item
     → Only (block_run now items)
 items_only longest now [] h = tt
 items_only longest now (item ∷ items) h =
-    both_only (in_order (connection_said now item)) (block_run (connection_after now item) items)
-    (ordered_only (connection_said now item) (item_only longest now item items h))
+    each-append IsCredit (in_order (connection_said now item)) (block_run (connection_after now item) items)
+    (each-in_order IsCredit (connection_said now item) (item_only longest now item items h))
     (items_only longest (connection_after now item) items (rest_clear longest now item items h))
 
 pub clear_shows_credit : ClearShowsCredit

@@ -4,15 +4,11 @@ use Rattle.conn_scan.proofs.Terms.{arith, length-append, AllByRecursion, length-
 use Rattle.conn_scan.proofs.Terms.{Item, connection_after, connection_after_all, HasRoom, summary_of, summary-shown}
 use Rattle.conn_scan.proofs.Terms.{change_of, credit_of, no_change, one_change, credit_join, AreSmall, ChangesFit}
 use Rattle.conn_scan.proofs.Terms.{Block, walked, MovesLittle, ItemsFit, connections_before, conn_sum_of, conn_none}
-use Rattle.conn_scan.proofs.Terms.{conn_one, conn_join, all-append, room-wider, IsRoomy, roomy, credit_shows}
+use Rattle.conn_scan.proofs.Terms.{conn_one, conn_join, room-wider, IsRoomy, roomy, credit_shows}
 use Rattle.block_scan.specs.code.List.{states_before}
 use Rattle.conn_scan.specs.declared.sums.ConnSum.{ConnSum}
 use Rattle.conn_scan.specs.code.ConnSumLaws.{all-after, conn_shows}
 use Rattle.conn_scan.proofs.WalkLemmas.{length-walked}
-
-pub little-append : (a b : List Item) → AllByRecursion MovesLittle a → AllByRecursion MovesLittle b
-    → AllByRecursion MovesLittle (a ++ b)
-little-append = all-append MovesLittle
 
 -- the credit of one side, which each item changes by little
 module _ (change : Item → ℤ) (small : (item : Item) → MovesLittle item → HasRoom (2 ^ 32) (change item)) where

@@ -17,6 +17,7 @@ use crate::block_items::Block;
 use audit_terms::{
     ConnectionState, Finding, Item, Look, Place, Watch, keep_shown, keep_up_to, put_in_order,
 };
+use fault_rules::say_connection;
 use std::alloc::{AllocError, Global};
 
 /// What a block of frames shows of its connection, up to where the run stopped.
@@ -110,7 +111,7 @@ fn say_item(
     ensures server { (n : ℕ) → HasRoom n state.old.credit.server → HasRoom (n + 2 ^ 32) state.new.credit.server }
 {
     said.clear();
-    state.meet(said, item)?;
+    say_connection(said, state, item)?;
     put_in_order(said)?;
     keep_shown(said, credits_shown);
     Ok(())

@@ -23,7 +23,7 @@
 //! and at once.
 //!
 //! Wrong bodies that the prover refuses: a block that starts afresh, an item or a join that leaves out what is before,
-//! clear by the total alone, HEADERS that all count as openings, a run that looks once. Tested, in `crate_tests`: that
+//! clear by the total alone, HEADERS that all count as openings, a run that looks once. Tested, in `round_tests`: that
 //! the calls succeed where there is memory, and how often a run over 1,000 frames looks.
 #![tactic(auto)]
 

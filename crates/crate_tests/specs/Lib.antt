@@ -1,2 +1,1 @@
 pub mod examples
-pub mod code

@@ -4,11 +4,11 @@ mod keys;
 mod plain;
 mod segments;
 
-use crate::answer::Answer;
 use keys::drawn_keys;
 use segments::{overlaps_and_gap, random_segments};
 use std::alloc::Global;
 use std::random::RandomSource;
+use test_answers::Answer;
 
 pub fn answers(rt: &impl RandomSource, alloc: Global) -> [(&'static str, Answer); 3] {
     [

@@ -1,5 +1,6 @@
-//! Tests of the crates, as a program that prints a line for each: its name, and `same` where what it compares is the
-//! same. Nothing is proved of what they compare, so each line is one that no contract gives.
+//! Tests of the crates from bytes to frames, of the text, and of runs, as a program that prints a line for each: its
+//! name, and `same` where what it compares is the same. Nothing is proved of what they compare, so each line is one
+//! that no contract gives. Those of the calls between frames and findings are a program of their own, `round_tests`.
 //!
 //! What the calls answer is proved in their own crates, and worked out by proof in their `worked_examples`; no test
 //! repeats an equation. [`stream_examples`] and [`frame_examples`] compute the definitions of `tcp_streams` and
@@ -8,49 +9,28 @@
 //! capture order.
 //!
 //! What is left for tests are calls, of single crates and of runs: calls that take memory once each where there is
-//! memory, and printed text. `assemble` beside a slow program over random segments; `findings_of_each` beside
-//! `one_pass` over random frames; two passes over one desk; when runs look, with a stop and without; that a later job
-//! sees the stop which an earlier one lowered, that two workers are in one round at once, and how many jobs each round
-//! has; readers and writers that go in steps or fail; the texts of faults; and calls that whole reports do not reach,
-//! once each. What the program answers to words and to whole captures is asked of the program, in `tests/` at the root.
-//!
-//! All tests are one program, since each crate above the libraries takes them anew, to prove and to build. Test
-//! functions of the language would be one more.
+//! memory, and printed text. `assemble` beside a slow program over random segments; that two workers are in one round
+//! of an audit at once, and how many jobs each round has; readers and writers that go in steps or fail; the texts of
+//! faults; and calls that whole reports do not reach, once each. What the program answers to words and to whole
+//! captures is asked of the program, in `tests/` at the root.
 #![tactic(auto)]
 
-mod answer;
 mod captures;
-mod desks;
 mod flows;
 mod frame_examples;
-mod looks;
-mod passes;
-mod random;
 mod reports;
 mod runs;
-mod scans;
 mod stream_examples;
-mod streams;
 
-use answer::print_answers;
 use std::io;
 use std::random::RandomSource;
 use std::thread::Threads;
+use test_answers::print_answers;
 
 /// Prints a line for each test of calls, in groups: a long chain of calls is dear to prove.
-fn print_calls(rt: &(impl AllocGlobal + Print + RandomSource + Sync + Threads)) -> io::Result<()> {
+fn print_calls(rt: &(impl AllocGlobal + Print + RandomSource)) -> io::Result<()> {
     let alloc = rt.alloc();
     print_answers(rt, &flows::answers(rt, alloc))?;
-    print_answers(rt, &passes::answers(rt, alloc))?;
-    print_answers(rt, &looks::answers(alloc))
-}
-
-/// Those of calls that share work out, and of parts of a report.
-fn print_crews(rt: &(impl AllocGlobal + Print + Sync + Threads)) -> io::Result<()> {
-    let alloc = rt.alloc();
-    print_answers(rt, &scans::answers(rt, alloc))?;
-    print_answers(rt, &desks::answers(rt, alloc))?;
-    print_answers(rt, &streams::answers(rt, alloc))?;
     print_answers(rt, &reports::answers(alloc))
 }
 
@@ -63,6 +43,5 @@ fn print_runs(rt: &(impl AllocGlobal + Print + RandomSource + Sync + Threads)) -
 
 fn main(rt: HostRuntime) -> io::Result<()> {
     print_calls(&rt)?;
-    print_crews(&rt)?;
     print_runs(&rt)
 }

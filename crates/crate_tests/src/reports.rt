@@ -2,9 +2,9 @@
 
 mod lines;
 
-use crate::answer::Answer;
 use lines::{each_kind_of_packet, line_of_a_stall, snapped_gap};
 use std::alloc::Global;
+use test_answers::Answer;
 
 pub fn answers(alloc: Global) -> [(&'static str, Answer); 3] {
     [

@@ -5,7 +5,6 @@ mod fakes;
 mod gates;
 mod in_steps;
 
-use crate::answer::Answer;
 use endings::texts_of_faults;
 use gates::{jobs_of_blocks, jobs_up_to_the_stop, two_at_once};
 use in_steps::{
@@ -14,6 +13,7 @@ use in_steps::{
 use std::alloc::Global;
 use std::random::RandomSource;
 use std::thread::Threads;
+use test_answers::Answer;
 
 /// Endings; and readers and writers that go in steps or fail.
 pub fn stepwise(

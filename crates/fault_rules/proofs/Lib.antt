@@ -1,1 +1,4 @@
 pub mod PieceLemmas
+mod SaidInTurn
+mod Acknowledged
+mod Bounds

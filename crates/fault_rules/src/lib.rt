@@ -1,18 +1,41 @@
-//! What each frame of a connection shows by itself and beside the frame of its side just before it (RFC 9113, 3.4, 4.3,
-//! 6), by as many threads as are given work, and no more.
+//! The calls that say each rule of an audit (RFC 9113, 3.4, 4.2, 4.3, 5.1, 6, 8.4): what a frame shows by itself,
+//! of its connection and of its streams. And all that frames show by themselves, by as many threads as are given work.
+//!
+//! - [`say_local`]: what a frame shows by itself and beside the frame of its side just before it; [`keep_last`] keeps
+//!   that frame.
+//! - [`say_connection`]: what an item shows of its connection, and the connection after it.
+//! - [`say_stream`]: what a step shows of a stream, and the stream after it.
+//! - [`local_faults`]: what `say_local` says of all frames of a connection.
+//!
+//! The first three answer exactly what the definitions of `audit_terms` say of one frame (`local_said`,
+//! `connection_said`, `stream_said`). The plain pass and the rounds take them from here: both say each rule by the same
+//! code, and differ only in how they walk. A step with a change has an acknowledgement for its frame
+//! (`IsAcknowledged`), so one thing alone moves a window at a step: content, a grant, or a difference of initial
+//! windows. Each is below 2^32, so credits stay below 2^60 over the fewer than 2^28 frames of a connection, and no sum
+//! wraps; that bound is bookkeeping of code (`Room` of `audit_terms`).
 //!
 //! [`local_faults`] answers exactly `local_run` of `audit_terms`, one walk over the frames that knows no pieces. The
 //! code cuts the frames into a piece for each worker, of 4,096 frames at least. All that a piece needs of those before
 //! it is the last frame of each side. That is carried from piece to piece first, by a look back from each piece's end
 //! as far as the frame sought, so that no frame is looked at more than once for each side. The pieces' findings are
-//! said by `audit_terms::say_local` and joined in order, whichever thread was done first.
+//! joined in order, whichever thread was done first.
 //!
-//! A wrong body that the prover refuses: a piece that begins without the frames before it. Tested by whole reports:
-//! that the call succeeds where there is memory, once over several pieces. Trusted: the port of `rayon`, which starts
-//! the threads; that several work at once is not proved.
+//! Wrong bodies that the prover refuses: an overflowing grant that is added, a piece that begins without the frames
+//! before it. Tested by whole reports: that the calls succeed where there is memory, once over several pieces. Trusted:
+//! the port of `rayon`, which starts the threads; that several work at once is not proved.
 #![tactic(auto)]
 
+mod connections;
+mod counts;
+mod frame_faults;
 mod pieces;
 mod previous;
+mod spots;
+mod streams;
+mod windows;
 
+pub use connections::say_connection;
+pub use frame_faults::say_local;
 pub use pieces::local_faults;
+pub use previous::keep_last;
+pub use streams::say_stream;

@@ -8,8 +8,9 @@ ghost use Rattle.audit_terms.specs.LocalFault.{local_said, no_previous};
 ghost use Rattle.audit_terms.specs.code.runs.LocalFaults.{local_run_from, local_run};
 ghost use Rattle.fault_rules.specs.code.Pieces.{piece_run, AreBefores};
 
-use crate::previous::{meet, previous_after_all};
-use audit_terms::{Finding, Frame, Sides, put_in_order, say_local};
+use crate::frame_faults::say_local;
+use crate::previous::{keep_last, previous_after_all};
+use audit_terms::{Finding, Frame, Sides, put_in_order};
 use rayon::prelude::*;
 use std::alloc::{AllocError, Global};
 use std::thread::Threads;
@@ -116,7 +117,7 @@ fn faults_after(
     let mut said = Vec::new(alloc);
     for frame in frames {
         add_faults(&mut found, &mut said, &previous.of(frame.side), frame)?;
-        meet(&mut previous, frame);
+        keep_last(&mut previous, frame);
     }
     Ok(found)
 }

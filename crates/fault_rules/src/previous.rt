@@ -7,8 +7,8 @@ ghost use Rattle.fault_rules.specs.code.Pieces.{last_from, previous_after_all};
 
 use audit_terms::{Frame, Side, Sides};
 
-/// The last frame of each side after one more frame.
-pub(crate) fn meet(previous: &mut Sides<Option<Frame>>, frame: &Frame)
+/// Keeps a frame as the last of its side.
+pub fn keep_last(previous: &mut Sides<Option<Frame>>, frame: &Frame)
     ensures { previous.new ≡ previous_after previous.old frame.now }
 {
     match frame.side {

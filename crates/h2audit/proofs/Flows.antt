@@ -2,6 +2,7 @@
 use Rattle.std.proofs.Common.{◌≡◌, ℕ, zero, suc, ◌+◌, ◌<◌, ◌≤◌, Bool, List, [], ◌∷◌, ◌++◌, length, get_or, slice_get}
 use Rattle.std.proofs.Common.{All, IfOk, Ok, Err, Result, Option, Some, None, Bor, map, refl, sym, subst, ap, ◌∙◌}
 use Rattle.std.proofs.Common.{arith}
+use Rattle.std.proofs.lemmas.List.{get_or-map, length-map}
 use Rattle.std.proofs.lemmas.List.Elements.{All-cons, All-head, All-nil, All-tail}
 use Rattle.audit_report.specs.code.Reported.{HasGapAtEnd, HasOrderlyOutcome}
 use Rattle.audit_report.specs.declared.told.Outcome.{Outcome}
@@ -54,11 +55,6 @@ nothing-cut one is = rw (is)
       past = λ found among. let below = among.1 in absurd
           (omega arith);
     })
-
-pub get-is : {X : Type 0} (xs : List X) (n : ℕ) (x d : X) → slice_get xs n ≡ Some x → get_or xs n d ≡ x
-get-is [] n x d is = cc
-get-is (y ∷ xs) zero x d is = cc
-get-is (y ∷ xs) (suc n) x d is = get-is xs n x d is
 
 pub flow_jobs-within : (first count : ℕ) (connections : List Connection) → first + length connections ≤ count
     → All (λ (job : Job). job.connection < count) (flow_jobs first connections)
@@ -145,14 +141,7 @@ kept-orderly (p ∷ parts) all =
 -- a fact of what each of some references stands for
 pub All-lent : (lent : List (Bor (List Frame))) → All runs.IsOrderly (map (λ frames. frames.now) lent)
     → All (λ frames. runs.IsOrderly frames.now) lent
-All-lent [] all = All-nil (λ (frames : Bor (List Frame)). runs.IsOrderly frames.now)
-All-lent (x ∷ lent) all =
-    All-cons (λ (frames : Bor (List Frame)). runs.IsOrderly frames.now) x lent
-    (All-head runs.IsOrderly x.now (map (λ (frames : Bor (List Frame)). frames.now) lent) all)
-    (All-lent lent (All-tail runs.IsOrderly x.now (map (λ (frames : Bor (List Frame)). frames.now) lent) all))
-
-pub found-lent : (credits : Bool) (lent : List (Bor (List Frame)))
-    → map (λ frames. shown credits (pass frames.now)) lent
-    ≡ map (λ frames. shown credits (pass frames)) (map (λ frames. frames.now) lent)
-found-lent credits [] = refl
-found-lent credits (x ∷ lent) = ap (λ l. shown credits (pass x.now) ∷ l) (found-lent credits lent)
+All-lent lent all = λ k d within.
+    let now = λ (frames : Bor (List Frame)). frames.now in
+    subst runs.IsOrderly (get_or-map now lent k d d.now within)
+    (all k d.now (omega (arith, within, length-map lent now)))

@@ -169,13 +169,6 @@ module _ (credits : Bool) (capture : List ℕ) (packets : List Packet) where
       subst (AreToldAudits credits capture packets opened) (sym found.put)
       (told-audits opened parts found.found are found.are)
 
-pub zip-length : {A B : Type 0} (R : A → B → Type 0) (xs : List A) (ys : List B) → AllZip R xs ys
-    → length xs ≡ length ys
-zip-length R [] [] are = refl
-zip-length R [] (y ∷ ys) are = absurd are
-zip-length R (x ∷ xs) [] are = absurd are
-zip-length R (x ∷ xs) (y ∷ ys) are = ap suc (zip-length R xs ys are.1)
-
 -- a fault is in what is told exactly where it is in the findings
 fault-same : (o : Outcome) (held : Cut) (findings : List Finding) → IsOutcomeOf o held findings
     → has_fault_in o ≡ list_any (λ (finding : Finding). is_fault finding.kind) findings

@@ -3,9 +3,9 @@ use Rattle.std.proofs.Common.{◌≡◌, ◌∙◌, ℕ, length, take, Some, Non
 use Rattle.pcap_records.specs.Refusal.{refusal}
 use Rattle.pcap_records.specs.declared.faults.PcapFault.{PcapFault}
 use Rattle.pcap_records.proofs.Sizes.{header_refuses_lem}
-use Rattle.byte_accounts.specs.Account.{OfGiven, kept}
-use Rattle.byte_accounts.specs.declared.capture_reader.CaptureReader.{CaptureReader}
-use Rattle.byte_accounts.proofs.Kept.{given_is_kept}
+use Rattle.input_output.specs.Account.{OfGiven, kept}
+use Rattle.input_output.specs.declared.capture_reader.CaptureReader.{CaptureReader}
+use Rattle.input_output.proofs.Kept.{given_is_kept}
 use Rattle.h2audit.specs.code.Reading.{AnswersFor}
 
 module _ {R : Type 0} where

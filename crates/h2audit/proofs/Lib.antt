@@ -4,5 +4,6 @@ mod OneReport
 mod Flows
 mod Found
 mod Opened
-mod Turns
 mod Walked
+mod Numbers
+mod OptionReads

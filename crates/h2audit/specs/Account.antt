@@ -1,11 +1,12 @@
 -- What the accounts of a run tell of its reads and writes, whatever its reader and its writer are.
-use Rattle.std.specs.Prelude.{◌≡◌, ◌≢◌, ℕ, ◌^◌, ◌≤◌, Bool, false, List, take, Option, None, Some, IfSome, Result, Ok}
+use Rattle.std.specs.Prelude.{◌≡◌, ◌≢◌, ◌⊎◌, ℕ, ◌^◌, ◌≤◌, Bool, List, take, Option, None, Some, IfSome, Result, Ok}
 use Rattle.std.specs.Prelude.{Err}
 use Rattle.pcap_records.specs.Refusal.{refusal}
-use Rattle.byte_accounts.specs.Account.{HasReadFailed, HasWriteFailed, HaveGiven, IsFlushed, IsReadToEnd, IsUnwritten}
-use Rattle.byte_accounts.specs.Account.{OfGiven, kept, written}
-use Rattle.byte_accounts.specs.declared.capture_reader.CaptureReader.{CaptureReader}
-use Rattle.byte_accounts.specs.declared.report_writer.ReportWriter.{ReportWriter}
+use Rattle.input_output.specs.Account.{HasReadFailed, HasWriteFailed, HaveGiven, IsFlushed, IsReadToEnd, IsUnwritten}
+use Rattle.input_output.specs.Account.{OfGiven, kept, written}
+use Rattle.input_output.specs.declared.capture_reader.CaptureReader.{CaptureReader}
+use Rattle.input_output.specs.declared.capture_reader.ReadState.TheVariants.{LackedMemory}
+use Rattle.input_output.specs.declared.report_writer.ReportWriter.{ReportWriter}
 use Rattle.h2audit.specs.Report.{IsReport}
 use Rattle.h2audit.specs.declared.fault.AuditFault.{AuditFault}
 use Rattle.h2audit.specs.declared.fault.AuditFault.TheVariants as fault
@@ -38,6 +39,5 @@ module _ {R W : Type 0} where
   Tells reader writer shown (Err (fault.Pcap e)) =
       IsReadToEnd reader × OfGiven reader (λ given. refusal given ≡ Some e) × IsUnwritten writer
   Tells reader writer shown (Err fault.OutOfMemory) =
-      (reader.has_failed ≡ false)
-      × (reader.lacked_memory ≡ false → IsReadToEnd reader × OfGiven reader (λ given. refusal given ≡ None))
+      ((reader.state ≡ LackedMemory) ⊎ (IsReadToEnd reader × OfGiven reader (λ given. refusal given ≡ None)))
       × IsUnwritten writer

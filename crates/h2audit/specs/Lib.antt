@@ -1,5 +1,7 @@
 pub mod Ending
 pub mod Account
+pub mod CommandLine
+pub mod Asked
 pub mod Program
 pub mod Audited
 pub mod Report

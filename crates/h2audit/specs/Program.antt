@@ -7,12 +7,12 @@ use Rattle.std.specs.Str.{trim_end}
 use Rattle.std.specs.declared.io.Error.{Error}
 use Rattle.std.specs.declared.io.ErrorKind.{ErrorKind}
 use Rattle.std.specs.declared.io.ErrorKind.TheVariants.{OutOfMemory}
-use Rattle.byte_accounts.specs.Account.{HasWriteFailed, IsFlushed, written}
-use Rattle.byte_accounts.specs.declared.capture_reader.CaptureReader.{CaptureReader}
-use Rattle.byte_accounts.specs.declared.report_writer.ReportWriter.{ReportWriter}
-use Rattle.command_line.specs.Asked.{Asks}
-use Rattle.command_line.specs.declared.words.Parsed.{Parsed}
-use Rattle.command_line.specs.declared.words.Parsed.TheVariants.{Run, Help, Refused, Version}
+use Rattle.input_output.specs.Account.{HasWriteFailed, IsFlushed, written}
+use Rattle.input_output.specs.declared.capture_reader.CaptureReader.{CaptureReader}
+use Rattle.input_output.specs.declared.report_writer.ReportWriter.{ReportWriter}
+use Rattle.h2audit.specs.Asked.{Asks}
+use Rattle.h2audit.specs.declared.command_line.words.Parsed.{Parsed}
+use Rattle.h2audit.specs.declared.command_line.words.Parsed.TheVariants.{Run, Help, Refused, Version}
 use Rattle.h2audit.specs.Account.{HasGiven, Tells}
 use Rattle.h2audit.specs.Ending.{ending_of}
 use Rattle.h2audit.specs.declared.fault.AuditFault.{AuditFault}

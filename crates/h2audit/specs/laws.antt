@@ -1,2 +1,3 @@
 pub mod OneReport
 pub mod Run
+pub mod KnownWords

@@ -3,19 +3,19 @@ ghost use Rattle.pcap_records.specs.Refusal.{refusal};
 ghost use Rattle.packet_heads.specs.code.Walk.{AreInOrder, ArePacketsOf, IsPacketWalkIn};
 ghost use Rattle.h2audit.specs.Report.{IsNoReport, IsReport};
 
+use crate::command_line::Options;
 use crate::connection::{audit_each, flows_each, verdict_on};
-use crate::division::division;
 use crate::fault::AuditFault;
 use crate::verdict::Verdict;
 use audit_report::{capture_lines, headings_of, report};
-use command_line::Options;
+use audit_rounds::Division;
+use input_output::{Capture, TableHash};
 use packet_heads::{CapturePackets, PacketWalk, Packets};
-use pcap_records::{Capture, PcapFault};
+use pcap_records::PcapFault;
 use std::alloc::{AllocError, Global};
 use std::random::RandomSource;
 use std::thread::Threads;
 use stop_desk::{Gate, Team};
-use table_hash::TableHash;
 use tcp_streams::{Connections, connections};
 
 /// The report of a capture, and its verdict.
@@ -84,7 +84,12 @@ fn audit_records(
 {
     let CapturePackets { packets: made, cut } = found;
     let packets = Packets::of(alloc, &made)?;
-    let division = division(options, TableHash::drawn(rt));
+    let division = Division {
+        workers: options.workers(),
+        groups: options.groups(),
+        block: options.block(),
+        hash: TableHash::drawn(rt),
+    };
     let connections = connections(alloc, division.hash, &packets)?;
     let Connections { opened, strays } = connections;
     // From here on there are no strays, whose memory frames may take.

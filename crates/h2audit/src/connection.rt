@@ -16,14 +16,14 @@ ghost use Rattle.h2audit.specs.Audited.{verdict_of};
 ghost use Rattle.h2audit.specs.code.Flows.{AreToldFlows};
 ghost use Rattle.h2audit.specs.code.Found.{AreFound, all_with, found_in, has_fault_in, kept_in, left_after, with_next};
 
+use crate::command_line::Options;
 use crate::flow_round::FlowRound;
 use crate::verdict::Verdict;
 use audit_report::{Outcome, Told};
 use audit_rounds::{Division, findings_of_each};
 use audit_terms::{Finding, Frame, Place};
-use command_line::Options;
+use input_output::Capture;
 use packet_heads::Packets;
-use pcap_records::Capture;
 use std::alloc::{AllocError, Global};
 use std::thread::Threads;
 use std::vec::IntoIter;

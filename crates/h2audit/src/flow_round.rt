@@ -4,7 +4,7 @@ ghost use Rattle.std.specs.Prelude.{◌≡◌, ◌+◌, ◌<◌, ◌^◌, IfOk, 
 ghost use Rattle.audit_report.specs.code.Reported.{HasGapAtEnd};
 ghost use Rattle.audit_terms.specs.declared.sides.Side.{Side};
 ghost use Rattle.audit_terms.specs.declared.sides.Side.TheVariants.{Client, Server};
-ghost use Rattle.h2audit.specs.code.Flows.{AreFlows, AreSources, IsHeldBy, IsSideFlow, IsToldOfFlows, KeepsCut};
+ghost use Rattle.h2audit.specs.code.Flows.{AreFlows, AreSources, IsHeldBy, IsToldOfFlows, KeepsCut};
 ghost use Rattle.tcp_streams.specs.Bytes.{bytes_of};
 ghost use Rattle.tcp_streams.specs.code.Orderly.{IsOrderly};
 
@@ -12,8 +12,8 @@ use crate::quiet::quiet_connection;
 use audit_report::{AuditedFrames, Outcome, Reach, Told};
 use audit_terms::{Look, Side};
 use h2_frames::{Cut, cut};
+use input_output::Capture;
 use packet_heads::Packets;
-use pcap_records::Capture;
 use std::alloc::{AllocError, Global};
 use std::marker::Model;
 use std::thread::{Threads, join};
@@ -36,12 +36,15 @@ trait ForSides: Sync {
         ensures { Self.makes self.now side result };
 }
 
-/// What is made for both sides, the server's on a thread of its own where one can be had.
-fn both<R: Threads, S: ForSides>(rt: &R, sources: &S) -> (S::Made, S::Made)
+/// What is made for both sides, the server's on a thread of its own where there are two and one can be had.
+fn both<R: Threads, S: ForSides>(rt: &R, threads: usize, sources: &S) -> (S::Made, S::Made)
     requires { S.asks sources.now }
     ensures client { S.makes sources.now Client result.0 }
     ensures server { S.makes sources.now Server result.1 }
 {
+    if threads < 2 {
+        return (sources.make(Side::Client), sources.make(Side::Server));
+    }
     let (server, client) = join(
         rt,
         || -> S::Made
@@ -76,7 +79,7 @@ impl<'a, 'b> ForSides for Sources<'a, 'b> {
     ghost makes = { λ s side made. IfOk made (IsSideFlow s.capture.now s.packets.now s.connection.now side) };
 
     fn make(&self, side: Side) -> Result<Flow<'a>, AllocError> {
-        flow_of(
+        assemble(
             self.alloc,
             self.capture,
             self.packets,
@@ -249,61 +252,14 @@ fn flows_of<'a, R: Threads>(
     requires { AreSources capture.now packets.now connection.now }
     ensures { IfOk result (AreFlows capture.now packets.now connection.now) }
 {
-    if 2 <= threads {
-        flows_by_two(rt, alloc, capture, packets, connection)
-    } else {
-        flows_in_turn(alloc, capture, packets, connection)
-    }
-}
-
-/// The flows of both sides, made one after the other.
-fn flows_in_turn<'a>(
-    alloc: Global,
-    capture: &Capture<'a>,
-    packets: &Packets<'_>,
-    connection: &Connection,
-) -> Result<(Flow<'a>, Flow<'a>), AllocError>
-    requires { AreSources capture.now packets.now connection.now }
-    ensures { IfOk result (AreFlows capture.now packets.now connection.now) }
-{
-    let client = flow_of(alloc, capture, packets, connection, Side::Client)?;
-    let server = flow_of(alloc, capture, packets, connection, Side::Server)?;
-    Ok((client, server))
-}
-
-/// The flows of both sides, the server's on a thread of its own where one can be had.
-fn flows_by_two<'a, R: Threads>(
-    rt: &R,
-    alloc: Global,
-    capture: &Capture<'a>,
-    packets: &Packets<'_>,
-    connection: &Connection,
-) -> Result<(Flow<'a>, Flow<'a>), AllocError>
-    requires { AreSources capture.now packets.now connection.now }
-    ensures { IfOk result (AreFlows capture.now packets.now connection.now) }
-{
     let sources = Sources {
         alloc,
         capture,
         packets,
         connection,
     };
-    let (client, server) = both(rt, &sources);
+    let (client, server) = both(rt, threads, &sources);
     let client = client?;
     let server = server?;
     Ok((client, server))
-}
-
-/// The flow of one side.
-fn flow_of<'a>(
-    alloc: Global,
-    capture: &Capture<'a>,
-    packets: &Packets<'_>,
-    connection: &Connection,
-    side: Side,
-) -> Result<Flow<'a>, AllocError>
-    requires { AreSources capture.now packets.now connection.now }
-    ensures { IfOk result (IsSideFlow capture.now packets.now connection.now side) }
-{
-    assemble(alloc, capture, packets, connection, side)
 }

@@ -1,9 +1,8 @@
 //! Laws of the definitions. The functions do nothing; their contracts are the laws.
 
+ghost use Rattle.h2audit.specs.laws.KnownWords.{KnownWords};
 ghost use Rattle.h2audit.specs.laws.OneReport.{OneReport};
 ghost use Rattle.h2audit.specs.laws.Run.{FaultsAreSilent, RunsLeave};
-
-pub use command_line::laws::known_words;
 
 /// The bytes of a capture, and whether credits are shown, determine the report's text and the
 /// verdict.
@@ -20,4 +19,10 @@ pub fn runs_leave<R, W>()
 /// After a fault other than a failed write the writer holds what it held before the run.
 pub fn faults_are_silent<R, W>()
     ensures { FaultsAreSilent R W }
+{}
+
+/// What the words of some command lines ask for, by the definition: no words, every option, help, and words that are
+/// refused.
+pub fn known_words()
+    ensures { KnownWords }
 {}

@@ -10,7 +10,7 @@
 //!   and of none of their functions. It names neither workers nor groups nor blocks, and [`laws::one_report`] says that
 //!   there is no second one.
 //! - [`run`] reads a capture to its end, audits it, writes the report and flushes once. What its reads gave and its
-//!   writes took is told by the accounts of `byte_accounts`, a [`CaptureReader`] and a [`ReportWriter`]. For every
+//!   writes took is told by the accounts of `input_output`, a [`CaptureReader`] and a [`ReportWriter`]. For every
 //!   reader and writer, also of files and pipes, clause `tells` says of these accounts (`Tells` of
 //!   `specs/Account.antt`): after a verdict the reads gave a whole capture, and the writes took all of its report and
 //!   one flush; after a failed write they took a prefix of it; before any other fault nothing was written, and a
@@ -22,9 +22,9 @@
 //!   nothing else (`Ends` of `specs/Program.antt`): the account of the input that they name tells what `run` tells,
 //!   status and line are those of the answer, and all else that is lent stays as it was. [`program_words`] reads the
 //!   words.
-//! - [`parse`] says what the words of a command line ask for, by `clap`'s own definition of the command, and
-//!   [`Options`] refuses numbers out of range; both are `command_line`'s. [`laws::known_words`] computes seven command
-//!   lines. [`ending`] is status and line.
+//! - [`parse`] says what the words of a command line ask for, by `clap`'s own definition of the command (`Asks` of
+//!   `specs/Asked.antt`): an audit with its [`Options`], help, the version or why the words are refused. [`Options`]
+//!   refuses numbers out of range. [`laws::known_words`] computes seven command lines. [`ending`] is status and line.
 //!
 //! 2^31 bytes, at which reading stops, are refused as the whole is. Where the file header refuses a capture, it alone
 //! is kept (`brief`), since what follows changes no answer (`pcap_records::laws::header_refuses`). What is kept and its
@@ -36,13 +36,13 @@
 //!
 //! Wrong bodies that the prover refuses: an empty report, a verdict by errors alone, words always refused, options not
 //! heeded, "read failed" whatever FILE gave, standard input read though FILE is named, credits left out where they are
-//! asked for. Tested, in `crate_tests`: the texts of faults; in `tests/` at the root: what the program answers to
-//! words, whole reports, long captures.
+//! asked for, the path of the capture left out. Tested, in `crate_tests`: the texts of faults; in `tests/` at the root:
+//! what the program answers to words, the texts of help and of refused words, whole reports, long captures.
 #![tactic(auto)]
 
 mod auditing;
+mod command_line;
 mod connection;
-mod division;
 mod fault;
 mod flow_round;
 pub mod laws;
@@ -54,9 +54,9 @@ mod status;
 mod verdict;
 
 pub use auditing::audit;
-pub use byte_accounts::{CaptureReader, ReportWriter};
 pub use command_line::{Options, Parsed, parse};
 pub use fault::AuditFault;
+pub use input_output::{CaptureReader, ReportWriter};
 pub use program::{Outside, program_words, run_program};
 pub use running::run;
 pub use status::ending;

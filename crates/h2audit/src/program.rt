@@ -3,19 +3,19 @@ ghost use Rattle.std.specs.Fn.{CalledAt};
 ghost use Rattle.std.specs.Io.KnownBytes.{Appends};
 ghost use Rattle.std.specs.IoError.{error_kind};
 ghost use Rattle.std.specs.Process.{exit_status};
-ghost use Rattle.byte_accounts.specs.declared.capture_reader.CaptureReader.{CaptureReader as CaptureReaderTerm};
-ghost use Rattle.byte_accounts.specs.Account.{IsUnread, IsUnwritten, written};
-ghost use Rattle.command_line.specs.Asked.{Asks};
+ghost use Rattle.input_output.specs.declared.capture_reader.CaptureReader.{CaptureReader as CaptureReaderTerm};
+ghost use Rattle.input_output.specs.Account.{IsUnread, IsUnwritten, written};
+ghost use Rattle.h2audit.specs.Asked.{Asks};
 ghost use Rattle.h2audit.specs.Account.{HasGiven, Tells};
 ghost use Rattle.h2audit.specs.Ending.{ending_of};
 ghost use Rattle.h2audit.specs.Program.{AreAsked, Does, Ends, IsShown, IsUnopened};
 
+use crate::command_line::{Options, Parsed, parse};
 use crate::fault::AuditFault;
 use crate::running::run;
 use crate::status::ending;
 use crate::verdict::Verdict;
-use byte_accounts::{CaptureReader, ReportWriter, write_report};
-use command_line::{Options, Parsed, parse};
+use input_output::{CaptureReader, ReportWriter, write_report};
 use std::alloc::{AllocError, Global};
 use std::io::{ErrorKind, Read, Write};
 use std::process::ExitCode;
@@ -105,11 +105,7 @@ fn parse_strings(alloc: Global, words: &[String]) -> Result<Parsed, AllocError>
 fn texts<'a>(alloc: Global, words: &'a [String]) -> Result<Vec<&'a str>, AllocError>
     ensures { IfOk result (λ texts. map (λ text. text.now) texts.items ≡ map string_bytes words.now) }
 {
-    let mut texts = Vec::new(alloc);
-    for word in words {
-        texts.push(word.as_str())?;
-    }
-    Ok(texts)
+    words.iter().map(|word| word.as_str()).collect(alloc)
 }
 
 /// Does what the words ask for.

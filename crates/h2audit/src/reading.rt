@@ -1,13 +1,13 @@
 ghost use Rattle.std.specs.Prelude.{◌≡◌, ◌^◌, List, ℕ, IfErr, IfOk, IfSome, OnOk, Some, take};
 ghost use Rattle.pcap_records.specs.Refusal.{refusal};
 ghost use Rattle.packet_heads.specs.code.Walk.{IsPacketWalkIn};
-ghost use Rattle.byte_accounts.specs.Account.{HaveGiven, IsReadToEnd, IsUnread, OfGiven, kept};
-ghost use Rattle.byte_accounts.specs.code.Reading as accounted;
+ghost use Rattle.input_output.specs.Account.{HaveGiven, IsReadToEnd, IsUnread, OfGiven, kept};
+ghost use Rattle.input_output.specs.code.Reading as accounted;
 ghost use Rattle.h2audit.specs.Account.{IsBrief};
 ghost use Rattle.h2audit.specs.code.Reading.{AnswersFor, IsHeaderOf, IsReadingFault};
 
 use crate::fault::AuditFault;
-use byte_accounts::{CaptureReader, PartsAhead, ReadFault, keep_and_walk, keep_up_to, pass_over};
+use input_output::{CaptureReader, PartsAhead, ReadFault, keep_and_walk, keep_up_to, pass_over};
 use packet_heads::PacketWalk;
 use pcap_records::PcapFault;
 use std::alloc::Global;

@@ -1,16 +1,16 @@
 ghost use Rattle.std.specs.Prelude.{◌≡◌, IfErr, IfOk, OnOk};
 ghost use Rattle.std.specs.Io.KnownBytes.{Appends};
-ghost use Rattle.byte_accounts.specs.Account.{IsReadToEnd, IsUnread, IsUnwritten, kept, written};
+ghost use Rattle.input_output.specs.Account.{IsReadToEnd, IsUnread, IsUnwritten, kept, written};
 ghost use Rattle.h2audit.specs.Account.{HasGiven, IsBrief, Tells};
 ghost use Rattle.h2audit.specs.Report.{IsReport};
 ghost use Rattle.h2audit.specs.code.Reading.{IsAuditingFault, IsHeaderOf};
 
 use crate::auditing::audit_parts;
+use crate::command_line::Options;
 use crate::fault::AuditFault;
 use crate::reading::{FileHeader, read_capture};
 use crate::verdict::Verdict;
-use byte_accounts::{CaptureReader, ReportWriter, write_report};
-use command_line::Options;
+use input_output::{CaptureReader, ReportWriter, write_report};
 use std::alloc::Global;
 use std::io::{Read, Write};
 use std::random::RandomSource;

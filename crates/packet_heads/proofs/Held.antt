@@ -3,7 +3,7 @@ use Rattle.std.proofs.Common.{◌≡◌, ◌+◌, ◌*◌, List, [], ◌∷◌, 
 use Rattle.std.proofs.Common.{arith}
 use Rattle.std.specs.List.{All}
 use Rattle.std.proofs.lemmas.List.Elements.{All-head, All-tail}
-use Rattle.parted_list.specs.Parts.{joined}
+use Rattle.input_output.specs.Parts.{joined}
 
 -- full parts hold so many items, and a last part those that it has
 pub held_length : {T : Type 0} (full : List (Vec T Global)) (last : Vec T Global)

@@ -10,7 +10,8 @@ ghost use Rattle.packet_heads.specs.code.Standing.{StandsIn};
 
 use crate::packets::{Endpoint, Packet, Segment};
 use crate::{ipv4, link, tcp};
-use pcap_records::{Capture, Record};
+use input_output::Capture;
+use pcap_records::Record;
 use std::alloc::{AllocError, Global};
 
 /// The segment in a datagram whose headers are whole, and which begins at this offset of the capture.

@@ -3,7 +3,7 @@
 ghost use Rattle.std.specs.Prelude.{◌≡◌, ◌<◌, ◌^◌, [], ◌∷◌, ◌++◌, IfOk, OnOk, length};
 
 use crate::packets::PACKET_PART;
-use parted_list::Parts;
+use input_output::Parts;
 use std::alloc::{AllocError, Global};
 use std::marker::Model;
 use std::mem;
@@ -19,7 +19,7 @@ pub struct Growing<T> {
 impl<T> Model for Growing<T> {
     ghost use Rattle.std.specs.Prelude.{◌≡◌, ◌+◌, ◌*◌, ◌<◌, ◌≤◌, ◌^◌, ◌++◌, List, length, map, vec_len};
     ghost use Rattle.std.specs.List.{All};
-    ghost use Rattle.parted_list.specs.Parts.{joined};
+    ghost use Rattle.input_output.specs.Parts.{joined};
 
     ghost Value = { List T };
 

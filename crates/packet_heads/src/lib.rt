@@ -2,7 +2,7 @@
 //! or none (RFC 894, IEEE 802.1Q) or in raw IP, as the link type of the capture says.
 //!
 //! [`PacketWalk`] answers for each record of a capture in order, while the capture is read: each time that it goes on
-//! (`pcap_records::FrontWalk`), it makes the packets of the records that have come, and [`PacketWalk::finish`] answers
+//! (`input_output::FrontWalk`), it makes the packets of the records that have come, and [`PacketWalk::finish`] answers
 //! those of the whole capture, or the first refusal that applies. A record holds a TCP segment, or something that is
 //! passed over and named ([`Skip`]), or a packet that cannot be read ([`Refusal`]). Twelve lines in a fixed order
 //! decide, of which the first that applies counts. `specs/Decision.antt` lists them, the twelfth being the segment;

@@ -6,10 +6,11 @@ ghost use Rattle.packet_heads.specs.declared.packets.Packet.TheVariants.{Skipped
 ghost use Rattle.packet_heads.specs.declared.packets.Skip.TheVariants.{NotIpv4};
 
 use crate::packets::{PACKET_PART, Packet, Refusal, Segment, Skip};
-use parted_list::Parts;
 
 /// Counts through the packets that are passed over, in the order below, and then through the segments of a capture.
 pub type Mark = u32;
+
+use input_output::Parts;
 
 const _: () = prove!(size_of::<Mark>() == 4);
 

@@ -1,6 +1,6 @@
 use crate::made::MadePackets;
 use crate::marks::{Mark, packet_of};
-use parted_list::Parts;
+use input_output::Parts;
 use pcap_records::Nanos;
 use std::alloc::{AllocError, Global};
 use std::marker::Model;

@@ -7,8 +7,9 @@ ghost use Rattle.packet_heads.specs.code.Walk.{AreInOrder, ArePacketsOf, HasMade
 
 use crate::decoding::decode;
 use crate::made::MadePackets;
+use input_output::{Capture, FrontWalk};
 use pcap_records::laws::more_bytes_keep_a_walk;
-use pcap_records::{Capture, FrontWalk, PcapFault, RecordWalk, refusal_in_parts};
+use pcap_records::{PcapFault, RecordWalk, refusal_in_parts};
 use std::alloc::{AllocError, Global};
 
 /// What a capture holds.

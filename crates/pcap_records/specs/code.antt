@@ -1,4 +1,3 @@
-pub mod Front
 pub mod Nanos
 pub mod Walk
 pub mod Place

@@ -1,5 +1,4 @@
 use crate::nanos::Nanos;
-use parted_list::Parts;
 
 /// One whole record of a capture, whose packet stands in the capture at `start..start + length`.
 ///
@@ -33,9 +32,3 @@ pub struct Records {
     /// The number of the record that the end of the capture cuts, if there is one.
     pub cut: Option<u32>,
 }
-
-/// How many bytes a part of a capture has: 1 MiB.
-pub const CAPTURE_PART: usize = 1_048_576;
-
-/// The bytes of a capture, held in parts.
-pub type Capture<'a> = Parts<'a, u8, CAPTURE_PART>;

@@ -3,10 +3,11 @@ ghost use Rattle.pcap_records.specs.FileHeader.{format_of, header_of, link_of, n
 ghost use Rattle.pcap_records.specs.LinkType.{is_read};
 ghost use Rattle.pcap_records.specs.Refusal.{refusal_in, refusal_of};
 
-use crate::capture::{Capture, ETHERNET, RAW_IP};
+use crate::capture::{ETHERNET, RAW_IP};
 use crate::faults::PcapFault;
 use crate::format::{Endian, Format, format_of_magic};
 use byteorder::{BigEndian, ByteOrder, LittleEndian};
+use input_output::Capture;
 
 /// The length of the file header in bytes.
 pub const FILE_HEADER: usize = 24;

@@ -3,12 +3,11 @@
 //! [`records`] reads a capture forward once, by offsets, and touches no byte of a packet. It takes the four magics of
 //! the format (either order of bytes, microseconds or nanoseconds), and answers either each whole record in the order
 //! of the file, with the number of the record that the end of the capture cuts off, or the first refusal that applies,
-//! in the order of the numbers of [`PcapFault`]. A [`Capture`] is held in parts; a record's header is read where it
-//! lies, and only one in which two parts meet is copied.
+//! in the order of the numbers of [`PcapFault`]. A capture is held in parts (`input_output::Capture`); a record's
+//! header is read where it lies, and only one in which two parts meet is copied.
 //!
 //! [`RecordWalk`] does the same in steps, and keeps no record: a program that reads a capture piece by piece is handed
-//! each record that has come. `records` is such a walk that keeps them. What goes on over a capture while it is read,
-//! whatever it makes of the records, is a [`FrontWalk`].
+//! each record that has come. `records` is such a walk that keeps them.
 //!
 //! The contract pins both answers to definitions that go by the bytes alone: `refusal` of `specs/Refusal.antt` looks at
 //! the header and the length, and `IsReading` of `specs/Reading.antt` is a relation by cases, a record of 16 header
@@ -34,7 +33,6 @@
 mod capture;
 mod faults;
 mod format;
-mod front;
 mod header;
 pub mod laws;
 mod nanos;
@@ -43,9 +41,8 @@ mod rows;
 mod walk;
 pub mod worked_examples;
 
-pub use capture::{CAPTURE_PART, Capture, ETHERNET, RAW_IP, Record, Records};
+pub use capture::{ETHERNET, RAW_IP, Record, Records};
 pub use faults::PcapFault;
-pub use front::FrontWalk;
 pub use nanos::Nanos;
 pub use reading::{records, refusal, refusal_in_parts};
 pub use walk::RecordWalk;

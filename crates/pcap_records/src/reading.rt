@@ -6,10 +6,11 @@ ghost use Rattle.pcap_records.specs.code.Walk.{HasPassed};
 ghost use Rattle.pcap_records.specs.Reading.{IsReading};
 ghost use Rattle.pcap_records.specs.Refusal.{refusal};
 
-use crate::capture::{Capture, Records};
+use crate::capture::Records;
 use crate::faults::PcapFault;
 use crate::header::{format_or_refusal, header, header_in_parts};
 use crate::walk::RecordWalk;
+use input_output::Capture;
 use std::alloc::{AllocError, Global};
 
 /// Why a capture with these bytes is refused, if it is: by its header and its length alone.

@@ -2,9 +2,10 @@ ghost use Rattle.std.specs.Prelude.{◌≡◌, ◌≤◌, ◌<◌, ◌+◌, ◌-
 ghost use Rattle.pcap_records.specs.Record.{captured_length, record_at};
 ghost use Rattle.pcap_records.specs.code.Walk.{IsNextRecord};
 
-use crate::capture::{Capture, Record};
+use crate::capture::Record;
 use crate::nanos::Nanos;
 use byteorder::ByteOrder;
+use input_output::Capture;
 use std::alloc::{AllocError, Global};
 
 /// The length of a record's header in bytes.

@@ -7,12 +7,13 @@ ghost use Rattle.pcap_records.specs.LinkType.{is_read};
 ghost use Rattle.pcap_records.specs.Refusal.{refusal};
 ghost use Rattle.pcap_records.specs.code.Walk.{AreAll, HasPassed, HasStepped};
 
-use crate::capture::{Capture, Record};
+use crate::capture::Record;
 use crate::faults::PcapFault;
 use crate::format::{Endian, Format};
 use crate::header::{FILE_HEADER, format_or_refusal, header, link_type};
 use crate::rows::next_record;
 use byteorder::{BigEndian, ByteOrder, LittleEndian};
+use input_output::Capture;
 use std::alloc::{AllocError, Global};
 
 /// The records of a front of a capture, behind which more bytes may come, one after the other.

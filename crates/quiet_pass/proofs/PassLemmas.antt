@@ -3,12 +3,12 @@ use Rattle.std.proofs.Common.{◌%◌}
 use Rattle.std.proofs.Common.{filter}
 use Rattle.stream_credit.proofs.Words.{◌≡◌, ℕ, ◌+◌, ◌<◌, ◌==◌, Bool, true, false, ◌&&◌, not, if◌then◌else◌, List, []}
 use Rattle.stream_credit.proofs.Words.{◌∷◌, ◌++◌, Option, Some, None, is_some, is_none, refl, sym, ap, ◌∙◌, subst}
-use Rattle.stream_credit.proofs.Words.{arith, append_assoc, inl, inr, cases_Bool, cases_eq, eq-eqb, ne_eqb, append-nil}
+use Rattle.stream_credit.proofs.Words.{arith, nat_tests, append_assoc, eq-eqb, append-nil}
 use Rattle.stream_credit.proofs.Words.{and-false, Side, Client, Server, Sides, Frame, Change, Stream, Finding, is_side}
 use Rattle.stream_credit.proofs.Words.{side_of, is_ack, stream_said, initial_after}
 use Rattle.audit_terms.proofs.FindingLists.{each-in_order}
 use Rattle.std.specs.List.{flat_map}
-use Rattle.audit_terms.specs.Frame.{settings_in, is_server_promise, meets, promised_by}
+use Rattle.audit_terms.specs.Frame.{is_server_promise, meets, promised_by}
 use Rattle.audit_terms.specs.declared.settings.Settings.{Settings}
 use Rattle.audit_terms.specs.declared.items.Item.{Item}
 use Rattle.audit_terms.specs.declared.connections.ConnectionState.{ConnectionState}
@@ -16,7 +16,7 @@ use Rattle.audit_terms.specs.Life.{is_opening}
 use Rattle.audit_terms.specs.LocalFault.{local_said}
 use Rattle.audit_terms.specs.InForce.{InForce, taken, change_taking, change_of, settings_said}
 use Rattle.audit_terms.specs.Connection.{connection_said, connection_after}
-use Rattle.audit_terms.specs.Finding.{stops, upto_stop}
+use Rattle.audit_terms.specs.Finding.{upto_stop}
 use Rattle.audit_terms.specs.Pass.{PassState, pass_start, step_of, opens_stream, next, streams_said, said, full_from}
 use Rattle.audit_terms.specs.Pass.{first_of, streams_of, pass, item_of as item_in}
 use Rattle.audit_terms.specs.code.runs.States.{state_from, state_after}
@@ -43,19 +43,14 @@ unopened : (frame : Frame) (entry : Stream) → frame.stream ≡ 0 → is_openin
 unopened frame entry zero =
     let even : (frame.stream % 2 == 1) ≡ false = rw zero refl in simp (even, promises-other, and-false)
 
-unadded : (b : Bool) (sent : List Settings) (more : List Settings) → more ≡ []
-    → sent ≡ sent ++ (if b then more else [])
-unadded true sent more e = sym (ap (λ l. sent ++ l) e ∙ append-nil sent)
-unadded false sent more e = sym (append-nil sent)
-
 -- a frame that is no SETTINGS and no acknowledgement brings nothing
 plain-brought : (frame : Frame) (now : InForce) (pending : Pending) → IsPlain frame → IsPending now pending
     → IsBrought now frame None pending
 plain-brought frame now pending plain p = record {
   brings = rw plain.ack refl;
   kept = record {
-    client = p.client ∙ unadded (is_side Client frame.side) now.sent.client (settings_in frame.body) plain.settings;
-    server = p.server ∙ unadded (is_side Server frame.side) now.sent.server (settings_in frame.body) plain.settings;
+    client = let none = plain.settings in grind (arith, p.client, append-nil now.sent.client);
+    server = let none = plain.settings in grind (arith, p.server, append-nil now.sent.server);
     by_client = p.by_client ∙ unpaired Client;
     by_server = p.by_server ∙ unpaired Server;
   };
@@ -112,8 +107,7 @@ unmet {frame} initial streams kept zero unpromised h = record {
 
 last-if : (b : Bool) (frame : Frame) (previous : Option Frame) (last : LastFrame) → last ≡ last_of previous
     → (if b then last_of (Some frame) else last) ≡ last_of (if b then Some frame else previous)
-last-if true frame previous last e = refl
-last-if false frame previous last e = e
+last-if b frame previous last e = grind arith
 
 flat-unshown : (rule : ℕ → List Finding) (streams : List ℕ)
     → AreNamed streams → ((s : ℕ) → 0 < s → AreUnshown (rule s)) → AreUnshown (flat_map rule streams)
@@ -216,26 +210,14 @@ frames-met {frame} step frames quiet =
 
 upto-unshown : (found : List Finding) → AreUnshown found → AreUnshown (upto_stop found)
 upto-unshown [] h = tt
-upto-unshown (x ∷ found) h =
-    elim (cases_Bool (stops x)) [
-      | inl e ↦ rw e (h.0, tt)
-      | inr e ↦ rw e (h.0, upto-unshown found h.1)
-    ]
+upto-unshown (x ∷ found) h = grind (arith, upto-unshown found h.1)
 
 named-left : (test : ℕ → Bool) (streams : List ℕ) → AreNamed streams → AreNamed (filter test streams)
 named-left test [] h = tt
-named-left test (s ∷ streams) h =
-    elim (cases_Bool (test s)) [
-      | inl e ↦ rw e (h.0, named-left test streams h.1)
-      | inr e ↦ rw e (named-left test streams h.1)
-    ]
+named-left test (s ∷ streams) h = grind (arith, named-left test streams h.1)
 
 named-first : (s : ℕ) (streams : List ℕ) → AreNamed streams → AreNamed (first_of s streams)
-named-first s streams h =
-    elim (cases_eq s 0) [
-      | inl e ↦ rw e h
-      | inr e ↦ rw (ne_eqb s 0 e) (omega (arith, e), named-left (λ other. not (other == s)) streams h)
-    ]
+named-first s streams h = grind (arith, nat_tests, named-left (λ other. not (other == s)) streams h)
 
 named-all : (frames : List Frame) → AreNamed (streams_of frames)
 named-all [] = tt

@@ -1,11 +1,10 @@
 -- A stream after a frame of which nothing is shown: how each side stands, and the row that is kept of it.
-use Rattle.std.proofs.Common.{◌⊎◌}
 use Rattle.std.proofs.lemmas.Bool.{or_parts}
-use Rattle.stream_credit.proofs.Words.{◌≡◌, ℕ, pos, ◌<◌, int_lt, nat_lt, ◌==◌, Bool, true, false, ◌&&◌, if◌then◌else◌}
-use Rattle.stream_credit.proofs.Words.{inl, inr, List, Some, None, refl, sym, ap, ◌∙◌, arith, subst, and-false}
-use Rattle.stream_credit.proofs.Words.{or-false, and_right, eq-eqb, ne_eqb, nat_tests, ints, Side, Client, Server}
+use Rattle.stream_credit.proofs.Words.{◌≡◌, ℕ, pos, ◌<◌, Bool, true, false, ◌&&◌, if◌then◌else◌}
+use Rattle.stream_credit.proofs.Words.{List, Some, None, refl, sym, ap, ◌∙◌, arith, subst, and-false}
+use Rattle.stream_credit.proofs.Words.{or-false, eq-eqb, ne_eqb, nat_tests, ints, Side, Client, Server}
 use Rattle.stream_credit.proofs.Words.{Sides, Body, WindowUpdate, Frame, StreamLife, Stream, other, is_side, side_of}
-use Rattle.stream_credit.proofs.Words.{is_reset, increment, is_zero_grant, content_by, grant_to, sends_end, is_last_of}
+use Rattle.stream_credit.proofs.Words.{is_reset, increment, is_zero_grant, content_by, sends_end, is_last_of}
 use Rattle.stream_credit.proofs.Words.{ends_window, is_not_opened, is_after_end, life_after, is_used_up, overflows}
 use Rattle.stream_credit.proofs.Words.{overruns, say_of, idle_stream, stream_said, stream_after, counted, frame_step}
 use Rattle.stream_credit.proofs.Words.{has_credit, has_ended, window_of}
@@ -34,12 +33,11 @@ unlast d frame e =
 -- ---- how a side stands after a frame on a stream that is opened
 
 -- a frame sends through a window or grants to it, never both
-one_side : (d side : Side) (b c : Bool) (m n : ℕ) → ((if is_side (other d) side && b then m else 0) ≡ 0)
-    ⊎ ((if is_side d side && c then n else 0) ≡ 0)
-one_side Client Client b c m n = inl refl
-one_side Client Server b c m n = inr refl
-one_side Server Client b c m n = inr refl
-one_side Server Server b c m n = inl refl
+one_side : (d side : Side) → (is_side (other d) side && is_side d side) ≡ false
+one_side Client Client = refl
+one_side Client Server = refl
+one_side Server Client = refl
+one_side Server Server = refl
 
 live-used : (standing : ℕ) → has_credit standing ≡ true → is_used_up (pos standing) ≡ false
 live-used standing h = grind (arith, nat_tests, ints)
@@ -47,23 +45,10 @@ live-used standing h = grind (arith, nat_tests, ints)
 module _ (d : Side) (frame : Frame) (standing after : ℕ) (live : has_credit standing ≡ true)
     (c : IsCounted d frame standing after) where
   overrun : overruns (pos standing) (content_by d frame) ≡ false
-  overrun =
-      let moved = c.moved in
-      elim (one_side d frame.side (frame.stream == frame.stream) (is_content frame.body) (increment frame.body)
-      frame.length) [
-        | inl e ↦
-            let grants : grant_to d frame.stream frame ≡ 0 = e in
-            let enough : int_lt (pos standing) (pos (content_by d frame)) ≡ false =
-            grind (arith, ints, moved, grants) in
-            and_right (nat_lt 0 (content_by d frame)) _ enough
-        | inr e ↦ rw e refl
-      ]
+  overrun = let moved = c.moved in grind (arith, ints, nat_tests, moved, one_side d frame.side)
 
   fits : overflows (pos standing) (pos after) ≡ false
-  fits =
-      let within = c.within in
-      let small : int_lt (pos 2147483647) (pos after) ≡ false = grind (arith, ints, within) in
-      and_right (int_lt (pos standing) (pos after)) _ small
+  fits = let within = c.within in grind (arith, ints, within)
 
   now : (initial : Sides ℕ) → counted d frame.stream initial (frame_step frame) (pos standing) ≡ pos after
   now initial = let moved = c.moved in omega (arith, ints, moved)
@@ -91,18 +76,14 @@ module _ (d : Side) (frame : Frame) (standing after : ℕ) (live : has_credit st
   pub standing_ends : ends_window d frame ≡ true
       → IsStandingAfter d frame standing (mark (is_last_of d frame.stream frame))
   standing_ends ends =
-      standing-by (mark (is_last_of d frame.stream frame)) (λ initial. rw no-window
+      let is = mark-is (is_last_of d frame.stream frame) in
+      standing-by (mark (is_last_of d frame.stream frame)) (λ initial. rw is.0
       (calm-ended d frame.stream initial (frame_step frame) (pos standing) (pos after) (now initial) fits overrun ends
-      (live-used standing live)))
-      (as-marked (is_last_of d frame.stream frame))
+      (live-used standing live))) is.1
     where
-      no-window : (last : Bool) → window_of (mark last) ≡ None
-      no-window true = refl
-      no-window false = refl
-
-      as-marked : (last : Bool) → has_ended (mark last) ≡ last
-      as-marked true = refl
-      as-marked false = refl
+      mark-is : (last : Bool) → (window_of (mark last) ≡ None) × (has_ended (mark last) ≡ last)
+      mark-is true = (refl, refl)
+      mark-is false = (refl, refl)
 
 -- ---- a row
 

@@ -172,8 +172,6 @@ entries-moved before after [] [] stream m = record {
   client_silent = λ credit e. cc;
   server_silent = λ credit e. cc;
 }
-entries-moved before after [] (two ∷ new) stream m = absurd m
-entries-moved before after (one ∷ old) [] stream m = absurd m
 entries-moved before after (one ∷ old) (two ∷ new) stream m =
     let row = m.0 in
     rw row.same (elim (cases_Bool (one.stream == stream)) [
@@ -186,14 +184,14 @@ entries-moved before after (one ∷ old) (two ∷ new) stream m =
       })
       | inr e ↦ rw e (entries-moved before after old new stream m.1)
     ])
+entries-moved before after _ _ stream m = absurd m
 
 rising-moved : (before after : Sides ℕ) (low : ℕ) (old new : List Row) → AreMoved before after old new
     → AreRisingFrom low old → AreRisingFrom low new
 rising-moved before after low [] [] m h = tt
-rising-moved before after low [] (two ∷ new) m h = absurd m
-rising-moved before after low (one ∷ old) [] m h = absurd m
 rising-moved before after low (one ∷ old) (two ∷ new) m h =
     rw m.0.same (h.0, rising-moved before after one.stream old new m.1 h.1)
+rising-moved before after low _ _ m h = absurd m
 
 unmoved-standing : (i standing : ℕ) → IsMovedBy i i standing standing
 unmoved-standing i standing = record {

@@ -3,35 +3,10 @@
 ghost use Rattle.std.specs.Prelude.{◌≡◌, [], Option};
 ghost use Rattle.std.specs.Bool.{OnTrue};
 ghost use Rattle.audit_terms.specs.declared.frames.Frame.{Frame as FrameTerm};
-ghost use Rattle.audit_terms.specs.LocalFault.{is_settings, leaves_block_open, needs_stream, needs_connection};
-ghost use Rattle.audit_terms.specs.LocalFault.{is_on_wrong_stream, body_said, local_said};
+ghost use Rattle.audit_terms.specs.LocalFault.{body_said, local_said};
 ghost use Rattle.quiet_pass.specs.code.LastFrame.{last_of, breaks};
 
-use audit_terms::{Body, Frame, Side};
-
-/// The type bytes (RFC 9113, 6).
-const DATA: u8 = 0;
-
-const HEADERS: u8 = 1;
-
-const PRIORITY: u8 = 2;
-
-const RST_STREAM: u8 = 3;
-
-const SETTINGS: u8 = 4;
-
-const PUSH_PROMISE: u8 = 5;
-
-const PING: u8 = 6;
-
-const GOAWAY: u8 = 7;
-
-const CONTINUATION: u8 = 9;
-
-/// ACK, of SETTINGS (6.5).
-const ACK: u8 = 0x1;
-/// END_HEADERS, of HEADERS, PUSH_PROMISE and CONTINUATION (6.2, 6.6, 6.10).
-const END_HEADERS: u8 = 0x4;
+use audit_terms::{Body, CONTINUATION, Frame, PUSH_PROMISE, Side};
 
 /// What is kept of the last frame of a side.
 #[derive(Clone, Copy)]
@@ -49,7 +24,7 @@ impl LastFrame {
     pub(crate) fn of(frame: &Frame) -> Self
         ensures { result ≡ last_of (Option.Some frame.now) }
     {
-        if leaves_block_open(frame) {
+        if frame.leaves_block_open() {
             LastFrame::Open(frame.stream)
         } else {
             LastFrame::Closed
@@ -73,59 +48,14 @@ impl LastFrame {
             → local_said previous frame.now ≡ []) }
     {
         let begins = matches!(self, LastFrame::Missing);
-        if begins && !is_settings(frame) {
+        if begins && !frame.is_settings() {
             return false;
         }
-        if self.breaks(frame) || is_on_wrong_stream(frame) {
+        if self.breaks(frame) || frame.is_on_wrong_stream() {
             return false;
         }
         is_readable(frame) && !(frame.code == PUSH_PROMISE && frame.side == Side::Client)
     }
-}
-
-/// Is it a SETTINGS frame that is no acknowledgement?
-fn is_settings(frame: &Frame) -> bool
-    ensures { result ≡ is_settings frame.now }
-{
-    frame.code == SETTINGS && frame.flags & ACK == 0
-}
-
-/// Does a field block go on with CONTINUATION frames after this one (4.3)?
-fn leaves_block_open(frame: &Frame) -> bool
-    ensures { result ≡ leaves_block_open frame.now }
-{
-    (frame.code == HEADERS || frame.code == PUSH_PROMISE || frame.code == CONTINUATION)
-        && frame.flags & END_HEADERS == 0
-}
-
-/// Is it a frame of a stream on stream 0, or one of the connection on another?
-fn is_on_wrong_stream(frame: &Frame) -> bool
-    ensures { result ≡ is_on_wrong_stream frame.now }
-{
-    if frame.stream == 0 {
-        needs_stream(frame.code)
-    } else {
-        needs_connection(frame.code)
-    }
-}
-
-/// Are frames of this type of a stream (6.1 to 6.4, 6.6, 6.10)?
-fn needs_stream(code: u8) -> bool
-    ensures { result ≡ needs_stream code }
-{
-    code == DATA
-        || code == HEADERS
-        || code == PRIORITY
-        || code == RST_STREAM
-        || code == PUSH_PROMISE
-        || code == CONTINUATION
-}
-
-/// Are frames of this type of the connection (6.5, 6.7, 6.8)?
-fn needs_connection(code: u8) -> bool
-    ensures { result ≡ needs_connection code }
-{
-    code == SETTINGS || code == PING || code == GOAWAY
 }
 
 /// Can the body be read, with no setting out of range (6.5.2)?

@@ -181,11 +181,11 @@ pub(crate) fn open(
 pub(crate) fn move_all(rows: &mut Vec<Row>, before: &Sides<u32>, after: &Sides<u32>) -> bool
     ensures { OnTrue result (AreMoved before.now after.now rows.old.items rows.new.items) }
 {
-    for row in rows.iter_mut() {
-        let Some(next) = row.moved(before, after) else {
+    for at in 0..rows.len() {
+        let Some(next) = rows[at].moved(before, after) else {
             return false;
         };
-        *row = next;
+        rows[at] = next;
     }
     true
 }

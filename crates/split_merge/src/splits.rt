@@ -9,9 +9,9 @@ ghost use Rattle.split_merge.specs.code.Visits.{laid_out, longer, notes_from, ro
 use crate::loud::{Loud, place_of, places_of};
 use crate::visits::{Visited, Visits, finish};
 use audit_terms::{Change, Frame};
+use input_output::TableHash;
 use std::alloc::{AllocError, Global};
 use stream_credit::Changes;
-use table_hash::TableHash;
 
 /// A stream, and the range of its frames' positions in the list of a split.
 #[derive(Clone, Copy)]

@@ -14,9 +14,9 @@ ghost use Rattle.split_merge.specs.code.Ahead.{AreAhead, AreHushed, IsEnd, IsHus
 
 use crate::row_index::RowIndex;
 use audit_terms::{Finding, Frame};
+use input_output::TableHash;
 use std::alloc::{AllocError, Global};
 use stream_credit::{Changes, QuietStream};
-use table_hash::TableHash;
 
 /// How many rows are remembered, a power of 2.
 const HINTS: usize = 1024;

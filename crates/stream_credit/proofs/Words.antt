@@ -13,7 +13,7 @@ pub use Rattle.audit_terms.specs.Stream.{opens, step_amount, step_test, stream_a
 pub use Rattle.audit_terms.specs.Stream.{window_step}
 pub use Rattle.audit_terms.specs.Window.{is_used_up, overflows, overruns}
 pub use Rattle.audit_terms.specs.code.Room.{HasRoom, WindowHasRoom}
-pub use Rattle.audit_terms.specs.code.StreamSteps.{counted, is_overflowing_grant}
+pub use Rattle.fault_rules.specs.code.StreamSteps.{counted, is_overflowing_grant}
 pub use Rattle.audit_terms.specs.code.Watch.{IsStopped, NeverFallFrom, Watches}
 pub use Rattle.audit_terms.specs.code.runs.Look.{IsRun, found_before, is_past, up_to}
 pub use Rattle.audit_terms.specs.code.runs.Orderly.{IsOrderly, IsOrderlyFrom}

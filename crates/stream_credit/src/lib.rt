@@ -32,7 +32,7 @@
 //!
 //! Wrong bodies that the prover refuses: settings that reach open streams only, a run that never looks, looks once or
 //! looks ahead of its work, one that leaves out all once it is stopped, one that counts a side's last DATA as any
-//! other, a quiet stream whose credit is used up. Tested, in `crate_tests`: that `stream_run` succeeds where there is
+//! other, a quiet stream whose credit is used up. Tested, in `round_tests`: that `stream_run` succeeds where there is
 //! memory; in `threads_test.py` ("quiet streams are in no group"): that a stream which shows nothing stays quiet, which
 //! no contract says.
 #![tactic(auto)]

@@ -22,6 +22,7 @@ use audit_terms::{
     Finding, Frame, LARGEST_WINDOW, Length, Side, Sides, Step, Stream, StreamLife, initial_after,
     keep_shown,
 };
+use fault_rules::say_stream;
 use std::alloc::AllocError;
 
 /// What stands for a credit where the side has ended the stream: its window is not live then.
@@ -304,7 +305,7 @@ impl QuietStream {
             frame: Some(*frame),
             change: None,
         };
-        entry.meet(said, stream, initial, &step)?;
+        say_stream(said, &mut entry, stream, initial, &step)?;
         keep_shown(said, false);
         if !said.is_empty() {
             return Ok(false);

@@ -21,6 +21,7 @@ use audit_terms::{
     Change, Finding, Frame, Look, Sides, Step, Stream, Watch, initial_after, keep_shown,
     put_in_order,
 };
+use fault_rules::say_stream;
 use std::alloc::{AllocError, Global};
 
 /// One stream between two of its steps, and what was found of it.
@@ -123,8 +124,13 @@ impl Walk {
         ensures room { OnOk result (HasRoomAt (step.now.number + 1) self.new.entry) }
     {
         self.said.clear();
-        self.entry
-            .meet(&mut self.said, self.stream, &self.initial, step)?;
+        say_stream(
+            &mut self.said,
+            &mut self.entry,
+            self.stream,
+            &self.initial,
+            step,
+        )?;
         put_in_order(&mut self.said)?;
         keep_shown(&mut self.said, self.credits_shown);
         self.found.extend_from_slice(self.said.as_slice())?;

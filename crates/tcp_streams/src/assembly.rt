@@ -14,8 +14,8 @@ use crate::overlay::settle;
 use crate::pieces::pieces_of;
 use crate::streams::Flow;
 use audit_terms::Side;
+use input_output::Capture;
 use packet_heads::Packets;
-use pcap_records::Capture;
 use std::alloc::{AllocError, Global};
 
 /// The bytes that one side of a connection sent, as far as the capture shows them from the first one on

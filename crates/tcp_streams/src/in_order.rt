@@ -14,8 +14,8 @@ use crate::members::Connection;
 use crate::pieces::piece_of_member;
 use crate::streams::{Arrival, Flow};
 use audit_terms::Side;
+use input_output::Capture;
 use packet_heads::Packets;
-use pcap_records::Capture;
 use std::alloc::{AllocError, Global};
 
 /// What is laid out of a flow so far.

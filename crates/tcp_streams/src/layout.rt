@@ -8,7 +8,7 @@ ghost use Rattle.tcp_streams.specs.declared.interval.Interval.{Interval as Held}
 
 use crate::interval::Interval;
 use crate::streams::{Arrival, Flow, end_of};
-use pcap_records::Capture;
+use input_output::Capture;
 use std::alloc::{AllocError, Global};
 
 /// Lays out the bytes of intervals in order of offset, as far as they follow each other from 0.

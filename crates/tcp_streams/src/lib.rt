@@ -18,7 +18,7 @@
 //! Segments that come in order are laid out as they come. For any others the code lays disjoint intervals over one
 //! another: the first half of the segments is settled, then the second, which gives only the offsets that the first
 //! leaves free; so it takes n log n steps in whichever order segments come. Pairs are looked up by a hash whose key no
-//! capture can foresee (`table_hash`); the contract of [`connections`] holds for every key, so no answer depends on it.
+//! capture can foresee (`TableHash`); the contract of [`connections`] holds for every key, so no answer depends on it.
 //!
 //! Wrong bodies that the prover refuses: the last retransmission wins, a SYN of any number opens again, a pair is known
 //! by one end. [`worked_examples`] goes from packets to a flow; worked examples of openings, strays and offsets are

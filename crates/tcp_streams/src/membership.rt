@@ -5,9 +5,9 @@ ghost use Rattle.packet_heads.specs.code.Order.{AreNumberedFrom};
 
 use crate::members::Connections;
 use crate::table::Table;
+use input_output::TableHash;
 use packet_heads::{Packet, Packets};
 use std::alloc::{AllocError, Global};
-use table_hash::TableHash;
 
 /// Says which segments belong to which opening, and which to none.
 ///

@@ -1,8 +1,8 @@
 use crate::pair::Pair;
 use indexmap::IndexMap;
+use input_output::TableHash;
 use std::alloc::{AllocError, Global};
 use std::marker::Model;
-use table_hash::TableHash;
 
 /// What was seen of a pair of endpoints, with its index in the table's lists.
 #[derive(Clone, Copy)]

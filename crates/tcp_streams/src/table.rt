@@ -4,9 +4,9 @@ ghost use Rattle.tcp_streams.specs.Membership.{is_request};
 use crate::members::{Connection, Connections, Stray};
 use crate::pair::Pair;
 use crate::standings::{Standing, Standings};
+use input_output::TableHash;
 use packet_heads::Segment;
 use std::alloc::{AllocError, Global};
-use table_hash::TableHash;
 
 /// What the next segment does.
 pub enum Turn {

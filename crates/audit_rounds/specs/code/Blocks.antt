@@ -1,8 +1,11 @@
 -- The blocks that connections' frames are cut into, and what is known of each.
 use Rattle.std.specs.Prelude.{◌≡◌, ℕ, ◌+◌, ◌<◌, ◌≤◌, ◌^◌, All, List, [], ◌∷◌, ◌++◌, length, map, slice_index_or}
+use Rattle.std.specs.Prelude.{◌==◌, if◌then◌else◌}
 use Rattle.std.specs.List.{AllByRecursion}
 use Rattle.audit_terms.specs.declared.connections.ConnectionState.{ConnectionState}
 use Rattle.audit_terms.specs.declared.items.Item.{Item}
+use Rattle.audit_terms.specs.Connection.{connection_start}
+use Rattle.audit_terms.specs.code.runs.Blocks.{connection_after_all}
 use Rattle.block_scan.specs.code.List.{items_of}
 use Rattle.conn_scan.specs.declared.block_items.Block.{Block}
 use Rattle.conn_scan.specs.code.Items.{items_in, IsBlock}
@@ -54,13 +57,25 @@ laid_out connection (blocks ∷ later) = blocks_of_connection connection blocks 
 abbrev pub wholes : List Block → List (List Item)
 wholes connections = map items_in connections
 
--- the items of consecutive connections, the first of this number, cut into so many blocks each
-pub record AreCut (connection : ℕ) (wholes : List (List Item)) (counts : List ℕ) (blocks : List ConnectionBlock)
-    : Type 0 where
+-- the items of connections, the first of number 0, cut into blocks
+pub record AreBlocksOf (wholes : List (List Item)) (blocks : List ConnectionBlock) : Type 0 where
   pub cuts : List (List Block)
-  pub laid : blocks ≡ laid_out connection cuts
-  pub number : counts ≡ map length cuts
+  pub laid : blocks ≡ laid_out 0 cuts
   pub items : wholes ≡ map (λ (blocks : List Block). items_of (map items_in blocks)) cuts
+
+-- the connection before a block, where the last block, one of connection `last`, left it so
+abbrev pub before_of : (last : ℕ) → ConnectionState → ConnectionBlock → ConnectionState
+before_of last now one = if one.connection == last then now else connection_start
+
+-- the connection after it
+abbrev pub after_of : (last : ℕ) → ConnectionState → ConnectionBlock → ConnectionState
+after_of last now one = connection_after_all (before_of last now one) (items_in one.block)
+
+-- each block fits the connection before it
+abbrev pub AreFit : (last : ℕ) → ConnectionState → List ConnectionBlock → Type 0
+AreFit last now [] = Unit {0}
+AreFit last now (one ∷ rest) =
+    BlockFits (before_of last now one) (items_in one.block) × AreFit one.connection (after_of last now one) rest
 
 -- the blocks of one connection more
 pub record AddsBlocks (connection : ℕ) (whole : Block) (old new : List ConnectionBlock) : Type 0 where

@@ -1,6 +1,7 @@
 -- The plan of the round in which blocks are gone through.
 use Rattle.std.specs.Prelude.{◌≡◌, ℕ, ◌+◌, ◌<◌, ◌==◌, Bool, if◌then◌else◌, All, List, [], ◌∷◌, ◌++◌, map, slice_get}
 use Rattle.std.specs.Prelude.{Option, Some}
+use Rattle.audit_terms.specs.declared.connections.ConnectionState.{ConnectionState}
 use Rattle.audit_terms.specs.declared.findings.Finding.{Finding}
 use Rattle.audit_terms.specs.declared.frames.Frame.{Frame}
 use Rattle.audit_terms.specs.declared.items.Item.{Item}
@@ -15,7 +16,7 @@ use Rattle.stop_desk.specs.code.Heeding.{RunLooks}
 use Rattle.stop_desk.specs.code.Laid.{part_of, board_with}
 use Rattle.audit_rounds.specs.declared.blocks.ConnectionBlock.{ConnectionBlock}
 use Rattle.audit_rounds.specs.declared.block_plans.ReadyBlock.{ReadyBlock}
-use Rattle.audit_rounds.specs.code.Blocks.{IsReady}
+use Rattle.audit_rounds.specs.code.Blocks.{IsReady, after_of, before_of}
 
 -- to sum a block finds nothing
 abbrev pub sum_job : ConnectionBlock → Job
@@ -51,6 +52,14 @@ abbrev pub shown_at : (credits_shown : Bool) → (connection : ℕ) → List (Li
 shown_at credits_shown connection [] n = []
 shown_at credits_shown connection (items ∷ later) n =
     where_of connection n (whole_shown credits_shown items) ++ shown_at credits_shown (connection + 1) later n
+
+-- what is shown of connection n in blocks, from the connection that the last block before them left
+abbrev pub shown_from : (credits_shown : Bool) → (last : ℕ) → ConnectionState → List ConnectionBlock → (n : ℕ)
+    → List Finding
+shown_from credits_shown last now [] n = []
+shown_from credits_shown last now (one ∷ rest) n =
+    where_of one.connection n (shown credits_shown (block_run (before_of last now one) (items_in one.block)))
+    ++ shown_from credits_shown one.connection (after_of last now one) rest n
 
 -- a plan for so many connections, whose jobs find `finds n` of connection n
 pub record IsPlan (credits_shown : Bool) (connections : ℕ) (finds : ℕ → List Finding) (plan : List ReadyBlock)

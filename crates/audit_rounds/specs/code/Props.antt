@@ -1,43 +1,21 @@
 -- What is known of blocks is known in one way at most.
-use Rattle.std.specs.Prelude.{ℕ, ◌+◌, ℤ, ◌≤ℤ◌, List, [], ◌∷◌, slice_index_or}
+use Rattle.std.specs.Prelude.{ℕ, ℤ, ◌≤ℤ◌, List, [], ◌∷◌, slice_index_or}
 use Rattle.std.proofs.Props.{props}
 use Rattle.std.specs.Coded.{×_prop, Unit-prop, le_prop}
 use Rattle.audit_terms.specs.declared.connections.ConnectionState.{ConnectionState}
-use Rattle.audit_terms.specs.declared.frames.Frame.{Frame}
-use Rattle.audit_terms.specs.declared.items.Change.{Change}
 use Rattle.audit_terms.specs.declared.items.Item.{Item}
-use Rattle.audit_terms.specs.code.runs.Orderly.{IsInRange, IsOrderlyFrom}
-use Rattle.settings_pair.specs.code.Changes.{AreOrderlyFrom}
 use Rattle.conn_scan.specs.declared.block_items.Block.{Block}
 use Rattle.conn_scan.specs.code.Items.{items_in, IsBlock, NeverFallFrom}
 use Rattle.conn_scan.specs.code.Block.{BlockFits}
 use Rattle.audit_rounds.specs.declared.blocks.ConnectionBlock.{ConnectionBlock}
 use Rattle.audit_rounds.specs.declared.block_plans.ReadyBlock.{ReadyBlock}
 use Rattle.audit_rounds.specs.code.Blocks.{IsShort, AreShort, IsReady}
+use Rattle.audit_rounds.specs.code.JobProps.{frames-prop, changes-prop}
 use Rattle.audit_rounds.specs.code.Plans.{AreReady}
-
-in_range-prop : (frame : Frame) → IsProp (IsInRange frame)
-in_range-prop frame a b i = record {
-  number = le_prop a.number b.number i;
-  stream = le_prop a.stream b.stream i;
-  promised = le_prop a.promised b.promised i;
-  length = le_prop a.length b.length i;
-  nanos = le_prop a.nanos b.nanos i;
-}
-
-frames-prop : (low : ℕ) (frames : List Frame) → IsProp (IsOrderlyFrom low frames)
-frames-prop low [] a b i = Unit-prop a b i
-frames-prop low (frame ∷ frames) a b i =
-    (le_prop a.0 b.0 i, in_range-prop frame a.1 b.1 i, frames-prop (frame.number + 1) frames a.2 b.2 i)
 
 numbers-prop : (low : ℕ) (numbers : List ℕ) → IsProp (NeverFallFrom low numbers)
 numbers-prop low [] = Unit-prop
 numbers-prop low (number ∷ numbers) = ×_prop le_prop (numbers-prop number numbers)
-
-changes-prop : (low : ℕ) (changes : List Change) → IsProp (AreOrderlyFrom low changes)
-changes-prop low [] a b i = Unit-prop a b i
-changes-prop low (change ∷ changes) a b i =
-    (le_prop a.0 b.0 i, le_prop a.1 b.1 i, changes-prop (change.number + 1) changes a.2 b.2 i)
 
 block-prop : (block : Block) → IsProp (IsBlock block)
 block-prop block a b i = record {

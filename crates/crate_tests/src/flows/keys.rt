@@ -1,10 +1,10 @@
 //! The keys under which tables are hashed: which are drawn, no contract says, since every key serves.
 
-use crate::answer::Answer;
+use input_output::TableHash;
 use std::hash::BuildHasher;
 use std::io;
 use std::random::RandomSource;
-use table_hash::TableHash;
+use test_answers::Answer;
 
 /// A system that gives no random bytes.
 #[derive(Drop)]

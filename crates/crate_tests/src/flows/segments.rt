@@ -1,15 +1,14 @@
 //! The client's flow of segments that overlap, by the calls and by the plain program.
 
 use super::plain::{self, PlainFlow};
-use crate::answer::Answer;
 use crate::captures::Capture;
-use crate::random::next;
 use audit_terms::Side;
+use input_output::TableHash;
 use packet_heads::{PacketWalk, Packets};
 use pcap_records::records;
 use std::alloc::{AllocError, Global};
-use table_hash::TableHash;
 use tcp_streams::{Arrival, Flow, assemble, connections};
+use test_answers::{Answer, next};
 
 /// The bytes of a flow in one piece.
 fn bytes_of(alloc: Global, flow: &Flow) -> Result<Vec<u8>, AllocError> {
@@ -33,7 +32,7 @@ fn is_plain(alloc: Global, flow: &Flow, plain: &PlainFlow) -> Result<bool, Alloc
 
 /// The client's flow in the first connection, where the plain program finds the same.
 fn flow_of(alloc: Global, capture: &[u8]) -> Result<Option<PlainFlow>, AllocError> {
-    let parts = pcap_records::Capture::cut(alloc, capture)?;
+    let parts = input_output::Capture::cut(alloc, capture)?;
     let Ok(read) = records(alloc, &parts) else {
         return Ok(None);
     };

@@ -4,7 +4,6 @@ ghost use Rattle.std.specs.Prelude.{◌≡◌, ◌+◌, ◌*◌, ◌<◌, ◌^�
 ghost use Rattle.audit_terms.specs.code.runs.Orderly.{IsInRange};
 ghost use Rattle.tcp_streams.specs.code.Orderly.{IsOrderly};
 
-use crate::answer::Answer;
 use audit_report::{capture_lines, connection_lines, finding_line};
 use audit_terms::{Body, Finding, Frame, Kind, Length, Place, Side, Sides, Word};
 use h2_frames::Cut;
@@ -12,6 +11,7 @@ use packet_heads::{Endpoint, MadePackets, Packet, Packets, Refusal, Segment, Ski
 use pcap_records::Nanos;
 use std::alloc::{AllocError, Global};
 use tcp_streams::{Arrival, Connection, Flow, Stray};
+use test_answers::Answer;
 
 const CLIENT: Endpoint = Endpoint {
     address: 0x0a000001,

@@ -1,9 +1,9 @@
 //! Each fault with its number, its exit status and its line on standard error, and each refusal with its number.
 
-use crate::answer::Answer;
 use h2audit::{AuditFault, ending};
 use pcap_records::PcapFault;
 use std::alloc::{AllocError, Global};
+use test_answers::Answer;
 
 const FAULTS: [AuditFault; 9] = [
     AuditFault::Pcap(PcapFault::ShortHeader),

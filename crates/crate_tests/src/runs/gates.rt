@@ -1,12 +1,12 @@
 //! What gates see of the rounds: how many jobs each has, and that two workers are in one at once.
 
-use crate::answer::Answer;
 use crate::captures::{Capture, data, headers, window_update};
 use h2audit::{Gate, Options, audit};
 use std::alloc::{AllocError, Global};
 use std::random::RandomSource;
 use std::sync::atomic::{AtomicU32, Ordering};
 use std::thread::{Threads, yield_now};
+use test_answers::Answer;
 
 /// Counts the jobs of each round.
 #[derive(Drop)]

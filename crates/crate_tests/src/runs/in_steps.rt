@@ -1,12 +1,12 @@
 //! Runs over readers and writers that go in steps or fail: which calls they get, and what the accounts tell.
 
-use crate::answer::Answer;
 use crate::runs::fakes::{Failure, Pieces, Slow};
 use h2audit::{AuditFault, CaptureReader, NoGate, Options, ReportWriter, Verdict, run};
 use pcap_records::PcapFault;
 use std::alloc::Global;
 use std::random::RandomSource;
 use std::thread::Threads;
+use test_answers::Answer;
 
 /// A little-endian header: magic, version 2.4, time zone, accuracy, snapshot length, Ethernet.
 const HEADER: [u8; 24] = [

@@ -1,8 +1,9 @@
 -- What is kept of a capture, what the capture answers, and how reading it fails.
-use Rattle.std.specs.Prelude.{◌≡◌, ◌⊎◌, ℕ, true, false, List, None, Some}
+use Rattle.std.specs.Prelude.{◌≡◌, ◌⊎◌, ℕ, List, None, Some}
 use Rattle.pcap_records.specs.Refusal.{refusal}
-use Rattle.byte_accounts.specs.Account.{HasReadFailed}
-use Rattle.byte_accounts.specs.declared.capture_reader.CaptureReader.{CaptureReader}
+use Rattle.input_output.specs.Account.{HasReadFailed}
+use Rattle.input_output.specs.declared.capture_reader.CaptureReader.{CaptureReader}
+use Rattle.input_output.specs.declared.capture_reader.ReadState.TheVariants.{LackedMemory}
 use Rattle.h2audit.specs.declared.fault.AuditFault.{AuditFault}
 use Rattle.h2audit.specs.declared.fault.AuditFault.TheVariants as fault
 use Rattle.h2audit.specs.declared.reading.FileHeader.{FileHeader}
@@ -17,7 +18,7 @@ AnswersFor kept given = (refusal kept ≡ refusal given) × (refusal given ≡ N
 -- the faults of reading a capture, as the account then shows them: a read that failed, or want of memory for its bytes
 abbrev pub IsReadingFault : {R : Type 0} → AuditFault → CaptureReader R → Type 0
 IsReadingFault fault.Read reader = HasReadFailed reader
-IsReadingFault fault.OutOfMemory reader = (reader.has_failed ≡ false) × (reader.lacked_memory ≡ true)
+IsReadingFault fault.OutOfMemory reader = reader.state ≡ LackedMemory
 IsReadingFault _ _ = ⊥
 
 -- what the file header of these bytes gives: a walk over them, or their refusal
@@ -28,4 +29,4 @@ IsHeaderOf kept (header.Refused e) = refusal kept ≡ Some e
 -- the faults of an audit of what is kept: it has no report, or there was no memory for the list of its parts
 abbrev pub IsAuditingFault : {R : Type 0} → AuditFault → (old new : CaptureReader R) → Type 0
 IsAuditingFault e old new = ((new ≡ old) × IsNoReport old.bytes.kept e)
-    ⊎ ((new ≡ record old { lacked_memory = true }) × (e ≡ fault.OutOfMemory))
+    ⊎ ((new ≡ record old { state = LackedMemory }) × (e ≡ fault.OutOfMemory))

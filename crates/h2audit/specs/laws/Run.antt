@@ -1,11 +1,13 @@
 -- What a run leaves behind, where its reader and its writer tell their bytes: all of it follows from what the accounts
 -- tell.
-use Rattle.std.specs.Prelude.{◌≡◌, ◌≢◌, ℕ, Bool, false, List, take, Option, None, Some, Result, Ok, Err}
+use Rattle.std.specs.Prelude.{◌≡◌, ◌≢◌, ℕ, Bool, List, take, Option, None, Some, Result, Ok, Err}
 use Rattle.std.specs.Io.KnownBytes.{Appends, Keeps}
 use Rattle.pcap_records.specs.Refusal.{refusal}
-use Rattle.byte_accounts.specs.Account.{written}
-use Rattle.byte_accounts.specs.declared.capture_reader.CaptureReader.{CaptureReader}
-use Rattle.byte_accounts.specs.declared.report_writer.ReportWriter.{ReportWriter}
+use Rattle.input_output.specs.Account.{written}
+use Rattle.input_output.specs.declared.capture_reader.CaptureReader.{CaptureReader}
+use Rattle.input_output.specs.declared.capture_reader.ReadState.{ReadState}
+use Rattle.input_output.specs.declared.capture_reader.ReadState.TheVariants.{LackedMemory}
+use Rattle.input_output.specs.declared.report_writer.ReportWriter.{ReportWriter}
 use Rattle.h2audit.specs.Account.{HasGiven, Tells}
 use Rattle.h2audit.specs.Report.{IsReport}
 use Rattle.h2audit.specs.declared.fault.AuditFault.{AuditFault}
@@ -22,9 +24,9 @@ Leaves bytes shown old new (Err (fault.Pcap e)) = (refusal bytes ≡ Some e) × 
 Leaves bytes shown old new (Err _) = Keeps old new
 
 -- a capture for whose bytes there was memory is judged: want of memory is answered only where it is not refused
-abbrev pub IsJudged : List ℕ → (lacked_memory : Bool) → Result Verdict AuditFault → Type 0
-IsJudged bytes lacked_memory (Err fault.OutOfMemory) = lacked_memory ≡ false → refusal bytes ≡ None
-IsJudged bytes lacked_memory _ = Unit {0}
+abbrev pub IsJudged : List ℕ → ReadState → Result Verdict AuditFault → Type 0
+IsJudged bytes state (Err fault.OutOfMemory) = state ≢ LackedMemory → refusal bytes ≡ None
+IsJudged bytes state _ = Unit {0}
 
 module _ (R W : Type 0) where
   -- accounts that tell of an answer, of a reader of all these bytes and of a writer that took what its account says,
@@ -34,7 +36,7 @@ module _ (R W : Type 0) where
       (old new : Option (List ℕ))
       (answer : Result Verdict AuditFault) →
       Tells reader writer shown answer → HasGiven (Some all) reader → Appends old new (written writer) →
-      Leaves all shown old new answer × IsJudged all reader.lacked_memory answer
+      Leaves all shown old new answer × IsJudged all reader.state answer
 
   -- and after a fault other than a failed write the writer holds what it held
   abbrev pub FaultsAreSilent : Type 0

@@ -1,7 +1,7 @@
 -- The packets of a front of a capture, behind which more bytes may come, and those of all of it.
 use Rattle.std.specs.Prelude.{◌≡◌, ℕ, ◌^◌, ◌<◌, List, length}
 use Rattle.pcap_records.specs.Reading.{IsReading}
-use Rattle.pcap_records.specs.code.Front.{Lasts}
+use Rattle.input_output.specs.code.Front.{Lasts}
 use Rattle.pcap_records.specs.code.Walk.{HasPassed}
 use Rattle.pcap_records.specs.declared.capture.Record.{Record}
 use Rattle.pcap_records.specs.declared.capture.Records.{Records}

@@ -11,8 +11,8 @@ loop-frame-init c =
     rw (c.start-connection.ensures, c.in_ok-rows.ensures, c.new-found.ensures.items)
     (pass-begins c.args.frames.now _ c.requires c.in_ok-pairs.ensures.changes)
 
-pub meet-requires : goal.meet-requires
-meet-requires c =
+pub say_connection-requires : goal.say_connection-requires
+say_connection-requires c =
     let at = rw (drop-at c.args.frames.now _ _ c.frame-item.is c.loop-frame-test.true) at c.loop-frame.invariant in
     record { frame = at.orderly.1; client = (room at).client; server = (room at).server }
 
@@ -44,9 +44,9 @@ loop-frame-preserved c =
     (rw c.deref.ensures.value at c.change_at-change.ensures) c.is_none.ensures
     (rw c.deref-in-loop-frame.ensures.value at c.opens.ensures) own
     (rw (c.new-said.ensures.items, c.of.ensures) at c.in_ok-say_local.ensures)
-    (rw (c.is_ack.ensures, c.at-ack.ensures) at c.in_ok-say_if.ensures.ok) c.in_ok-meet.ensures.said
+    (rw (c.is_ack.ensures, c.at-ack.ensures) at c.in_ok-say_if.ensures.ok) c.in_ok-say_connection.ensures.said
     (rw rows at c.in_ok-meet_all.ensures.said)
     (rw c.in_ok-put_in_order.ensures.ok at c.in_ok-append.ensures.items)
-    c.previous_after-previous.ensures c.initial_after-in_force.ensures c.in_ok-meet.ensures.after
-    (rw rows at c.in_ok-meet_all.ensures.after) c.meet.ensures.client c.meet.ensures.server
+    c.keep_last.ensures c.initial_after-in_force.ensures c.in_ok-say_connection.ensures.after
+    (rw rows at c.in_ok-meet_all.ensures.after) c.say_connection.ensures.client c.say_connection.ensures.server
     (rw rows at c.in_ok-meet_all.ensures.fits))

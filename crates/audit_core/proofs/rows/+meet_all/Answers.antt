@@ -1,8 +1,8 @@
 use Rattle.std.proofs.lemmas.Result.{on_ok_weaker}
 use Rattle.audit_core.proofs.rows.+meet_all.Goals as goal
 
-pub meet-requires-clause-acknowledged : goal.meet-requires-clause-acknowledged
-meet-requires-clause-acknowledged t c = rw c.step_at-step.ensures (c.requires.acknowledged _)
+pub say_stream-requires-clause-acknowledged : goal.say_stream-requires-clause-acknowledged
+say_stream-requires-clause-acknowledged t c = rw c.step_at-step.ensures (c.requires.acknowledged _)
 
 pub returns-clause-fits : goal.returns-clause-fits
 returns-clause-fits t c =
@@ -11,8 +11,8 @@ returns-clause-fits t c =
     let all = rw c.in-Some.ensures.cases.0 at h in (
       record {
         stream = all.0.stream;
-        client = c.in_ok-meet.ensures.client bound all.0.client;
-        server = c.in_ok-meet.ensures.server bound all.0.server;
+        client = c.in_ok-say_stream.ensures.client bound all.0.client;
+        server = c.in_ok-say_stream.ensures.server bound all.0.server;
       },
       others bound all.1,
     ))

@@ -1,7 +1,15 @@
-use Rattle.audit_rounds.proofs.Clears.{clear-none}
+use Rattle.audit_rounds.proofs.Words.{◌≡◌, Bool, true, false, not, List, [], sym, Item, block_run, shown, conn_sum_of}
+use Rattle.std.specs.Bool.{OnFalse}
+use Rattle.conn_scan.specs.code.Clear.{is_clear}
+use Rattle.conn_scan.proofs.ShownLemmas.{clear_shows_credit}
 use Rattle.audit_rounds.proofs.block_plans.may_show.Goals as goal
 
 pub returns-else-credits_shown : goal.returns-else-credits_shown
-returns-else-credits_shown c =
-    clear-none c.args.credits_shown c.clear.result c.args.before.now c.args.sum.now c.if-credits_shown.false
-    c.clear.ensures
+returns-else-credits_shown c = by_test c.clear.result c.clear.ensures where
+  by_test : (clear : Bool) → ((items : List Item) → c.args.sum.now ≡ conn_sum_of items
+      → clear ≡ is_clear c.args.before.now items)
+      → OnFalse (not clear) ((items : List Item) → c.args.sum.now ≡ conn_sum_of items
+      → shown c.args.credits_shown (block_run c.args.before.now items) ≡ [])
+  by_test true is = λ items e.
+      rw c.if-credits_shown.false (clear_shows_credit c.args.before.now items (sym (is items e))).1
+  by_test false is = tt

@@ -1,22 +1,31 @@
-use Rattle.audit_rounds.proofs.Words.{◌≡◌, ◌<◌, List, length, All, sym, ◌∙◌, subst, length-map, Block}
-use Rattle.audit_rounds.proofs.Words.{ConnectionBlock, wholes, IsPlan, shown_at}
-use Rattle.audit_rounds.proofs.Layouts.{cut-within}
+use Rattle.audit_rounds.proofs.Words.{length, refl, sym, wholes}
+use Rattle.audit_rounds.proofs.Cuts.{cut-within, little-each}
+use Rattle.audit_rounds.proofs.Plans.{cut-walk, plan-as}
 use Rattle.audit_rounds.proofs.Whole.{if_ok-then}
 use Rattle.audit_rounds.proofs.block_rounds.planned.Goals as goal
 
 pub sums_of-requires-clause-within : goal.sums_of-requires-clause-within
 sums_of-requires-clause-within g c κs inside =
-    let connections = c.args.connections.now in
-    let stops = c.args.stops.now in
-    let as_many : length (wholes connections) ≡ length connections = length-map connections _ in
-    subst (λ (blocks : List ConnectionBlock). All (λ (one : ConnectionBlock). one.connection < length stops) blocks)
-    (sym c.as_slice.ensures.value)
-    (cut-within (wholes connections) c.in_ok-cut.cut.counts.items c.in_ok-cut.cut.blocks.items (length stops)
-    c.in_ok-cut.ensures.cut (as_many ∙ sym c.requires.number))
+    rw c.as_slice-blocks.ensures.value (cut-within c.args.connections.now c.in_ok-blocks.blocks.items _
+    (sym c.requires.number) c.in_ok-blocks.ensures.of)
+
+pub plan_of-requires-clause-fits : goal.plan_of-requires-clause-fits
+plan_of-requires-clause-fits g c =
+    let same = c.as_slice-blocks.ensures.value in
+    let little = little-each c.as_slice-blocks.result.now c.in_ok-sums.sums.items c.in_ok-sums.ensures in
+    rw same (cut-walk c.args.crew.now.setup.credits_shown (wholes c.args.connections.now) c.in_ok-blocks.blocks.items
+    c.in_ok-blocks.ensures.of c.requires.fits (rw same at little)).fits
 
 pub returns-clause-plan : goal.returns-clause-plan
 returns-clause-plan g c =
+    let same = c.as_slice-blocks.ensures.value in
     let shows = c.args.crew.now.setup.credits_shown in
+    let connections = c.args.connections.now in
+    let blocks = c.in_ok-blocks.blocks.items in
+    let of = c.in_ok-blocks.ensures.of in
+    let little = little-each c.as_slice-blocks.result.now c.in_ok-sums.sums.items c.in_ok-sums.ensures in
+    let walk = cut-walk shows (wholes connections) blocks of c.requires.fits (rw same at little) in
+    let within = cut-within connections blocks (length connections) refl of in
     if_ok-then c.plan_of.result _ _ c.plan_of.ensures.plan (λ plan is.
-    subst (λ (of : List Block). IsPlan shows (length of) (shown_at shows 0 (wholes of)) plan.items)
-    c.in_ok-cut.ensures.of is)
+    plan-as shows (length connections) _ _ plan.items (rw same at (is (length connections) (rw same within)))
+    walk.shown)

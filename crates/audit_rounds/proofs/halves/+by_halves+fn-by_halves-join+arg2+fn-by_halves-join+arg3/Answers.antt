@@ -11,9 +11,8 @@ returns g t c =
     let passed = λ (frames : Bor (List Frame)). shown c.args.crew.now.setup.credits_shown (pass frames.now) in
     let one = c.in_ok-found in
     let other = c.in_ok-more in
-    let same = c.halves.ensures.shown in
     let first = IfOk-at_ok (λ found. AreShown _ front found.items) one.was c.join-one.ensures.first in
     let second = IfOk-at_ok (λ found. AreShown _ back found.items) other.was c.join-one.ensures.second in
     rw c.in_ok-append.ensures.items
     (halves-whole items_in passed c.args.connections.now front back one.found.items other.more.items
-    c.in_halves.ensures.whole (rw same.0 at first) (rw same.1 at second))
+    c.in_halves.ensures.whole first second)

@@ -1,6 +1,4 @@
-use Rattle.audit_rounds.proofs.Words.{length, All, Option, ℕ, List, sym, ap, ◌∙◌, subst, Vec, Global, AllZip-long}
-use Rattle.audit_rounds.proofs.Words.{Finding, IsStop, Streams, HaveSettled, IsReady, IsStreamsOf, IsFirstStop}
-use Rattle.audit_rounds.proofs.Words.{RowsAreFew, found_before}
+use Rattle.audit_rounds.proofs.Words.{sym, ◌∙◌, AllZip-long, found_before}
 use Rattle.audit_rounds.proofs.Few.{few-rows}
 use Rattle.audit_rounds.proofs.StreamRounds.{ready-each, stops-are-places}
 use Rattle.audit_rounds.proofs.Alike.{items_in, as-many}
@@ -9,44 +7,31 @@ use Rattle.audit_rounds.proofs.stream_round.settled_over.Goals as goal
 
 pub settled_streams-requires-clause-places : goal.settled_streams-requires-clause-places
 settled_streams-requires-clause-places g c κs within =
-    subst (All IsStop) (sym c.as_slice-2.ensures.value)
-    (stops-are-places c.args.crew.now.setup.credits_shown c.args.connections.now c.args.found.now
-    c.in_ok-stops.stops.items c.requires.prepared c.requires.before c.in_ok-stops.ensures)
+    rw c.as_slice-2.ensures.value (stops-are-places c.args.crew.now.setup.credits_shown c.args.connections.now
+    c.args.found.now c.in_ok-stops.stops.items c.requires.prepared c.requires.before c.in_ok-stops.ensures)
 
 pub settled_streams-requires-clause-number : goal.settled_streams-requires-clause-number
 settled_streams-requires-clause-number g c κs within =
-    ap length c.as_slice-2.ensures.value
-    ∙ AllZip-long (λ (one : Vec Finding Global) (stop : Option ℕ). IsFirstStop one.items stop) c.args.found.now
-    c.in_ok-stops.stops.items c.in_ok-stops.ensures
+    rw (c.as_slice-2.ensures.value, c.as_slice-3.ensures.value)
+    (AllZip-long _ c.args.found.now c.in_ok-stops.stops.items c.in_ok-stops.ensures
     ∙ as-many items_in found_before c.args.found.now c.args.connections.now c.requires.before
-    ∙ sym (AllZip-long IsStreamsOf c.args.connections.now c.in_ok-streams.streams.items c.in_ok-streams.ensures)
-    ∙ sym (ap length c.as_slice-3.ensures.value)
+    ∙ sym (AllZip-long _ c.args.connections.now c.in_ok-streams.streams.items c.in_ok-streams.ensures))
 
 pub settled_streams-requires-clause-ready : goal.settled_streams-requires-clause-ready
 settled_streams-requires-clause-ready g c κs within =
-    subst (All IsReady) (sym c.as_slice-3.ensures.value)
-    (ready-each c.args.crew.now.setup.credits_shown c.args.connections.now c.in_ok-streams.streams.items
-    c.requires.prepared c.in_ok-streams.ensures)
+    rw c.as_slice-3.ensures.value (ready-each c.args.crew.now.setup.credits_shown c.args.connections.now
+    c.in_ok-streams.streams.items c.requires.prepared c.in_ok-streams.ensures)
 
 pub settled_streams-requires-clause-few : goal.settled_streams-requires-clause-few
 settled_streams-requires-clause-few g c κs within =
-    subst RowsAreFew (sym c.as_slice-3.ensures.value)
-    (few-rows c.args.crew.now.setup.credits_shown c.args.connections.now c.in_ok-streams.streams.items
-    c.requires.prepared c.in_ok-streams.ensures c.requires.few)
+    rw c.as_slice-3.ensures.value (few-rows c.args.crew.now.setup.credits_shown c.args.connections.now
+    c.in_ok-streams.streams.items c.requires.prepared c.in_ok-streams.ensures c.requires.few)
 
 pub returns : goal.returns
-returns g c =
-    let shows = c.args.crew.now.setup.credits_shown in
-    let count = c.args.crew.now.setup.groups in
-    let stops = c.in_ok-stops.stops.items in
-    let streams = c.in_ok-streams.streams.items in
-    if_ok-then c.settled_streams.result _ _ c.settled_streams.ensures (λ settled done. record {
-      streams = streams;
-      opening = stops;
-      of = c.in_ok-streams.ensures;
-      first = c.in_ok-stops.ensures;
-      done = subst (λ (stops : List (Option ℕ)). HaveSettled shows count streams stops settled)
-          c.as_slice-2.ensures.value
-          (subst (λ (streams : List Streams). HaveSettled shows count streams c.as_slice-2.result.now settled)
-          c.as_slice-3.ensures.value done);
-    })
+returns g c = if_ok-then c.settled_streams.result _ _ c.settled_streams.ensures (λ settled done. record {
+  streams = c.in_ok-streams.streams.items;
+  opening = c.in_ok-stops.stops.items;
+  of = c.in_ok-streams.ensures;
+  first = c.in_ok-stops.ensures;
+  done = rw (c.as_slice-2.ensures.value, c.as_slice-3.ensures.value) at done;
+})

@@ -1,19 +1,18 @@
-use Rattle.audit_rounds.proofs.Words.{◌<◌, All, map, length, sym, ◌∙◌, subst, arith, Job, IsJobOf, job_of}
-use Rattle.audit_rounds.proofs.StreamRounds.{planned, jobs-within}
+use Rattle.audit_rounds.proofs.Words.{◌<◌, arith, length, All-map, Job, job_of, plan_from}
+use Rattle.audit_rounds.proofs.StreamRounds.{planned}
 use Rattle.audit_rounds.proofs.stream_round.settled_streams.Goals as goal
 
 pub invariant_of-round-clause-planned : goal.invariant_of-round-clause-planned
 invariant_of-round-clause-planned g c =
-    let connections = c.args.connections.now in
-    subst (All (IsJobOf connections)) (sym (c.as_slice.ensures.value ∙ c.in_ok-plan.ensures.plan))
-    (planned c.args.crew.now.setup.groups connections
-    (let some = c.args.crew.now.setup.some_groups in omega (arith, some)) c.requires.ready)
+    let setup = c.args.crew.now.setup in
+    rw (c.as_slice.ensures.value, c.in_ok-plan.ensures.plan)
+    (planned setup.groups setup.some_groups c.args.connections.now)
 
 pub settle-requires-clause-connections : goal.settle-requires-clause-connections
 settle-requires-clause-connections g c κs within =
-    let connections = c.args.connections.now in
-    let shows = c.args.crew.now.setup.credits_shown in
-    let size = length c.args.stops.now in
-    subst (λ plan. All (λ (job : Job). job.connection < size) (map (job_of shows connections) plan))
-    (sym (c.as_slice.ensures.value ∙ c.in_ok-plan.ensures.plan))
-    (jobs-within shows c.args.crew.now.setup.groups connections size (sym c.requires.number))
+    let setup = c.args.crew.now.setup in
+    let number = c.requires.number in
+    rw (c.as_slice.ensures.value, c.in_ok-plan.ensures.plan)
+    (All-map (λ (job : Job). job.connection < length c.args.stops.now)
+    (job_of setup.credits_shown c.args.connections.now) (plan_from setup.groups 0 c.args.connections.now) (λ n d l.
+    let own = (planned setup.groups setup.some_groups c.args.connections.now n d l).connection in omega arith))

@@ -1,9 +1,8 @@
 use Rattle.conn_scan.proofs.Terms.{◌≡◌, ◌+◌, [], ◌∷◌, ◌++◌, append_assoc, append-nil, sym, ◌∙◌, items_in, numbers_from}
-use Rattle.conn_scan.proofs.Terms.{changes_from}
+use Rattle.conn_scan.proofs.Terms.{changes_from, MovesLittle, all-append}
 use Rattle.conn_scan.specs.code.ConnSumLaws.{conn_sum_of-met}
-use Rattle.conn_scan.proofs.WalkLemmas.{block_walked}
-use Rattle.conn_scan.proofs.WalkLemmas.{idle_at, walked-idle, walked-from, walked-none}
-use Rattle.conn_scan.proofs.SumLemmas.{little-append, sum_roomy}
+use Rattle.conn_scan.proofs.WalkLemmas.{block_walked, idle_at, walked-idle, walked-from, walked-none}
+use Rattle.conn_scan.proofs.SumLemmas.{sum_roomy}
 use Rattle.conn_scan.proofs.sums.block_sum.Goals as goal
 
 pub meet_frame-requires : goal.meet_frame-requires
@@ -34,7 +33,7 @@ loop-frame-preserved-then-frame-due c =
       done = i.done ++ item ∷ [];
       split = rw append_assoc (rw (is, idle) at i.split);
       sum = rw (c.meet_frame.ensures.met, i.sum) (sym (conn_sum_of-met i.done item));
-      little = little-append i.done (item ∷ []) i.little (c.meet_frame.ensures.little, tt);
+      little = all-append MovesLittle i.done (item ∷ []) i.little (c.meet_frame.ensures.little, tt);
     }
 
 pub loop-frame-preserved : goal.loop-frame-preserved
@@ -62,7 +61,7 @@ loop-frame-preserved c =
         ← left,
       ) (rw is at i.split);
       sum = rw (c.meet.ensures.met, i.sum) (sym (conn_sum_of-met i.done item));
-      little = little-append i.done (item ∷ []) i.little (c.meet.ensures.little, tt);
+      little = all-append MovesLittle i.done (item ∷ []) i.little (c.meet.ensures.little, tt);
     }
 
 pub returns : goal.returns

@@ -16,15 +16,16 @@ loop-frame-preserved c =
     let frame : Frame = c.frame-item.result in
     let rest = drop (k + 1) frames in
     let found = c.loop-frame.found.items in
-    let met : c.meet.new.previous ≡ previous_after c.loop-frame.previous frame = c.meet.ensures in
+    let met : c.keep_last.new.previous ≡ previous_after c.loop-frame.previous frame = c.keep_last.ensures in
     let before = side_of frame.side c.loop-frame.previous in
     let left : drop k frames ≡ frame ∷ rest = drop_more frames k frame c.loop-frame-test.true
     ∙ ap (λ (one : Frame). one ∷ rest) (sym c.frame-item.is) in
     record {
       in_range = (subst (AllByRecursion IsInRange) left c.loop-frame.invariant.in_range).1;
-      found = ap (λ said. said ++ local_run_from c.meet.new.previous rest) c.in_ok-add_faults.ensures
+      found = ap (λ said. said ++ local_run_from c.keep_last.new.previous rest) c.in_ok-add_faults.ensures
           ∙ append_assoc found (in_order (local_said c.of.result frame)) _
-          ∙ ap (λ o. found ++ (in_order (local_said o frame) ++ local_run_from c.meet.new.previous rest)) c.of.ensures
+          ∙ ap (λ o. found ++ (in_order (local_said o frame) ++ local_run_from c.keep_last.new.previous rest))
+          c.of.ensures
           ∙ ap (λ p. found ++ (in_order (local_said before frame) ++ local_run_from p rest)) met
           ∙ ap (λ l. found ++ local_run_from c.loop-frame.previous l) (sym left)
           ∙ c.loop-frame.invariant.found;

@@ -1,6 +1,7 @@
 use Rattle.std.proofs.Common.{◌≡◌, ℕ, arith, ◌∙◌, sym, Bool, List, ◌++◌, length, subst, ap, All}
 use Rattle.std.specs.List.{enumerate_from}
 use Rattle.std.proofs.lemmas.List.{length-map}
+use Rattle.std.proofs.lemmas.Slice.Zip.{AllZip-long}
 use Rattle.std.proofs.lemmas.List.FromFn.{length-enumerate_from}
 use Rattle.audit_report.specs.CaptureLines.{capture_text}
 use Rattle.audit_report.specs.Section.{sections_text}
@@ -21,7 +22,7 @@ use Rattle.h2audit.specs.code.Flows.{AreToldAudits}
 use Rattle.audit_report.specs.code.Reported.{IsToldOf}
 use Rattle.h2audit.proofs.Opened.{opened-few}
 use Rattle.h2audit.proofs.Flows.{told-orderly}
-use Rattle.h2audit.proofs.Found.{found-audits, zip-length}
+use Rattle.h2audit.proofs.Found.{found-audits}
 use Rattle.h2audit.proofs.auditing.audit_records.Goals as goal
 
 -- there is a packet for each record
@@ -57,8 +58,8 @@ report-requires-clause-each g c =
     let audits = found-audits credits c.args.capture.now packets lent c.in_ok-parts.parts.items
     c.in_ok-told.told.items c.in_ok-parts.ensures c.in_ok-told.ensures in
     ap length c.as_slice-2.ensures.value
-    ∙ zip-length IsToldOf c.in_ok-told.told.items audits.audited audits.stands
-    ∙ sym (zip-length (IsAudited credits c.args.capture.now packets) lent audits.audited audits.audits)
+    ∙ sym (AllZip-long IsToldOf c.in_ok-told.told.items audits.audited audits.stands)
+    ∙ AllZip-long (IsAudited credits c.args.capture.now packets) lent audits.audited audits.audits
     ∙ ap length c.as_slice-lent.ensures.value
     ∙ sym (length-map opened heading_of)
     ∙ sym (ap length c.in_ok-headings.ensures)

@@ -1,9 +1,10 @@
 use Rattle.std.proofs.Common.{Bor, List, map, sym, ap, ◌∙◌, subst, All}
+use Rattle.std.proofs.lemmas.Simd.{map-map}
 use Rattle.audit_terms.specs.declared.frames.Frame.{Frame}
 use Rattle.audit_terms.specs.code.runs.Orderly.{IsOrderly}
 use Rattle.audit_terms.specs.Finding.{shown}
 use Rattle.audit_terms.specs.Pass.{pass}
-use Rattle.h2audit.proofs.Flows.{All-lent, found-lent, kept-orderly}
+use Rattle.h2audit.proofs.Flows.{All-lent, kept-orderly}
 use Rattle.h2audit.proofs.connection.find_each.Goals as goal
 
 pub findings_of_each-requires-after_bounds : goal.findings_of_each-requires-after_bounds
@@ -20,5 +21,6 @@ returns g c =
     ∙ ap (λ b. map (λ (frames : Bor (List Frame)). shown b (pass frames.now)) c.as_slice.result.now)
     c.frames_shown-credits_shown.ensures
     ∙ ap (map (λ (frames : Bor (List Frame)). shown credits (pass frames.now))) c.as_slice.ensures.value
-    ∙ found-lent credits c.in_ok-kept.kept.items
+    ∙ sym (map-map (λ frames. shown credits (pass frames)) (λ (frames : Bor (List Frame)). frames.now)
+    c.in_ok-kept.kept.items)
     ∙ ap (map (λ frames. shown credits (pass frames))) c.in_ok-kept.ensures

@@ -1,5 +1,5 @@
 use Rattle.std.proofs.Common.{refl}
-use Rattle.h2audit.proofs.Leaving.{match_both}
+use Rattle.std.proofs.lemmas.Result.{MatchResult-from_both}
 use Rattle.h2audit.proofs.program.answer.Goals as goal
 
 pub returns-in-Run-default-Some-clause-does : goal.returns-in-Run-default-Some-clause-does
@@ -7,7 +7,7 @@ returns-in-Run-default-Some-clause-does g c =
     let found = c.in-Run-default-Some in
     let audited = c.audit_file-answer in
     let opened = c.open_file-opened in
-    let ended = match_both opened.result _ _ audited.ensures.opened audited.ensures.unopened in
+    let ended = MatchResult-from_both opened.result _ _ audited.ensures.opened audited.ensures.unopened in
     rw (found.is, found.field-1-is) (
       audited.result,
       (

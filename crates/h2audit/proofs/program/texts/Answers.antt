@@ -1,15 +1,9 @@
-use Rattle.std.proofs.Common.{Bor, List, ℕ, ◌∙◌, ap, map, string_bytes}
-use Rattle.std.proofs.lemmas.List.{take_all}
-use Rattle.h2audit.proofs.Turns.{mapped-more}
+use Rattle.std.proofs.Common.{Bor, List, ℕ, rules, string_bytes}
+use Rattle.std.proofs.lemmas.Iterator.{YieldsList-from_slice, YieldsList-from_map_by}
+use Rattle.std.proofs.lemmas.Iterator.Consumers.{map_from_collect}
 use Rattle.h2audit.proofs.program.texts.Goals as goal
 
-pub loop-word-preserved : goal.loop-word-preserved
-loop-word-preserved c =
-    mapped-more (λ (text : Bor (List ℕ)). text.now) string_bytes c.loop-word.texts.items c.push.new.self.items
-    c.args.words.now c.loop-word.word-index c.as_str.result c.word-item.result
-    c.in_ok-push.ensures.items c.loop-word-test.true c.word-item.is c.as_str.ensures.value c.loop-word.invariant
-
 pub returns : goal.returns
-returns c =
-    c.loop-word.invariant
-    ∙ ap (map string_bytes) (take_all c.loop-word.word-index c.args.words.now c.loop-word-test.false)
+returns c = map_from_collect _ c.collect.ensures.ran
+    (YieldsList-from_map_by _ (λ (text : Bor (List ℕ)). text.now) string_bytes
+    (YieldsList-from_slice c.args.words.now cc) c.map.ensures.closure (λ x r q k. search rules))

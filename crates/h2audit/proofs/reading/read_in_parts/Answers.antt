@@ -1,9 +1,8 @@
 use Rattle.std.proofs.Common.{rules, ◌≡◌, ◌∙◌, ◌≤◌, ◌<◌, ◌+◌, ◌^◌, length, sym, ap, None, inl, inr, arith}
 use Rattle.std.specs.Io.KnownBytes.{IsAtEnd}
-use Rattle.std.proofs.lemmas.Bool.{cases_Bool}
 use Rattle.pcap_records.specs.Refusal.{refusal}
-use Rattle.byte_accounts.specs.Account.{kept}
-use Rattle.byte_accounts.proofs.Kept.{consumed_none, gave_all, gave_front}
+use Rattle.input_output.specs.Account.{kept}
+use Rattle.input_output.proofs.Kept.{consumed_none, gave_all, gave_front}
 use Rattle.h2audit.proofs.Kept.{header_answers, header_stays, whole_answers}
 use Rattle.h2audit.proofs.reading.read_in_parts.Goals as goal
 
@@ -16,9 +15,9 @@ returns-in_ok-keep_and_walk-in-Ok-clause-bytes g c =
     (consumed_none before first c.requires.kept c.requires.passed) in
     let read = c.in_ok-keep_and_walk-in-Ok.ensures in
     let end : length (kept now) + now.passed < 2 ^ 31 → IsAtEnd (g.R.Read.remaining now.reader) =
-    λ short. elim (cases_Bool now.has_ended) [
-      | inl ended ↦ read.end ended
-      | inr unended ↦ absurd (omega (arith, read.whole unended, short))
+    λ short. elim read.sound.well [
+      | inl unended ↦ absurd (omega (arith, read.whole unended, short))
+      | inr ended ↦ read.end ended
     ] in
     gave_front before (g.R.Read.remaining now.reader) now read.sound.limit end (read.bytes before header)
 
@@ -69,8 +68,7 @@ returns-in_ok-pass_over-in-Err-clause-answers g c =
 pub returns-in_ok-pass_over-in-Err-clause-ok : goal.returns-in_ok-pass_over-in-Err-clause-ok
 returns-in_ok-pass_over-in-Err-clause-ok g c =
     let read = c.in_ok-pass_over-in-Err.ensures in
-    record {
-      whole = λ unended. gave_all c.pass_over.new.reader (read.whole unended);
-      has_failed = read.sound.has_failed;
-      lacked_memory = read.sound.lacked_memory;
-    }
+    elim read.sound.well [
+      | inl unended ↦ inr (unended, gave_all c.pass_over.new.reader (read.whole unended))
+      | inr ended ↦ inl ended
+    ]

@@ -1,9 +1,10 @@
 use Rattle.std.proofs.Common.{rules, ◌≡◌, ◌^◌, ℕ, Ok, Err, take, subst, sym}
-use Rattle.byte_accounts.specs.Account.{IsFlushed, HasWriteFailed, kept, written}
+use Rattle.std.proofs.lemmas.Option.{IfSome_then}
+use Rattle.input_output.specs.Account.{IsFlushed, HasWriteFailed, kept, written}
 use Rattle.h2audit.specs.Account.{Tells}
 use Rattle.h2audit.specs.Report.{IsReport}
 use Rattle.h2audit.specs.declared.fault.AuditFault.TheVariants as fault
-use Rattle.h2audit.proofs.Leaving.{IfSome-weaker, given_fault, report_of_given, tells_fault}
+use Rattle.h2audit.proofs.Leaving.{given_fault, report_of_given, tells_fault}
 use Rattle.h2audit.proofs.running.run.Goals as goal
 
 pub returns-in_err-text-clause-tells : goal.returns-in_err-text-clause-tells
@@ -16,10 +17,9 @@ returns-in_err-text-clause-tells g c =
 
 pub returns-in_err-text-clause-given : goal.returns-in_err-text-clause-given
 returns-in_err-text-clause-given g c =
-    IfSome-weaker (g.R.Read.remaining c.args.reader.now.reader) _ _ (λ all is read.
+    IfSome_then (g.R.Read.remaining c.args.reader.now.reader) c.in_ok-header.ensures.bytes (λ all is read.
     given_fault c.read_capture.new.reader c.audit_kept.new.reader c.in_err-text.field-0.0 (take (2 ^ 31) all)
     c.in_err-text.ensures.fault is)
-    c.in_ok-header.ensures.bytes
 
 pub returns-in-Ok-clause-tells : goal.returns-in-Ok-clause-tells
 returns-in-Ok-clause-tells g c =

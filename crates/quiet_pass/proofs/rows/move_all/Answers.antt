@@ -1,33 +1,31 @@
-use Rattle.stream_credit.proofs.Words.{◌≡◌, ◌<◌, ◌+◌, suc, List, length, sym, ◌∙◌, ap, subst, arith, slice_get-get_or}
-use Rattle.std.proofs.Common.{slice_set}
-use Rattle.quiet_pass.specs.declared.rows.Row.{Row}
-use Rattle.quiet_pass.specs.code.Rows.{AreMoved}
-use Rattle.quiet_pass.proofs.RowLists.{AreMovedTo, moved-more, moved-all, written-back}
+use Rattle.std.proofs.Common.{◌≡◌, ◌<◌, length, get_or, inl, inr, sym, ◌∙◌, arith}
+use Rattle.std.proofs.lemmas.Bool.{cases_eq}
+use Rattle.std.proofs.lemmas.List.{get_or-set_other, get_or-set_same, get_or_default, length-set}
+use Rattle.quiet_pass.proofs.RowLists.{moved-each}
 use Rattle.quiet_pass.proofs.rows.move_all.Goals as goal
 
-pub loop-row-preserved : goal.loop-row-preserved
-loop-row-preserved c =
-    let before = c.args.before.now in
-    let after = c.args.after.now in
-    let old = c.deref_mut-row-items.result.now in
-    let new = c.loop-row.row-items in
-    let at = c.loop-row.row-index in
+pub loop-at-preserved : goal.loop-at-preserved
+loop-at-preserved c =
+    let was = c.loop-at.invariant in
+    let at = c.loop-at.at in
+    let rows = c.loop-at.rows.items in
     let next = c.in-Some.next in
-    let more : suc at ≡ at + 1 = omega arith in
-    let inside : at < length new = omega (arith, c.loop-row.auto.row-items, c.loop-row-test.true) in
-    subst (λ n. AreMovedTo before after n old (slice_set new at next)) more
-    (moved-more before after at old new _ next c.loop-row.invariant (slice_get-get_or new at _ inside)
-    (c.moved.ensures next c.in-Some.is))
+    let inside : at < length rows =
+    omega (arith, c.loop-at-test.true, c.len-at-end.ensures, was.long, c.args.rows.now.ok.0) in
+    record {
+      long = length-set rows at next ∙ was.long;
+      moved = λ k d l. elim (cases_eq k at) [
+        | inl own ↦
+            let old : get_or c.args.rows.now.items at d ≡ c.index.result.now =
+            sym (was.same at d (omega arith)) ∙ get_or_default rows at d _ inside ∙ sym c.index.ensures in
+            rw (own, get_or-set_same rows at next d inside, old) (c.moved.ensures next c.in-Some.is)
+        | inr apart ↦ rw (get_or-set_other rows at k next d apart) (was.moved k d (omega (arith, l, apart)))
+      ];
+      same = λ k d l. get_or-set_other rows at k next d (omega (arith, l)) ∙ was.same k d (omega (arith, l));
+    }
 
 pub returns : goal.returns
 returns c =
-    let new = c.loop-row.row-items in
-    let old = c.args.rows.now.items in
-    let same = c.loop-row.auto.row-items ∙ ap (λ (l : List Row). length l) c.deref_mut-row-items.ensures.value in
-    let inside = c.loop-row.auto.row-index-end in
-    subst (AreMoved c.args.before.now c.args.after.now old)
-    (sym (written-back c.args.rows.now.len new old same (c.args.rows.now.ok.0)))
-    (moved-all c.args.before.now c.args.after.now c.loop-row.row-index old new
-    (subst (λ (l : List Row). AreMovedTo c.args.before.now c.args.after.now c.loop-row.row-index l new)
-    c.deref_mut-row-items.ensures.value c.loop-row.invariant)
-    (omega (arith, c.loop-row-test.false, c.loop-row.auto.row-items, inside)))
+    let all = c.loop-at.invariant in
+    moved-each c.args.before.now c.args.after.now c.args.rows.now.items c.loop-at.rows.items all.long (λ at d l.
+    all.moved at d (omega (arith, l, c.loop-at-test.false, c.len-at-end.ensures, c.args.rows.now.ok.0)))

@@ -1,5 +1,6 @@
 use Rattle.std.proofs.Common.{◌<◌, length, get_or, ap, sym, ◌∙◌, subst, arith}
 use Rattle.std.proofs.lemmas.List.Elements.{All-get_or}
+use Rattle.std.proofs.lemmas.Option.{get_or_from_slice_get}
 use Rattle.std.specs.List.{slice_get}
 use Rattle.audit_terms.specs.declared.sides.Side.TheVariants.{Client, Server}
 use Rattle.tcp_streams.specs.Members.{initial_of, side_segments}
@@ -7,7 +8,7 @@ use Rattle.tcp_streams.specs.declared.members.Connection.{Connection}
 use Rattle.tcp_streams.specs.code.Orderly.{AreMembers}
 use Rattle.tcp_streams.proofs.FlowLemmas.{sides-fit}
 use Rattle.h2audit.specs.code.Flows.{FlowView, IsToldFlows}
-use Rattle.h2audit.proofs.Flows.{flow_jobs-at, flow_jobs-length, nothing-cut, get-is, gap-at-end}
+use Rattle.h2audit.proofs.Flows.{flow_jobs-at, flow_jobs-length, nothing-cut, gap-at-end}
 use Rattle.h2audit.proofs.flow_round.FlowRoundRound.work.Goals as goal
 
 pub bounds-self-inside-job : goal.bounds-self-inside-job
@@ -65,7 +66,7 @@ returns-clause-made g c = λ connection is.
     subst (λ (v : FlowView). IsToldFlows v.credits_shown v.capture v.packets connection c.in_ok-made.made) view
     (subst (λ (one : Connection). IsToldFlows c.self.inside.credits_shown c.self.inside.capture.now
     c.self.inside.packets.now one c.in_ok-made.made)
-    (get-is c.self.inside.opened.now c.args.job connection c.index-self-job.result there)
+    (get_or_from_slice_get c.self.inside.opened.now c.args.job connection c.index-self-job.result there)
     (record {
       flows = record { client = c.in_ok-flows.flows.0; server = c.in_ok-flows.flows.1 };
       client = c.in_ok-flows.ensures.0.is;

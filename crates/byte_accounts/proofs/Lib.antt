@@ -1,3 +1,0 @@
-mod Bytes
-pub mod Capture
-pub mod Kept

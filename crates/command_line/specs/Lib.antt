@@ -1,4 +1,0 @@
-pub mod Words
-pub mod Asked
-pub mod laws
-pub mod code

@@ -1,0 +1,45 @@
+//! Where a finding stands before its rank is known.
+
+ghost use Rattle.std.specs.Prelude.{◌≡◌, ℕ, ◌-◌, ◌^◌, ◌<◌, ◌≤◌, ◌++◌, pos, OnOk};
+ghost use Rattle.audit_terms.specs.Finding.{finding_at, say};
+
+use audit_terms::{Finding, Frame, Kind, Side, say_if};
+use std::alloc::AllocError;
+
+/// A side, a frame's number, and a stream or 0: what findings of one window, or of one frame, have in common.
+#[derive(Clone, Copy)]
+pub(crate) struct Spot {
+    pub(crate) side: Side,
+    pub(crate) number: u32,
+    pub(crate) stream: u32,
+}
+
+/// Where a fault of a frame's sender stands.
+pub(crate) fn spot_of(frame: &Frame) -> Spot
+    ensures side { result.side ≡ frame.now.side }
+    ensures number { result.number ≡ frame.now.number }
+    ensures stream { result.stream ≡ frame.now.stream }
+{
+    Spot {
+        side: frame.side,
+        number: frame.number,
+        stream: frame.stream,
+    }
+}
+
+/// Adds the finding of a kind at a spot, where a test holds.
+pub(crate) fn say_at(
+    found: &mut Vec<Finding>,
+    holds: bool,
+    kind: Kind,
+    spot: Spot,
+    value: u32,
+) -> Result<(), AllocError>
+    requires numbered { spot.number ≤ 2 ^ 28 - 2 }
+    requires streamed { spot.stream < 2 ^ 31 }
+    ensures { OnOk result (found.new.items
+        ≡ found.old.items ++ say holds (finding_at kind spot.number spot.stream spot.side (pos value))) }
+{
+    let finding = Finding::at(kind, spot.number, spot.stream, spot.side, value);
+    say_if(found, holds, finding)
+}

@@ -1,0 +1,118 @@
+//! What a step shows of one stream, and what it makes of it (RFC 9113, 5.1 and 6.9).
+
+ghost use Rattle.std.specs.Prelude.{◌≡◌, ℕ, ◌+◌, ◌-◌, ◌^◌, ◌<◌, ◌≤◌, ◌++◌, OnOk};
+ghost use Rattle.audit_terms.specs.Finding.{say_of};
+ghost use Rattle.audit_terms.specs.Stream.{opens, frame_said, stream_said, stream_after, life_at};
+ghost use Rattle.audit_terms.specs.code.Room.{WindowHasRoom};
+ghost use Rattle.audit_terms.specs.code.runs.Streams.{IsAcknowledged};
+
+use crate::spots::{Spot, say_at};
+use crate::windows::{WindowStep, say_window};
+use audit_terms::{Finding, Frame, Kind, Side, Sides, Step, Stream, StreamLife};
+use std::alloc::AllocError;
+
+/// Adds what a step shows of a stream, and brings the stream to its state after the step; `initial` are the initial
+/// windows in force before it. Without memory the stream may be between the two states, and some findings may have been
+/// added.
+pub fn say_stream(
+    found: &mut Vec<Finding>,
+    entry: &mut Stream,
+    stream: u32,
+    initial: &Sides<u32>,
+    step: &Step,
+) -> Result<(), AllocError>
+    requires numbered { step.now.number ≤ 2 ^ 28 - 2 }
+    requires streamed { stream < 2 ^ 31 }
+    requires acknowledged { IsAcknowledged step.now }
+    requires client { WindowHasRoom (2 ^ 60) entry.old.window.client }
+    requires server { WindowHasRoom (2 ^ 60) entry.old.window.server }
+    ensures said { OnOk result (found.new.items
+        ≡ found.old.items ++ stream_said stream initial.now entry.old step.now) }
+    ensures after { OnOk result (entry.new ≡ stream_after stream initial.now entry.old step.now) }
+    ensures client { OnOk result ((bound : ℕ) → WindowHasRoom bound entry.old.window.client
+        → WindowHasRoom (bound + 2 ^ 32) entry.new.window.client) }
+    ensures server { OnOk result ((bound : ℕ) → WindowHasRoom bound entry.old.window.server
+        → WindowHasRoom (bound + 2 ^ 32) entry.new.window.server) }
+{
+    let opening = opens(stream, entry, step);
+    let life = life_at(stream, entry, step);
+    say_step(found, stream, entry, step)?;
+    let client = WindowStep {
+        side: Side::Client,
+        stream,
+        initial,
+        step,
+    };
+    let server = WindowStep {
+        side: Side::Server,
+        ..client
+    };
+    say_window(found, &mut entry.window.client, opening, &client)?;
+    say_window(found, &mut entry.window.server, opening, &server)?;
+    entry.life = life;
+    Ok(())
+}
+
+/// Does a step open the stream (RFC 9113, 5.1.1)?
+fn opens(stream: u32, entry: &Stream, step: &Step) -> bool
+    ensures { result ≡ opens stream entry.now step.now }
+{
+    match &step.frame {
+        Some(frame) => entry.life.is_opening(stream, frame),
+        None => false,
+    }
+}
+
+/// The life of the stream after a step.
+fn life_at(stream: u32, entry: &Stream, step: &Step) -> StreamLife
+    ensures { result ≡ life_at stream entry.now step.now }
+{
+    match &step.frame {
+        Some(frame) => entry.life.after(stream, frame),
+        None => entry.life,
+    }
+}
+
+/// Adds what a step's frame shows of the stream: use before the opening, use after the sender's end, a grant of 0.
+fn say_frame(
+    found: &mut Vec<Finding>,
+    stream: u32,
+    entry: &Stream,
+    step: &Step,
+    frame: &Frame,
+) -> Result<(), AllocError>
+    requires numbered { step.now.number ≤ 2 ^ 28 - 2 }
+    requires streamed { stream < 2 ^ 31 }
+    ensures { OnOk result (found.new.items ≡ found.old.items ++ frame_said stream entry.now step.now frame.now) }
+{
+    let spot = Spot {
+        side: frame.side,
+        number: step.number,
+        stream,
+    };
+    let code = u32::from(frame.code);
+    let early = entry.life.is_not_opened(stream, frame);
+    say_at(found, early, Kind::NotOpened, spot, code)?;
+    let late = entry.life.is_after_end(frame);
+    say_at(found, late, Kind::AfterEnd, spot, code)?;
+    let is_zero = frame.body.is_zero_grant() && entry.life.opened.is_some();
+    say_at(found, is_zero, Kind::ZeroStreamGrant, spot, 0)
+}
+
+/// The same of a step that may have no frame.
+fn say_step(
+    found: &mut Vec<Finding>,
+    stream: u32,
+    entry: &Stream,
+    step: &Step,
+) -> Result<(), AllocError>
+    requires numbered { step.now.number ≤ 2 ^ 28 - 2 }
+    requires streamed { stream < 2 ^ 31 }
+    ensures { OnOk result (found.new.items
+        ≡ found.old.items ++ say_of (frame_said stream entry.now step.now) step.now.frame) }
+{
+    match &step.frame {
+        Some(frame) => say_frame(found, stream, entry, step, frame),
+        None => Ok(()),
+    }
+}

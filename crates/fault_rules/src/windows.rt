@@ -1,0 +1,316 @@
+//! What a step shows of one side's window on a stream, and what it makes of it (RFC 9113, 6.9).
+
+ghost use Rattle.std.specs.Prelude.{◌≡◌, ℕ, ◌+◌, ◌-◌, ◌^◌, ◌<◌, ◌≤◌, ◌++◌, pos, ◌+ℤ◌, ◌-ℤ◌, nat_lt, ◌&&◌, None};
+ghost use Rattle.std.specs.Prelude.{if◌then◌else◌, IfOk, OnOk};
+ghost use Rattle.audit_terms.specs.Sides.{side_of};
+ghost use Rattle.audit_terms.specs.Change.{new_initial};
+ghost use Rattle.audit_terms.specs.Finding.{say_of};
+ghost use Rattle.audit_terms.specs.Frame.{content_by, grant_to};
+ghost use Rattle.audit_terms.specs.Window.{is_used_up, overflows};
+ghost use Rattle.audit_terms.specs.Stream.{step_amount, window_after, window_at_opening, window_step, live_window_said};
+ghost use Rattle.audit_terms.specs.Stream.{opened_window_said};
+ghost use Rattle.audit_terms.specs.code.runs.Streams.{IsAcknowledged};
+ghost use Rattle.audit_terms.specs.code.Room.{HasRoom, WindowHasRoom};
+ghost use Rattle.fault_rules.specs.code.StreamSteps.{counted};
+
+use crate::counts::Count;
+use crate::spots::Spot;
+use audit_terms::{Finding, Kind, Side, Sides, Step, new_initial};
+use std::alloc::AllocError;
+
+/// A step as the window of one side on a stream meets it.
+#[derive(Clone, Copy)]
+pub(crate) struct WindowStep<'a> {
+    pub(crate) side: Side,
+    pub(crate) stream: u32,
+    /// The initial windows in force before the step.
+    pub(crate) initial: &'a Sides<u32>,
+    pub(crate) step: &'a Step,
+}
+
+impl WindowStep<'_> {
+    /// Where its findings stand.
+    fn spot(&self) -> Spot
+        ensures side { result.side ≡ self.now.side }
+        ensures number { result.number ≡ self.now.step.now.number }
+        ensures stream { result.stream ≡ self.now.stream }
+    {
+        Spot {
+            side: self.side,
+            number: self.step.number,
+            stream: self.stream,
+        }
+    }
+}
+
+/// Says what a step shows of a window, and brings the window to its state after the step: `None` is a window that is
+/// not live. `opens` tells whether the step opens the stream.
+pub(crate) fn say_window(
+    found: &mut Vec<Finding>,
+    window: &mut Option<i64>,
+    opens: bool,
+    met: &WindowStep<'_>,
+) -> Result<(), AllocError>
+    requires numbered { met.now.step.now.number ≤ 2 ^ 28 - 2 }
+    requires streamed { met.now.stream < 2 ^ 31 }
+    requires acknowledged { IsAcknowledged met.now.step.now }
+    requires room { WindowHasRoom (2 ^ 60) window.old }
+    ensures said { OnOk result (found.new.items ≡ found.old.items
+        ++ (if opens
+        then say_of (opened_window_said met.now.side met.now.stream met.now.step.now)
+        (window_at_opening met.now.side met.now.stream met.now.initial.now met.now.step.now)
+        else say_of (λ before. live_window_said met.now.side met.now.stream met.now.step.now
+        (window_step met.now.side met.now.stream met.now.initial.now met.now.step.now before))
+        window.old)) }
+    ensures window { OnOk result (window.new
+        ≡ (if opens then window_at_opening met.now.side met.now.stream met.now.initial.now met.now.step.now
+        else window_after met.now.side met.now.stream met.now.initial.now met.now.step.now window.old)) }
+    ensures room { OnOk result ((bound : ℕ) → WindowHasRoom bound window.old
+        → WindowHasRoom (bound + 2 ^ 32) window.new) }
+{
+    if opens {
+        *window = at_opening(met);
+        say_opened(found, window, met)?;
+    } else if let Some(before) = *window {
+        *window = say_live(found, &before, met)?;
+    }
+    Ok(())
+}
+
+/// The window at the opening: the initial window in force, unless the side sends nothing more.
+fn at_opening(met: &WindowStep<'_>) -> Option<i64>
+    ensures window { result ≡ window_at_opening met.now.side met.now.stream met.now.initial.now met.now.step.now }
+    ensures room { WindowHasRoom (2 ^ 32) result }
+{
+    if met.step.is_last_of(met.side, met.stream) {
+        None
+    } else {
+        Some(i64::from(met.initial.of(met.side)))
+    }
+}
+
+/// Says what a step shows of a window that it makes live.
+fn say_opened(
+    found: &mut Vec<Finding>,
+    window: &Option<i64>,
+    met: &WindowStep<'_>,
+) -> Result<(), AllocError>
+    requires numbered { met.now.step.now.number ≤ 2 ^ 28 - 2 }
+    requires streamed { met.now.stream < 2 ^ 31 }
+    ensures { OnOk result (found.new.items
+        ≡ found.old.items ++ say_of (opened_window_said met.now.side met.now.stream met.now.step.now) window.now) }
+{
+    let Some(credit) = *window else {
+        return Ok(());
+    };
+    let count = Count {
+        before: credit,
+        after: credit,
+        content: 0,
+    };
+    let spot = met.spot();
+    count.say(found, is_used_up(&credit), Kind::StreamStallBegin, spot)?;
+    count.say(found, true, Kind::StreamCredit, spot)
+}
+
+/// Is no credit left, or less than none?
+fn is_used_up(credit: &i64) -> bool
+    ensures { result ≡ is_used_up credit.now }
+{
+    *credit <= 0
+}
+
+/// Says what a step shows of a live window, and gives the window after it.
+fn say_live(
+    found: &mut Vec<Finding>,
+    before: &i64,
+    met: &WindowStep<'_>,
+) -> Result<Option<i64>, AllocError>
+    requires numbered { met.now.step.now.number ≤ 2 ^ 28 - 2 }
+    requires streamed { met.now.stream < 2 ^ 31 }
+    requires acknowledged { IsAcknowledged met.now.step.now }
+    requires room { HasRoom (2 ^ 60) before.now }
+    ensures said { OnOk result (found.new.items
+        ≡ found.old.items ++ live_window_said met.now.side met.now.stream met.now.step.now
+        (window_step met.now.side met.now.stream met.now.initial.now met.now.step.now before.now)) }
+    ensures window { IfOk result (λ after.
+        after ≡ window_after met.now.side met.now.stream met.now.initial.now met.now.step.now (Some before.now)) }
+    ensures room { IfOk result
+        (λ after. (bound : ℕ) → HasRoom bound before.now → WindowHasRoom (bound + 2 ^ 32) after) }
+{
+    let live = LiveStep::of(before, met);
+    live.say_faults(found, met)?;
+    live.say_stalls(found, met.spot())?;
+    Ok(live.after)
+}
+
+/// What a step makes of a live window.
+#[derive(Clone, Copy)]
+struct LiveStep {
+    /// The credit before the step, and after the step is counted.
+    count: Count,
+    /// The credit before the step, and the last that is known of the window: an overflowing grant is not added.
+    last: Count,
+    /// Does a grant bring the window above the largest?
+    is_overflowing: bool,
+    /// The credit after the step, if the window still lives.
+    after: Option<i64>,
+}
+
+impl LiveStep {
+    ghost use Rattle.audit_terms.specs.Stream.{step_amount, window_after, live_window_said, is_stalled};
+    ghost use Rattle.fault_rules.specs.code.StreamSteps.{counted, is_overflowing_grant, last_credit};
+    ghost use Rattle.std.specs.Prelude.{◌&&◌, not, is_some};
+    ghost use Rattle.audit_terms.specs.Frame.{content_by, grant_to};
+    ghost use Rattle.audit_terms.specs.Window.{overflows, overruns};
+    ghost use Rattle.audit_terms.specs.Finding.{finding_at, say};
+    ghost use Rattle.audit_terms.specs.Stream.{stream_finding};
+    ghost use Rattle.audit_terms.specs.declared.kinds.Kind.TheVariants.{SettingOverflow, StreamOverrun, StreamOverflow};
+    ghost use Rattle.audit_terms.specs.declared.kinds.Kind.TheVariants.{StreamStallEnd, StreamStallBegin, StreamCredit};
+    ghost use Rattle.std.specs.Ordering.{int_eq};
+
+    fn of(before: &i64, met: &WindowStep<'_>) -> Self
+        requires acknowledged { IsAcknowledged met.now.step.now }
+        requires room { HasRoom (2 ^ 60) before.now }
+        ensures before { result.count.before ≡ before.now }
+        ensures counted { result.count.after
+            ≡ counted met.now.side met.now.stream met.now.initial.now met.now.step.now before.now }
+        ensures content { result.count.content ≡ step_amount (content_by met.now.side) met.now.step.now }
+        ensures last_before { result.last.before ≡ before.now }
+        ensures last { result.last.after
+            ≡ last_credit met.now.side met.now.stream met.now.initial.now met.now.step.now before.now }
+        ensures overflowing { result.is_overflowing
+            ≡ is_overflowing_grant met.now.side met.now.stream met.now.initial.now met.now.step.now before.now }
+        ensures after { result.after
+            ≡ window_after met.now.side met.now.stream met.now.initial.now met.now.step.now (Some before.now) }
+        ensures room { (bound : ℕ) → HasRoom bound before.now → WindowHasRoom (bound + 2 ^ 32) result.after }
+    {
+        let count = count(before, met);
+        let is_overflowing = is_overflowing_grant(&count, met);
+        let ends = met.step.ends_window(met.side) || is_overflowing;
+        LiveStep {
+            last: last_known(&count, is_overflowing),
+            is_overflowing,
+            after: left_live(&count, ends),
+            count,
+        }
+    }
+
+    /// Says which rules the step breaks.
+    fn say_faults(&self, found: &mut Vec<Finding>, met: &WindowStep<'_>) -> Result<(), AllocError>
+        requires numbered { met.now.step.now.number ≤ 2 ^ 28 - 2 }
+        requires streamed { met.now.stream < 2 ^ 31 }
+        ensures { OnOk result (found.new.items ≡ found.old.items
+            ++ say (is_some met.now.step.now.change && overflows self.now.count.before self.now.count.after)
+            (stream_finding SettingOverflow met.now.stream met.now.step.now met.now.side self.now.count.after)
+            ++ say (overruns self.now.count.before self.now.count.content)
+            (stream_finding StreamOverrun met.now.stream met.now.step.now met.now.side self.now.count.after)
+            ++ say self.now.is_overflowing
+            (stream_finding StreamOverflow met.now.stream met.now.step.now met.now.side self.now.count.after)) }
+    {
+        let count = self.count;
+        let spot = met.spot();
+        let by_setting = met.step.change.is_some() && count.overflows();
+        count.say(found, by_setting, Kind::SettingOverflow, spot)?;
+        count.say(found, count.overruns(), Kind::StreamOverrun, spot)?;
+        count.say(found, self.is_overflowing, Kind::StreamOverflow, spot)
+    }
+
+    /// Says whether the credit is used up, or there again, and what it becomes.
+    fn say_stalls(&self, found: &mut Vec<Finding>, spot: Spot) -> Result<(), AllocError>
+        requires numbered { spot.number ≤ 2 ^ 28 - 2 }
+        requires streamed { spot.stream < 2 ^ 31 }
+        ensures { OnOk result (found.new.items ≡ found.old.items
+            ++ say (is_used_up self.now.count.before && not (is_stalled self.now.after))
+            (finding_at StreamStallEnd spot.number spot.stream spot.side self.now.last.after)
+            ++ say (not (is_used_up self.now.count.before) && is_stalled self.now.after)
+            (finding_at StreamStallBegin spot.number spot.stream spot.side self.now.last.after)
+            ++ say (not (int_eq self.now.last.before self.now.last.after))
+            (finding_at StreamCredit spot.number spot.stream spot.side self.now.last.after)) }
+    {
+        let last = self.last;
+        last.say(found, self.stall_ends(), Kind::StreamStallEnd, spot)?;
+        last.say(found, self.stall_begins(), Kind::StreamStallBegin, spot)?;
+        last.say(found, last.moves(), Kind::StreamCredit, spot)
+    }
+
+    /// Is the window live and its credit used up after the step?
+    fn is_stalled(&self) -> bool
+        ensures { result ≡ is_stalled self.now.after }
+    {
+        match self.after {
+            Some(credit) => is_used_up(&credit),
+            None => false,
+        }
+    }
+
+    fn stall_ends(&self) -> bool
+        ensures { result ≡ (is_used_up self.now.count.before && not (is_stalled self.now.after)) }
+    {
+        is_used_up(&self.count.before) && !self.is_stalled()
+    }
+
+    fn stall_begins(&self) -> bool
+        ensures { result ≡ (not (is_used_up self.now.count.before) && is_stalled self.now.after) }
+    {
+        !is_used_up(&self.count.before) && self.is_stalled()
+    }
+}
+
+/// Does a grant of the step bring the window above the largest?
+fn is_overflowing_grant(count: &Count, met: &WindowStep<'_>) -> bool
+    ensures { result ≡ (nat_lt 0 (step_amount (grant_to met.now.side met.now.stream) met.now.step.now)
+        && overflows count.now.before count.now.after) }
+{
+    met.step.grant_to(met.side, met.stream) > 0 && count.overflows()
+}
+
+/// The count up to the last credit that is known: an overflowing grant is not added.
+fn last_known(count: &Count, is_overflowing: bool) -> Count
+    ensures { result ≡ (if is_overflowing then record count.now { after = count.now.before } else count.now) }
+{
+    if is_overflowing {
+        Count {
+            after: count.before,
+            ..*count
+        }
+    } else {
+        *count
+    }
+}
+
+/// The credit after the step, unless the window ends.
+fn left_live(count: &Count, ends: bool) -> Option<i64>
+    ensures { result ≡ (if ends then None else Some count.now.after) }
+{
+    if ends { None } else { Some(count.after) }
+}
+
+/// What a step does to the credit of a live window: less the content, plus the grant, plus the new initial window
+/// minus the old.
+fn count(before: &i64, met: &WindowStep<'_>) -> Count
+    requires acknowledged { IsAcknowledged met.now.step.now }
+    requires room { HasRoom (2 ^ 60) before.now }
+    ensures before { result.before ≡ before.now }
+    ensures after { result.after ≡ counted met.now.side met.now.stream met.now.initial.now met.now.step.now before.now }
+    ensures content { result.content ≡ step_amount (content_by met.now.side) met.now.step.now }
+    ensures room { (bound : ℕ) → HasRoom bound before.now → HasRoom (bound + 2 ^ 32) result.after }
+{
+    let content = met.step.content_by(met.side);
+    let granted = met.step.grant_to(met.side, met.stream);
+    let old = met.initial.of(met.side);
+    let new = new_initial(&met.step.change, met.side, old);
+    Count {
+        before: *before,
+        after: *before + moved(granted, content, new, old),
+        content,
+    }
+}
+
+/// What a step moves a live window by, in bytes: what is granted, less what is sent, and the new initial window minus
+/// the old.
+fn moved(granted: u32, content: u32, new: u32, old: u32) -> i64
+    ensures { result ≡ (pos granted -ℤ pos content) +ℤ (pos new -ℤ pos old) }
+{
+    i64::from(granted) - i64::from(content) + (i64::from(new) - i64::from(old))
+}

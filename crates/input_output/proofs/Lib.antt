@@ -1,0 +1,4 @@
+pub mod PartLemmas
+mod Bytes
+pub mod Capture
+pub mod Kept

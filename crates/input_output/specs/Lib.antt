@@ -1,0 +1,4 @@
+pub mod Parts
+pub mod Bytes
+pub mod Account
+pub mod code

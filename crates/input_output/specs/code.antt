@@ -1,0 +1,4 @@
+pub mod Sizes
+pub mod Front
+pub mod Reading
+pub mod TableHash

@@ -1,0 +1,251 @@
+ghost use Rattle.std.specs.Prelude.{◌≡◌, ◌+◌, ◌^◌, ◌<◌, ◌≤◌, length, take, drop, IfErr, IfOk, OnOk, OnErr};
+ghost use Rattle.std.specs.Bool.{Decides};
+ghost use Rattle.std.specs.Io.KnownBytes.{Consumes, IsAtEnd};
+ghost use Rattle.input_output.specs.code.Front.{Lasts};
+ghost use Rattle.input_output.specs.Account.{IsUnread, kept};
+ghost use Rattle.input_output.specs.code.Reading.{IsReadingFault, IsSound};
+
+use crate::fault::ReadFault;
+use crate::front::{Capture, FrontWalk};
+use crate::kept_bytes::KeptBytes;
+use crate::parts_ahead::PartsAhead;
+use std::alloc::{AllocError, Global};
+use std::io::Read;
+use std::thread::Threads;
+
+/// The number of bytes at which reading stops: a capture that has as many is refused.
+pub const LIMIT: usize = 2_147_483_648;
+
+/// How the reads of a capture went so far.
+#[derive(Clone, Copy, PartialEq, Eq)]
+pub enum ReadState {
+    /// Well: each gave bytes.
+    Open,
+    /// Well, and the last one found the end.
+    Ended,
+    /// The last one failed.
+    Failed,
+    /// Memory was wanting, for bytes or for the list of their parts.
+    LackedMemory,
+}
+
+/// A reader of a capture, with an account of what its reads answered.
+///
+/// A type of reader tells which bytes it will give, if any, and not whether a read failed; of a file or
+/// a pipe it tells nothing. The account does: `read_once`, `read_and_walk` and `pass_once` enter what a read answered.
+/// `pass_once` calls `read` itself, the others through `read_once`, `read_and_walk`, `read_beside` and `read_into` of
+/// `kept_bytes`, of which `read_into` calls it. `make_room`, `read_and_walk` and `lack_memory` enter want of memory.
+/// Nothing else changes an account.
+#[derive(Drop)]
+pub struct CaptureReader<R> {
+    reader: R,
+    /// The bytes that are kept.
+    bytes: KeptBytes,
+    /// After these the reads gave so many more, which can change no answer.
+    passed: usize,
+    state: ReadState,
+}
+
+impl<R> CaptureReader<R> {
+    /// The account before the first read.
+    pub fn new(alloc: Global, reader: R) -> CaptureReader<R>
+        ensures reader { result.reader ≡ reader }
+        ensures unread { IsUnread result }
+    {
+        CaptureReader {
+            reader,
+            bytes: KeptBytes::new(alloc),
+            passed: 0,
+            state: ReadState::Open,
+        }
+    }
+
+    /// The bytes that are kept of those that the reads gave: all, or the file header that refuses them.
+    pub fn capture(&self, alloc: Global) -> Result<Capture<'_>, AllocError>
+        ensures { IfOk result (λ capture. capture ≡ kept self.now) }
+    {
+        self.bytes.capture(alloc)
+    }
+
+    /// The same, where there is room for less than a part of a capture.
+    pub fn together(&self) -> &[u8]
+        requires { self.now.bytes.room < 1048576 }
+        ensures { result.now ≡ kept self.now }
+    {
+        self.bytes.together()
+    }
+
+    /// The number of bytes that the reads gave after these.
+    pub fn passed(&self) -> usize
+        ensures { result ≡ self.now.passed }
+    {
+        self.passed
+    }
+
+    /// The reader itself.
+    pub fn reader(&self) -> &R
+        ensures { result.now ≡ self.now.reader }
+    {
+        &self.reader
+    }
+
+    /// Whether a read found the end.
+    pub fn has_ended(&self) -> bool
+        ensures { Decides result (self.now.state ≡ ReadState.Ended) }
+    {
+        self.state == ReadState::Ended
+    }
+
+    /// Whether so many bytes are kept.
+    pub(crate) fn has_kept(&self, count: usize) -> bool
+        ensures { Decides result (count ≤ length (kept self.now)) }
+    {
+        count <= self.bytes.len()
+    }
+
+    /// Whether the reads gave 2^31 bytes.
+    pub(crate) fn is_full(&self) -> bool
+        requires { length (kept self.now) + self.now.passed ≤ 2 ^ 31 }
+        ensures { Decides result (2 ^ 31 ≤ length (kept self.now) + self.now.passed) }
+    {
+        LIMIT <= self.bytes.len() + self.passed
+    }
+
+    /// Enters that there was no memory for the list of the parts.
+    pub fn lack_memory(&mut self)
+        ensures { self.new ≡ record self.old { state = ReadState.LackedMemory } }
+    {
+        self.state = ReadState::LackedMemory;
+    }
+
+    /// Makes room for at least one byte more, where no more than `limit` are to be kept.
+    pub(crate) fn make_room<T: Threads>(
+        &mut self,
+        limit: usize,
+        ahead: &mut PartsAhead<'_, T>,
+    ) -> Result<(), ReadFault>
+        requires limit { length (kept self.old) < limit }
+        requires most { (self.old.bytes.room ≤ limit) × (limit ≤ 2 ^ 31) }
+        ensures kept { kept self.new ≡ kept self.old }
+        ensures limit { self.new.bytes.room ≤ limit }
+        ensures ok { OnOk result (self.new ≡ record self.old { bytes = self.new.bytes }) }
+        ensures room { OnOk result (length (kept self.new) < self.new.bytes.room) }
+        ensures err { OnErr result
+            (self.new ≡ record self.old { bytes = self.new.bytes; state = ReadState.LackedMemory }) }
+        ensures fault { IfErr result (λ e. e ≡ ReadFault.OutOfMemory) }
+    {
+        if self.bytes.make_room(limit, ahead).is_err() {
+            self.state = ReadState::LackedMemory;
+            return Err(ReadFault::OutOfMemory);
+        }
+        Ok(())
+    }
+}
+
+impl<R: Read> CaptureReader<R> {
+    /// Reads once, and keeps what that gives. No read comes after one that failed or found the end.
+    pub(crate) fn read_once(&mut self) -> Result<usize, ReadFault>
+        requires room { length (kept self.old) < self.old.bytes.room }
+        requires unpassed { self.old.passed ≡ 0 }
+        requires state { self.old.state ≡ ReadState.Open }
+        ensures front { take (length (kept self.old)) (kept self.new) ≡ kept self.old }
+        ensures room { self.new.bytes.room ≡ self.old.bytes.room }
+        ensures grown { length (kept self.old) ≤ length (kept self.new) }
+        ensures within { length (kept self.new) ≤ self.new.bytes.room }
+        ensures count { IfOk result (λ n. length (kept self.new) ≡ length (kept self.old) + n) }
+        ensures bytes { IfOk result (λ n. Consumes (R.remaining self.old.reader) (R.remaining self.new.reader)
+            (drop (length (kept self.old)) (kept self.new))) }
+        ensures end { IfOk result (λ n. n ≡ 0 → IsAtEnd (R.remaining self.new.reader)) }
+        ensures ended { IfOk result (λ n. n ≡ 0 → self.new.state ≡ ReadState.Ended) }
+        ensures unended { IfOk result (λ n. 0 < n → self.new.state ≡ ReadState.Open) }
+        ensures err { IfErr result (λ e. (e ≡ ReadFault.Failed) × (self.new.state ≡ ReadState.Failed)) }
+        ensures passed { self.new.passed ≡ self.old.passed }
+    {
+        match self.bytes.read_once(&mut self.reader) {
+            Ok(count) => {
+                if count == 0 {
+                    self.state = ReadState::Ended;
+                }
+                Ok(count)
+            }
+            Err(_) => {
+                self.state = ReadState::Failed;
+                Err(ReadFault::Failed)
+            }
+        }
+    }
+
+    /// The same, while a walk goes on over what is kept, part by part.
+    pub(crate) fn read_and_walk<T: Threads, W: FrontWalk + Send>(
+        &mut self,
+        ahead: &PartsAhead<'_, T>,
+        walk: &mut W,
+    ) -> Result<usize, ReadFault>
+        requires room { length (kept self.old) < self.old.bytes.room }
+        requires unpassed { self.old.passed ≡ 0 }
+        requires state { self.old.state ≡ ReadState.Open }
+        requires most { self.old.bytes.room ≤ 2 ^ 31 }
+        requires walk { Lasts W.stands (kept self.old) walk.old }
+        ensures front { take (length (kept self.old)) (kept self.new) ≡ kept self.old }
+        ensures room { self.new.bytes.room ≡ self.old.bytes.room }
+        ensures grown { length (kept self.old) ≤ length (kept self.new) }
+        ensures within { length (kept self.new) ≤ self.new.bytes.room }
+        ensures count { IfOk result (λ n. length (kept self.new) ≡ length (kept self.old) + n) }
+        ensures bytes { IfOk result (λ n. Consumes (R.remaining self.old.reader) (R.remaining self.new.reader)
+            (drop (length (kept self.old)) (kept self.new))) }
+        ensures end { IfOk result (λ n. n ≡ 0 → IsAtEnd (R.remaining self.new.reader)) }
+        ensures ended { IfOk result (λ n. n ≡ 0 → self.new.state ≡ ReadState.Ended) }
+        ensures unended { IfOk result (λ n. 0 < n → self.new.state ≡ ReadState.Open) }
+        ensures ok { OnOk result (IsSound self.new) }
+        ensures err { IfErr result (λ e. IsReadingFault e self.new) }
+        ensures passed { self.new.passed ≡ self.old.passed }
+        ensures walk { OnOk result (Lasts W.stands (kept self.new) walk.new) }
+    {
+        let (read, walked) = self.bytes.read_and_walk(ahead, &mut self.reader, walk);
+        let Ok(count) = read else {
+            self.state = ReadState::Failed;
+            return Err(ReadFault::Failed);
+        };
+        if count == 0 {
+            self.state = ReadState::Ended;
+        }
+        if walked.is_err() {
+            self.state = ReadState::LackedMemory;
+            return Err(ReadFault::OutOfMemory);
+        }
+        Ok(count)
+    }
+
+    /// Reads once into the piece, and keeps nothing of it. No read comes after one that failed or found the end.
+    pub(crate) fn pass_once(&mut self, piece: &mut [u8]) -> Result<usize, ReadFault>
+        requires room { 0 < length piece.old }
+        requires limit { length (kept self.old) + self.old.passed < 2 ^ 31 }
+        requires state { self.old.state ≡ ReadState.Open }
+        ensures piece { length piece.new ≡ length piece.old }
+        ensures kept { self.new.bytes ≡ self.old.bytes }
+        ensures limit { length (kept self.new) + self.new.passed ≤ 2 ^ 31 }
+        ensures count { IfOk result (λ n. self.new.passed ≡ self.old.passed + n) }
+        ensures fits { IfOk result (λ n. n ≤ length piece.new) }
+        ensures bytes { IfOk result (λ n. Consumes (R.remaining self.old.reader) (R.remaining self.new.reader)
+            (take n piece.new)) }
+        ensures end { IfOk result (λ n. n ≡ 0 → IsAtEnd (R.remaining self.new.reader)) }
+        ensures ended { IfOk result (λ n. n ≡ 0 → self.new.state ≡ ReadState.Ended) }
+        ensures unended { IfOk result (λ n. 0 < n → self.new.state ≡ ReadState.Open) }
+        ensures err { IfErr result (λ e. (e ≡ ReadFault.Failed) × (self.new.state ≡ ReadState.Failed)) }
+    {
+        let most = piece.len().min(LIMIT - self.bytes.len() - self.passed);
+        match self.reader.read(&mut piece[..most]) {
+            Ok(count) => {
+                self.passed += count;
+                if count == 0 {
+                    self.state = ReadState::Ended;
+                }
+                Ok(count)
+            }
+            Err(_) => {
+                self.state = ReadState::Failed;
+                Err(ReadFault::Failed)
+            }
+        }
+    }
+}

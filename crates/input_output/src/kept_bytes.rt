@@ -1,0 +1,244 @@
+//! The bytes that are kept of a capture, in parts of one length.
+
+ghost use Rattle.std.specs.Prelude.{◌≡◌, ◌+◌, ◌*◌, ◌^◌, ◌<◌, ◌≤◌, [], length, map, take, drop, vec_len, IfOk, OnOk};
+ghost use Rattle.std.specs.Io.KnownBytes.{Consumes, IsAtEnd};
+ghost use Rattle.std.specs.List.{All};
+ghost use Rattle.input_output.specs.Parts.{joined};
+ghost use Rattle.input_output.specs.code.Front.{Lasts};
+
+use crate::front::{CAPTURE_PART, Capture, FrontWalk};
+use crate::parts_ahead::PartsAhead;
+use std::alloc::{AllocError, Global};
+use std::io::Read;
+use std::marker::Model;
+use std::thread::{Threads, join_mut};
+use std::{io, mem};
+
+/// The number of bytes for which room is made at a time in the first part.
+const PIECE: usize = 262_144;
+
+/// Bytes in parts of `CAPTURE_PART`, with room for more in the last of them.
+#[derive(Drop)]
+pub(crate) struct KeptBytes {
+    /// The parts before the last, each of them full.
+    full: Vec<Vec<u8>>,
+    /// Of the last part the first `filled` bytes are kept.
+    last: Vec<u8>,
+    filled: usize,
+}
+
+impl Model for KeptBytes {
+    ghost use Rattle.std.specs.Prelude.{◌≡◌, ◌+◌, ◌*◌, ◌++◌, ◌^◌, ◌≤◌, map, take, vec_len};
+    ghost use Rattle.std.specs.List.{All};
+    ghost use Rattle.input_output.specs.Parts.{joined};
+    ghost use Rattle.input_output.specs.Bytes.{InParts};
+
+    ghost Value = { InParts };
+
+    ghost view = { λ b. record {
+      kept = joined (map (λ part. part.items) b.full.items) ++ take b.filled b.last.items;
+      room = vec_len b.full * 1048576 + vec_len b.last;
+    } };
+
+    ghost invariant = { λ b. All (λ part. vec_len part ≡ 1048576) b.full.items
+        × (b.filled ≤ vec_len b.last)
+        × (vec_len b.last ≤ 1048576)
+        × (vec_len b.full * 1048576 + vec_len b.last ≤ 2 ^ 31) };
+}
+
+impl KeptBytes {
+    /// No byte, and no room.
+    pub(crate) fn new(alloc: Global) -> KeptBytes
+        ensures kept { result.kept ≡ [] }
+        ensures room { result.room ≡ 0 }
+    {
+        KeptBytes {
+            full: Vec::new(alloc),
+            last: Vec::new(alloc),
+            filled: 0,
+        }
+    }
+
+    /// The number of bytes.
+    pub(crate) fn len(&self) -> usize
+        ensures { result ≡ length self.now.kept }
+    {
+        self.full.len() * CAPTURE_PART + self.filled
+    }
+
+    /// The bytes, where there is room for less than a part.
+    pub(crate) fn together(&self) -> &[u8]
+        requires { self.now.room < 1048576 }
+        ensures { result.now ≡ self.now.kept }
+    {
+        &self.last[..self.filled]
+    }
+
+    /// The bytes, as they lie in parts.
+    pub(crate) fn capture(&self, alloc: Global) -> Result<Capture<'_>, AllocError>
+        ensures { IfOk result (λ capture. capture ≡ self.now.kept) }
+    {
+        Capture::with_last(alloc, self.full.as_slice(), &self.last[..self.filled])
+    }
+
+    /// Makes room for at least one byte more, and for no more than `limit` in all.
+    ///
+    /// The first part grows by pieces, so that a short capture takes little; while it grows, later parts are begun.
+    pub(crate) fn make_room<T: Threads>(
+        &mut self,
+        limit: usize,
+        ahead: &mut PartsAhead<'_, T>,
+    ) -> Result<(), AllocError>
+        requires limit { (length self.old.kept < limit) × (limit ≤ 2 ^ 31) }
+        requires room { self.old.room ≤ limit }
+        ensures kept { self.new.kept ≡ self.old.kept }
+        ensures limit { self.new.room ≤ limit }
+        ensures room { OnOk result (length self.new.kept < self.new.room) }
+    {
+        if self.filled < self.last.len() {
+            return Ok(());
+        }
+        let rest = limit - self.full.len() * CAPTURE_PART;
+        if self.last.len() < CAPTURE_PART {
+            ahead.begin(self.last.len() / PIECE);
+            let wanted = CAPTURE_PART.min(self.filled + PIECE).min(rest);
+            self.last.resize(wanted, 0)?;
+            return Ok(());
+        }
+        let mut part = ahead.part();
+        part.resize(CAPTURE_PART.min(rest - CAPTURE_PART), 0)?;
+        self.full.reserve(1)?;
+        self.full.push_reserved(mem::replace(&mut self.last, part));
+        self.filled = 0;
+        Ok(())
+    }
+
+    /// Reads once, and keeps what that gives.
+    pub(crate) fn read_once<R: Read>(&mut self, reader: &mut R) -> io::Result<usize>
+        requires { length self.old.kept < self.old.room }
+        ensures front { take (length self.old.kept) self.new.kept ≡ self.old.kept }
+        ensures grown { length self.old.kept ≤ length self.new.kept }
+        ensures room { self.new.room ≡ self.old.room }
+        ensures within { length self.new.kept ≤ self.new.room }
+        ensures count { IfOk result (λ n. length self.new.kept ≡ length self.old.kept + n) }
+        ensures bytes { IfOk result (λ n. Consumes (R.remaining reader.old) (R.remaining reader.new)
+            (drop (length self.old.kept) self.new.kept)) }
+        ensures end { IfOk result (λ n. n ≡ 0 → IsAtEnd (R.remaining reader.new)) }
+    {
+        let count = read_into(reader, &mut self.last, self.filled)?;
+        self.filled += count;
+        Ok(count)
+    }
+
+    /// The same, while a walk goes on over the parts that are full: where a part begins, on another thread, and where
+    /// there is one worker, on the thread at hand as soon as a part is full.
+    pub(crate) fn read_and_walk<T: Threads, R: Read, W: FrontWalk + Send>(
+        &mut self,
+        ahead: &PartsAhead<'_, T>,
+        reader: &mut R,
+        walk: &mut W,
+    ) -> (io::Result<usize>, Result<(), AllocError>)
+        requires room { length self.old.kept < self.old.room }
+        requires short { self.old.room ≤ 2 ^ 31 }
+        requires walk { Lasts W.stands self.old.kept walk.old }
+        ensures front { take (length self.old.kept) self.new.kept ≡ self.old.kept }
+        ensures grown { length self.old.kept ≤ length self.new.kept }
+        ensures room { self.new.room ≡ self.old.room }
+        ensures within { length self.new.kept ≤ self.new.room }
+        ensures count { IfOk result.0 (λ n. length self.new.kept ≡ length self.old.kept + n) }
+        ensures bytes { IfOk result.0 (λ n. Consumes (R.remaining reader.old) (R.remaining reader.new)
+            (drop (length self.old.kept) self.new.kept)) }
+        ensures end { IfOk result.0 (λ n. n ≡ 0 → IsAtEnd (R.remaining reader.new)) }
+        ensures walk { OnOk result.1 (Lasts W.stands self.new.kept walk.new) }
+    {
+        if ahead.is_alone() {
+            let read = self.read_once(reader);
+            let walked = self.walk_where_filled(ahead.alloc, walk);
+            return (read, walked);
+        }
+        if self.filled > 0 {
+            return (self.read_once(reader), Ok(()));
+        }
+        let (read, walked) = read_beside(ahead, reader, &mut self.last, &self.full, walk);
+        match read {
+            Ok(count) => {
+                self.filled = count;
+                (Ok(count), walked)
+            }
+            Err(error) => (Err(error), walked),
+        }
+    }
+
+    /// Lets a walk go on over the bytes, where there is no room for one more.
+    fn walk_where_filled<W: FrontWalk>(&self, alloc: Global, walk: &mut W) -> Result<(), AllocError>
+        requires walk { Lasts W.stands self.now.kept walk.old }
+        requires short { length self.now.kept ≤ 2 ^ 31 }
+        ensures { OnOk result (Lasts W.stands self.now.kept walk.new) }
+    {
+        if self.filled < self.last.len() {
+            return Ok(());
+        }
+        let capture = self.capture(alloc)?;
+        walk.advance(alloc, &capture)
+    }
+}
+
+/// Reads once into an empty part, while another thread lets a walk go on over the parts before it.
+fn read_beside<T: Threads, R: Read, W: FrontWalk + Send>(
+    ahead: &PartsAhead<'_, T>,
+    reader: &mut R,
+    part: &mut Vec<u8>,
+    full: &[Vec<u8>],
+    walk: &mut W,
+) -> (io::Result<usize>, Result<(), AllocError>)
+    requires room { 0 < vec_len part.old }
+    requires full { All (λ part. vec_len part ≡ 1048576) full.now }
+    requires length { length full.now * 1048576 ≤ 2 ^ 31 }
+    requires walk { Lasts W.stands (joined (map (λ part. part.items) full.now)) walk.old }
+    ensures length { vec_len part.new ≡ vec_len part.old }
+    ensures fits { IfOk result.0 (λ n. n ≤ vec_len part.new) }
+    ensures bytes { IfOk result.0 (λ n. Consumes (R.remaining reader.old) (R.remaining reader.new)
+        (take n part.new.items)) }
+    ensures end { IfOk result.0 (λ n. n ≡ 0 → IsAtEnd (R.remaining reader.new)) }
+    ensures walk { OnOk result.1 (Lasts W.stands (joined (map (λ part. part.items) full.now)) walk.new) }
+{
+    let alloc = ahead.alloc;
+    let (walked, read) = join_mut(
+        ahead.rt,
+        &mut || -> Result<(), AllocError>
+            requires { All (λ part. vec_len part ≡ 1048576) full.now × (length full.now * 1048576 ≤ 2 ^ 31)
+                × Lasts W.stands (joined (map (λ part. part.items) full.now)) walk.now }
+            ensures { OnOk result
+                (Lasts W.stands (joined (map (λ part. part.items) full.entry.now)) walk.exit.now) }
+        { walk_over(alloc, full, walk) },
+        &mut || read_into(reader, part, 0),
+    );
+    (read, walked)
+}
+
+/// Lets a walk go on over these parts.
+fn walk_over<W: FrontWalk>(alloc: Global, full: &[Vec<u8>], walk: &mut W) -> Result<(), AllocError>
+    requires full { All (λ part. vec_len part ≡ 1048576) full.now }
+    requires length { length full.now * 1048576 ≤ 2 ^ 31 }
+    requires walk { Lasts W.stands (joined (map (λ part. part.items) full.now)) walk.old }
+    ensures { OnOk result (Lasts W.stands (joined (map (λ part. part.items) full.now)) walk.new) }
+{
+    let capture = Capture::with_last(alloc, full, &[])?;
+    walk.advance(alloc, &capture)
+}
+
+/// Reads once into a part, behind the bytes with which it is filled.
+fn read_into<R: Read>(reader: &mut R, part: &mut Vec<u8>, filled: usize) -> io::Result<usize>
+    requires { filled < vec_len part.old }
+    ensures front { take filled part.new.items ≡ take filled part.old.items }
+    ensures length { vec_len part.new ≡ vec_len part.old }
+    ensures fits { IfOk result (λ n. filled + n ≤ vec_len part.new) }
+    ensures bytes { IfOk result (λ n. Consumes (R.remaining reader.old) (R.remaining reader.new)
+        (take n (drop filled part.new.items))) }
+    ensures end { IfOk result (λ n. n ≡ 0 → IsAtEnd (R.remaining reader.new)) }
+{
+    match reader.read(&mut part[filled..]) {
+        Ok(count) => Ok(count),
+        Err(error) => Err(error),
+    }
+}

@@ -1,0 +1,155 @@
+ghost use Rattle.std.specs.Prelude.{◌≡◌, ◌+◌, ◌++◌, ◌-◌, ◌*◌, ◌%◌, ◌<◌, ◌≤◌, ◌^◌, IfOk, IfSome, IfNone, OnOk, Some, ℕ};
+ghost use Rattle.std.specs.Prelude.{drop, length, map, min, slice_get, take, vec_len};
+ghost use Rattle.std.specs.List.{All, slice_range};
+ghost use Rattle.input_output.specs.Parts.{joined};
+ghost use Rattle.input_output.specs.code.Sizes.{IsPartAt};
+
+use std::alloc::{AllocError, Global};
+use std::marker::Model;
+
+/// A list that is held in parts of `N` elements each, of which the last may be shorter.
+#[derive(Drop)]
+pub struct Parts<'a, T, const N: usize> {
+    parts: Vec<&'a [T]>,
+    count: usize,
+}
+
+impl<'a, T, const N: usize> Model for Parts<'a, T, N> {
+    ghost use Rattle.std.specs.Prelude.{◌≡◌, ◌<◌, List, length, map};
+    ghost use Rattle.input_output.specs.Parts.{joined};
+    ghost use Rattle.input_output.specs.code.Sizes.{ArePartsOf};
+
+    ghost Value = { List T };
+
+    ghost view = { λ p. joined (map (λ part. part.now) p.parts.items) };
+
+    ghost invariant = { λ p. (0 < N) × ArePartsOf N (map (λ part. part.now) p.parts.items)
+        × (p.count ≡ length (joined (map (λ part. part.now) p.parts.items))) };
+}
+
+impl<'a, T, const N: usize> Parts<'a, T, N> {
+    /// The number of elements.
+    pub fn len(&self) -> usize
+        ensures { result ≡ length self.now }
+    {
+        self.count
+    }
+
+    /// The elements from an index on, as many as lie together.
+    pub fn from(&self, start: usize) -> &'a [T]
+        requires { start < length self.now }
+        ensures front { result.now ≡ take (min (N - start % N) (length self.now - start)) (drop start self.now) }
+        ensures some { 0 < length result.now }
+    {
+        &self.part_of(start)[start % N..]
+    }
+
+    /// The part in which an index stands.
+    fn part_of(&self, index: usize) -> &'a [T]
+        requires { index < length self.now }
+        ensures size { 0 < N }
+        ensures is { IsPartAt N index self.now result.now }
+    {
+        self.parts[index / N]
+    }
+
+    /// The elements from one index on and before another, as many as lie together.
+    fn piece(&self, at: usize, end: usize) -> &'a [T]
+        requires { (at < end) × (end ≤ length self.now) }
+        ensures some { 0 < length result.now }
+        ensures within { at + length result.now ≤ end }
+        ensures goes_on { (start : ℕ) → start ≤ at
+            → slice_range self.now start at ++ result.now ≡ slice_range self.now start (at + length result.now) }
+    {
+        let rest = self.from(at);
+        &rest[..rest.len().min(end - at)]
+    }
+
+    /// The element of an index, if there is one.
+    pub fn get(&self, index: usize) -> Option<&'a T>
+        ensures some { IfSome result (λ x. slice_get self.now index ≡ Some x.now) }
+        ensures none { IfNone result (length self.now ≤ index) }
+    {
+        if index < self.count {
+            self.from(index).first()
+        } else {
+            None
+        }
+    }
+
+    /// Puts the elements from one index up to another behind those that were found: as they lie, in one piece or in
+    /// several.
+    pub fn pieces(
+        &self,
+        start: usize,
+        end: usize,
+        found: &mut Vec<&'a [T]>,
+    ) -> Result<(), AllocError>
+        requires { (start ≤ end) × (end ≤ length self.now) }
+        ensures { OnOk result (joined (map (λ piece. piece.now) found.new.items)
+            ≡ joined (map (λ piece. piece.now) found.old.items) ++ slice_range self.now start end) }
+    {
+        let mut at = start;
+        while at < end {
+            let piece = self.piece(at, end);
+            found.extend_from_slice(&[piece])?;
+            at += piece.len();
+        }
+        Ok(())
+    }
+
+    /// The elements from one index up to another, copied so that they lie together.
+    pub fn gathered(&self, alloc: Global, start: usize, end: usize) -> Result<Vec<T>, AllocError>
+    where
+        T: Copy,
+        requires { (start ≤ end) × (end ≤ length self.now) }
+        ensures { IfOk result (λ together. together.items ≡ slice_range self.now start end) }
+    {
+        let mut together = Vec::with_capacity(alloc, end - start)?;
+        let mut at = start;
+        while at < end {
+            let piece = self.piece(at, end);
+            together.extend_from_slice(piece)?;
+            at += piece.len();
+        }
+        Ok(together)
+    }
+
+    /// The list that these full parts hold, and a last part behind them.
+    pub fn with_last(alloc: Global, full: &'a [Vec<T>], last: &'a [T]) -> Result<Self, AllocError>
+        requires size { 0 < N }
+        requires full { All (λ part. vec_len part ≡ N) full.now }
+        requires last { length last.now ≤ N }
+        requires length { length full.now * N + length last.now < 2 ^ 64 }
+        ensures { IfOk result (λ all. all ≡ joined (map (λ part. part.items) full.now) ++ last.now) }
+    {
+        let mut all = Vec::with_capacity(alloc, full.len())?;
+        for part in full {
+            all.extend_from_slice(&[part.as_slice()])?;
+        }
+        all.extend_from_slice(&[last])?;
+        Ok(Parts {
+            parts: all,
+            count: full.len() * N + last.len(),
+        })
+    }
+
+    /// A list that lies together, in parts.
+    pub fn cut(alloc: Global, whole: &'a [T]) -> Result<Self, AllocError>
+        requires { 0 < N }
+        ensures { IfOk result (λ all. all ≡ whole.now) }
+    {
+        let mut all = Vec::new(alloc);
+        let mut rest = whole;
+        while N < rest.len() {
+            let (part, later) = rest.split_at(N);
+            all.extend_from_slice(&[part])?;
+            rest = later;
+        }
+        all.extend_from_slice(&[rest])?;
+        Ok(Parts {
+            parts: all,
+            count: whole.len(),
+        })
+    }
+}

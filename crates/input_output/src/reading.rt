@@ -1,0 +1,105 @@
+ghost use Rattle.std.specs.Prelude.{◌≡◌, ◌+◌, ◌^◌, ◌≤◌, List, Option, length, take, IfErr, OnOk};
+ghost use Rattle.std.specs.Io.KnownBytes.{IsAtEnd};
+ghost use Rattle.input_output.specs.code.Front.{Lasts};
+ghost use Rattle.input_output.specs.Account.{kept};
+ghost use Rattle.input_output.specs.code.Reading.{HasConsumed, IsReadingFault, IsSound};
+
+use crate::capture_reader::{CaptureReader, LIMIT, ReadState};
+use crate::fault::ReadFault;
+use crate::front::FrontWalk;
+use crate::parts_ahead::PartsAhead;
+use std::io::Read;
+use std::thread::Threads;
+
+/// The number of bytes that are passed over at a time.
+const PASSED: usize = 65_536;
+
+/// Reads until so many bytes are kept, or to the end.
+///
+/// Each turn reads at least one byte or ends the reading, so there are no more than 2^31 turns.
+pub fn keep_up_to<T: Threads, R: Read>(
+    ahead: &mut PartsAhead<'_, T>,
+    reader: &mut CaptureReader<R>,
+    limit: usize,
+) -> Result<(), ReadFault>
+    requires sound { IsSound reader.old }
+    requires room { (reader.old.bytes.room ≤ limit) × (limit ≤ 2 ^ 31) }
+    requires unpassed { reader.old.passed ≡ 0 }
+    requires state { reader.old.state ≡ ReadState.Open }
+    ensures sound { OnOk result (IsSound reader.new) }
+    ensures room { reader.new.bytes.room ≤ limit }
+    ensures unpassed { reader.new.passed ≡ 0 }
+    ensures grown { length (kept reader.old) ≤ length (kept reader.new) }
+    ensures front { take (length (kept reader.old)) (kept reader.new) ≡ kept reader.old }
+    ensures whole { OnOk result (reader.new.state ≡ ReadState.Open → length (kept reader.new) ≡ limit) }
+    ensures end { OnOk result (reader.new.state ≡ ReadState.Ended → IsAtEnd (R.remaining reader.new.reader)) }
+    ensures bytes { OnOk result ((before : Option (List _))
+        → HasConsumed before (R.remaining reader.old.reader) reader.old
+        → HasConsumed before (R.remaining reader.new.reader) reader.new) }
+    ensures err { IfErr result (λ e. IsReadingFault e reader.new) }
+{
+    while !reader.has_kept(limit) {
+        reader.make_room(limit, ahead)?;
+        if reader.read_once()? == 0 {
+            return Ok(());
+        }
+    }
+    Ok(())
+}
+
+/// Reads to the end, or until there are 2^31 bytes, and keeps them, while a walk goes on over them.
+///
+/// The thread that reads walks over each part that it has filled: another one would have to fetch it first. What is
+/// read last is left to the end of the walk.
+pub fn keep_and_walk<T: Threads, R: Read, W: FrontWalk + Send>(
+    ahead: &mut PartsAhead<'_, T>,
+    reader: &mut CaptureReader<R>,
+    walk: &mut W,
+) -> Result<(), ReadFault>
+    requires sound { IsSound reader.old }
+    requires room { reader.old.bytes.room ≤ 2 ^ 31 }
+    requires unpassed { reader.old.passed ≡ 0 }
+    requires state { reader.old.state ≡ ReadState.Open }
+    requires walk { Lasts W.stands (kept reader.old) walk.old }
+    ensures sound { OnOk result (IsSound reader.new) }
+    ensures unpassed { reader.new.passed ≡ 0 }
+    ensures front { take (length (kept reader.old)) (kept reader.new) ≡ kept reader.old }
+    ensures whole { OnOk result (reader.new.state ≡ ReadState.Open → length (kept reader.new) ≡ 2 ^ 31) }
+    ensures end { OnOk result (reader.new.state ≡ ReadState.Ended → IsAtEnd (R.remaining reader.new.reader)) }
+    ensures bytes { OnOk result ((before : Option (List _))
+        → HasConsumed before (R.remaining reader.old.reader) reader.old
+        → HasConsumed before (R.remaining reader.new.reader) reader.new) }
+    ensures walk { OnOk result (Lasts W.stands (kept reader.new) walk.new) }
+    ensures err { IfErr result (λ e. IsReadingFault e reader.new) }
+{
+    while !reader.has_kept(LIMIT) {
+        reader.make_room(LIMIT, ahead)?;
+        if reader.read_and_walk(ahead, walk)? == 0 {
+            return Ok(());
+        }
+    }
+    Ok(())
+}
+
+/// Reads to the end, or until there were 2^31 bytes, and keeps nothing of it. Its turns end likewise.
+pub fn pass_over<R: Read>(reader: &mut CaptureReader<R>) -> Result<(), ReadFault>
+    requires sound { IsSound reader.old }
+    requires state { reader.old.state ≡ ReadState.Open }
+    ensures sound { OnOk result (IsSound reader.new) }
+    ensures kept { reader.new.bytes ≡ reader.old.bytes }
+    ensures whole { OnOk result (reader.new.state ≡ ReadState.Open
+        → length (kept reader.new) + reader.new.passed ≡ 2 ^ 31) }
+    ensures end { OnOk result (reader.new.state ≡ ReadState.Ended → IsAtEnd (R.remaining reader.new.reader)) }
+    ensures bytes { OnOk result ((before : Option (List _))
+        → HasConsumed before (R.remaining reader.old.reader) reader.old
+        → HasConsumed before (R.remaining reader.new.reader) reader.new) }
+    ensures err { IfErr result (λ e. IsReadingFault e reader.new) }
+{
+    let mut piece = [0; PASSED];
+    while !reader.is_full() {
+        if reader.pass_once(&mut piece)? == 0 {
+            return Ok(());
+        }
+    }
+    Ok(())
+}
