@@ -1,6 +1,6 @@
 -- The steps of some frames and some changes are these frames and these changes, joined.
 use Rattle.std.proofs.Common.{◌≡◌, List, None, Option, Some, [], ap, arith, is_some, map, refl, sym, true, ℕ, ◌++◌, ◌+◌}
-use Rattle.std.proofs.Common.{◌<◌, ◌∙◌, ◌∷◌, ◌≤◌}
+use Rattle.std.proofs.Common.{◌<◌, ◌∙◌, ◌∷◌}
 use Rattle.audit_core.proofs.Words.{flat_map, option_to_list, AllByRecursion, map-map, meets, InForce, taken}
 use Rattle.audit_core.proofs.Words.{change_taking, in_force_after, initial_in_force, changes_from, changes_of}
 use Rattle.audit_core.proofs.Words.{IsOrderlyFrom, frame_step, with_change, steps_of, frames_of, Frame, Change, Step}
@@ -53,11 +53,9 @@ module _ (change : Change) where
       → changes_in (with_change steps change) ≡ change ∷ changes_in steps
   changes-with [] h = refl
   changes-with (step ∷ steps) h =
-      with_change-cases (λ l. changes_in l ≡ change ∷ changes_in (step ∷ steps)) change step steps
-      (λ e. rw (free (omega arith)) refl) (λ e. refl) (λ e. rw (free (omega arith)) (changes-with steps h.1)) where
-        -- the step has no change yet, unless it stands after this one
-        free : step.number ≤ change.number → option_to_list step.change ≡ []
-        free n = no-change step.change (λ e. absurd (omega (arith, h.0 e)))
+      let rest = changes-with steps h.1 in
+      let free = no-change step.change in
+      grind (arith, nat_tests, h.0)
 
 -- ---- the steps of frames alone
 

@@ -1,23 +1,13 @@
 -- A step without a frame and without a new initial window shows and changes nothing.
-use Rattle.std.proofs.Common.{◌≡◌, ℕ, ℤ, Bool, false, not, ◌&&◌, [], ◌++◌, refl, ap, ◌∙◌, arith, Option, Some}
-use Rattle.std.proofs.Common.{None, is_some, int_lt, ap₂}
+use Rattle.std.proofs.Common.{◌≡◌, ℕ, ℤ, [], ◌++◌, refl, ap, ◌∙◌, arith, Option, Some}
+use Rattle.std.proofs.Common.{None, ap₂}
 use Rattle.audit_core.proofs.Words.{ints, Side, Client, Server, Sides, Change, Step, Stream, say_of, side_of}
-use Rattle.audit_core.proofs.Words.{new_initial, is_used_up, window_step, live_window_said, window_after}
-use Rattle.audit_core.proofs.Words.{stream_window_said, stream_said, stream_after, counted, initial_after, and-false}
+use Rattle.audit_core.proofs.Words.{new_initial, window_step, live_window_said, window_after}
+use Rattle.audit_core.proofs.Words.{stream_window_said, stream_said, stream_after, counted, initial_after}
 
 -- a step of a change alone, or of nothing
 abbrev pub bare_step : ℕ → Option Change → Step
 bare_step number change = record { number = number; frame = None; change = change }
-
-not_both : (a : Bool) → (a && not a) ≡ false
-not_both a = grind arith
-
-not_either : (a : Bool) → (not a && a) ≡ false
-not_either a = grind arith
-
--- no credit is below itself
-not_less : (x : ℤ) → int_lt x x ≡ false
-not_less x = grind (arith, ints)
 
 module _ (stream : ℕ) (initial : Sides ℕ) (number : ℕ) (change : Option Change) where
   -- one window, whose initial window stays
@@ -28,12 +18,7 @@ module _ (stream : ℕ) (initial : Sides ℕ) (number : ℕ) (change : Option Ch
     live_said-quiet : (before : ℤ) →
         live_window_said d stream (bare_step number change)
         (window_step d stream initial (bare_step number change) before) ≡ []
-    live_said-quiet before =
-        let e = counted-quiet before in
-        let setting = and-false (is_some change) in
-        let stall = not_both (is_used_up before) in
-        let begin = not_either (is_used_up before) in
-        simp (e, not_less, setting, stall, begin)
+    live_said-quiet before = let e = counted-quiet before in grind (arith, ints)
 
     window_said-quiet : (window : Option ℤ) →
         say_of (λ before. live_window_said d stream (bare_step number change)

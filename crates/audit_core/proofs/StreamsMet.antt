@@ -1,5 +1,5 @@
 -- The streams that frames name are those that meet one of them.
-use Rattle.std.proofs.Common.{◌≡◌, Bool, List, [], false, filter, not, refl, sym, true, ℕ, ◌&&◌, ◌==◌, ◌||◌, ◌∷◌, arith}
+use Rattle.std.proofs.Common.{◌≡◌, Bool, List, [], false, filter, not, sym, true, ℕ, ◌&&◌, ◌==◌, ◌||◌, ◌∷◌, arith}
 use Rattle.std.proofs.lemmas.Map.Views.{any-filter_same}
 use Rattle.audit_core.proofs.Words.{and-false, list_any, promised_in, promises, promised_by, first_of, Frame}
 use Rattle.audit_core.proofs.Words.{StreamsAreNamedOnce, StreamsAreThoseMet, nat_tests, streams_of}
@@ -10,21 +10,13 @@ module _ (stream : ℕ) where
   is_named streams = list_any (λ other. other == stream) streams
 
   -- how one more stream counts, which is left out where it is 0
-  abbrev NamesFirst : (first : ℕ) → List ℕ → Type 0
-  NamesFirst first streams =
-      is_named (first_of first streams) ≡ ((not (stream == 0) && (first == stream)) || is_named streams)
-
-  names-first : (first : ℕ) (streams : List ℕ) → NamesFirst first streams
-  names-first first streams = by_tests _ _ refl refl where
-    still-named : (first == stream) ≡ false →
-        is_named (filter (λ other. not (other == first)) streams) ≡ is_named streams
-    still-named e = any-filter_same (λ other. other == stream) (λ other. not (other == first)) true
-        (λ other q. grind (arith, nat_tests)) streams
-
-    by_tests : (zero same : Bool) → (first == 0) ≡ zero → (first == stream) ≡ same → NamesFirst first streams
-    by_tests true same z e = grind (arith, nat_tests)
-    by_tests false true z e = grind (arith, nat_tests)
-    by_tests false false z e = rw (z, e, and-false) (still-named e)
+  names-first : (first : ℕ) (streams : List ℕ)
+      → is_named (first_of first streams) ≡ ((not (stream == 0) && (first == stream)) || is_named streams)
+  names-first first streams =
+      let named : (first == stream) ≡ false → is_named (filter (λ other. not (other == first)) streams)
+      ≡ is_named streams = λ e. any-filter_same (λ other. other == stream) (λ other. not (other == first)) true
+      (λ other q. grind (arith, nat_tests)) streams in
+      grind (arith, nat_tests)
 
   -- a frame promises the stream that it carries
   promises-own : (frame : Frame) →
