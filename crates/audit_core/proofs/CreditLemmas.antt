@@ -3,10 +3,10 @@ use Rattle.std.proofs.Common.{◌≡◌, ℕ, ℤ, pos, ◌+◌, ◌+ℤ◌, ◌
 use Rattle.std.proofs.Common.{sum_by, Option, Some, None, refl, sym, ap, ◌∙◌, arith, subst, ⊎_elim}
 use Rattle.std.proofs.lemmas.List.Sums.{sum_by-cons}
 use Rattle.audit_core.proofs.Words.{ints, Side, Client, Server, Frame, Step, side_of, content_by, grant_to}
-use Rattle.audit_core.proofs.Words.{IsOrderlyFrom, first_window, new_initial, change_of, credit_after}
-use Rattle.audit_core.proofs.Words.{opens, window_after, window_at_opening, counted, PassState}
-use Rattle.audit_core.proofs.Words.{pass_start, step_of, next, state_from, ConnectionCreditIsSum, StreamCreditIsSum}
-use Rattle.audit_core.proofs.Words.{content_on, since, stream_credit_sum, cases_Bool, lt-leb, nat_tests}
+use Rattle.audit_core.proofs.Words.{IsOrderlyFrom, first_window, new_initial, change_of, credit_after, opens}
+use Rattle.audit_core.proofs.Words.{window_after, window_at_opening, counted, PassState, pass_start, step_of, next}
+use Rattle.audit_core.proofs.Words.{state_from, ConnectionCreditIsSum, StreamCreditIsSum, content_on, since}
+use Rattle.audit_core.proofs.Words.{stream_credit_sum, cases_Bool, lt-leb, nat_tests}
 use Rattle.audit_core.proofs.Meetings.{step-grant, step-content, step-opening, step-opened}
 
 -- ---- the connection

@@ -1,11 +1,10 @@
 -- Why some errors of the connection are said of one endpoint: a window rises only by a grant of the other side, and a
 -- change moves the windows of the side alone that acknowledges it.
-use Rattle.std.proofs.Common.{◌≡◌, ℕ, ℤ, Bool, true, false, ◌&&◌, int_lt, arith, Option, Some}
-use Rattle.std.proofs.Common.{None, is_some, if◌then◌else◌, ⊎_elim}
-use Rattle.audit_core.proofs.Words.{option_map_or, ints, Side, Sides, Settings}
-use Rattle.audit_core.proofs.Words.{Frame, other, is_side, side_of, is_ack, content_by, grant_to}
-use Rattle.audit_core.proofs.Words.{meets, new_initial, overflows, InForce, taken, change_of, change_taking}
-use Rattle.audit_core.proofs.Words.{credit_after, counted, step_of, and_parts, cases_Bool}
+use Rattle.std.proofs.Common.{◌≡◌, ℕ, ℤ, Bool, true, false, ◌&&◌, int_lt, arith, Option, Some, None, is_some}
+use Rattle.std.proofs.Common.{if◌then◌else◌, ⊎_elim}
+use Rattle.audit_core.proofs.Words.{option_map_or, ints, Side, Sides, Settings, Frame, other, is_side, side_of, is_ack}
+use Rattle.audit_core.proofs.Words.{content_by, grant_to, meets, new_initial, overflows, InForce, taken, change_of}
+use Rattle.audit_core.proofs.Words.{change_taking, credit_after, counted, step_of, and_parts, cases_Bool}
 use Rattle.audit_core.proofs.TableRows.{same_side}
 
 -- a connection window rises only by a grant of the sender to the other endpoint

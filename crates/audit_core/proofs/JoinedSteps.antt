@@ -5,8 +5,8 @@ use Rattle.audit_core.proofs.Words.{flat_map, option_to_list, AllByRecursion, ma
 use Rattle.audit_core.proofs.Words.{change_taking, in_force_after, initial_in_force, changes_from, changes_of}
 use Rattle.audit_core.proofs.Words.{IsOrderlyFrom, frame_step, with_change, steps_of, frames_of, Frame, Change, Step}
 use Rattle.audit_core.proofs.Words.{Settings, EachPair, StreamsHaveSteps, AreRising, IsFilled}
-use Rattle.audit_core.proofs.Words.{StepsJoinFramesAndChanges, or-true, nat_tests}
-use Rattle.audit_core.proofs.Pairs.{all-before_map, all-map, pairs-mapped, pairs-filter, all-mapped}
+use Rattle.audit_core.proofs.Words.{StepsJoinFramesAndChanges, or-true, nat_tests, each-weaker}
+use Rattle.audit_core.proofs.Pairs.{all-before_map, pairs-mapped, pairs-filter, all-mapped}
 use Rattle.audit_core.proofs.StreamSteps.{with_change-cases, all-with, all-steps, all-numbers, all-change_numbers}
 
 abbrev step_numbers : List Step → List ℕ
@@ -34,7 +34,7 @@ module _ (change : Change) where
   rising-with (step ∷ steps) h =
       with_change-cases (λ l. AreRising (step_numbers l)) change step steps (λ e. h)
       (λ e. (
-        (e, all-map (λ n. step.number < n) (λ n. change.number < n) (λ n q. omega arith) (step_numbers steps) h.0),
+        (e, each-weaker (λ n. step.number < n) (λ n. change.number < n) (λ n q. omega arith) (step_numbers steps) h.0),
         h,
       ))
       (λ e. (above e, rising-with steps h.1)) where
@@ -90,7 +90,7 @@ steps_join_lem frames (change ∷ changes) rising changing =
     let above =
     all-steps (IsChangedAbove change.number) (λ c step e new old f. rw e (new refl)) frames changes
     (unchanged change.number frames)
-    (all-map (λ (c : Change). change.number < c.number) _ (λ c p e. p) changes
+    (each-weaker (λ (c : Change). change.number < c.number) _ (λ c p e. p) changes
     (all-before_map (λ n. change.number < n) (λ (c : Change). c.number) changes changing.0)) in
     record {
       rising = rising-with change steps joined.rising;

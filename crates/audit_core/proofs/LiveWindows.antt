@@ -1,12 +1,12 @@
 -- A window of a stream is live only while the stream is opened and the window's endpoint has not ended it.
-use Rattle.std.proofs.Common.{◌≡◌, Bool, List, None, Option, Some, [], false, if◌then◌else◌, is_some, refl}
-use Rattle.std.proofs.Common.{true, ℕ, ℤ, ◌%◌, ◌&&◌, ◌==◌, ◌||◌, ◌∷◌, ◌∙◌, arith}
+use Rattle.std.proofs.Common.{◌≡◌, Bool, List, None, Option, Some, [], false, if◌then◌else◌, is_some, refl, true, ℕ, ℤ}
+use Rattle.std.proofs.Common.{◌%◌, ◌&&◌, ◌==◌, ◌||◌, ◌∷◌, ◌∙◌, arith}
 use Rattle.std.specs.Prelude.{OnSome}
-use Rattle.audit_core.proofs.Words.{eqb-true, and_parts, is_client_headers, meets, promises}
-use Rattle.audit_core.proofs.Words.{change_of, is_last_of, is_opening, ends_window, next, PassState, pass_start}
-use Rattle.audit_core.proofs.Words.{is_side, side_of, window_at_opening, window_after, step_test, stream_after}
-use Rattle.audit_core.proofs.Words.{state_from, Frame, Change, Step, Side, Client, Server, Sides, Stream}
-use Rattle.audit_core.proofs.Words.{LiveWindowsAreUnended, LiveWindowsAreOpened, nat_tests}
+use Rattle.audit_core.proofs.Words.{eqb-true, and_parts, is_client_headers, meets, promises, change_of, is_last_of}
+use Rattle.audit_core.proofs.Words.{is_opening, ends_window, next, PassState, pass_start, is_side, side_of}
+use Rattle.audit_core.proofs.Words.{window_at_opening, window_after, step_test, stream_after, state_from, Frame, Change}
+use Rattle.audit_core.proofs.Words.{Step, Side, Client, Server, Sides, Stream, LiveWindowsAreUnended}
+use Rattle.audit_core.proofs.Words.{LiveWindowsAreOpened, nat_tests}
 
 -- what is known of the endpoint of a window: it ends only an opened stream, and while its window is live it has not
 -- ended it, nor is it the client of a promised stream

@@ -1,11 +1,9 @@
 -- How a stream meets a frame: it is on the stream, or promises it, or does neither; and what the frame that opens a
 -- stream is.
-use Rattle.std.proofs.Common.{◌≡◌, ℕ, Bool, true, false, if◌then◌else◌, Some, None, refl}
-use Rattle.std.proofs.Common.{arith}
+use Rattle.std.proofs.Common.{◌≡◌, ℕ, Bool, true, false, if◌then◌else◌, Some, None, refl, arith}
 use Rattle.audit_core.proofs.Words.{option_map_or, Side, Body, PushPromise, Frame, StreamLife, Stream, is_ack}
-use Rattle.audit_core.proofs.Words.{is_content, is_promise, increment, content_by}
-use Rattle.audit_core.proofs.Words.{grant_to, promises, meets, content_on, InForce, is_opening, step_amount, opens}
-use Rattle.audit_core.proofs.Words.{life_at, step_of, nat_tests}
+use Rattle.audit_core.proofs.Words.{is_content, is_promise, increment, content_by, grant_to, promises, meets}
+use Rattle.audit_core.proofs.Words.{content_on, InForce, is_opening, step_amount, opens, life_at, step_of, nat_tests}
 
 -- a body that no window counts and that settings do not come into force by
 pub record CountsNothing (body : Body) : Type 0 where

@@ -6,8 +6,7 @@ use Rattle.audit_core.proofs.Words.{pass_start, said, full_from, full, next, fir
 use Rattle.audit_core.proofs.Words.{step_of, item_of, IsInOrder, in_order-ordered, in_order-append, ordered-in_order}
 use Rattle.audit_core.proofs.Words.{comes_after_is, AreAt, AreFrom, at-append, at-in_order, at-nil, at-local}
 use Rattle.audit_core.proofs.Words.{at-settings, at-connection, at-stream, from-at, from-from, from-append, precedes-at}
-use Rattle.audit_core.proofs.Words.{AllByRecursion, cond_both}
-use Rattle.audit_core.proofs.Pairs.{all-filter}
+use Rattle.audit_core.proofs.Words.{AllByRecursion, cond_both, each-filter}
 
 -- all streams have 31 bits
 abbrev pub AreStreams : List ℕ → Type 0
@@ -66,7 +65,7 @@ in_order-full_from streams state low (frame ∷ frames) small h =
 streams-first_of : (stream : ℕ) (streams : List ℕ) → stream < 2 ^ 31 → AreStreams streams →
     AreStreams (first_of stream streams)
 streams-first_of stream streams p h =
-    cond_both (stream == 0) _ _ AreStreams (λ e. h) (λ e. (p, all-filter (λ other. other < 2 ^ 31) _ streams h))
+    cond_both (stream == 0) _ _ AreStreams (λ e. h) (λ e. (p, each-filter (λ other. other < 2 ^ 31) _ streams h))
 
 promised_by-small : (frame : Frame) → promised_in frame.body < 2 ^ 31 → promised_by frame < 2 ^ 31
 promised_by-small frame h = grind arith

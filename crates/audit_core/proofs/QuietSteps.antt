@@ -1,9 +1,8 @@
 -- A step without a frame and without a new initial window shows and changes nothing.
-use Rattle.std.proofs.Common.{◌≡◌, ℕ, ℤ, [], ◌++◌, refl, ap, ◌∙◌, arith, Option, Some}
-use Rattle.std.proofs.Common.{None, ap₂}
+use Rattle.std.proofs.Common.{◌≡◌, ℕ, ℤ, [], ◌++◌, ap, ◌∙◌, arith, Option, None, ap₂}
 use Rattle.audit_core.proofs.Words.{ints, Side, Client, Server, Sides, Change, Step, Stream, say_of, side_of}
-use Rattle.audit_core.proofs.Words.{new_initial, window_step, live_window_said, window_after}
-use Rattle.audit_core.proofs.Words.{stream_window_said, stream_said, stream_after, counted, initial_after}
+use Rattle.audit_core.proofs.Words.{new_initial, window_step, live_window_said, window_after, stream_window_said}
+use Rattle.audit_core.proofs.Words.{stream_said, stream_after, counted, initial_after}
 
 -- a step of a change alone, or of nothing
 abbrev pub bare_step : ℕ → Option Change → Step
@@ -15,20 +14,13 @@ module _ (stream : ℕ) (initial : Sides ℕ) (number : ℕ) (change : Option Ch
     counted-quiet : (before : ℤ) → counted d stream initial (bare_step number change) before ≡ before
     counted-quiet before = omega (arith, ints)
 
-    live_said-quiet : (before : ℤ) →
-        live_window_said d stream (bare_step number change)
-        (window_step d stream initial (bare_step number change) before) ≡ []
-    live_said-quiet before = let e = counted-quiet before in grind (arith, ints)
-
     window_said-quiet : (window : Option ℤ) →
         say_of (λ before. live_window_said d stream (bare_step number change)
         (window_step d stream initial (bare_step number change) before)) window ≡ []
-    window_said-quiet None = refl
-    window_said-quiet (Some before) = live_said-quiet before
+    window_said-quiet window = grind (arith, ints, counted-quiet)
 
     window_after-quiet : (window : Option ℤ) → window_after d stream initial (bare_step number change) window ≡ window
-    window_after-quiet None = refl
-    window_after-quiet (Some before) = ap Some (counted-quiet before)
+    window_after-quiet window = grind (arith, ints, counted-quiet)
 
   -- the stream, whose initial windows stay
   module _ (entry : Stream) (unmoved : initial_after change initial ≡ initial) where

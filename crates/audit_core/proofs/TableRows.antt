@@ -5,8 +5,8 @@ use Rattle.std.proofs.Common.{◌∷◌, ◌++◌, get_or, refl, sym, ap, ◌∙
 use borrow.Author.Tests.{leb-true, ltb-true, le-ltb}
 use Rattle.audit_core.proofs.Words.{AllByRecursion, Side, Client, Server, Kind, Finding, other, is_side, rank_of}
 use Rattle.audit_core.proofs.Words.{place_of, place_stream, place_rank, finding_at, say, say_of, stops, AreApart}
-use Rattle.audit_core.proofs.Words.{StandApart, rank-small, and_parts}
-use Rattle.audit_core.proofs.Pairs.{all-append, all-map, across-by, pairs-append}
+use Rattle.audit_core.proofs.Words.{StandApart, rank-small, and_parts, each-append, each-weaker}
+use Rattle.audit_core.proofs.Pairs.{across-by, pairs-append}
 
 -- the row in which a rank is said of an endpoint, by rank: 0 to 4 local faults, 5 settings, 6 length, 7 the server's
 -- push, 8 order of openings, 9 to 14 and 15 to 20 the connection windows of client and server, 21 to 23 what a frame
@@ -54,10 +54,7 @@ same-row x y p s = cc
 pub rows-apart : (by : Side) (on other : ℕ → Type 0) (low mid high : ℕ) (x y : Finding) →
     IsRow by on low mid x → IsRow by other mid high y → AreApart x y
 rows-apart by on other low mid high x y p q e s =
-    let a = p.below in
-    let b = q.from in
-    let k : row_of x ≡ row_of y = same-row x y e s in
-    absurd (omega arith)
+    absurd (omega (arith, p.below, q.from, same-row x y e s))
 
 -- ---- findings one after the other
 
@@ -65,10 +62,8 @@ module _ (sender : Side) (on : ℕ → Type 0) where
   pub rows-wider : (low high bottom top : ℕ) → bottom ≤ low → high ≤ top → (xs : List Finding) →
       AllByRecursion (IsRow sender on low high) xs → AllByRecursion (IsRow sender on bottom top) xs
   rows-wider low high bottom top p q =
-      all-map (IsRow sender on low high) (IsRow sender on bottom top)
-      (λ x h. let a = h.from in
-      let b = h.below in
-      record { stream = h.stream; from = omega arith; below = omega arith; error = h.error })
+      each-weaker (IsRow sender on low high) (IsRow sender on bottom top) (λ x h.
+      record { stream = h.stream; from = omega (arith, h.from); below = omega (arith, h.below); error = h.error })
 
   pub rows-nil : (low high : ℕ) → low ≤ high → AreRows sender on low high []
   rows-nil low high p = record { rising = p; within = tt; apart = tt }
@@ -80,7 +75,7 @@ module _ (sender : Side) (on : ℕ → Type 0) where
       let q = b.rising in
       record {
         rising = omega arith;
-        within = all-append (IsRow sender on low high) xs ys
+        within = each-append (IsRow sender on low high) xs ys
             (rows-wider low mid low high (omega arith) q xs a.within)
             (rows-wider mid high low high p (omega arith) ys b.within);
         apart = pairs-append AreApart xs ys a.apart b.apart
@@ -112,9 +107,7 @@ is_row sender side rank low high =
     && (nat_lt 12 rank || is_side side (error_side sender rank))
 
 pub same_side : (d e : Side) → is_side d e ≡ true → d ≡ e
-same_side Client Client h = refl
-same_side Server Server h = refl
-same_side _ _ h = cc
+same_side d e h = grind arith
 
 error-fits : (side right : Side) (rank : ℕ) → (nat_lt 12 rank || is_side side right) ≡ true → nat_le rank 12 ≡ true
     → side ≡ right
@@ -136,18 +129,16 @@ module _ (sender : Side) (on : ℕ → Type 0) (number stream : ℕ) (small : st
       let few = rank-small kind in
       let rank : place_rank (place_of number (rank_of kind) stream) ≡ rank_of kind = omega arith in
       let its : place_stream (place_of number (rank_of kind) stream) ≡ stream = omega arith in
-      let test = and_parts _ _ (h refl) in
-      let rows = and_parts _ _ test.0 in
-      let from = leb-true low (row_at side (rank_of kind)) rows.0 in
-      let below = ltb-true (row_at side (rank_of kind)) high rows.1 in
+      let (rows, error) = and_parts _ _ (h refl) in
+      let (from, below) = and_parts _ _ rows in
       record {
         rising = p;
         within = (
           record {
             stream = subst on (sym its) here;
-            from = subst (λ r. low ≤ row_at side r) (sym rank) from;
-            below = subst (λ r. row_at side r < high) (sym rank) below;
-            error = λ e. error-fits side _ (rank_of kind) test.1 e ∙ ap (error_side sender) (sym rank);
+            from = subst (λ r. low ≤ row_at side r) (sym rank) (leb-true low _ from);
+            below = subst (λ r. row_at side r < high) (sym rank) (ltb-true _ high below);
+            error = λ e. error-fits side _ (rank_of kind) error e ∙ ap (error_side sender) (sym rank);
           },
           tt,
         );
