@@ -4,7 +4,7 @@ use Rattle.std.proofs.Common.{◌++◌, length, drop, slice_get, get_or, Option,
 use Rattle.std.proofs.Common.{sym, ap, ◌∙◌, add-zero, length-append, arith}
 use Rattle.std.proofs.lemmas.List.{drop-drop, drop-append-le, at_drop_more}
 use Rattle.std.proofs.lemmas.Grind.{flat_map-append}
-use Rattle.std.proofs.lemmas.Option.{slice_get_within}
+use Rattle.std.proofs.lemmas.Option.{slice_get_within, slice_get_cases}
 use Rattle.settings_pair.proofs.Words.{option_to_list, append-nil, drop_all, Side, Settings, Frame, other, is_side}
 use Rattle.settings_pair.proofs.Words.{side_of, is_ack, settings_in, UnmatchedAck, finding_at, say, InForce}
 use Rattle.settings_pair.proofs.Words.{initial_in_force, taken, change_taking, change_of, in_force_after, settings_said}
@@ -47,12 +47,6 @@ waiting-on d from seen frame within =
 
 -- ---- sides
 
-pub other-other : (d : Side) → other (other d) ≡ d
-other-other d = grind arith
-
-is_side-same : (d e : Side) → is_side d e ≡ true → d ≡ e
-is_side-same d e h = grind arith
-
 is_side-other : (d e : Side) → is_side d (other e) ≡ is_side (other d) e
 is_side-other d e = grind arith
 
@@ -74,10 +68,10 @@ slice_get-drop (suc k) (x ∷ xs) = slice_get-drop k xs
 
 -- nothing is left from a place with no element
 none-left : (xs : List Settings) (k : ℕ) → slice_get xs k ≡ None → drop 1 (drop k xs) ≡ drop (k + 0) xs
-none-left [] zero e = refl
-none-left [] (suc k) e = rw add-zero refl
-none-left (x ∷ xs) zero e = cc
-none-left (x ∷ xs) (suc k) e = rw add-zero (none-left xs k e ∙ rw add-zero refl)
+none-left xs k e =
+    let cases = slice_get_cases xs k in
+    let all = drop_all k xs in
+    rw add-zero (grind arith)
 
 -- a queue from place k on, after one more of it is taken, or not
 queue-after : (b : Bool) (xs : List Settings) (k : ℕ) (t : Option Settings) → k ≤ length xs
@@ -96,15 +90,10 @@ waiting-step : (now : InForce) (seen : List Frame) (frame : Frame) (new : Waitin
 waiting-step now seen frame new queue inside = record {
   taken = λ d.
       let low = (queue d).0 in
-      let sent : length (side_of d (in_force_after now frame).sent)
-      ≡ length (side_of d now.sent) + length (sent_of d frame) =
-      ap length (sent-after now frame d) ∙ length-append (side_of d now.sent) (sent_of d frame) in
-      omega arith;
+      let sent = length-append (side_of d now.sent) (sent_of d frame) in rw (sent-after now frame d) (omega arith);
   queued = λ d.
-      waiting-on d (side_of d new.taken) seen frame (inside d)
-      ∙ ap (λ l. l ++ sent_of d frame) (queue d).1
-      ∙ sym (drop-append-le _ (side_of d now.sent) (sent_of d frame) (queue d).0)
-      ∙ ap (drop (side_of (other d) (in_force_after now frame).paired)) (sym (sent-after now frame d));
+      rw (waiting-on d (side_of d new.taken) seen frame (inside d), (queue d).1, sent-after now frame d)
+      (sym (drop-append-le _ (side_of d now.sent) (sent_of d frame) (queue d).0));
   within = λ d. let low = inside d in let more = length-append seen (frame ∷ []) in omega arith;
 }
 
@@ -114,9 +103,7 @@ module _ (now : InForce) (seen : List Frame) (frame : Frame) (old : Waiting) (ac
     (h : IsWaiting now seen old) where
   -- what it takes is the first that waits of the other side
   taken-ack : taken now frame ≡ slice_get (waiting_of (other frame.side) seen old) 0
-  taken-ack =
-      rw (ack, h.queued (other frame.side), other-other)
-      (sym (slice_get-drop (side_of frame.side now.paired) (side_of (other frame.side) now.sent)))
+  taken-ack = let queued = h.queued (other frame.side) in grind (arith, slice_get-drop {A = Settings})
 
   module _ (new : Waiting) (of : Side) (s : of ≡ other frame.side)
       (takes : (d : Side) → waiting_of d seen new
@@ -126,12 +113,8 @@ module _ (now : InForce) (seen : List Frame) (frame : Frame) (old : Waiting) (ac
     waiting-after_ack =
         waiting-step now seen frame new
         (λ d.
-        let chosen : is_side (other d) frame.side ≡ true → taken now frame ≡ slice_get (side_of d now.sent)
-        (side_of (other d) now.paired) =
-        λ same. let at : other d ≡ frame.side = is_side-same (other d) frame.side same in
-        rw (ack, ← at, other-other) refl in
         let after = queue-after (is_side (other d) frame.side) (side_of d now.sent) (side_of (other d) now.paired)
-        (taken now frame) (h.taken d) chosen in
+        (taken now frame) (h.taken d) (λ same. grind arith) in
         rw (paired-after now frame (other d))
         (after.0, rw (takes d, s, is_side-other d frame.side, h.queued d) after.1))
         (λ d. fits d (h.within d))
