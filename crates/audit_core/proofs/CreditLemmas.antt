@@ -3,7 +3,7 @@ use Rattle.std.proofs.Common.{◌≡◌, ℕ, ℤ, pos, ◌+◌, ◌+ℤ◌, ◌
 use Rattle.std.proofs.Common.{sum_by, Option, Some, None, refl, sym, ap, ◌∙◌, arith, subst, ⊎_elim}
 use Rattle.std.proofs.lemmas.List.Sums.{sum_by-cons}
 use Rattle.audit_core.proofs.Words.{ints, Side, Client, Server, Frame, Step, side_of, content_by, grant_to}
-use Rattle.audit_core.proofs.Words.{IsOrderlyFrom, first_window, new_initial, change_of, credit_after, opens}
+use Rattle.audit_core.proofs.Words.{IsOrderlyFrom, new_initial, change_of, credit_after, opens}
 use Rattle.audit_core.proofs.Words.{window_after, window_at_opening, counted, PassState, pass_start, step_of, next}
 use Rattle.audit_core.proofs.Words.{state_from, ConnectionCreditIsSum, StreamCreditIsSum, content_on, since}
 use Rattle.audit_core.proofs.Words.{stream_credit_sum, cases_Bool, lt-leb, nat_tests}
@@ -162,14 +162,9 @@ is-sum d stream opening low state (frame ∷ frames) credit h none opened last =
 
 -- ---- the laws
 
-from_start : (d : Side) (granted sent : ℕ)
-    → (side_of d pass_start.connection.credit +ℤ pos granted) -ℤ pos sent ≡ pos (first_window + granted) -ℤ pos sent
-from_start Client granted sent = omega (arith, ints)
-from_start Server granted sent = omega (arith, ints)
-
 pub connection_credit_is_sum : ConnectionCreditIsSum
-connection_credit_is_sum d frames =
-    connection-credit d pass_start frames ∙ from_start d (sum_by (grant_to d 0) frames) (sum_by (content_by d) frames)
+connection_credit_is_sum Client frames = omega (arith, ints, connection-credit Client pass_start frames)
+connection_credit_is_sum Server frames = omega (arith, ints, connection-credit Server pass_start frames)
 
 pub stream_credit_is_sum : StreamCreditIsSum
 stream_credit_is_sum d stream opening credit frames h above opened last =

@@ -1,7 +1,7 @@
 -- What is said at one frame stands in different rows of the table, or is of different streams.
 use Rattle.std.proofs.Common.{◌≡◌, ◌≢◌, ℕ, ℤ, pos, ◌+◌, ◌^◌, ◌<◌, ◌≤◌, Bool, true, false, ◌&&◌, List, [], ◌∷◌, ◌++◌}
 use Rattle.std.proofs.Common.{append_assoc, refl, sym, subst, ◌∙◌, ap, arith, Option, Some, None, nat_lt, nat_le}
-use Rattle.std.proofs.Common.{if◌then◌else◌}
+use Rattle.std.proofs.Common.{if◌then◌else◌, int_lt, is_some, ⊎_elim}
 use Rattle.audit_terms.specs.declared.kinds.Kind.TheVariants as K
 use Rattle.audit_core.proofs.Words.{AllByRecursion, Side, Client, Server, Sides, Kind, Body, SettingsBody, Unreadable}
 use Rattle.audit_core.proofs.Words.{Frame, ConnectionState, Stream, Finding, is_side, other, side_of, place_stream}
@@ -10,12 +10,53 @@ use Rattle.audit_core.proofs.Words.{body_said, reading_fault, InForce, connectio
 use Rattle.audit_core.proofs.Words.{promise_order_said, connection_window_said, opens, window_at_opening, window_step}
 use Rattle.audit_core.proofs.Words.{stream_said, frame_said, stream_window_said, live_window_said, PassState}
 use Rattle.audit_core.proofs.Words.{streams_said, step_of, EachPair, AreApart, change_of, rank_of, opens_stream, Change}
-use Rattle.audit_core.proofs.Words.{Step, push_said, new_limit, and_parts, each-append, each-weaker}
+use Rattle.audit_core.proofs.Words.{Step, push_said, new_limit, and_parts, each-append, each-weaker, option_map_or}
+use Rattle.audit_core.proofs.Words.{ints, Settings, is_ack, content_by, grant_to, new_initial, overflows, taken}
+use Rattle.audit_core.proofs.Words.{change_taking, credit_after, counted, cases_Bool}
 use Rattle.audit_core.proofs.Pairs.{across-by, pairs-append}
 use Rattle.audit_core.proofs.PassOrder.{AreStreams, rows_of}
 use Rattle.audit_core.proofs.TableRows.{IsRow, AreRows, ◌⊕◌, is_row, same_side, rows-nil, rows-say_of, rows-choice}
 use Rattle.audit_core.proofs.TableRows.{row-say, told, quiet}
-use Rattle.audit_core.proofs.ErrorSides.{granted-side, moved-side}
+use Rattle.audit_core.proofs.Meetings.{change-ack}
+
+-- ---- why some errors are said of one endpoint
+
+-- a connection window rises only by a grant of the sender to the other endpoint
+granted-side : (d : Side) (before : ℤ) (frame : Frame) → overflows before (credit_after d before frame) ≡ true
+    → d ≡ other frame.side
+granted-side d before frame o = grind (arith, ints)
+
+-- a change moves only the windows of the side that acknowledges
+module _ (d : Side) (stream : ℕ) (now : InForce) (initial : Sides ℕ) (frame : Frame) (before : ℤ) where
+  -- an acknowledgement grants nothing and has no content
+  no_amount : (amount : Frame → ℕ) (b : Bool) → amount frame ≡ 0 →
+      option_map_or amount (if b then Some frame else None) 0 ≡ 0
+  no_amount amount b e = grind arith
+
+  unmoved : is_ack frame.body ≡ true → (grant_to d stream frame ≡ 0) × (content_by d frame ≡ 0)
+  unmoved ack = (grind arith, grind arith)
+
+  same_initial : (o : Option Settings) (n : ℕ) → is_side d frame.side ≡ false →
+      new_initial (change_taking frame o) d n ≡ n
+  same_initial o n e = grind arith
+
+  still : is_some (change_of now frame) ≡ true → is_side d frame.side ≡ false
+      → int_lt before (counted d stream initial (step_of now frame stream) before) ≡ true → ⊥
+  still c e above =
+      let (grant, content) = unmoved (change-ack now frame c) in
+      let no_grant = no_amount (grant_to d stream) (meets stream frame) grant in
+      let no_content = no_amount (content_by d) (meets stream frame) content in
+      let same = same_initial (taken now frame) (side_of d initial) e in
+      omega (arith, ints)
+
+  moved-side : (is_some (change_of now frame) && overflows before
+      (counted d stream initial (step_of now frame stream) before)) ≡ true → d ≡ frame.side
+  moved-side o =
+      ⊎_elim (same_side d frame.side)
+      (λ e. absurd (still (and_parts _ _ o).0 e (and_parts _ _ (and_parts _ _ o).1).0))
+      (cases_Bool (is_side d frame.side))
+
+-- ---- the rows
 
 -- any stream
 abbrev pub Any : ℕ → Type 0
@@ -57,19 +98,12 @@ module _ (frame : Frame) (h : IsInRange frame) where
       (λ identifier. said K.BadSetting 3 4 (pos identifier) true refl refl)
   rows-body _ = rows-nil _ _ 3 4 (omega arith)
 
-  -- a promise of the client, and one of the server
-  rows-push : (d : Side) (low high : ℕ) (holds : Bool) → low ≤ high → is_row d d 7 low high ≡ true →
-      (holds ≡ true → is_side d frame.side ≡ true) →
-      Rows low high (say holds (finding_at K.Push frame.number frame.stream frame.side (pos 0)))
-  rows-push d low high holds p e f =
-      row-say frame.side Any frame.number frame.stream h.stream tt K.Push frame.side low high _ holds p
-      (λ k. rw (sym (same_side d frame.side (f k))) e)
-
   rows-local : (previous : Option Frame) → Rows 0 5 (local_said previous frame)
   rows-local previous =
       said K.BadPreface 0 1 _ _ refl refl ⊕ said K.BrokenBlock 1 2 _ _ refl refl
       ⊕ said K.WrongStream 2 3 _ _ refl refl ⊕ rows-body frame.body
-      ⊕ rows-push Client 4 5 _ (omega arith) refl (λ e. (and_parts _ _ e).1)
+      ⊕ row-say frame.side Any frame.number frame.stream h.stream tt K.Push frame.side 4 5 _ _ (omega arith)
+      (λ e. grind arith)
 
   rows-length : (limit : ℕ) → Rows 6 7 (length_said limit frame)
   rows-length limit = by_kind _ where
@@ -108,7 +142,8 @@ module _ (frame : Frame) (h : IsInRange frame) where
 
   rows-server_push : (push : ℕ) → Rows 7 8 (push_said push frame)
   rows-server_push push =
-      rows-push Server 7 8 _ (omega arith) refl (λ e. (and_parts _ _ (and_parts _ _ e).0).0)
+      row-say frame.side Any frame.number frame.stream h.stream tt K.Push frame.side 7 8 _ _ (omega arith)
+      (λ e. grind arith)
 
   rows-connection : (now : ConnectionState) (opens : Bool) (change : Option Change) →
       Rows 6 21 (connection_said now (record { frame = frame; opens = opens; change = change }))

@@ -67,20 +67,20 @@ frame_steps-changes : (frames : List Frame) → changes_in (map frame_step frame
 frame_steps-changes [] = refl
 frame_steps-changes (frame ∷ frames) = frame_steps-changes frames
 
-unchanged : (n : ℕ) (frames : List Frame) → AllByRecursion (λ frame. IsChangedAbove n (frame_step frame)) frames
-unchanged n [] = tt
-unchanged n (frame ∷ frames) = (λ e. cc, unchanged n frames)
+of_frames : (P : Step → Type 0) → ((frame : Frame) → P (frame_step frame)) → (frames : List Frame)
+    → AllByRecursion (λ frame. P (frame_step frame)) frames
+of_frames P p [] = tt
+of_frames P p (frame ∷ frames) = (p frame, of_frames P p frames)
 
-filled : (frames : List Frame) → AllByRecursion (λ frame. IsFilled (frame_step frame)) frames
-filled [] = tt
-filled (frame ∷ frames) = (record { has_one = refl; frame = refl; change = tt }, filled frames)
+filled : (frame : Frame) → IsFilled (frame_step frame)
+filled frame = record { has_one = refl; frame = refl; change = tt }
 
 -- ---- all changes
 
 pub steps_join_lem : StepsJoinFramesAndChanges
 steps_join_lem frames [] rising changing = record {
   rising = rw (map-map (λ (step : Step). step.number) frame_step frames) rising;
-  filled = all-mapped IsFilled frame_step frames (filled frames);
+  filled = all-mapped IsFilled frame_step frames (of_frames IsFilled filled frames);
   its_frames = frame_steps-frames frames;
   its_changes = frame_steps-changes frames;
 }
@@ -89,7 +89,7 @@ steps_join_lem frames (change ∷ changes) rising changing =
     let joined = steps_join_lem frames changes rising changing.1 in
     let above =
     all-steps (IsChangedAbove change.number) (λ c step e new old f. rw e (new refl)) frames changes
-    (unchanged change.number frames)
+    (of_frames (IsChangedAbove change.number) (λ frame e. cc) frames)
     (each-weaker (λ (c : Change). change.number < c.number) _ (λ c p e. p) changes
     (all-before_map (λ n. change.number < n) (λ (c : Change). c.number) changes changing.0)) in
     record {

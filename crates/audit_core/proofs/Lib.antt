@@ -15,4 +15,3 @@ pub mod FrameRows
 pub mod Apart
 pub mod JoinedSteps
 pub mod StreamsMet
-pub mod ErrorSides

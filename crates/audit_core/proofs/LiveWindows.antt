@@ -89,8 +89,7 @@ sending-from d stream state (frame ∷ frames) h =
     (if meets stream frame then Some frame else None) h)
 
 sending-start : (d : Side) (stream : ℕ) → Sending d stream (pass_start.streams stream)
-sending-start Client stream = record { idle = λ _. refl; live = λ e. cc }
-sending-start Server stream = record { idle = λ _. refl; live = λ e. cc }
+sending-start d stream = record { idle = grind arith; live = grind arith }
 
 on_some : {A : Type 0} (o : Option A) (P : Type 0) → (is_some o ≡ true → P) → OnSome o P
 on_some None P p = tt

@@ -1,8 +1,8 @@
 -- How a stream meets a frame: it is on the stream, or promises it, or does neither; and what the frame that opens a
 -- stream is.
-use Rattle.std.proofs.Common.{◌≡◌, ℕ, Bool, true, false, if◌then◌else◌, Some, None, refl, arith}
-use Rattle.audit_core.proofs.Words.{option_map_or, Side, Body, PushPromise, Frame, StreamLife, Stream, is_ack}
-use Rattle.audit_core.proofs.Words.{is_content, is_promise, increment, content_by, grant_to, promises, meets}
+use Rattle.std.proofs.Common.{is_some, ◌≡◌, ℕ, Bool, true, false, if◌then◌else◌, Some, None, refl, arith}
+use Rattle.audit_core.proofs.Words.{change_of, option_map_or, Side, Body, PushPromise, Frame, StreamLife, Stream}
+use Rattle.audit_core.proofs.Words.{is_ack, is_content, is_promise, increment, content_by, grant_to, promises, meets}
 use Rattle.audit_core.proofs.Words.{content_on, InForce, is_opening, step_amount, opens, life_at, step_of, nat_tests}
 
 -- a body that no window counts and that settings do not come into force by
@@ -22,6 +22,10 @@ promised-counts stream frame e = promise-count frame.body (grind arith) where
 pub opening-counts : (stream : ℕ) (life : StreamLife) (frame : Frame) → is_opening stream life frame ≡ true
     → CountsNothing frame.body
 opening-counts stream life frame e = record { grants = grind arith; content = grind arith; ack = grind arith }
+
+-- a frame that brings a change is an acknowledgement
+pub change-ack : (now : InForce) (frame : Frame) → is_some (change_of now frame) ≡ true → is_ack frame.body ≡ true
+change-ack now frame c = grind arith
 
 -- ---- the step of a stream at a frame
 

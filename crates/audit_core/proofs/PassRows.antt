@@ -15,7 +15,7 @@ use Rattle.audit_core.proofs.Words.{full, connection_start, initial_in_force, ch
 use Rattle.audit_core.proofs.PassOrder.{rows_of, AreStreams, streams-streams_of}
 use Rattle.audit_core.proofs.StreamsMet.{streams_met_lem}
 use Rattle.audit_core.proofs.StreamSteps.{all-change_numbers}
-use Rattle.audit_core.proofs.ErrorSides.{change-ack}
+use Rattle.audit_core.proofs.Meetings.{change-ack}
 
 -- is it the change of this number?
 abbrev pub is_at : ℕ → Change → Bool

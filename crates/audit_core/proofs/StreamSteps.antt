@@ -1,5 +1,5 @@
 -- The steps of one stream are those frames of the connection at which it has a frame or a change is brought.
-use Rattle.std.proofs.Common.{◌≡◌, Bool, List, None, Option, Some, [], arith, false, if◌then◌else◌, ltb-true, nat_lt}
+use Rattle.std.proofs.Common.{◌≡◌, Bool, List, None, Option, Some, [], arith, if◌then◌else◌, ltb-true, nat_lt}
 use Rattle.std.proofs.Common.{refl, ℕ, ◌++◌, ◌+◌, ◌<◌, ◌==◌, ◌∷◌, ◌≤◌}
 use Rattle.audit_core.proofs.Words.{eqb-true, option_to_list, nat_tests, cond_both, meets, change_of, InForce, taken}
 use Rattle.audit_core.proofs.Words.{change_taking, in_force_after, step_of, changes_from, IsOrderlyFrom, frame_step}
@@ -18,9 +18,7 @@ pub with_change-cases : (P : List Step → Type 0) (change : Change) (step : Ste
 with_change-cases P change step steps same before after =
     cond_both (step.number == change.number) _ _ P (λ e. same (eqb-true _ _ e))
     (λ e. cond_both (nat_lt change.number step.number) _ _ P (λ f. before (ltb-true _ _ f))
-    (λ f. after (above step.number change.number e f))) where
-      above : (m n : ℕ) → (m == n) ≡ false → nat_lt n m ≡ false → m < n
-      above m n e f = grind (arith, nat_tests)
+    (λ f. after (grind (arith, nat_tests))))
 
 -- what holds of steps of frames alone and of changes alone, and of both together, holds of all steps
 module _ (P : Step → Type 0) (joined : (change : Change) (step : Step) → step.number ≡ change.number →
