@@ -59,16 +59,14 @@ module _ (R : Finding → Finding → Type 0) (elsewhere : (x y : Finding) → x
   -- so it is with all findings, where it is with two rows of a frame that are apart
   pairs-full : ((sender : Side) (x y : Finding) → IsRow sender Any 0 36 x → IsRow sender Any 0 36 y → AreApart x y →
       R x y) → (frames : List Frame) → IsOrderly frames → EachPair R (full frames)
-  pairs-full refine frames h = pairs-full_from (streams_of frames) small at pass_start 0 frames h where
-    small : AreStreams (streams_of frames)
-    small = streams-streams_of 0 frames h
-
-    at : (state : PassState) (frame : Frame) → IsInRange frame → EachPair R (said (streams_of frames) state frame)
-    at state frame k =
-        let rows = rows-at (streams_of frames) state frame small (distinct-streams_of frames) k in
-        pairs-refine AreApart R (IsRow frame.side Any 0 36) (refine frame.side) _
-        (each-ordered (IsRow frame.side Any 0 36) comes_after _ rows.within)
-        (pairs-ordered AreApart comes_after (λ x y f p s. f (sym p) (sym s)) _ rows.apart)
+  pairs-full refine frames h =
+      let small = streams-streams_of 0 frames h in
+      pairs-full_from (streams_of frames) small
+      (λ state frame k.
+      let rows = rows-at (streams_of frames) state frame small (distinct-streams_of frames) k in
+      pairs-refine AreApart R (IsRow frame.side Any 0 36) (refine frame.side) _
+      (each-ordered (IsRow frame.side Any 0 36) comes_after _ rows.within)
+      (pairs-ordered AreApart comes_after (λ x y f p s. f (sym p) (sym s)) _ rows.apart)) pass_start 0 frames h
 
 pub findings_stand_apart : (frames : List Frame) → IsOrderly frames → StandApart (full frames)
 findings_stand_apart = pairs-full AreApart (λ x y n p. absurd (n p)) (λ sender x y p q apart. apart)

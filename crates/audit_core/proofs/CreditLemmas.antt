@@ -1,12 +1,12 @@
 -- A credit that is carried from frame to frame is the sum over the frames.
 use Rattle.std.proofs.Common.{◌≡◌, ℕ, ℤ, pos, ◌+◌, ◌+ℤ◌, ◌-ℤ◌, ◌≤◌, Bool, true, false, if◌then◌else◌, List, [], ◌∷◌}
-use Rattle.std.proofs.Common.{sum_by, Option, Some, None, refl, sym, ap, ◌∙◌, arith, subst, ⊎_elim}
+use Rattle.std.proofs.Common.{sum_by, Option, Some, None, refl, sym, ◌∙◌, arith, subst, ⊎_elim}
 use Rattle.std.proofs.lemmas.List.Sums.{sum_by-cons}
 use Rattle.audit_core.proofs.Words.{ints, Side, Client, Server, Frame, Step, side_of, content_by, grant_to}
-use Rattle.audit_core.proofs.Words.{IsOrderlyFrom, new_initial, change_of, credit_after, opens}
-use Rattle.audit_core.proofs.Words.{window_after, window_at_opening, counted, PassState, pass_start, step_of, next}
-use Rattle.audit_core.proofs.Words.{state_from, ConnectionCreditIsSum, StreamCreditIsSum, content_on, since}
-use Rattle.audit_core.proofs.Words.{stream_credit_sum, cases_Bool, lt-leb, nat_tests}
+use Rattle.audit_core.proofs.Words.{IsOrderlyFrom, new_initial, change_of, credit_after, opens, window_after, counted}
+use Rattle.audit_core.proofs.Words.{PassState, pass_start, step_of, next, state_from, ConnectionCreditIsSum}
+use Rattle.audit_core.proofs.Words.{StreamCreditIsSum, content_on, since, stream_credit_sum, cases_Bool, lt-leb}
+use Rattle.audit_core.proofs.Words.{nat_tests}
 use Rattle.audit_core.proofs.Meetings.{step-grant, step-content, step-opening, step-opened}
 
 -- ---- the connection
@@ -43,10 +43,6 @@ module _ (d : Side) (stream : ℕ) (state : PassState) (frame : Frame) where
       ≡ (if opens_now then Some frame.number else opened_in stream state)
   opened-next = step-opened stream state.in_force frame (state.streams stream)
 
-  window-opened : opens_now ≡ true
-      → window_in d stream (next state frame) ≡ window_at_opening d stream state.in_force.initial step
-  window-opened e = grind arith
-
   window-next : opens_now ≡ false → window_in d stream (next state frame)
       ≡ window_after d stream state.in_force.initial step (window_in d stream state)
   window-next e = grind arith
@@ -65,9 +61,9 @@ module _ (d : Side) (stream : ℕ) (state : PassState) (frame : Frame) where
   window-was (Some before) after e = (before, refl, grind arith)
 
   -- a window that the step makes live begins with the initial window
-  window-begins : (before : ℤ) → window_at_opening d stream state.in_force.initial step ≡ Some before
+  window-begins : (before : ℤ) → opens_now ≡ true → window_in d stream (next state frame) ≡ Some before
       → before ≡ pos (initial_in d state)
-  window-begins before e = grind arith
+  window-begins before here live = grind arith
 
 -- the credit is the sum from where the window of an opened stream was
 abbrev CountsOn : Side → ℕ → PassState → List Frame → ℤ → ℤ → Type 0
@@ -121,14 +117,11 @@ begun : (d : Side) (stream : ℕ) (state : PassState) (frame : Frame) (frames : 
     → window_in d stream (next state frame) ≡ Some before → CountsOn d stream (next state frame) frames before credit
     → IsSumSince d stream frame.number state (frame ∷ frames) credit
 begun d stream state frame frames before credit h here live counts =
-    let first = window-begins d stream state frame before
-    (sym (window-opened d stream state frame here) ∙ live) in
+    let first = window-begins d stream state frame before here live in
     let nothing = step-opening stream state.in_force frame (state.streams stream) here in
-    let change : change_of state.in_force frame ≡ None = rw nothing.ack refl in
     let grant : grant_to d stream frame ≡ 0 = grind (arith, nothing.grants) in
     let content : content_on d stream frame ≡ 0 = grind (arith, nothing.content) in
-    let unchanged : initial_in d (next state frame) ≡ initial_in d state =
-    initial-next d stream state frame ∙ ap (λ change. new_initial change d (initial_in d state)) change in
+    let unchanged : initial_in d (next state frame) ≡ initial_in d state = grind (arith, nothing.ack) in
     rw (since-all frame.number frame.number (frame ∷ frames) (omega arith) h)
     (omega (
       arith,

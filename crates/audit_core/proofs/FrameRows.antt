@@ -1,22 +1,20 @@
 -- What is said at one frame stands in different rows of the table, or is of different streams.
 use Rattle.std.proofs.Common.{◌≡◌, ◌≢◌, ℕ, ℤ, pos, ◌+◌, ◌^◌, ◌<◌, ◌≤◌, Bool, true, false, ◌&&◌, List, [], ◌∷◌, ◌++◌}
 use Rattle.std.proofs.Common.{append_assoc, refl, sym, subst, ◌∙◌, ap, arith, Option, Some, None, nat_lt, nat_le}
-use Rattle.std.proofs.Common.{if◌then◌else◌, int_lt, is_some, ⊎_elim}
+use Rattle.std.proofs.Common.{if◌then◌else◌, is_some}
 use Rattle.audit_terms.specs.declared.kinds.Kind.TheVariants as K
-use Rattle.audit_core.proofs.Words.{AllByRecursion, Side, Client, Server, Sides, Kind, Body, SettingsBody, Unreadable}
-use Rattle.audit_core.proofs.Words.{Frame, ConnectionState, Stream, Finding, is_side, other, side_of, place_stream}
+use Rattle.audit_core.proofs.Words.{AllByRecursion, cond_both, Side, Client, Server, Sides, Kind, Body, SettingsBody}
+use Rattle.audit_core.proofs.Words.{Unreadable, Frame, ConnectionState, Stream, Finding, other, side_of, place_stream}
 use Rattle.audit_core.proofs.Words.{finding_at, say, say_of, promised_in, meets, IsInRange, local_said, fault}
 use Rattle.audit_core.proofs.Words.{body_said, reading_fault, InForce, connection_said, length_said, opening_order_said}
 use Rattle.audit_core.proofs.Words.{promise_order_said, connection_window_said, opens, window_at_opening, window_step}
 use Rattle.audit_core.proofs.Words.{stream_said, frame_said, stream_window_said, live_window_said, PassState}
 use Rattle.audit_core.proofs.Words.{streams_said, step_of, EachPair, AreApart, change_of, rank_of, opens_stream, Change}
-use Rattle.audit_core.proofs.Words.{Step, push_said, new_limit, and_parts, each-append, each-weaker, option_map_or}
-use Rattle.audit_core.proofs.Words.{ints, Settings, is_ack, content_by, grant_to, new_initial, overflows, taken}
-use Rattle.audit_core.proofs.Words.{change_taking, credit_after, counted, cases_Bool}
+use Rattle.audit_core.proofs.Words.{Step, push_said, new_limit, each-append, each-weaker, ints, overflows, credit_after}
+use Rattle.audit_core.proofs.Words.{counted}
 use Rattle.audit_core.proofs.Pairs.{across-by, pairs-append}
 use Rattle.audit_core.proofs.PassOrder.{AreStreams, rows_of}
-use Rattle.audit_core.proofs.TableRows.{IsRow, AreRows, ◌⊕◌, is_row, same_side, rows-nil, rows-say_of, rows-choice}
-use Rattle.audit_core.proofs.TableRows.{row-say, told, quiet}
+use Rattle.audit_core.proofs.TableRows.{IsRow, AreRows, ◌⊕◌, is_row, rows-nil, rows-say_of, row-say, told, quiet}
 use Rattle.audit_core.proofs.Meetings.{change-ack}
 
 -- ---- why some errors are said of one endpoint
@@ -28,33 +26,9 @@ granted-side d before frame o = grind (arith, ints)
 
 -- a change moves only the windows of the side that acknowledges
 module _ (d : Side) (stream : ℕ) (now : InForce) (initial : Sides ℕ) (frame : Frame) (before : ℤ) where
-  -- an acknowledgement grants nothing and has no content
-  no_amount : (amount : Frame → ℕ) (b : Bool) → amount frame ≡ 0 →
-      option_map_or amount (if b then Some frame else None) 0 ≡ 0
-  no_amount amount b e = grind arith
-
-  unmoved : is_ack frame.body ≡ true → (grant_to d stream frame ≡ 0) × (content_by d frame ≡ 0)
-  unmoved ack = (grind arith, grind arith)
-
-  same_initial : (o : Option Settings) (n : ℕ) → is_side d frame.side ≡ false →
-      new_initial (change_taking frame o) d n ≡ n
-  same_initial o n e = grind arith
-
-  still : is_some (change_of now frame) ≡ true → is_side d frame.side ≡ false
-      → int_lt before (counted d stream initial (step_of now frame stream) before) ≡ true → ⊥
-  still c e above =
-      let (grant, content) = unmoved (change-ack now frame c) in
-      let no_grant = no_amount (grant_to d stream) (meets stream frame) grant in
-      let no_content = no_amount (content_by d) (meets stream frame) content in
-      let same = same_initial (taken now frame) (side_of d initial) e in
-      omega (arith, ints)
-
   moved-side : (is_some (change_of now frame) && overflows before
       (counted d stream initial (step_of now frame stream) before)) ≡ true → d ≡ frame.side
-  moved-side o =
-      ⊎_elim (same_side d frame.side)
-      (λ e. absurd (still (and_parts _ _ o).0 e (and_parts _ _ (and_parts _ _ o).1).0))
-      (cases_Bool (is_side d frame.side))
+  moved-side o = let ack = change-ack now frame in grind (arith, ints)
 
 -- ---- the rows
 
@@ -140,11 +114,6 @@ module _ (frame : Frame) (h : IsInRange frame) where
       ⊕ still K.ConnectionOverrun 2 3 _ _ refl refl ⊕ still K.ConnectionStallEnd 3 4 _ _ refl refl
       ⊕ still K.ConnectionStallBegin 4 5 _ _ refl refl ⊕ still K.ConnectionCredit 5 6 _ _ refl refl
 
-  rows-server_push : (push : ℕ) → Rows 7 8 (push_said push frame)
-  rows-server_push push =
-      row-say frame.side Any frame.number frame.stream h.stream tt K.Push frame.side 7 8 _ _ (omega arith)
-      (λ e. grind arith)
-
   rows-connection : (now : ConnectionState) (opens : Bool) (change : Option Change) →
       Rows 6 21 (connection_said now (record { frame = frame; opens = opens; change = change }))
   rows-connection now opens change =
@@ -153,7 +122,10 @@ module _ (frame : Frame) (h : IsInRange frame) where
       (sym (append_assoc (length_said limit frame ++ push_said now.push frame)
       (opening_order_said now.opened (record { frame = frame; opens = opens; change = change }))
       (promise_order_said now.promised frame)))
-      (rows-length limit ⊕ rows-server_push now.push ⊕ rows-order now.opened now.promised opens change)
+      (rows-length limit
+      ⊕ row-say frame.side Any frame.number frame.stream h.stream tt K.Push frame.side 7 8 _ _ (omega arith)
+      (λ e. grind arith)
+      ⊕ rows-order now.opened now.promised opens change)
       ⊕ (rows-connection_window Client now.credit.client ⊕ rows-connection_window Server now.credit.server)
 
 -- what is said of a stream
@@ -186,10 +158,10 @@ module _ (frame : Frame) (now : InForce) (on : ℕ → Type 0) (stream : ℕ) (s
   rows-window d =
       let still = quiet frame.side on frame.number stream small here stream_row d in
       let up : stream_row d 0 ≤ stream_row d 6 = grind arith in
-      rows-choice _ _ _ _ (opens stream entry step) _ _
-      (rows-say_of _ _ _ _ _ (window_at_opening d stream initial step) up
+      cond_both (opens stream entry step) _ _ (Told (stream_row d 0) (stream_row d 6))
+      (λ _. rows-say_of _ _ _ _ _ (window_at_opening d stream initial step) up
       (λ credit. still K.StreamStallBegin 0 5 _ _ refl refl ⊕ still K.StreamCredit 5 6 _ true refl refl))
-      (rows-say_of _ _ _ _ _ (side_of d entry.window) up (rows-live_window d))
+      (λ _. rows-say_of _ _ _ _ _ (side_of d entry.window) up (rows-live_window d))
 
   rows-stream : Told 21 36 (stream_said stream initial entry step)
   rows-stream = rows-frame (meets stream frame) ⊕ rows-window Client ⊕ rows-window Server

@@ -22,9 +22,6 @@ changes_in steps = flat_map (λ (step : Step). option_to_list step.change) steps
 abbrev IsChangedAbove : (number : ℕ) → Step → Type 0
 IsChangedAbove number step = is_some step.change ≡ true → number < step.number
 
-no-change : (o : Option Change) → (is_some o ≡ true → ⊥) → option_to_list o ≡ []
-no-change o h = grind arith
-
 -- ---- one more change among some steps
 
 module _ (change : Change) where
@@ -54,7 +51,6 @@ module _ (change : Change) where
   changes-with [] h = refl
   changes-with (step ∷ steps) h =
       let rest = changes-with steps h.1 in
-      let free = no-change step.change in
       grind (arith, nat_tests, h.0)
 
 -- ---- the steps of frames alone

@@ -2,11 +2,11 @@
 use Rattle.std.proofs.Common.{◌≡◌, Bool, List, None, Option, Some, [], false, if◌then◌else◌, is_some, refl, true, ℕ, ℤ}
 use Rattle.std.proofs.Common.{◌%◌, ◌&&◌, ◌==◌, ◌||◌, ◌∷◌, ◌∙◌, arith}
 use Rattle.std.specs.Prelude.{OnSome}
-use Rattle.audit_core.proofs.Words.{eqb-true, and_parts, is_client_headers, meets, promises, change_of, is_last_of}
-use Rattle.audit_core.proofs.Words.{is_opening, ends_window, next, PassState, pass_start, is_side, side_of}
-use Rattle.audit_core.proofs.Words.{window_at_opening, window_after, step_test, stream_after, state_from, Frame, Change}
-use Rattle.audit_core.proofs.Words.{Step, Side, Client, Server, Sides, Stream, LiveWindowsAreUnended}
-use Rattle.audit_core.proofs.Words.{LiveWindowsAreOpened, nat_tests}
+use Rattle.audit_core.proofs.Words.{and_parts, is_client_headers, meets, promises, change_of, is_last_of, is_opening}
+use Rattle.audit_core.proofs.Words.{ends_window, next, PassState, pass_start, is_side, side_of, window_at_opening}
+use Rattle.audit_core.proofs.Words.{window_after, step_test, stream_after, state_from, Frame, Change, Step, Side}
+use Rattle.audit_core.proofs.Words.{Client, Server, Sides, Stream, LiveWindowsAreUnended, LiveWindowsAreOpened}
+use Rattle.audit_core.proofs.Words.{nat_tests}
 
 -- what is known of the endpoint of a window: it ends only an opened stream, and while its window is live it has not
 -- ended it, nor is it the client of a promised stream
@@ -14,9 +14,6 @@ record IsSending (d : Side) (stream : ℕ) (ended : Bool) (opened : Option ℕ) 
   idle : is_some opened ≡ false → ended ≡ false
   live : is_some window ≡ true →
       (is_some opened ≡ true) × (ended ≡ false) × ((is_side Client d && (stream % 2 == 0)) ≡ false)
-
-odd-even : (stream : ℕ) → (stream % 2 == 1) ≡ true → (stream % 2 == 0) ≡ false
-odd-even stream e = rw (eqb-true (stream % 2) 1 e) refl
 
 module _ (d : Side) (stream : ℕ) (initial : Sides ℕ) (step : Step) where
   -- a window that lives on was live, and is not ended
@@ -37,7 +34,7 @@ module _ (d : Side) (stream : ℕ) (frame : Frame) where
   -- the client sends nothing on a stream that is promised
   not-never : ((stream % 2 == 1) && is_client_headers frame || promises stream frame) ≡ true
       → is_last_of d stream frame ≡ false → (is_side Client d && (stream % 2 == 0)) ≡ false
-  not-never opening last = grind (arith, nat_tests, odd-even stream)
+  not-never opening last = grind (arith, nat_tests)
 
 abbrev Sending : Side → (stream : ℕ) → Stream → Type 0
 Sending d stream entry = IsSending d stream (side_of d entry.life.ended) entry.life.opened (side_of d entry.window)
@@ -75,7 +72,8 @@ module _ (stream : ℕ) (initial : Sides ℕ) (number : ℕ) (change : Option Ch
 
   sending-after : (d : Side) (frame : Option Frame) → Sending d stream entry
       → Sending d stream (stream_after stream initial entry (at_frame frame))
-  sending-after d None h = record { idle = grind (arith, h.idle); live = grind (arith, h.live, lives-on d stream initial) }
+  sending-after d None h =
+      record { idle = grind (arith, h.idle); live = grind (arith, h.live, lives-on d stream initial) }
   sending-after Client (Some frame) h = sending-met Client frame h _ refl
   sending-after Server (Some frame) h = sending-met Server frame h _ refl
 

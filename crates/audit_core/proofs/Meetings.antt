@@ -1,9 +1,9 @@
 -- How a stream meets a frame: it is on the stream, or promises it, or does neither; and what the frame that opens a
 -- stream is.
-use Rattle.std.proofs.Common.{is_some, ◌≡◌, ℕ, Bool, true, false, if◌then◌else◌, Some, None, refl, arith}
-use Rattle.audit_core.proofs.Words.{change_of, option_map_or, Side, Body, PushPromise, Frame, StreamLife, Stream}
-use Rattle.audit_core.proofs.Words.{is_ack, is_content, is_promise, increment, content_by, grant_to, promises, meets}
-use Rattle.audit_core.proofs.Words.{content_on, InForce, is_opening, step_amount, opens, life_at, step_of, nat_tests}
+use Rattle.std.proofs.Common.{is_some, ◌≡◌, ℕ, Bool, true, false, if◌then◌else◌, Some, None, arith}
+use Rattle.audit_core.proofs.Words.{change_of, option_map_or, Side, Body, Frame, StreamLife, Stream, is_ack, is_content}
+use Rattle.audit_core.proofs.Words.{increment, content_by, grant_to, promises, meets, content_on, InForce, is_opening}
+use Rattle.audit_core.proofs.Words.{step_amount, opens, life_at, step_of, nat_tests}
 
 -- a body that no window counts and that settings do not come into force by
 pub record CountsNothing (body : Body) : Type 0 where
@@ -13,10 +13,7 @@ pub record CountsNothing (body : Body) : Type 0 where
 
 -- a frame that promises a stream
 pub promised-counts : (stream : ℕ) (frame : Frame) → promises stream frame ≡ true → CountsNothing frame.body
-promised-counts stream frame e = promise-count frame.body (grind arith) where
-  promise-count : (body : Body) → is_promise body ≡ true → CountsNothing body
-  promise-count (PushPromise stream) e = record { grants = refl; content = refl; ack = refl }
-  promise-count _ e = cc
+promised-counts stream frame e = record { grants = grind arith; content = grind arith; ack = grind arith }
 
 -- a frame that opens a stream
 pub opening-counts : (stream : ℕ) (life : StreamLife) (frame : Frame) → is_opening stream life frame ≡ true

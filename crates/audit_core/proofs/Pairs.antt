@@ -48,7 +48,8 @@ module _ {X : Type 0} (R : X → X → Type 0) where
 
     pub pairs-ordered : (xs : List X) → EachPair R xs → EachPair R (ordered_by after xs)
     pairs-ordered [] p = tt
-    pairs-ordered (x ∷ xs) p = pairs-put x (ordered_by after xs) (each-ordered (R x) after xs p.0) (pairs-ordered xs p.1)
+    pairs-ordered (x ∷ xs) p =
+        pairs-put x (ordered_by after xs) (each-ordered (R x) after xs p.0) (pairs-ordered xs p.1)
 
 -- two elements that stand so, and each of which is of a sort, stand so too
 module _ {X : Type 0} (R S : X → X → Type 0) (P : X → Type 0) (f : (x y : X) → P x → P y → R x y → S x y) where

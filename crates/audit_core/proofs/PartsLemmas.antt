@@ -132,24 +132,20 @@ block_run-append : (now : ConnectionState) (xs ys : List Item)
     → block_run now (xs ++ ys) ≡ block_run now xs ++ block_run (connection_after_all now xs) ys
 block_run-append now [] ys = refl
 block_run-append now (x ∷ xs) ys =
-    ap (λ l. in_order (connection_said now x) ++ l) (block_run-append (connection_after now x) xs ys)
-    ∙ sym (append_assoc (in_order (connection_said now x)) _ _)
+    rw (block_run-append (connection_after now x) xs ys) (sym (append_assoc (in_order (connection_said now x)) _ _))
 
 block_runs-joined : (now : ConnectionState) (blocks : List (List Item))
     → block_runs now blocks ≡ block_run now (joined blocks)
 block_runs-joined now [] = refl
 block_runs-joined now (block ∷ blocks) =
-    ap (λ l. block_run now block ++ l) (block_runs-joined (connection_after_all now block) blocks)
-    ∙ sym (block_run-append now block (joined blocks))
+    rw (block_runs-joined (connection_after_all now block) blocks) (sym (block_run-append now block (joined blocks)))
 
 -- groups, one after the other, are one group
 groups-joined : (frames : List Frame) (groups : List (List ℕ))
     → flat_map (group_run frames) groups ≡ group_run frames (joined groups)
 groups-joined frames [] = refl
 groups-joined frames (group ∷ groups) =
-    ap (λ l. group_run frames group ++ l) (groups-joined frames groups)
-    ∙ sym (flat_map-append (λ stream. stream_run stream (frames_of stream frames) (changes_of frames)) group
-    (joined groups))
+    rw (groups-joined frames groups) (sym (flat_map-append _ group (joined groups)))
 
 group-alone : (frames : List Frame) (streams : List ℕ) → IsOrderly frames → group_run frames streams
     ≡ flat_map (λ stream. alone stream pass_start frames) streams

@@ -8,35 +8,32 @@ use Rattle.audit_core.proofs.Words.{stream_said, stream_after, counted, initial_
 abbrev pub bare_step : ℕ → Option Change → Step
 bare_step number change = record { number = number; frame = None; change = change }
 
-module _ (stream : ℕ) (initial : Sides ℕ) (number : ℕ) (change : Option Change) where
+module _ (stream : ℕ) (initial : Sides ℕ) (number : ℕ) (change : Option Change) (entry : Stream)
+    (unmoved : initial_after change initial ≡ initial) where
   -- one window, whose initial window stays
-  module _ (d : Side) (unmoved : new_initial change d (side_of d initial) ≡ side_of d initial) where
-    counted-quiet : (before : ℤ) → counted d stream initial (bare_step number change) before ≡ before
-    counted-quiet before = omega (arith, ints)
+  still : (d : Side) → new_initial change d (side_of d initial) ≡ side_of d initial
+  still Client = ap (λ (both : Sides ℕ). both.client) unmoved
+  still Server = ap (λ (both : Sides ℕ). both.server) unmoved
 
-    window_said-quiet : (window : Option ℤ) →
-        say_of (λ before. live_window_said d stream (bare_step number change)
-        (window_step d stream initial (bare_step number change) before)) window ≡ []
-    window_said-quiet window = grind (arith, ints, counted-quiet)
+  counted-quiet : (d : Side) (before : ℤ) → counted d stream initial (bare_step number change) before ≡ before
+  counted-quiet d before = omega (arith, ints, still d)
 
-    window_after-quiet : (window : Option ℤ) → window_after d stream initial (bare_step number change) window ≡ window
-    window_after-quiet window = grind (arith, ints, counted-quiet)
+  window_said-quiet : (d : Side) (window : Option ℤ) →
+      say_of (λ before. live_window_said d stream (bare_step number change)
+      (window_step d stream initial (bare_step number change) before)) window ≡ []
+  window_said-quiet d window = grind (arith, ints, counted-quiet d)
 
-  -- the stream, whose initial windows stay
-  module _ (entry : Stream) (unmoved : initial_after change initial ≡ initial) where
-    client : new_initial change Client initial.client ≡ initial.client
-    client = ap (λ (both : Sides ℕ). both.client) unmoved
+  window_after-quiet : (d : Side) (window : Option ℤ)
+      → window_after d stream initial (bare_step number change) window ≡ window
+  window_after-quiet d window = grind (arith, ints, counted-quiet d)
 
-    server : new_initial change Server initial.server ≡ initial.server
-    server = ap (λ (both : Sides ℕ). both.server) unmoved
+  -- the stream
+  pub stream_said-quiet : stream_said stream initial entry (bare_step number change) ≡ []
+  stream_said-quiet =
+      ap (λ said. said ++ stream_window_said Server stream initial entry (bare_step number change))
+      (window_said-quiet Client entry.window.client) ∙ window_said-quiet Server entry.window.server
 
-    pub stream_said-quiet : stream_said stream initial entry (bare_step number change) ≡ []
-    stream_said-quiet =
-        ap (λ said. said ++ stream_window_said Server stream initial entry (bare_step number change))
-        (window_said-quiet Client client entry.window.client)
-        ∙ window_said-quiet Server server entry.window.server
-
-    pub stream_after-quiet : stream_after stream initial entry (bare_step number change) ≡ entry
-    stream_after-quiet =
-        ap₂ {C = Stream} (λ (a b : Option ℤ). record { life = entry.life; window = record { client = a; server = b } })
-        (window_after-quiet Client client entry.window.client) (window_after-quiet Server server entry.window.server)
+  pub stream_after-quiet : stream_after stream initial entry (bare_step number change) ≡ entry
+  stream_after-quiet =
+      ap₂ {C = Stream} (λ (a b : Option ℤ). record { life = entry.life; window = record { client = a; server = b } })
+      (window_after-quiet Client entry.window.client) (window_after-quiet Server entry.window.server)

@@ -1,6 +1,6 @@
 -- The steps of one stream are those frames of the connection at which it has a frame or a change is brought.
-use Rattle.std.proofs.Common.{◌≡◌, Bool, List, None, Option, Some, [], arith, if◌then◌else◌, ltb-true, nat_lt}
-use Rattle.std.proofs.Common.{refl, ℕ, ◌++◌, ◌+◌, ◌<◌, ◌==◌, ◌∷◌, ◌≤◌}
+use Rattle.std.proofs.Common.{◌≡◌, Bool, List, None, Option, Some, [], arith, if◌then◌else◌, ltb-true, nat_lt, refl, ℕ}
+use Rattle.std.proofs.Common.{◌++◌, ◌+◌, ◌<◌, ◌==◌, ◌∷◌, ◌≤◌}
 use Rattle.audit_core.proofs.Words.{eqb-true, option_to_list, nat_tests, cond_both, meets, change_of, InForce, taken}
 use Rattle.audit_core.proofs.Words.{change_taking, in_force_after, step_of, changes_from, IsOrderlyFrom, frame_step}
 use Rattle.audit_core.proofs.Words.{with_change, steps_of, change_step, frames_of, Frame, Change, Step, Settings}

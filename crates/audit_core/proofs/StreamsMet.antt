@@ -1,8 +1,8 @@
 -- The streams that frames name are those that meet one of them.
 use Rattle.std.proofs.Common.{◌≡◌, Bool, List, [], false, filter, not, sym, true, ℕ, ◌&&◌, ◌==◌, ◌||◌, ◌∷◌, arith}
 use Rattle.std.proofs.lemmas.Map.Views.{any-filter_same}
-use Rattle.audit_core.proofs.Words.{and-false, list_any, promised_in, promises, promised_by, first_of, Frame}
-use Rattle.audit_core.proofs.Words.{StreamsAreNamedOnce, StreamsAreThoseMet, nat_tests, streams_of}
+use Rattle.audit_core.proofs.Words.{and-false, list_any, promises, promised_by, first_of, Frame, StreamsAreNamedOnce}
+use Rattle.audit_core.proofs.Words.{StreamsAreThoseMet, nat_tests, streams_of}
 use Rattle.audit_core.proofs.Apart.{distinct-streams_of}
 
 module _ (stream : ℕ) where
@@ -18,14 +18,9 @@ module _ (stream : ℕ) where
       (λ other q. grind (arith, nat_tests)) streams in
       grind (arith, nat_tests)
 
-  -- a frame promises the stream that it carries
-  promises-own : (frame : Frame) →
-      promises stream frame ≡ (promises (promised_in frame.body) frame && (promised_in frame.body == stream))
-  promises-own frame = grind (arith, nat_tests)
-
   -- the stream, other than 0, is the one that the frame promises
   promised-is : (frame : Frame) → (stream == 0) ≡ false → (promised_by frame == stream) ≡ promises stream frame
-  promised-is frame e = let own = promises-own frame in grind (arith, nat_tests)
+  promised-is frame e = grind (arith, nat_tests)
 
 pub streams_met_lem : StreamsAreThoseMet
 streams_met_lem stream [] = sym (and-false (not (stream == 0)))

@@ -2,10 +2,10 @@
 -- numbers, and an error of the connection is said of one endpoint only.
 use Rattle.std.proofs.Common.{◌≡◌, ℕ, ℤ, ◌^◌, ◌<◌, ◌≤◌, ◌==◌, Bool, true, false, ◌&&◌, ◌||◌, nat_le, nat_lt, List, []}
 use Rattle.std.proofs.Common.{◌∷◌, ◌++◌, get_or, refl, sym, ap, ◌∙◌, subst, arith, Option, Some, None, if◌then◌else◌}
-use borrow.Author.Tests.{leb-true, ltb-true, le-ltb}
-use Rattle.audit_core.proofs.Words.{AllByRecursion, Side, Client, Server, Kind, Finding, other, is_side, rank_of}
-use Rattle.audit_core.proofs.Words.{place_of, place_stream, place_rank, finding_at, say, say_of, stops, AreApart}
-use Rattle.audit_core.proofs.Words.{StandApart, rank-small, and_parts, each-append, each-weaker}
+use borrow.Author.Tests.{leb-true, ltb-true}
+use Rattle.audit_core.proofs.Words.{nat_tests, AllByRecursion, Side, Client, Server, Kind, Finding, other, is_side}
+use Rattle.audit_core.proofs.Words.{rank_of, place_of, place_stream, place_rank, finding_at, say, say_of, stops}
+use Rattle.audit_core.proofs.Words.{AreApart, StandApart, rank-small, and_parts, each-append, each-weaker}
 use Rattle.audit_core.proofs.Pairs.{across-by, pairs-append}
 
 -- the row in which a rank is said of an endpoint, by rank: 0 to 4 local faults, 5 settings, 6 length, 7 the server's
@@ -88,11 +88,6 @@ module _ (sender : Side) (on : ℕ → Type 0) where
   rows-say_of low high f None p h = rows-nil low high p
   rows-say_of low high f (Some a) p h = h a
 
-  pub rows-choice : (low high : ℕ) (b : Bool) (xs ys : List Finding) → AreRows sender on low high xs →
-      AreRows sender on low high ys → AreRows sender on low high (if b then xs else ys)
-  rows-choice low high true xs ys p q = p
-  rows-choice low high false xs ys p q = q
-
 infixl 20 ◌⊕◌
 pub ◌⊕◌ : {sender : Side} {on : ℕ → Type 0} {low mid high : ℕ} {xs ys : List Finding} →
     AreRows sender on low mid xs → AreRows sender on mid high ys → AreRows sender on low high (xs ++ ys)
@@ -106,17 +101,9 @@ is_row sender side rank low high =
     (nat_le low (row_at side rank) && nat_lt (row_at side rank) high)
     && (nat_lt 12 rank || is_side side (error_side sender rank))
 
-pub same_side : (d e : Side) → is_side d e ≡ true → d ≡ e
-same_side d e h = grind arith
-
 error-fits : (side right : Side) (rank : ℕ) → (nat_lt 12 rank || is_side side right) ≡ true → nat_le rank 12 ≡ true
     → side ≡ right
-error-fits side right rank h e =
-    same_side side right (rw (le-ltb 12 rank (leb-true rank 12 e)) at h)
-
-each-side : (P : Side → Bool) → (P Client && P Server) ≡ true → (d : Side) → P d ≡ true
-each-side P e Client = (and_parts _ _ e).0
-each-side P e Server = (and_parts _ _ e).1
+error-fits side right rank h e = grind (arith, nat_tests)
 
 module _ (sender : Side) (on : ℕ → Type 0) (number stream : ℕ) (small : stream < 2 ^ 31) (here : on stream) where
   -- a finding that stands in these rows, if it is said
@@ -149,9 +136,7 @@ module _ (sender : Side) (on : ℕ → Type 0) (number stream : ℕ) (small : st
   pub told : (kind : Kind) (low high : ℕ) (value : ℤ) (holds : Bool) → nat_le low high ≡ true →
       (is_row Client Client (rank_of kind) low high && is_row Server Server (rank_of kind) low high) ≡ true →
       AreRows sender on low high (say holds (finding_at kind number stream sender value))
-  told kind low high value holds p e =
-      row-say kind sender low high value holds (leb-true low high p)
-      (λ _. each-side (λ d. is_row d d (rank_of kind) low high) e sender)
+  told kind low high value holds p e = row-say kind sender low high value holds (leb-true low high p) (λ _. grind arith)
 
   -- one of an endpoint's window that is no error
   pub quiet : (row : Side → ℕ → ℕ) (d : Side) (kind : Kind) (low high : ℕ) (value : ℤ) (holds : Bool) →
@@ -159,7 +144,7 @@ module _ (sender : Side) (on : ℕ → Type 0) (number stream : ℕ) (small : st
       (is_row sender Client (rank_of kind) (row Client low) (row Client high)
       && is_row sender Server (rank_of kind) (row Server low) (row Server high)) ≡ true →
       AreRows sender on (row d low) (row d high) (say holds (finding_at kind number stream d value))
-  quiet row d kind low high value holds p e =
-      row-say kind d (row d low) (row d high) value holds
-      (leb-true (row d low) (row d high) (each-side (λ s. nat_le (row s low) (row s high)) p d))
-      (λ _. each-side (λ s. is_row sender s (rank_of kind) (row s low) (row s high)) e d)
+  quiet row Client kind low high value holds p e =
+      row-say kind Client _ _ value holds (leb-true _ _ (and_parts _ _ p).0) (λ _. (and_parts _ _ e).0)
+  quiet row Server kind low high value holds p e =
+      row-say kind Server _ _ value holds (leb-true _ _ (and_parts _ _ p).1) (λ _. (and_parts _ _ e).1)

@@ -2,18 +2,18 @@
 pub use Rattle.audit_core.specs.code.StreamRows.{row_said, RowFits, rows_in, row_after, row_opens, idle_rows}
 pub use Rattle.audit_core.specs.declared.{rows.StreamRow.StreamRow}
 pub use Rattle.audit_core.specs.laws.Steps.{StreamsHaveSteps, AreRising, IsFilled, StepsJoinFramesAndChanges}
-pub use Rattle.audit_core.specs.{laws.Apart.AreApartAsErrors, laws.Credit.StreamCreditIsSum, laws.Apart.EachPair}
-pub use Rattle.audit_core.specs.{laws.Apart.AreApart, laws.Apart.StandApart, laws.Credit.ConnectionCreditIsSum}
-pub use Rattle.audit_core.specs.{laws.LiveWindows.LiveWindowsAreUnended, laws.LiveWindows.LiveWindowsAreOpened}
-pub use Rattle.audit_core.specs.{laws.Parts.joined, laws.Parts.PartsMakeFull, laws.Stop.NoneStops}
-pub use Rattle.audit_core.specs.{laws.Stop.KeptUptoFirstStop, laws.Stop.EndsAt, laws.Streams.StreamsAreNamedOnce}
-pub use Rattle.audit_core.specs.{laws.Streams.StreamsAreThoseMet}
+pub use Rattle.audit_core.specs.{laws.Apart.AreApartAsErrors, laws.Apart.EachPair, laws.Apart.AreApart}
+pub use Rattle.audit_core.specs.{laws.Apart.StandApart, laws.Credit.StreamCreditIsSum}
+pub use Rattle.audit_core.specs.{laws.Credit.ConnectionCreditIsSum, laws.LiveWindows.LiveWindowsAreUnended}
+pub use Rattle.audit_core.specs.{laws.LiveWindows.LiveWindowsAreOpened, laws.Parts.joined, laws.Parts.PartsMakeFull}
+pub use Rattle.audit_core.specs.{laws.Stop.NoneStops, laws.Stop.KeptUptoFirstStop, laws.Stop.EndsAt}
+pub use Rattle.audit_core.specs.{laws.Streams.StreamsAreNamedOnce, laws.Streams.StreamsAreThoseMet}
 pub use Rattle.audit_terms.proofs.FindingLists.{each-append, each-put, each-ordered, each-filter, each-weaker}
 pub use Rattle.audit_terms.proofs.FindingOrder.{comes_after_is, in_order-alike, in_order-append_comm, in_order-in_order}
 pub use Rattle.audit_terms.proofs.OrderedLists.{in_order-append, ordered-in_order, in_order-ordered, IsInOrder}
 pub use Rattle.audit_terms.proofs.SaidPlaces.{from-append, at-local, from-from, at-append, at-settings, at-connection}
 pub use Rattle.audit_terms.proofs.SaidPlaces.{rank-small, AreWithin, AreFrom, at-in_order, from-at, precedes-at, at-nil}
-pub use Rattle.audit_terms.proofs.{Bounds.room-wider, SaidPlaces.AreAt, SaidPlaces.at-stream}
+pub use Rattle.audit_terms.proofs.{SaidPlaces.AreAt, SaidPlaces.at-stream, Bounds.room-wider}
 pub use Rattle.audit_terms.specs.Connection.{credit_after, promise_order_said, connection_window_said, length_said}
 pub use Rattle.audit_terms.specs.Connection.{push_said, connection_said, opening_order_said, connection_after}
 pub use Rattle.audit_terms.specs.Finding.{say, finding_at, stops, say_of, comes_after, in_order, upto_stop}
@@ -24,13 +24,13 @@ pub use Rattle.audit_terms.specs.Pass.{first_of, next, PassState, step_of, pass_
 pub use Rattle.audit_terms.specs.Stream.{opens, window_at_opening, window_after, step_test, stream_said}
 pub use Rattle.audit_terms.specs.Stream.{stream_window_said, window_step, frame_said, live_window_said, life_at}
 pub use Rattle.audit_terms.specs.code.runs.Streams.{IsAcknowledged, initial_after, stream_run, group_run, frame_step}
-pub use Rattle.audit_terms.specs.code.runs.Streams.{with_change, steps_of, change_step, frames_of}
+pub use Rattle.audit_terms.specs.code.runs.Streams.{with_change, steps_of, change_step, frames_of, stream_run_from}
 pub use Rattle.audit_terms.specs.code.{Places.place_rank, Room.HasRoom, runs.LocalFaults.local_run_from}
-pub use Rattle.audit_terms.specs.code.{runs.Blocks.connection_after_all, runs.Blocks.block_runs}
+pub use Rattle.audit_terms.specs.code.{runs.Blocks.connection_after_all, runs.Blocks.block_runs, runs.Blocks.block_run}
 pub use Rattle.audit_terms.specs.code.{runs.Changes.changes_from, runs.Changes.changes_of}
 pub use Rattle.audit_terms.specs.code.{runs.Changes.settings_run_from, runs.Orderly.IsOrderlyFrom}
-pub use Rattle.audit_terms.specs.code.{runs.Orderly.IsInRange, runs.Orderly.IsOrderly, runs.Streams.stream_run_from}
-pub use Rattle.audit_terms.specs.code.{runs.States.state_from, runs.States.items_from, runs.Blocks.block_run}
+pub use Rattle.audit_terms.specs.code.{runs.Orderly.IsInRange, runs.Orderly.IsOrderly, runs.States.state_from}
+pub use Rattle.audit_terms.specs.code.{runs.States.items_from}
 pub use Rattle.audit_terms.specs.declared.frames.Body.TheVariants.{PushPromise, Unreadable, Settings as SettingsBody}
 pub use Rattle.audit_terms.specs.declared.{connections.ConnectionState.ConnectionState, findings.Finding.Finding}
 pub use Rattle.audit_terms.specs.declared.{frames.Body.Body, frames.Frame.Frame, items.Change.Change, items.Item.Item}
@@ -39,17 +39,15 @@ pub use Rattle.audit_terms.specs.declared.{lives.StreamLife.StreamLife, settings
 pub use Rattle.audit_terms.specs.declared.{sides.Side.TheVariants.Client, sides.Side.TheVariants.Server}
 pub use Rattle.audit_terms.specs.declared.{sides.Sides.Sides, streams.Stream.Stream}
 pub use Rattle.audit_terms.specs.{Connection.connection_start, Frame.is_content, Frame.increment, Frame.meets}
-pub use Rattle.audit_terms.specs.{Frame.promises, Frame.promised_by, InForce.initial_in_force, Life.is_last_of}
-pub use Rattle.audit_terms.specs.{Kind.rank_of, Order.put_by, Order.ordered_by, Place.place_stream, Place.place_of}
-pub use Rattle.audit_terms.specs.{Life.is_opening, Life.ends_window, Pass.streams_of, Pass.said, Pass.full_from}
-pub use Rattle.audit_terms.specs.{Pass.opens_stream, Stream.step_amount, Stream.stream_after, Stream.idle_stream}
-pub use Rattle.audit_terms.specs.{Side.is_side, Side.other, Sides.side_of, Change.new_initial, Change.new_limit}
-pub use Rattle.audit_terms.specs.{Window.first_window, Window.overflows, laws.Credit.content_on, laws.Credit.since}
-pub use Rattle.audit_terms.specs.{laws.Credit.stream_credit_sum}
+pub use Rattle.audit_terms.specs.{Frame.promises, Frame.promised_by, InForce.initial_in_force, Pass.streams_of}
+pub use Rattle.audit_terms.specs.{Order.put_by, Order.ordered_by, Place.place_stream, Place.place_of, Side.is_side}
+pub use Rattle.audit_terms.specs.{Pass.said, Pass.full_from, Pass.opens_stream, Stream.step_amount, Stream.stream_after}
+pub use Rattle.audit_terms.specs.{Side.other, Sides.side_of, Change.new_initial, Change.new_limit, Window.overflows}
+pub use Rattle.audit_terms.specs.{Stream.idle_stream, Life.is_last_of, Life.is_opening, Life.ends_window, Kind.rank_of}
+pub use Rattle.audit_terms.specs.{laws.Credit.content_on, laws.Credit.since, laws.Credit.stream_credit_sum}
 pub use Rattle.fault_rules.specs.code.{StreamSteps.counted}
 pub use Rattle.std.{proofs.Math.Bool.and-false, proofs.Math.Bool.or-true, proofs.lemmas.Bool.and_parts}
-pub use Rattle.std.{proofs.lemmas.Bool.Decides.nat_tests, proofs.lemmas.Int.ints, proofs.lemmas.Simd.map-map}
-pub use Rattle.std.{proofs.lemmas.Bool.cond_both, proofs.lemmas.Bool.cases_Bool, specs.List.AllByRecursion}
-pub use Rattle.std.{specs.List.flat_map, specs.List.find, specs.List.list_any, specs.Option.option_map_or}
-pub use Rattle.std.{specs.Option.option_to_list}
+pub use Rattle.std.{proofs.lemmas.Bool.cond_both, proofs.lemmas.Bool.cases_Bool, proofs.lemmas.Bool.Decides.nat_tests}
+pub use Rattle.std.{proofs.lemmas.Int.ints, proofs.lemmas.Simd.map-map, specs.List.AllByRecursion, specs.List.flat_map}
+pub use Rattle.std.{specs.List.find, specs.List.list_any, specs.Option.option_map_or, specs.Option.option_to_list}
 pub use borrow.Author.Tests.{eqb-true, eq-eqb, ne_eqb, lt-leb}

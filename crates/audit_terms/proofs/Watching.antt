@@ -191,7 +191,8 @@ module _ {L : Type 0} (answers : L → List Finding → Option ℕ → L → Typ
         looked = w.looked;
         in_time = subst (λ l. LooksInTime l whole w.asked) (append-nil met)
             (subst (LooksInTime (met ++ []) whole) (append-nil w.asked)
-            (w.in_time [] (λ number is. let below = slice_get_within (met ++ []) (steps_between * watch.looks) number is in
+            (w.in_time [] (λ number is.
+            let below = slice_get_within (met ++ []) (steps_between * watch.looks) number is in
             let size = length-append met [] in absurd (omega arith))));
         count = w.count;
         last = w.last;

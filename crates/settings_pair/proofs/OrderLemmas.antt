@@ -49,8 +49,8 @@ below-all frame low (change ∷ changes) below h =
     (λ e. absurd (omega (arith, h.0, e)), below-all frame (change.number + 1) changes (omega (arith, h.0)) h.2)
 
 -- a frame that takes settings is an acknowledgement
-own-change : (frame : Frame) (t : Option Settings) (changes : List Change) → (is_some t ≡ true → is_ack frame.body ≡ true)
-    → AllByRecursion (AcknowledgesAt frame) changes
+own-change : (frame : Frame) (t : Option Settings) (changes : List Change)
+    → (is_some t ≡ true → is_ack frame.body ≡ true) → AllByRecursion (AcknowledgesAt frame) changes
     → AllByRecursion (AcknowledgesAt frame) (option_to_list (change_taking frame t) ++ changes)
 own-change frame None changes e h = h
 own-change frame (Some settings) changes e h = (λ _. e refl, h)
