@@ -5,7 +5,6 @@ use Rattle.conn_scan.proofs.Terms.{Item, connection_after, connection_after_all,
 use Rattle.conn_scan.proofs.Terms.{change_of, credit_of, no_change, one_change, credit_join, AreSmall, ChangesFit}
 use Rattle.conn_scan.proofs.Terms.{Block, walked, MovesLittle, ItemsFit, connections_before, conn_sum_of, conn_none}
 use Rattle.conn_scan.proofs.Terms.{conn_one, conn_join, room-wider, IsRoomy, roomy, credit_shows}
-use Rattle.block_scan.specs.code.List.{states_before}
 use Rattle.conn_scan.specs.declared.sums.ConnSum.{ConnSum}
 use Rattle.conn_scan.specs.code.ConnSumLaws.{all-after, conn_shows}
 use Rattle.conn_scan.proofs.WalkLemmas.{length-walked}
@@ -61,16 +60,3 @@ sum_roomy block done rest sum split number little is =
       (changes_roomy (change_of Client) (λ x h. h.0) done few little).sum,
       (changes_roomy (change_of Server) (λ x h. h.1) done few little).sum,
     )
-
--- the connection before each block is what a scan carries
-pub states_carried : (now : ConnectionState) (blocks : List (List Item))
-    → states_before connection_after now blocks ≡ connections_before now blocks
-states_carried now [] = refl
-states_carried now (block ∷ blocks) =
-    rw (← all-after now block, states_carried (connection_after_all now block) blocks) refl
-
--- the summaries of blocks
-pub sums-shown : (blocks : List (List Item))
-    → map conn_sum_of blocks ≡ map (summary_of conn_none conn_one conn_join) blocks
-sums-shown [] = refl
-sums-shown (block ∷ blocks) = rw (summary-shown conn_shows block, sums-shown blocks) refl

@@ -4,7 +4,8 @@ ghost use Rattle.conn_scan.specs.laws.Clear.{ClearShowsCredit};
 ghost use Rattle.conn_scan.specs.laws.Items.{ItemsAreThePass, ItemsOfBlocksJoin};
 ghost use Rattle.conn_scan.specs.examples.StallInBlocks.{StallItemsFound, StallByOne, StallByTwo, StallAtOnce};
 ghost use Rattle.conn_scan.specs.examples.StallInBlocks.{ClearFrames};
-ghost use Rattle.conn_scan.specs.examples.ScanSums.{StatesFound, FirstSumFound, LastSumFound, CarriesFound};
+ghost use Rattle.conn_scan.specs.examples.ScanSums.{StatesFound, FirstSumFound, LastSumFound, FirstCountFound};
+ghost use Rattle.conn_scan.specs.examples.ScanSums.{LastCountFound, CarriesFound};
 
 /// A window of 65,535 bytes is used up, 1 byte is granted, 1 byte is sent: the credit after each change, the summaries
 /// of the first two changes and of the last one, and the credit before each of these blocks.
@@ -12,6 +13,8 @@ pub fn scan_sums()
     ensures states { StatesFound }
     ensures first { FirstSumFound }
     ensures last { LastSumFound }
+    ensures first_count { FirstCountFound }
+    ensures last_count { LastCountFound }
     ensures carries { CarriesFound }
 {}
 
