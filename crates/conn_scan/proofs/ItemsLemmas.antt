@@ -6,7 +6,7 @@ use Rattle.conn_scan.proofs.Terms.{items_with}
 use Rattle.audit_terms.specs.code.runs.Changes.{changes_from}
 use Rattle.std.specs.Option.{option_to_list}
 use Rattle.std.proofs.Math.Bool.{or-false}
-use Rattle.std.proofs.lemmas.List.Folds.{list_any-append}
+use Rattle.std.proofs.lemmas.List.Folds.{find-append, list_any-append}
 use Rattle.audit_terms.specs.declared.settings.Settings.{Settings}
 use Rattle.audit_terms.specs.InForce.{InForce, taken, change_taking, change_of, in_force_after}
 use Rattle.audit_terms.specs.Pass.{PassState, pass_start, item_of, next}
@@ -31,8 +31,7 @@ find-lacking frame (change ∷ changes) h = grind (arith, nat_tests, find-lackin
 
 find-behind : (frame : Frame) (others changes : List Change) → LacksNumber frame.number others
     → change_at (others ++ changes) frame ≡ change_at changes frame
-find-behind frame [] changes h = refl
-find-behind frame (other ∷ others) changes h = grind (arith, nat_tests, find-behind frame others changes h.1)
+find-behind frame others changes h = rw (find-append, find-lacking frame others h) refl
 
 find-before : (frame : Frame) (changes others : List Change) → LacksNumber frame.number others
     → change_at (changes ++ others) frame ≡ change_at changes frame
@@ -108,30 +107,21 @@ pub items_of_blocks_join : ItemsOfBlocksJoin
 items_of_blocks_join number opened opened' changes changes' frames frames' o c f =
     rw (
       map-append,
-      map-alike _ _ frames (all-weaker item-first frames f.below),
-      map-alike _ _ frames' (all-weaker item-later frames' f.above),
+      map-alike _ _ frames (all-weaker first frames f.below),
+      map-alike _ _ frames' (all-weaker later frames' f.above),
     ) refl where
-      item-first : (frame : Frame) → frame.number < number
+      first : (frame : Frame) → frame.number < number
           → item_with (opened ++ opened') (changes ++ changes') frame ≡ item_with opened changes frame
-      item-first frame lt =
-          let none = any-none frame.number opened' (all-weaker (λ n le e. absurd (omega (arith, lt, le, e))) opened'
-          o.above) in
-          rw (
-            list_any-append,
-            none,
-            or-false,
-            find-before frame changes changes'
-                (all-weaker (λ change le e. absurd (omega (arith, lt, le, e))) changes' c.above),
-          ) refl
+      first frame lt =
+          let other : (n : ℕ) → number ≤ n → n ≡ frame.number → ⊥ = λ n le e. absurd (omega (arith, lt, le, e)) in
+          let none = any-none frame.number opened' (all-weaker (λ n le. other n le) opened' o.above) in
+          let found = find-before frame changes changes' (all-weaker (λ change le. other _ le) changes' c.above) in
+          rw (list_any-append, none, or-false, found) refl
 
-      item-later : (frame : Frame) → number ≤ frame.number
+      later : (frame : Frame) → number ≤ frame.number
           → item_with (opened ++ opened') (changes ++ changes') frame ≡ item_with opened' changes' frame
-      item-later frame le =
-          let none = any-none frame.number opened (all-weaker (λ n lt e. absurd (omega (arith, lt, le, e))) opened
-          o.below) in
-          rw (
-            list_any-append,
-            none,
-            find-behind frame changes changes'
-                (all-weaker (λ change lt e. absurd (omega (arith, lt, le, e))) changes c.below),
-          ) refl
+      later frame le =
+          let other : (n : ℕ) → n < number → n ≡ frame.number → ⊥ = λ n lt e. absurd (omega (arith, lt, le, e)) in
+          let none = any-none frame.number opened (all-weaker (λ n lt. other n lt) opened o.below) in
+          let found = find-behind frame changes changes' (all-weaker (λ change lt. other _ lt) changes c.below) in
+          rw (list_any-append, none, found) refl

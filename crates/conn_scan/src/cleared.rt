@@ -65,9 +65,24 @@ fn extremes_usable(credit: i64, changes: &Credit) -> bool
     requires below { credit ≤ℤ largest_window }
     ensures { result ≡ (int_lt (neg_ℤ credit) changes.now.low && int_le changes.now.high (largest_window -ℤ credit)) }
 {
-    let low = -credit;
-    let high = i64::from(LARGEST_WINDOW) - credit;
-    low < changes.low && changes.high <= high
+    least_usable(credit, changes) && greatest_usable(credit, changes)
+}
+
+#[tactic(auto, using(std::proofs::lemmas::Int::ints))]
+fn least_usable(credit: i64, changes: &Credit) -> bool
+    requires { pos 0 <ℤ credit }
+    ensures { result ≡ int_lt (neg_ℤ credit) changes.now.low }
+{
+    -credit < changes.low
+}
+
+#[tactic(auto, using(std::proofs::lemmas::Int::ints))]
+fn greatest_usable(credit: i64, changes: &Credit) -> bool
+    requires above { pos 0 <ℤ credit }
+    requires below { credit ≤ℤ largest_window }
+    ensures { result ≡ int_le changes.now.high (largest_window -ℤ credit) }
+{
+    changes.high <= i64::from(LARGEST_WINDOW) - credit
 }
 
 /// Do the identifiers rise, and all stand above one?
