@@ -1,7 +1,7 @@
 -- What the summary of a block tells is what its items do.
 use Rattle.conn_scan.proofs.Terms.{◌≡◌, ℕ, max, ◌%◌, ℤ, pos, neg_ℤ, ◌+ℤ◌, ◌-ℤ◌, Bool, true, false, ◌&&◌, ◌||◌, not}
 use Rattle.conn_scan.proofs.Terms.{◌==◌, nat_le, ◌<ℤ◌, ◌≤ℤ◌, int_lt, int_le, if◌then◌else◌, List, [], ◌∷◌, map, Option}
-use Rattle.conn_scan.proofs.Terms.{Some, None, refl, sym, ap, ◌∙◌, arith, list_all, int_max, int_min, ints, clamps}
+use Rattle.conn_scan.proofs.Terms.{Some, None, refl, arith, list_all, int_max, int_min, ints, clamps}
 use Rattle.conn_scan.proofs.Terms.{by_lt_z, nat_tests, Side, Client, Server, new_limit, ConnectionState, Item}
 use Rattle.conn_scan.proofs.Terms.{largest_window, connection_after, change_of, high, low, credit_of, limit_in, push_in}
 use Rattle.conn_scan.proofs.Terms.{is_zero, lesser, least_limit, longest_by, some_zero_grant, some_odd_promise}

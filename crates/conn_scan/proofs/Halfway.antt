@@ -37,7 +37,7 @@ block-from low base now (item ∷ items) le h =
     (item-shows (IsFrom low) now item h.1 (λ one at. omega arith))
     (block-from low (item.frame.number + 1) (connection_after now item) items (omega arith) h.2)
 
--- a frame of such a number is there
+-- at the number of a frame in range
 abbrev IsNumbered : Finding → Type 0
 IsNumbered one = place_number one.place ≤ 2 ^ 28 - 2
 

@@ -1,6 +1,6 @@
 -- The items of a connection's frames are those of the pass, and those of consecutive blocks join.
 use Rattle.conn_scan.proofs.Terms.{◌≡◌, ℕ, ◌+◌, ◌<◌, ◌≤◌, ◌==◌, false, List, [], ◌∷◌, ◌++◌, append_assoc, Option, Some}
-use Rattle.conn_scan.proofs.Terms.{None, refl, ap, ◌∙◌, arith, map, AllByRecursion, list_any, nat_tests, map-append}
+use Rattle.conn_scan.proofs.Terms.{None, refl, ◌∙◌, arith, map, AllByRecursion, list_any, nat_tests, map-append}
 use Rattle.conn_scan.proofs.Terms.{all-append, Frame, Change, Item, IsOrderlyFrom, is_marked, change_at, item_with}
 use Rattle.conn_scan.proofs.Terms.{items_with}
 use Rattle.audit_terms.specs.code.runs.Changes.{changes_from}
@@ -9,7 +9,7 @@ use Rattle.std.proofs.Math.Bool.{or-false}
 use Rattle.std.proofs.lemmas.List.Folds.{find-append, list_any-append}
 use Rattle.audit_terms.specs.declared.settings.Settings.{Settings}
 use Rattle.audit_terms.specs.InForce.{InForce, taken, change_taking, change_of, in_force_after}
-use Rattle.audit_terms.specs.Pass.{PassState, pass_start, item_of, next}
+use Rattle.audit_terms.specs.Pass.{PassState, pass_start, next}
 use Rattle.audit_terms.specs.code.runs.States.{items_from}
 use Rattle.conn_scan.specs.laws.Items.{ItemsAreThePass, ItemsOfBlocksJoin}
 
@@ -82,17 +82,12 @@ items-from state low opened before (frame ∷ frames) h below marked =
     (all-weaker (λ change lt e. absurd (omega (arith, h.0, lt, e))) before below) in
     let found = taking-found frame (taken state.in_force frame) rest
     (later-lack frame.number (frame.number + 1) (in_force_after state.in_force frame) frames (omega arith) h.2) in
-    let one : item_with opened (before ++ (own ++ rest)) frame ≡ item_of state frame = λ i. record {
-      frame = frame;
-      opens = marked.0 i;
-      change = (behind ∙ found) i;
-    } in
     let later = items-from (next state frame) (frame.number + 1) opened (before ++ own) frames h.2
     (all-append (λ (change : Change). change.number < frame.number + 1) before own
     (all-weaker (λ change lt. omega (arith, h.0, lt)) before below)
     (taking-each (λ n. n < frame.number + 1) frame (taken state.in_force frame) (omega arith))) marked.1 in
-    ap (λ item. item ∷ items_with opened (before ++ (own ++ rest)) frames) one
-    ∙ ap (λ items. item_of state frame ∷ items) (rw append_assoc at later)
+    let rest = rw append_assoc at later in
+    λ i. record { frame = frame; opens = marked.0 i; change = (behind ∙ found) i } ∷ rest i
 
 pub items_are_the_pass : ItemsAreThePass
 items_are_the_pass frames opened orderly marked = items-from pass_start 0 opened [] frames orderly tt marked

@@ -1,13 +1,13 @@
 -- What the sums of a block's items need.
-use Rattle.conn_scan.proofs.Terms.{◌≡◌, ℤ, ◌-◌, ◌*◌, ◌^◌, ◌≤◌, List, [], ◌∷◌, ◌++◌, length, map, refl, ap, sym, ◌∙◌}
+use Rattle.conn_scan.proofs.Terms.{◌≡◌, ℤ, ◌-◌, ◌*◌, ◌^◌, ◌≤◌, List, [], ◌∷◌, ◌++◌, length, map, ap, sym, ◌∙◌}
 use Rattle.conn_scan.proofs.Terms.{arith, length-append, AllByRecursion, length-map, Side, Client, Server, ConnectionState}
-use Rattle.conn_scan.proofs.Terms.{Item, connection_after, connection_after_all, HasRoom, summary_of, summary-shown}
+use Rattle.conn_scan.proofs.Terms.{Item, HasRoom, summary_of, summary-shown}
 use Rattle.conn_scan.proofs.Terms.{change_of, credit_of, no_change, one_change, credit_join, AreSmall, ChangesFit}
-use Rattle.conn_scan.proofs.Terms.{Block, walked, MovesLittle, ItemsFit, connections_before, conn_sum_of, conn_none}
+use Rattle.conn_scan.proofs.Terms.{Block, walked, MovesLittle, ItemsFit, conn_sum_of, conn_none}
 use Rattle.conn_scan.proofs.Terms.{conn_one, conn_join, room-wider, IsRoomy, roomy, credit_shows}
 use Rattle.audit_terms.specs.Sides.{side_of}
 use Rattle.conn_scan.specs.declared.sums.ConnSum.{ConnSum}
-use Rattle.conn_scan.specs.code.ConnSumLaws.{all-after, conn_shows}
+use Rattle.conn_scan.specs.code.ConnSumLaws.{conn_shows}
 use Rattle.conn_scan.proofs.WalkLemmas.{length-walked}
 
 -- the credit of one side, which each item changes by little

@@ -9,7 +9,3 @@ with-requires c =
       mine = summary_room credit mine c.args.self.now (first_fit credit mine theirs fit) is_mine;
       later = summary_room _ theirs c.args.later.now (rest_fits credit mine theirs fit) is_theirs;
     }
-
-pub returns : goal.returns
-returns c =
-    let joined = c.with.ensures in λ i. record { sum = joined.sum i; high = joined.high i; low = joined.low i }

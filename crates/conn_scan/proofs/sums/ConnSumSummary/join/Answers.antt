@@ -7,11 +7,13 @@ join-requires c =
     let (state, mine, theirs, fit, is_mine, is_theirs) = c.requires.fits in
     let both = rw map-append at (side_fit Client state (mine ++ theirs) fit) in
     let first = side_summed Client mine c.args.self.now is_mine in
-    record { fits = (_, _, _, both, first, side_summed Client theirs c.args.later.now is_theirs) }
+    let later = side_summed Client theirs c.args.later.now is_theirs in
+    record { fits = (_, map (change_of Client) mine, map (change_of Client) theirs, both, first, later) }
 
 pub join-requires-2 : goal.join-requires-2
 join-requires-2 c =
     let (state, mine, theirs, fit, is_mine, is_theirs) = c.requires.fits in
     let both = rw map-append at (side_fit Server state (mine ++ theirs) fit) in
     let first = side_summed Server mine c.args.self.now is_mine in
-    record { fits = (_, _, _, both, first, side_summed Server theirs c.args.later.now is_theirs) }
+    let later = side_summed Server theirs c.args.later.now is_theirs in
+    record { fits = (_, map (change_of Server) mine, map (change_of Server) theirs, both, first, later) }
