@@ -148,15 +148,10 @@ pub fn items(
     requires changes { AreOrderly changes.now }
     ensures { IfOk result (λ list. list.items ≡ items_with opened.now changes.now frames.now) }
 {
-    let mut list = Vec::with_capacity(alloc, frames.len())?;
-    for item in (Block {
+    let block = Block {
         frames,
         opened,
         changes,
-    })
-    .items()
-    {
-        list.push(item)?;
-    }
-    Ok(list)
+    };
+    block.items().collect(alloc)
 }

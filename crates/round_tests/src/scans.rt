@@ -1,17 +1,12 @@
-//! The scan, and the items that it goes over.
+//! The items of a block.
 
 mod marks;
-mod scan_sums;
 
 use marks::marks_of_openings;
-use scan_sums::scan_by_blocks;
 use std::alloc::Global;
 use std::thread::Threads;
 use test_answers::Answer;
 
-pub fn answers(rt: &(impl Sync + Threads), alloc: Global) -> [(&'static str, Answer); 2] {
-    [
-        ("marks_of_openings", marks_of_openings(alloc)),
-        ("scan_by_blocks", scan_by_blocks(rt, alloc)),
-    ]
+pub fn answers(_rt: &(impl Sync + Threads), alloc: Global) -> [(&'static str, Answer); 1] {
+    [("marks_of_openings", marks_of_openings(alloc))]
 }

@@ -1,10 +1,11 @@
-use Rattle.conn_scan.proofs.Terms.{◌++◌, sym, ap, ◌∙◌, append_nil}
+use Rattle.conn_scan.proofs.Terms.{◌∙◌}
 use Rattle.conn_scan.proofs.WalkLemmas.{walked-items_with}
+use Rattle.std.proofs.lemmas.Iterator.{items_from_collect}
+use Rattle.std.proofs.lemmas.Iterator.Consumers.{YieldsList-from_first}
 use Rattle.conn_scan.proofs.block_items.items.Goals as goal
 
 pub returns : goal.returns
 returns c =
-    let list = c.loop-item.list.items in
-    sym (append_nil list) ∙ ap (λ l. list ++ l) (sym c.in-None.ensures.steps.0) ∙ c.loop-item.invariant
-    ∙ walked-items_with 0 0 0 c.args.opened.now c.args.changes.now c.args.frames.now c.requires.frames c.requires.opened
-    c.requires.changes
+    let given = c.requires in
+    items_from_collect c.collect.result c.collect.ensures.ran (YieldsList-from_first _ _ _
+    (c.items.ensures ∙ walked-items_with 0 0 0 _ _ _ given.frames given.opened given.changes))
