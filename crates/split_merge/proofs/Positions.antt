@@ -1,9 +1,9 @@
 -- What is noted frame by frame is where the frames stand that each stream meets.
 use Rattle.split_merge.proofs.Terms.{◌≡◌, ◌≢◌, ℕ, ◌+◌, ◌<◌, ◌≤◌, ◌==◌, if◌then◌else◌, List, [], ◌∷◌, ◌++◌, inl, inr}
-use Rattle.split_merge.proofs.Terms.{length, refl, ap, ◌∙◌, arith, All, nat_tests, append_assoc, append-nil}
+use Rattle.split_merge.proofs.Terms.{length, refl, ap, ◌∙◌, arith, All, nat_tests, append_assoc}
 use Rattle.split_merge.proofs.Terms.{length_push, Frame, promised_by, meets, frames_of, positions_of, noted, notes_from}
 use Rattle.split_merge.proofs.Terms.{noted_positions, AllByRecursion, All-from_recursion, promises, positions_from}
-use Rattle.split_merge.proofs.Terms.{frames_at}
+use Rattle.split_merge.proofs.Terms.{frames_at, ◌*◌, get_or, drop, drop_more, length-append}
 use Rattle.std.proofs.lemmas.Bool.{cases_Bool}
 use Rattle.split_merge.proofs.Visited.{slice_get-last, noted_positions-append}
 
@@ -33,6 +33,9 @@ module _ (stream : ℕ) (above : stream ≢ 0) where
       ∙ ap (λ l. noted_positions stream (noted (promised_by frame) position) ++ l)
       (noted-positions (position + 1) frames))
       ∙ noted-frame frame position (positions_from (position + 1) stream frames)
+
+noted-few : (stream position : ℕ) → length (noted stream position) ≤ 1
+noted-few stream position = grind arith
 
 -- ---- the frames at the positions
 
@@ -65,17 +68,23 @@ pub positions-within : (stream : ℕ) (frames : List Frame)
 positions-within stream frames = All-from_recursion (λ position. position < length frames) _
     (below-from (length frames) 0 stream frames (omega arith))
 
--- ---- frames joined
+-- ---- what is noted of the next frame
 
-pub notes-append : (position : ℕ) (xs ys : List Frame) →
-    notes_from position (xs ++ ys) ≡ notes_from position xs ++ notes_from (position + length xs) ys
-notes-append position [] ys = ap (λ p. notes_from p ys) (omega arith)
-notes-append position (x ∷ xs) ys =
-    let e : position + 1 + length xs ≡ position + length (x ∷ xs) = omega arith in
-    simp (notes-append (position + 1) xs ys, e, append_assoc)
+pub notes-next : (i at p : ℕ) (frames : List Frame) (frame : Frame) → i < length frames
+    → frame ≡ get_or frames i frame → at ≡ i → p ≡ promised_by frame
+    → notes_from i (drop i frames)
+    ≡ noted frame.stream at ++ (noted p at ++ notes_from (i + 1) (drop (i + 1) frames))
+notes-next i at p frames frame within is e f = rw (drop_more frames i frame within, ← is, e, f) refl
 
-pub notes-push : (position at : ℕ) (frames : List Frame) (frame : Frame) → position + length frames ≡ at →
-    notes_from position (frames ++ frame ∷ [])
-    ≡ (notes_from position frames ++ noted frame.stream at) ++ noted (promised_by frame) at
-notes-push position at frames frame e =
-    simp (notes-append position frames (frame ∷ []), e, append_assoc, append-nil)
+-- what came so far and what is left, after the next frame
+pub came-more : (came own promised left all : List (ℕ × ℕ)) → came ++ (own ++ (promised ++ left)) ≡ all
+    → ((came ++ own) ++ promised) ++ left ≡ all
+came-more came own promised left all e = simp append_assoc e
+
+pub notes-few : (position : ℕ) (frames : List Frame) → length (notes_from position frames) ≤ 2 * length frames
+notes-few position [] = omega arith
+notes-few position (frame ∷ frames) =
+    let rest = notes-few (position + 1) frames in
+    let own = noted-few frame.stream position in
+    let promised = noted-few (promised_by frame) position in
+    rw (length-append, length-append) (omega (arith, rest, own, promised))

@@ -1,128 +1,71 @@
 -- The rows of the loud streams, laid out, are the split.
-use Rattle.split_merge.proofs.Terms.{◌≡◌, ◌≢◌, ℕ, ◌<◌, Bool, true, false, List, [], length, get_or, slice_get, Some}
-use Rattle.split_merge.proofs.Terms.{option_to_list, refl, sym, ap, ◌∙◌, subst, arith, get_or-map, slice_get-get_or}
-use Rattle.split_merge.proofs.Terms.{get_or_from_slice_get, Frame, Change, shown, streams_of, frames_of, QuietStream}
-use Rattle.split_merge.proofs.Terms.{StreamRow, Visited, SplitFrames, positions_of, streams_in, row_streams, notes_from}
-use Rattle.split_merge.proofs.Terms.{noted_positions, laid_out, is_among, NotAmong, AreDistinct, IsListed, loud_of}
-use Rattle.split_merge.proofs.Terms.{opened_in, quiet_in, heard, stream_run, IsRange, IsPartOf, IsSplit, part_of}
-use Rattle.split_merge.proofs.Terms.{opening_of, AreHushed, AreCounted, IsLaid}
-use Rattle.split_merge.proofs.Visited.{length-streams_in, found_among, not_among-at, stream-at}
+use Rattle.split_merge.proofs.Terms.{◌≡◌, ◌≢◌, ℕ, ◌+◌, ◌-◌, ◌≤◌, Bool, true, List, [], ◌∷◌, length, drop}
+use Rattle.split_merge.proofs.Terms.{option_to_list, refl, sym, ap, ◌∙◌, arith}
+use Rattle.split_merge.proofs.Terms.{length-drop, drop-drop, AllByRecursion}
+use Rattle.split_merge.proofs.Terms.{All-from_recursion, Frame, Change, shown, streams_of, frames_of, QuietStream}
+use Rattle.split_merge.proofs.Terms.{StreamRow, SplitFrames, notes_from, noted_positions, NotAmong, AreDistinct}
+use Rattle.split_merge.proofs.Terms.{AreFilled, loud_of, opened_in, quiet_in, stream_run, IsRange, IsPartOf, IsSplit}
+use Rattle.split_merge.proofs.Terms.{part_of, opening_of, AreHushed, IsHushedOf, IsLaid}
 use Rattle.split_merge.proofs.Positions.{noted-positions, frames_at-positions, positions-within}
-use Rattle.split_merge.proofs.LaidOut.{laid-streams, length-row_streams, room-laid, filled-streams}
-use Rattle.split_merge.proofs.LoudStreams.{loud-streams, loud-not_among, loud-each, loud-filter, opened-filter}
-use Rattle.split_merge.proofs.LoudStreams.{quiet_in-at, heard-positions}
+use Rattle.split_merge.proofs.LaidOut.{filled-streams}
+use Rattle.split_merge.proofs.LoudStreams.{loud-not_among, loud-filter, opened-filter, each-quiet}
+use Rattle.split_merge.proofs.Ahead.{zip-apart}
+use Rattle.std.proofs.lemmas.Slice.Zip.{AllZip-long}
+use Rattle.stream_credit.specs.code.QuietStream.{opened_of}
 
-among-at : (rows : List Visited) (k : ℕ) → k < length rows
-    → is_among (get_or (streams_in rows) k 0) (streams_in rows) ≡ true
-among-at rows k l =
-    let n = length-streams_in rows in
-    found_among (get_or (streams_in rows) k 0) (streams_in rows) k
-    (slice_get-get_or (streams_in rows) k 0 (omega (arith, l, n)))
+-- each range lies in the list, and has the positions of its stream
+split-rows : (split : SplitFrames) (frames : List Frame) (from : ℕ) (streams : List ℕ) (rows : List StreamRow)
+    → NotAmong 0 streams → from ≤ length split.positions.items
+    → AreFilled from streams (notes_from 0 frames) (notes_from 0 frames) rows (drop from split.positions.items)
+    → AllByRecursion (IsRange split) rows
+    × AllByRecursion (λ (row : StreamRow). IsPartOf frames row.stream (part_of split row)) rows
+split-rows split frames from [] rows above within h = rw h (tt, tt)
+split-rows split frames from (stream ∷ streams) [] rows within h = absurd h
+split-rows split frames from (stream ∷ streams) (row ∷ rows) above within h =
+    let many = length (noted_positions stream (notes_from 0 frames)) in
+    let long = length-drop from split.positions.items in
+    let apart : stream ≢ 0 = λ e. above.0 (sym e) in
+    let (ranges, parts) = split-rows split frames (from + many) streams rows above.1
+    (omega (arith, within, h.0.room, long)) (rw (drop-drop many from split.positions.items) at h.1) in
+    let same : from + many - from ≡ many = omega arith in
+    let part = h.0.front ∙ noted-positions stream apart 0 frames in
+    rw h.0.is (
+      (record { rising = omega arith; within = omega (arith, within, h.0.room, long) }, ranges),
+      (
+        rw (same, part) record {
+          not_connection = omega arith;
+          positions = refl;
+          frames = frames_at-positions stream frames;
+          within = positions-within stream frames;
+        },
+        parts,
+      ),
+    )
 
--- the loud rows count their own visits
-pub loud-counted : (frames : List Frame) (rows : List Visited) (quiets : List QuietStream)
-    → IsListed (notes_from 0 frames) rows
-    → AreCounted (loud_of rows quiets) (heard (streams_in (loud_of rows quiets)) (notes_from 0 frames))
-loud-counted frames rows quiets listed = record {
-  counts = λ r d l.
-      let loud = loud_of rows quiets in
-      rw (
-        heard-positions (streams_in loud) (get_or (streams_in loud) r 0) (notes_from 0 frames) (among-at loud r l),
-        stream-at loud r d l,
-      )
-      (loud-each (λ row. row.count ≡ length (noted_positions row.stream (notes_from 0 frames))) rows quiets
-      (λ k e m. rw (← stream-at rows k e m) (listed.counts k e m)) r d l);
-}
-
-module _ (credits_shown : Bool) (changes : List Change) (frames : List Frame) (rows : List Visited)
-    (quiets : List QuietStream) (split : SplitFrames)
-    (streams : streams_in rows ≡ streams_of frames) (listed : IsListed (notes_from 0 frames) rows)
-    (distinct : AreDistinct (streams_in rows)) (above : NotAmong 0 (streams_in rows))
-    (hushed : AreHushed credits_shown changes frames (streams_in rows) quiets)
-    (laid : IsLaid (loud_of rows quiets) (opened_in quiets)
-    (heard (streams_in (loud_of rows quiets)) (notes_from 0 frames)) split) where
-  abbrev loud : List Visited
-  loud = loud_of rows quiets
-
-  abbrev notes : List (ℕ × ℕ)
-  notes = heard (streams_in (loud_of rows quiets)) (notes_from 0 frames)
-
-  same-streams : row_streams split.rows.items ≡ streams_in (loud_of rows quiets)
-  same-streams = filled-streams (laid_out 0 loud) split.rows.items notes split.positions.items laid.filled
-      ∙ laid-streams 0 loud
-
-  module _ (k : ℕ) (d : StreamRow) (l : k < length split.rows.items) where
-    abbrev row : StreamRow
-    row = get_or split.rows.items k d
-
-    within : k < length (laid_out 0 (loud_of rows quiets))
-    within = omega (arith, l, laid.filled.long)
-
-    within-loud : k < length (loud_of rows quiets)
-    within-loud =
-        let n = ap length same-streams in
-        let m = length-row_streams split.rows.items in
-        let p = length-streams_in loud in
-        omega (arith, l, n, m, p)
-
-    range-at : IsRange split row
-    range-at =
-        let room = (room-laid loud notes (loud-counted frames rows quiets listed).counts).within k d within in
-        rw (laid.filled.ranges k d within) record {
-          rising = omega arith;
-          within = omega (arith, room, laid.long);
-        }
-
-    row-stream : row.stream ≡ get_or (streams_in loud) k 0
-    row-stream = sym (get_or-map (λ (row : StreamRow). row.stream) split.rows.items k d 0 l)
-        ∙ ap (λ s. get_or s k 0) same-streams
-
-    stream-above : row.stream ≢ 0
-    stream-above =
-        let p = length-streams_in loud in
-        rw row-stream (not_among-at 0 (streams_in loud) k
-        (rw (loud-streams rows quiets) (loud-not_among 0 (streams_in rows) quiets above))
-        (omega (arith, within-loud, p)))
-
-    part-is : part_of split row ≡ positions_of row.stream frames
-    part-is =
-        ap (part_of split) (laid.filled.ranges k d within) ∙ laid.filled.filled k d within
-        ∙ ap (λ s. noted_positions (get_or s k 0) notes) (laid-streams 0 loud)
-        ∙ heard-positions (streams_in loud) (get_or (streams_in loud) k 0) (notes_from 0 frames)
-        (among-at loud k within-loud)
-        ∙ rw (← row-stream) (noted-positions row.stream stream-above 0 frames)
-
-    part-at : IsPartOf frames row.stream (part_of split row)
-    part-at = rw part-is record {
-      not_connection = let apart = stream-above in omega arith;
-      positions = refl;
-      frames = frames_at-positions row.stream frames;
-      within = positions-within row.stream frames;
-    }
-
-  nothing-shown : (k d : ℕ) → k < length (streams_of frames) →
-      quiet_in (get_or (streams_of frames) k d) (streams_in rows) quiets ≡ true →
-      shown credits_shown (stream_run (get_or (streams_of frames) k d)
-      (frames_of (get_or (streams_of frames) k d) frames) changes) ≡ []
-  nothing-shown k d l e =
-      let stream = get_or (streams_of frames) k d in
-      let none : QuietStream = record { opened = 0; client = 0; server = 0; met = 0; is_quiet = false } in
-      let at : slice_get (streams_in rows) k ≡ Some (get_or (streams_of frames) k d) =
-      rw streams (slice_get-get_or (streams_of frames) k d l) in
-      let is = quiet_in-at (streams_in rows) quiets k none distinct (omega (arith, l, ap length streams)) hushed.long in
-      let same = get_or_from_slice_get (streams_in rows) k stream 0 at in
-      let silent = hushed.hushed k stream none at (sym is ∙ rw same e) in
-      subst (λ b. shown b (stream_run stream (frames_of stream frames) changes) ≡ []) (sym silent.hidden)
-      silent.shows.shown
-
+module _ (credits_shown : Bool) (changes : List Change) (frames : List Frame) (streams : List ℕ)
+    (quiets : List QuietStream) (split : SplitFrames) (all : streams ≡ streams_of frames)
+    (distinct : AreDistinct streams) (above : NotAmong 0 streams)
+    (hushed : AreHushed credits_shown changes frames streams quiets)
+    (laid : IsLaid (loud_of streams quiets) (opened_in quiets) (notes_from 0 frames) split) where
   pub split-is : IsSplit credits_shown changes frames split
-  split-is = record {
-    is_quiet = λ s. quiet_in s (streams_in rows) quiets;
-    streams = rw (same-streams, loud-streams, ← streams) (loud-filter (streams_in rows) quiets distinct hushed.long);
-    ranges = range-at;
-    parts = part-at;
-    quiet = nothing-shown;
-    opened = rw (laid.opened, ← streams)
-        (opened-filter (opening_of frames changes) (streams_in rows) quiets distinct hushed.long
-        (λ r s d at q. ap option_to_list (hushed.hushed r s d at q).shows.end));
-  }
+  split-is =
+      let named = filled-streams 0 (loud_of streams quiets) _ _ split.rows.items _ laid.filled in
+      let rows = split-rows split frames 0 (loud_of streams quiets) split.rows.items
+      (loud-not_among 0 streams quiets above) (omega arith) laid.filled in
+      let nothing : ℕ → Type 0 = λ s. shown credits_shown (stream_run s (frames_of s frames) changes) ≡ [] in
+      let silent = zip-apart (IsHushedOf credits_shown changes frames) (λ s quiet. quiet.is_quiet ≡ true → nothing s) 0
+      streams quiets above
+      (λ s quiet n hush e. rw (hush e).hidden (hush e).shows.shown) hushed in
+      let told = zip-apart (IsHushedOf credits_shown changes frames)
+      (λ s quiet. quiet.is_quiet ≡ true → opening_of frames changes s ≡ option_to_list (opened_of quiet.opened)) 0
+      streams quiets above (λ s quiet n hush e. ap option_to_list (hush e).shows.end) hushed in
+      record {
+        is_quiet = λ s. quiet_in s streams quiets;
+        streams = named ∙ rw (← all) (loud-filter streams quiets distinct
+            (AllZip-long (IsHushedOf credits_shown changes frames) streams quiets hushed));
+        ranges = All-from_recursion (IsRange split) _ rows.0;
+        parts = All-from_recursion (λ (row : StreamRow). IsPartOf frames row.stream (part_of split row)) _ rows.1;
+        quiet = rw (← all) (All-from_recursion (λ s. quiet_in s streams quiets ≡ true → nothing s) streams
+            (each-quiet nothing streams quiets distinct silent));
+        opened = rw (laid.opened, ← all) (opened-filter (opening_of frames changes) streams quiets distinct told);
+      }
