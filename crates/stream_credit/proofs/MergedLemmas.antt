@@ -13,28 +13,24 @@ use Rattle.std.proofs.lemmas.List.Elements.{All-weaker}
 -- ---- the walk is the definition's list
 
 with_change-merged : (frames : List Frame) (change : Change) (changes : List Change)
-    → AreFrom (change.number + 1) changes
+    → AreOrderlyFrom (change.number + 1) changes
     → with_change (merged frames changes) change ≡ merged frames (change ∷ changes)
 with_change-merged [] change [] h = refl
-with_change-merged [] change (next ∷ changes) h = grind (arith, nat_tests)
+with_change-merged [] change (next ∷ changes) h = let above = h.0 in grind (arith, nat_tests)
 with_change-merged (frame ∷ frames) change [] h = grind (arith, nat_tests, with_change-merged frames change [] h)
 with_change-merged (frame ∷ frames) change (next ∷ changes) h =
-    grind (arith, nat_tests, with_change-merged frames change (next ∷ changes) h)
+    let above = h.0 in grind (arith, nat_tests, with_change-merged frames change (next ∷ changes) h)
 
 merged-no_changes : (frames : List Frame) → merged frames [] ≡ map frame_step frames
 merged-no_changes [] = refl
 merged-no_changes (frame ∷ frames) = ap (λ steps. frame_step frame ∷ steps) (merged-no_changes frames)
-
-orderly-first : (low : ℕ) (changes : List Change) → AreOrderlyFrom low changes → AreFrom low changes
-orderly-first low [] h = tt
-orderly-first low (change ∷ changes) h = h.0
 
 pub steps_of-merged : (low : ℕ) (frames : List Frame) (changes : List Change) → AreOrderlyFrom low changes
     → steps_of frames changes ≡ merged frames changes
 steps_of-merged low frames [] h = sym (merged-no_changes frames)
 steps_of-merged low frames (change ∷ changes) h =
     ap (λ steps. with_change steps change) (steps_of-merged (change.number + 1) frames changes h.2)
-    ∙ with_change-merged frames change changes (orderly-first (change.number + 1) changes h.2)
+    ∙ with_change-merged frames change changes h.2
 
 -- ---- the steps come in order
 

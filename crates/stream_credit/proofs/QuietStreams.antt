@@ -183,11 +183,7 @@ next-moved {stream} {frame} {old} {new} {one} d before credit e m r live left wa
 
 unshown-of : (found : List Finding) → shown false found ≡ [] → AreUnshown found
 unshown-of [] e = tt
-unshown-of (x ∷ xs) e =
-    elim (cases_Bool (is_shown false x)) [
-      | inl is ↦ let some = rw is at e in cc
-      | inr is ↦ (is, unshown-of xs (rw is at e))
-    ]
+unshown-of (x ∷ xs) e = grind (arith, unshown-of xs)
 
 pub none-in_order : (found : List Finding) → shown false found ≡ [] → shown false (in_order found) ≡ []
 none-in_order found e = none-shown (in_order found) (each-in_order IsUnshown found (unshown-of found e))

@@ -25,9 +25,6 @@ pub room-next : (number : ℕ) (entry : Stream) → WindowHasRoom (number * 2 ^ 
 room-next number entry client server Client x e = omega (arith, ints, client x e)
 room-next number entry client server Server x e = omega (arith, ints, server x e)
 
-room-later : (low number : ℕ) (entry : Stream) → low ≤ number → HasRoomAt low entry → HasRoomAt number entry
-room-later low number entry order room d x e = omega (arith, ints, order, room d x e)
-
 -- ---- steps in order
 
 pub order-all : (P : ℕ → Type 0) (low : ℕ) (steps : List Step) → ((n : ℕ) → low ≤ n → n ≤ 2 ^ 28 - 2 → P n)
@@ -159,7 +156,7 @@ upto-numbered P (Some place) xs h = each-filter (HasNumber P) _ xs h
 module _ {L : Type 0} {answers : L → List Finding → Option ℕ → L → Type 0} {run : WholeRun L} {before : L}
     {old : Walk} {low : ℕ} {step : Step} {rest : List Step} (h : IsAt answers run before old low (step ∷ rest)) where
   pub step-room : HasRoomAt step.number old.entry
-  step-room = room-later low step.number old.entry h.order.0 h.room
+  step-room d x e = omega (arith, ints, h.order.0, h.room d x e)
 
   pub step-due : (met : ℕ) × (met ≤ step.number) × (met + old.watch.left ≡ steps_between * old.watch.looks)
   step-due = (length h.met, omega (arith, h.count, h.order.0), h.watches.due)
