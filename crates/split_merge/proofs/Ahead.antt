@@ -80,10 +80,9 @@ zip-set R S (z ∷ xs) (y ∷ ys) (suc row) x new distinct at here others h =
 
 -- ---- streams and what they have still to meet
 
-module _ (changes : List Change) (all : List Frame) where
-  pub ahead-alike : (f g : ℕ → List Frame) (streams : List ℕ) (quiets : List QuietStream)
-      → ((s : ℕ) → s ≢ 0 → f s ≡ g s) → AreAhead changes all f streams quiets → AreAhead changes all g streams quiets
-  ahead-alike f g streams quiets same h = record {
+module _ {changes : List Change} {all : List Frame} where
+  pub ahead-alike : (f g : ℕ → List Frame) {streams : List ℕ} {quiets : List QuietStream} → ((s : ℕ) → s ≢ 0 → f s ≡ g s) → AreAhead changes all f streams quiets → AreAhead changes all g streams quiets
+  ahead-alike f g {streams} {quiets} same h = record {
     orderly = h.orderly;
     rise = h.rise;
     acknowledged = h.acknowledged;
@@ -94,11 +93,11 @@ module _ (changes : List Change) (all : List Frame) where
   }
 
   -- stream 0 meets no frame
-  pub ahead-zero : (frame : Frame) (rest : ℕ → List Frame) (stream : ℕ) (streams : List ℕ) (quiets : List QuietStream)
+  pub ahead-zero : (frame : Frame) (rest : ℕ → List Frame) (stream : ℕ) {streams : List ℕ} {quiets : List QuietStream}
       → stream ≡ 0 → AreAhead changes all (with_next stream frame rest) streams quiets
       → AreAhead changes all rest streams quiets
-  ahead-zero frame rest stream streams quiets z h =
-      ahead-alike (with_next stream frame rest) rest streams quiets (λ s n. grind (arith, nat_tests)) h
+  ahead-zero frame rest stream z h =
+      ahead-alike (with_next stream frame rest) rest (λ s n. grind (arith, nat_tests)) h
 
   -- no stream has met a frame
   pub ahead-none : IsOrderly all → AreOrderly changes → AreAcknowledged all changes
@@ -113,15 +112,14 @@ module _ (changes : List Change) (all : List Frame) where
   }
 
   -- the streams of a frame meet it next
-  pub ahead-frame : (i : ℕ) (frame : Frame) (streams : List ℕ) (quiets : List QuietStream) → i < length all
-      → frame ≡ get_or all i frame → AreAhead changes all (λ s. frames_of s (drop i all)) streams quiets
+  pub ahead-frame : (i : ℕ) (frame : Frame) {streams : List ℕ} {quiets : List QuietStream} → i < length all → frame ≡ get_or all i frame → AreAhead changes all (λ s. frames_of s (drop i all)) streams quiets
       → AreAhead changes all (with_next frame.stream frame
       (with_next (promised_by frame) frame (λ s. frames_of s (drop (i + 1) all)))) streams quiets
-  ahead-frame i frame streams quiets l is h =
-      ahead-alike (λ s. frames_of s (drop i all)) _ streams quiets
+  ahead-frame i frame l is h =
+      ahead-alike (λ s. frames_of s (drop i all)) _
       (λ s n. rw (drop_more all i frame l, ← is) (next-frame frame (drop (i + 1) all) s n)) h
 
-  module _ (rest : ℕ → List Frame) (streams : List ℕ) (quiets : List QuietStream) (stream : ℕ) where
+  module _ (rest : ℕ → List Frame) {streams : List ℕ} {quiets : List QuietStream} (stream : ℕ) where
     -- one more stream, which no frame has met
     pub ahead-new : AreAhead changes all rest streams quiets → stream ≢ 0 → stream < 2 ^ 31 → NotAmong stream streams
         → (quiet : QuietStream)

@@ -1,31 +1,26 @@
 use Rattle.split_merge.proofs.Terms.{refl, ◌∙◌, ◌≡◌, length, ap, arith, streams_in, total_of, laid_out}
 use Rattle.split_merge.proofs.Terms.{places_from, with_items_is}
-use Rattle.split_merge.proofs.Positions.{notes-few}
+use Rattle.split_merge.proofs.Positions.{notes-fit}
 use Rattle.split_merge.proofs.LaidOut.{can-place}
 use Rattle.split_merge.proofs.LoudStreams.{loud-total}
 use Rattle.split_merge.proofs.splits.laid.Goals as goal
 
 pub places_of-requires : goal.places_of-requires
 places_of-requires c =
-    rw c.as_slice.ensures.value (omega (
-      arith,
-      c.requires.long,
-      c.requires.table.few,
-      notes-few 0 c.args.frames.now,
-      c.requires.length,
-    ))
+    let few = notes-fit c.args.frames.now c.requires.length in
+    rw c.as_slice.ensures.value (omega (arith, c.requires.long, c.requires.table.few, few))
 
 pub lay_out-requires : goal.lay_out-requires
 lay_out-requires c =
     let table = c.args.table.now in
     let total = loud-total table.rows.items table.quiets.items in
     let is = ap total_of (c.as_slice-2.ensures.value ∙ c.requires.rows) in
-    omega (arith, is, total, c.requires.table.visits, notes-few 0 c.args.frames.now, c.requires.length)
+    omega (arith, is, total, c.requires.table.visits, notes-fit c.args.frames.now c.requires.length)
 
 pub place-requires-clause-room : goal.place-requires-clause-room
 place-requires-clause-room c = (
   streams_in c.args.loud.rows.items,
-  can-place c.requires.table (omega (arith, notes-few 0 c.args.frames.now, c.requires.length)) c.requires.long
+  can-place c.requires.table (notes-fit c.args.frames.now c.requires.length) c.requires.long
       c.requires.rows
       (c.as_slice-3.ensures.value ∙ c.in_ok-places.ensures ∙ ap (places_from 0) c.as_slice.ensures.value)
       (c.deref_mut.ensures.value ∙ c.in_ok-rows.ensures.rows ∙ ap (laid_out 0) c.as_slice-2.ensures.value)
@@ -36,7 +31,7 @@ pub returns : goal.returns
 returns c =
     let rows = c.in_ok-rows.rows in
     let filled = c.in_ok-positions.ensures (streams_in c.args.loud.rows.items)
-    (can-place c.requires.table (omega (arith, notes-few 0 c.args.frames.now, c.requires.length)) c.requires.long
+    (can-place c.requires.table (notes-fit c.args.frames.now c.requires.length) c.requires.long
     c.requires.rows
     (c.as_slice-3.ensures.value ∙ c.in_ok-places.ensures ∙ ap (places_from 0) c.as_slice.ensures.value)
     (c.deref_mut.ensures.value ∙ c.in_ok-rows.ensures.rows ∙ ap (laid_out 0) c.as_slice-2.ensures.value)

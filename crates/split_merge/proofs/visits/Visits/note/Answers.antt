@@ -39,15 +39,13 @@ meet-requires c =
       frames_of c.args.stream next.all,
       next.rest c.args.stream,
       rw c.index_mut-2.ensures.value
-          (ahead-next c.args.changes.now next.all next.rest (streams_in c.row_of.new.self.rows.items)
-          c.row_of.new.self.quiets.items c.args.stream c.args.frame.now c.in_ok-row.row h
-          c.in_ok-row.ensures.index.distinct c.in_ok-row.ensures.row c.index_mut-2.result.now),
+          (ahead-next next.rest c.args.stream c.args.frame.now c.in_ok-row.row h c.in_ok-row.ensures.index.distinct
+          c.in_ok-row.ensures.row c.index_mut-2.result.now),
     )
 
 pub returns-then-stream-eq0-clause-ahead : goal.returns-then-stream-eq0-clause-ahead
 returns-then-stream-eq0-clause-ahead c = λ all rest h.
-    ahead-zero c.args.changes.now all c.args.frame.now rest c.args.stream (streams_in c.args.self.now.rows.items)
-    c.args.self.now.quiets.items c.if-stream-eq0.true h
+    ahead-zero c.args.frame.now rest c.args.stream c.if-stream-eq0.true h
 
 pub returns : goal.returns
 returns c =
@@ -63,10 +61,8 @@ returns c =
           found.rows found.row found.index (ap (λ one. set rows row one) is);
       ahead = λ all rest h.
           let ahead = found.ahead c.args.changes.now all (with_next stream c.args.frame.now rest) h in
-          let next = ahead-next c.args.changes.now all rest (streams_in rows) c.row_of.new.self.quiets.items stream
-          c.args.frame.now row ahead found.index.distinct found.row c.index_mut-2.result.now in
-          rw (is, streams-counted) (ahead-met c.args.changes.now all rest (streams_in rows)
-          c.row_of.new.self.quiets.items stream c.args.frame.now row ahead found.index.distinct found.row
-          c.meet.new.self (c.in_ok-meet.ensures (frames_of stream all) (rest stream)
-          (rw c.index_mut-2.ensures.value next)));
+          let next = ahead-next rest stream c.args.frame.now row ahead found.index.distinct found.row
+          c.index_mut-2.result.now in
+          rw (is, streams-counted) (ahead-met rest stream c.args.frame.now row ahead found.index.distinct found.row
+          c.meet.new.self (c.in_ok-meet.ensures _ _ (rw c.index_mut-2.ensures.value next)));
     }

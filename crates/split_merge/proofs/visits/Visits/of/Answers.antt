@@ -1,8 +1,8 @@
-use Rattle.split_merge.proofs.Terms.{◌+◌, ◌++◌, [], drop, refl, sym, ap, length, ◌∙◌, arith, drop_more, append-nil}
+use Rattle.split_merge.proofs.Terms.{append_assoc, ◌+◌, ◌++◌, [], drop, refl, sym, ap, length, ◌∙◌, arith, drop_more, append-nil}
 use Rattle.split_merge.proofs.Terms.{promised_by, first_of, streams_of, IsInRange, frames_of, streams_in, with_stream}
 use Rattle.split_merge.proofs.Terms.{with_next, at_drop_all, length-append, noted, notes_from}
 use Rattle.split_merge.proofs.Visited.{named-more, named-first}
-use Rattle.split_merge.proofs.Positions.{came-more, notes-few, notes-next}
+use Rattle.split_merge.proofs.Positions.{came-fits, came-more, notes-next}
 use Rattle.split_merge.proofs.Ahead.{ahead-none, ahead-frame, ahead-alike, promised-small, in_range_at}
 use Rattle.split_merge.proofs.visits.Visits.of.Goals as goal
 
@@ -20,18 +20,14 @@ loop-frame-init c =
         visits = rw none (omega arith);
       };
       named = rw none (named-first (streams_of c.args.frames.now));
-      ahead = rw (none, c.new-quiets.ensures.items) (ahead-none c.args.changes.now c.args.frames.now
-          c.requires.frames c.requires.changes c.requires.acknowledged);
+      ahead = rw (none, c.new-quiets.ensures.items) (ahead-none c.requires.frames c.requires.changes
+          c.requires.acknowledged);
     }
 
 pub note-requires-clause-table : goal.note-requires-clause-table
 note-requires-clause-table c =
     let was = c.loop-frame.invariant in
-    let long = ap length was.noted in
-    let few = notes-few 0 c.args.frames.now in
-    let parts = length-append was.came (notes_from c.loop-frame.frame-index
-    (drop c.loop-frame.frame-index c.args.frames.now)) in
-    (was.came, was.table, omega (arith, long, few, parts, c.requires.length))
+    (was.came, was.table, came-fits c.args.frames.now was.came _ was.noted c.requires.length)
 
 pub note-requires-clause-streamed : goal.note-requires-clause-streamed
 note-requires-clause-streamed c =
@@ -44,8 +40,7 @@ note-requires-clause-next c = record {
   all = c.args.frames.now;
   rest = with_next (promised_by c.frame-item.result) c.frame-item.result
       (λ s. frames_of s (drop (c.loop-frame.frame-index + 1) c.args.frames.now));
-  ahead = ahead-frame c.args.changes.now c.args.frames.now c.loop-frame.frame-index c.frame-item.result
-      (streams_in c.loop-frame.table.rows.items) c.loop-frame.table.quiets.items c.loop-frame-test.true c.frame-item.is
+  ahead = ahead-frame c.loop-frame.frame-index c.frame-item.result c.loop-frame-test.true c.frame-item.is
       c.loop-frame.invariant.ahead;
 }
 
@@ -54,12 +49,9 @@ note-requires-in-loop-frame-clause-table c =
     let was = c.loop-frame.invariant in
     let i = c.loop-frame.frame-index in
     let next = notes-next i i _ c.args.frames.now c.frame-item.result c.loop-frame-test.true c.frame-item.is refl refl in
-    let long = ap length (rw next at was.noted) in
-    let few = notes-few 0 c.args.frames.now in
     let own = noted c.frame-item.result.stream i in
-    let parts = rw (length-append, length-append) at long in
-    let first = length-append was.came own in
-    (was.came ++ own, c.in_ok-note.ensures.table was.came i was.table, omega (arith, few, parts, first, c.requires.length))
+    let once = append_assoc was.came own _ ∙ (rw next at was.noted) in
+    (_, c.in_ok-note.ensures.table was.came i was.table, came-fits c.args.frames.now _ _ once c.requires.length)
 
 pub note-requires-in-loop-frame-clause-streamed : goal.note-requires-in-loop-frame-clause-streamed
 note-requires-in-loop-frame-clause-streamed c =
@@ -71,8 +63,7 @@ note-requires-in-loop-frame-clause-next c = record {
   all = c.args.frames.now;
   rest = λ s. frames_of s (drop (c.loop-frame.frame-index + 1) c.args.frames.now);
   ahead = rw c.promised_by.ensures (c.in_ok-note.ensures.ahead c.args.frames.now _
-      (ahead-frame c.args.changes.now c.args.frames.now c.loop-frame.frame-index c.frame-item.result
-      (streams_in c.loop-frame.table.rows.items) c.loop-frame.table.quiets.items c.loop-frame-test.true c.frame-item.is
+      (ahead-frame c.loop-frame.frame-index c.frame-item.result c.loop-frame-test.true c.frame-item.is
       c.loop-frame.invariant.ahead));
 }
 
@@ -97,8 +88,7 @@ loop-frame-preserved c =
           ∙ named-more frame.stream seen (first_of (promised_by frame) rest)
           ∙ (rw (drop_more frames i frame within, ← c.frame-item.is) at was.named));
       ahead = second.ahead frames (λ s. frames_of s (drop (i + 1) frames)) (rw c.promised_by.ensures
-          (first.ahead frames _ (ahead-frame c.args.changes.now frames i frame seen c.loop-frame.table.quiets.items
-          within c.frame-item.is was.ahead)));
+          (first.ahead frames _ (ahead-frame i frame within c.frame-item.is was.ahead)));
     }
 
 pub returns-clause-table : goal.returns-clause-table
@@ -111,7 +101,5 @@ returns-clause-table c =
 
 pub returns-clause-ahead : goal.returns-clause-ahead
 returns-clause-ahead c =
-    ahead-alike c.args.changes.now c.args.frames.now _ (λ s. []) (streams_in c.loop-frame.table.rows.items)
-    c.loop-frame.table.quiets.items
-    (λ s n. at_drop_all (λ l. frames_of s l) c.args.frames.now c.loop-frame.frame-index c.loop-frame-test.false)
+    ahead-alike _ (λ s. []) (λ s n. at_drop_all (λ l. frames_of s l) c.args.frames.now c.loop-frame.frame-index c.loop-frame-test.false)
     c.loop-frame.invariant.ahead

@@ -20,6 +20,5 @@ returns c =
       rows = rw named (with_row-new c.args.stream rows new.1);
       ahead = λ changes all rest h.
           rw (named, streams_in-push, c.in_ok-push-2.ensures.items)
-          (ahead-new changes all rest (streams_in rows) c.args.self.now.quiets.items c.args.stream h c.requires.above
-          c.requires.streamed new.1 c.unmet.result c.unmet.ensures);
+          (ahead-new rest c.args.stream h c.requires.above c.requires.streamed new.1 c.unmet.result c.unmet.ensures);
     }
