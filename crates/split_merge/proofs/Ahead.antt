@@ -3,8 +3,8 @@ use Rattle.split_merge.proofs.Terms.{◌≡◌, ◌≢◌, ℕ, zero, suc, ◌+�
 use Rattle.split_merge.proofs.Terms.{get_or, slice_get, set, take, drop, filter, Some, refl, sym, ◌∙◌, arith, All}
 use Rattle.split_merge.proofs.Terms.{take_more, drop_more, take_more_set, drop-set-lt, length-set, AllZip}
 use Rattle.split_merge.proofs.Terms.{get_or_from_slice_get, slice_get_within, nat_tests, Frame, Change, promised_by}
-use Rattle.split_merge.proofs.Terms.{meets, IsInRange, frames_of, QuietStream, NotAmong, AreDistinct, with_next, AreAhead}
-use Rattle.split_merge.proofs.Terms.{IsAheadOf, IsHushedOf, ◌^◌, All-filter, is_ack, IsOrderly, IsOrderlyFrom}
+use Rattle.split_merge.proofs.Terms.{meets, IsInRange, frames_of, QuietStream, NotAmong, AreDistinct, with_next}
+use Rattle.split_merge.proofs.Terms.{AreAhead, IsAheadOf, IsHushedOf, ◌^◌, All-filter, is_ack, IsOrderly, IsOrderlyFrom}
 use Rattle.settings_pair.specs.code.Changes.{AreOrderly, AreAcknowledged}
 use Rattle.std.proofs.lemmas.Slice.Zip.{all_zipped_more}
 use Rattle.stream_credit.specs.code.QuietStream.{IsAheadIfQuiet}

@@ -1,16 +1,24 @@
--- The ranges of rows, one after the other, and what they hold as the positions of frames come in.
-use Rattle.split_merge.proofs.Terms.{◌≡◌, ◌≢◌, ℕ, zero, suc, ◌+◌, ◌-◌, ◌<◌, ◌≤◌, ◌^◌, List, [], ◌∷◌, ◌++◌, length, get_or}
-use Rattle.split_merge.proofs.Terms.{slice_get, set, drop, map, Option, Some, refl, sym, ap, ◌∙◌}
-use Rattle.split_merge.proofs.Terms.{arith, append_assoc, length-append, length-set, length-drop, length_push}
-use Rattle.split_merge.proofs.Terms.{drop-set-lt, drop-set-add, take-set-le, take_more_set, StreamRow, Visited}
-use Rattle.split_merge.proofs.Terms.{streams_in, noted, noted_positions, rows_of, total_of, laid_out, longer, NotAmong}
-use Rattle.split_merge.proofs.Terms.{AreDistinct, IsFilled, AreFilled, IsTableOf, IsPlacing, CanPlace, loud_of}
-use Rattle.split_merge.proofs.Terms.{places_from, IsKept}
+-- The ranges of rows, one after the other, what they hold as the positions of frames come in, and that they are the
+-- split.
+use Rattle.split_merge.proofs.Terms.{◌≡◌, ◌≢◌, ℕ, zero, suc, ◌+◌, ◌-◌, ◌<◌, ◌≤◌, ◌^◌, List, [], ◌∷◌, ◌++◌, length}
+use Rattle.split_merge.proofs.Terms.{get_or, slice_get, set, drop, map, Option, Some, refl, sym, ap, ◌∙◌, arith}
+use Rattle.split_merge.proofs.Terms.{append_assoc, length-append, length-set, length-drop, length_push, drop-set-lt}
+use Rattle.split_merge.proofs.Terms.{drop-set-add, take-set-le, take_more_set, StreamRow, Visited, streams_in, noted}
+use Rattle.split_merge.proofs.Terms.{noted_positions, rows_of, total_of, laid_out, longer, NotAmong, AreDistinct}
+use Rattle.split_merge.proofs.Terms.{IsFilled, AreFilled, IsTableOf, IsPlacing, CanPlace, loud_of, places_from, IsKept}
+use Rattle.split_merge.proofs.Terms.{Bool, true, option_to_list, drop-drop, AllByRecursion, All-from_recursion, Frame}
+use Rattle.split_merge.proofs.Terms.{Change, shown, streams_of, frames_of, QuietStream, SplitFrames, notes_from}
+use Rattle.split_merge.proofs.Terms.{opened_in, quiet_in, stream_run, IsRange, IsPartOf, IsSplit, part_of, opening_of}
+use Rattle.split_merge.proofs.Terms.{AreHushed, IsHushedOf, IsLaid}
 use Rattle.split_merge.specs.declared.visits.Visits.{Visits}
 use Rattle.split_merge.proofs.Visited.{among-apart, length-streams_in, positions-own, positions-other}
 use Rattle.split_merge.proofs.Visited.{noted_positions-append}
 use Rattle.split_merge.proofs.LoudStreams.{loud-map, loud-streams, loud-distinct, loud-total, are-places}
-
+use Rattle.split_merge.proofs.LoudStreams.{loud-not_among, loud-filter, opened-filter, each-quiet}
+use Rattle.split_merge.proofs.Positions.{noted-positions, frames_at-positions, positions-within}
+use Rattle.split_merge.proofs.Ahead.{zip-apart}
+use Rattle.std.proofs.lemmas.Slice.Zip.{AllZip-long}
+use Rattle.stream_credit.specs.code.QuietStream.{opened_of}
 -- ---- the ranges, before any position comes in
 
 laid-filled : (from : ℕ) (streams : List ℕ) (all : List (ℕ × ℕ)) (positions : List ℕ)
@@ -186,3 +194,62 @@ filled-streams from [] came all rows positions h = rw h refl
 filled-streams from (q ∷ streams) came all [] positions h = absurd h
 filled-streams from (q ∷ streams) came all (row ∷ rows) positions h =
     rw (h.0.is, filled-streams (from + length (noted_positions q all)) streams came all rows _ h.1) refl
+
+-- ---- the split
+
+-- each range lies in the list, and has the positions of its stream
+split-rows : (split : SplitFrames) (frames : List Frame) (from : ℕ) (streams : List ℕ) (rows : List StreamRow)
+    → NotAmong 0 streams → from ≤ length split.positions.items
+    → AreFilled from streams (notes_from 0 frames) (notes_from 0 frames) rows (drop from split.positions.items)
+    → AllByRecursion (IsRange split) rows
+    × AllByRecursion (λ (row : StreamRow). IsPartOf frames row.stream (part_of split row)) rows
+split-rows split frames from [] rows above within h = rw h (tt, tt)
+split-rows split frames from (stream ∷ streams) [] rows within h = absurd h
+split-rows split frames from (stream ∷ streams) (row ∷ rows) above within h =
+    let many = length (noted_positions stream (notes_from 0 frames)) in
+    let long = length-drop from split.positions.items in
+    let apart : stream ≢ 0 = λ e. above.0 (sym e) in
+    let (ranges, parts) = split-rows split frames (from + many) streams rows above.1
+    (omega (arith, within, h.0.room, long)) (rw (drop-drop many from split.positions.items) at h.1) in
+    let same : from + many - from ≡ many = omega arith in
+    let part = h.0.front ∙ noted-positions stream apart 0 frames in
+    rw h.0.is (
+      (record { rising = omega arith; within = omega (arith, within, h.0.room, long) }, ranges),
+      (
+        rw (same, part) record {
+          not_connection = omega arith;
+          positions = refl;
+          frames = frames_at-positions stream frames;
+          within = positions-within stream frames;
+        },
+        parts,
+      ),
+    )
+
+module _ (credits_shown : Bool) (changes : List Change) (frames : List Frame) (streams : List ℕ)
+    (quiets : List QuietStream) (split : SplitFrames) (all : streams ≡ streams_of frames)
+    (distinct : AreDistinct streams) (above : NotAmong 0 streams)
+    (hushed : AreHushed credits_shown changes frames streams quiets)
+    (laid : IsLaid (loud_of streams quiets) (opened_in quiets) (notes_from 0 frames) split) where
+  pub split-is : IsSplit credits_shown changes frames split
+  split-is =
+      let named = filled-streams 0 (loud_of streams quiets) _ _ split.rows.items _ laid.filled in
+      let rows = split-rows split frames 0 (loud_of streams quiets) split.rows.items
+      (loud-not_among 0 streams quiets above) (omega arith) laid.filled in
+      let nothing : ℕ → Type 0 = λ s. shown credits_shown (stream_run s (frames_of s frames) changes) ≡ [] in
+      let silent = zip-apart (IsHushedOf credits_shown changes frames) (λ s quiet. quiet.is_quiet ≡ true → nothing s) 0
+      streams quiets above
+      (λ s quiet n hush e. rw (hush e).hidden (hush e).shows.shown) hushed in
+      let told = zip-apart (IsHushedOf credits_shown changes frames)
+      (λ s quiet. quiet.is_quiet ≡ true → opening_of frames changes s ≡ option_to_list (opened_of quiet.opened)) 0
+      streams quiets above (λ s quiet n hush e. ap option_to_list (hush e).shows.end) hushed in
+      record {
+        is_quiet = λ s. quiet_in s streams quiets;
+        streams = named ∙ rw (← all) (loud-filter streams quiets distinct
+            (AllZip-long (IsHushedOf credits_shown changes frames) streams quiets hushed));
+        ranges = All-from_recursion (IsRange split) _ rows.0;
+        parts = All-from_recursion (λ (row : StreamRow). IsPartOf frames row.stream (part_of split row)) _ rows.1;
+        quiet = rw (← all) (All-from_recursion (λ s. quiet_in s streams quiets ≡ true → nothing s) streams
+            (each-quiet nothing streams quiets distinct silent));
+        opened = rw (laid.opened, ← all) (opened-filter (opening_of frames changes) streams quiets distinct told);
+      }

@@ -1,10 +1,10 @@
 -- The loud streams among all: which they are, where they stand, what they count, and what is noted of them.
-use Rattle.split_merge.proofs.Terms.{◌≡◌, ℕ, zero, suc, ◌+◌, ◌-◌, ◌≤◌, ◌==◌, not, Bool, true, map}
-use Rattle.split_merge.proofs.Terms.{if◌then◌else◌, List, [], ◌∷◌, length, get_or, slice_get, filter, flat_map, Option}
-use Rattle.split_merge.proofs.Terms.{Some, MatchOption, option_to_list, refl, ◌∙◌, arith, nat_tests}
-use Rattle.split_merge.proofs.Terms.{get_or_from_slice_get, slice_get_within, QuietStream, Visited, streams_in, total_of}
-use Rattle.split_merge.proofs.Terms.{NotAmong, AreDistinct, loud_of, places_from, opened_in, quiet_in, ArePlaces}
-use Rattle.split_merge.proofs.Terms.{AllByRecursion, AllZip, eq-eqb, ne_eqb}
+use Rattle.split_merge.proofs.Terms.{◌≡◌, ℕ, zero, suc, ◌+◌, ◌-◌, ◌≤◌, ◌==◌, not, Bool, true, map, if◌then◌else◌, List}
+use Rattle.split_merge.proofs.Terms.{[], ◌∷◌, length, get_or, slice_get, filter, flat_map, Option, Some, MatchOption}
+use Rattle.split_merge.proofs.Terms.{option_to_list, refl, ◌∙◌, arith, nat_tests, get_or_from_slice_get}
+use Rattle.split_merge.proofs.Terms.{slice_get_within, QuietStream, Visited, streams_in, total_of, NotAmong}
+use Rattle.split_merge.proofs.Terms.{AreDistinct, loud_of, places_from, opened_in, quiet_in, ArePlaces, AllByRecursion}
+use Rattle.split_merge.proofs.Terms.{AllZip, eq-eqb, ne_eqb}
 use Rattle.stream_credit.specs.code.QuietStream.{opened_of}
 use Rattle.split_merge.proofs.Visited.{not_among-at}
 

@@ -1,13 +1,12 @@
 -- The streams that frames name, gathered one by one, and what the table of them says after one more visit.
 use Rattle.split_merge.proofs.Terms.{◌≡◌, ◌≢◌, ℕ, ◌<◌, zero, suc, Bool, true, false, not, ◌==◌, List, [], ◌∷◌, ◌++◌}
 use Rattle.split_merge.proofs.Terms.{length, get_or, slice_get, inl, inr, filter, arith, refl, sym, ap, ◌∙◌, Some}
-use Rattle.split_merge.proofs.Terms.{append_assoc, find, nat_tests, get_or-map, length-map}
-use Rattle.split_merge.proofs.Terms.{get_or_from_slice_get, slice_get-get_or, slice_get_within, first_of, Visited}
-use Rattle.split_merge.proofs.Terms.{NotAmong, AreDistinct, is_among, with_stream, streams_in, ◌||◌, ◌&&◌}
-use Rattle.split_merge.proofs.Terms.{map_push, filter_agree, slice_get-map, ◌+◌, ◌≤◌, set}
-use Rattle.split_merge.proofs.Terms.{append-nil, length-set, length_push}
-use Rattle.split_merge.proofs.Terms.{filter-append, noted_positions}
-use Rattle.split_merge.proofs.Terms.{total_of, counted, noted, IsIndex, IsTableOf, map-append, rows_of, with_row}
+use Rattle.split_merge.proofs.Terms.{append_assoc, find, nat_tests, get_or-map, length-map, get_or_from_slice_get}
+use Rattle.split_merge.proofs.Terms.{slice_get-get_or, slice_get_within, first_of, Visited, NotAmong, AreDistinct}
+use Rattle.split_merge.proofs.Terms.{is_among, with_stream, streams_in, ◌||◌, ◌&&◌, map_push, filter_agree}
+use Rattle.split_merge.proofs.Terms.{slice_get-map, ◌+◌, ◌≤◌, set, append-nil, length-set, length_push, filter-append}
+use Rattle.split_merge.proofs.Terms.{noted_positions, total_of, counted, noted, IsIndex, IsTableOf, map-append, rows_of}
+use Rattle.split_merge.proofs.Terms.{with_row}
 use Rattle.std.proofs.lemmas.Bool.{cases_Bool}
 use Rattle.split_merge.specs.declared.visits.Visits.{Visits}
 
@@ -136,14 +135,6 @@ positions-other q stream position notes apart =
     let split = noted_positions-append q notes (noted stream position) in grind (arith, nat_tests, append-nil)
 
 -- ---- a row for a stream
-
-pub with_row-seen : (stream : ℕ) (rows : List Visited) → is_among stream (streams_in rows) ≡ true
-    → rows ≡ with_row stream rows
-with_row-seen stream rows e = rw e refl
-
-pub with_row-new : (stream : ℕ) (rows : List Visited) → NotAmong stream (streams_in rows) →
-    rows ++ record { stream = stream; count = 0 } ∷ [] ≡ with_row stream rows
-with_row-new stream rows h = rw (none_among stream (streams_in rows) h) refl
 
 pub named-row : (stream : ℕ) (rows : List Visited) → stream ≢ 0 →
     streams_in (with_row stream rows) ≡ with_stream stream (streams_in rows)

@@ -1,5 +1,5 @@
-use Rattle.split_merge.proofs.Terms.{refl, ◌∙◌, ◌≡◌, length, ap, arith, streams_in, total_of, laid_out}
-use Rattle.split_merge.proofs.Terms.{places_from, with_items_is}
+use Rattle.split_merge.proofs.Terms.{refl, ◌∙◌, ◌≡◌, length, ap, arith, streams_in, total_of, laid_out, places_from}
+use Rattle.split_merge.proofs.Terms.{with_items_is}
 use Rattle.split_merge.proofs.Positions.{notes-fit}
 use Rattle.split_merge.proofs.LaidOut.{can-place}
 use Rattle.split_merge.proofs.LoudStreams.{loud-total}

@@ -3,7 +3,7 @@ use Rattle.std.proofs.lemmas.Slice.Zip.{AllZip-long}
 use Rattle.split_merge.proofs.Visited.{length-streams_in}
 use Rattle.std.specs.Prelude.{IfOk, Result, Ok, Err}
 use Rattle.split_merge.proofs.LoudStreams.{loud-streams}
-use Rattle.split_merge.proofs.SplitIs.{split-is}
+use Rattle.split_merge.proofs.LaidOut.{split-is}
 use Rattle.split_merge.proofs.splits.split.Goals as goal
 
 if-more : {E : Type 0} (P Q : SplitFrames → Type 0) (r : Result SplitFrames E) → ((x : SplitFrames) → P x → Q x)

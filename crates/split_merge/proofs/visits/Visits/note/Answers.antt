@@ -1,5 +1,5 @@
-use Rattle.split_merge.proofs.Terms.{set, ap, ◌∙◌, arith, slice_get_within, frames_of, streams_in, counted}
-use Rattle.split_merge.proofs.Terms.{total_of, with_next, IsAheadOf}
+use Rattle.split_merge.proofs.Terms.{set, ap, ◌∙◌, arith, slice_get_within, frames_of, streams_in, counted, total_of}
+use Rattle.split_merge.proofs.Terms.{with_next, IsAheadOf}
 use Rattle.std.proofs.lemmas.Slice.Zip.{AllZip-long}
 use Rattle.split_merge.proofs.Visited.{row_inside, named-row, streams-counted, table-visited, total-counted, total-row}
 use Rattle.split_merge.proofs.Ahead.{ahead-zero, ahead-next, ahead-met}

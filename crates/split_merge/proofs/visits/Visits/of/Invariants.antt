@@ -1,5 +1,5 @@
-use Rattle.split_merge.proofs.Terms.{◌≡◌, ℕ, ◌++◌, List, drop, streams_of, frames_of, streams_in, notes_from}
-use Rattle.split_merge.proofs.Terms.{AreAhead, IsTableOf}
+use Rattle.split_merge.proofs.Terms.{◌≡◌, ℕ, ◌++◌, List, drop, streams_of, frames_of, streams_in, notes_from, AreAhead}
+use Rattle.split_merge.proofs.Terms.{IsTableOf}
 use Rattle.split_merge.proofs.Visited.{without}
 use Rattle.split_merge.proofs.visits.Visits.of.Given as goal
 
