@@ -63,26 +63,21 @@ distinct-push s (x ∷ xs) n h = (not_among-push x s xs h.0 (λ e. n.0 (sym e)),
 abbrev pub without : (seen : List ℕ) → List ℕ → List ℕ
 without seen streams = filter (λ stream. not (is_among stream seen)) streams
 
-filter-filter : (p q : ℕ → Bool) (xs : List ℕ) → filter p (filter q xs) ≡ filter (λ x. q x && p x) xs
-filter-filter p q [] = refl
-filter-filter p q (x ∷ xs) = grind (arith, filter-filter p q xs)
+without-seen : (stream : ℕ) (seen later : List ℕ) → is_among stream seen ≡ true
+    → without seen (filter (λ other. not (other == stream)) later) ≡ without seen later
+without-seen stream seen [] h = refl
+without-seen stream seen (x ∷ later) h = grind (arith, nat_tests, without-seen stream seen later h)
 
-module _ (stream : ℕ) (seen later : List ℕ) where
-  without-seen : is_among stream seen ≡ true
-      → without seen (filter (λ other. not (other == stream)) later) ≡ without seen later
-  without-seen h =
-      filter-filter (λ x. not (is_among x seen)) (λ x. not (x == stream)) later
-      ∙ filter_agree _ _ (λ x. grind (arith, nat_tests)) later
+without-new : (stream : ℕ) (seen later : List ℕ)
+    → without seen (filter (λ other. not (other == stream)) later) ≡ without (seen ++ stream ∷ []) later
+without-new stream seen [] = refl
+without-new stream seen (x ∷ later) = grind (arith, among-push x stream seen, without-new stream seen later)
 
-  without-new : without seen (filter (λ other. not (other == stream)) later) ≡ without (seen ++ stream ∷ []) later
-  without-new =
-      filter-filter (λ x. not (is_among x seen)) (λ x. not (x == stream)) later
-      ∙ filter_agree _ _ (λ x. grind (arith, among-push x stream seen)) later
-
-  -- the streams seen and those still to come stay the same
-  pub named-more : with_stream stream seen ++ without (with_stream stream seen) later
-      ≡ seen ++ without seen (first_of stream later)
-  named-more = grind (arith, append_assoc, without-seen, without-new)
+-- the streams seen and those still to come stay the same
+pub named-more : (stream : ℕ) (seen later : List ℕ)
+    → with_stream stream seen ++ without (with_stream stream seen) later ≡ seen ++ without seen (first_of stream later)
+named-more stream seen later =
+    grind (arith, append_assoc, without-seen stream seen later, without-new stream seen later)
 
 pub named-first : (streams : List ℕ) → without [] streams ≡ streams
 named-first [] = refl

@@ -5,12 +5,6 @@ use Rattle.split_merge.proofs.Visited.{row_inside, named-row, streams-counted, t
 use Rattle.split_merge.proofs.Ahead.{ahead-zero, ahead-next, ahead-met}
 use Rattle.split_merge.proofs.visits.Visits.note.Goals as goal
 
-pub row_of-requires-clause-index : goal.row_of-requires-clause-index
-row_of-requires-clause-index c = c.requires.table.1.index
-
-pub row_of-requires-clause-room : goal.row_of-requires-clause-room
-row_of-requires-clause-room c = omega (arith, c.requires.table.1.few, c.requires.table.2)
-
 pub count-requires : goal.count-requires
 count-requires c =
     let rows = c.row_of.new.self.rows.items in
