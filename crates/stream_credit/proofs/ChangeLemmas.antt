@@ -1,12 +1,13 @@
 -- The changes of a connection: what they leave in force, and which of them come before a number.
-use Rattle.stream_credit.proofs.Words.{◌≡◌, ℕ, zero, suc, ◌+◌, ◌-◌, ◌^◌, ◌<◌, ◌≤◌, nat_lt, List, [], ◌∷◌, ◌++◌, take, drop}
-use Rattle.stream_credit.proofs.Words.{length, slice_get, slice_index_or, true, false, Some, None, Option, refl, sym, ap}
-use Rattle.stream_credit.proofs.Words.{◌∙◌, subst, arith, inl, inr, AllByRecursion, IsPartitionPoint}
+use Rattle.stream_credit.proofs.Words.{◌≡◌, ℕ, zero, suc, ◌+◌, ◌-◌, ◌^◌, ◌<◌, ◌≤◌, nat_lt, List, [], ◌∷◌, ◌++◌, take}
+use Rattle.stream_credit.proofs.Words.{drop, length, slice_get, slice_index_or, true, false, Some, None, Option, refl}
+use Rattle.stream_credit.proofs.Words.{sym, ap, ◌∙◌, subst, arith, inl, inr, AllByRecursion, IsPartitionPoint}
 use Rattle.stream_credit.proofs.Words.{IsPartitionedBy, IsPartitionedBy-ltb, ltb-true, ltb-false, take_more, drop_more}
 use Rattle.stream_credit.proofs.Words.{get_or-drop, length-drop, slice_get_within, slice_get_cases, All-from_recursion}
 use Rattle.stream_credit.proofs.Words.{get_or_from_slice_get, same_Some, Sides, Frame, Change, is_ack, initial_in_force}
-use Rattle.stream_credit.proofs.Words.{initial_after, AreOrderlyFrom, AreOrderly, IsAcknowledged, after_changes, after_each}
-use Rattle.stream_credit.proofs.Words.{initial_at, AreFrom, ArePassed, IsBrought, met_after, AcknowledgesAt, frame_with}
+use Rattle.stream_credit.proofs.Words.{initial_after, AreOrderlyFrom, AreOrderly, IsAcknowledged, after_changes}
+use Rattle.stream_credit.proofs.Words.{after_each, initial_at, AreFrom, ArePassed, IsBrought, met_after, AcknowledgesAt}
+use Rattle.stream_credit.proofs.Words.{frame_with}
 
 -- ---- the change at an index
 

@@ -2,11 +2,11 @@
 -- with the change that it brings.
 use Rattle.std.proofs.Common.{All}
 use Rattle.stream_credit.proofs.Words.{◌≡◌, ℕ, ◌+◌, ◌<◌, ◌≤◌, ◌^◌, ◌-◌, List, [], ◌∷◌, map, refl, sym, ap, ◌∙◌, drop}
-use Rattle.stream_credit.proofs.Words.{arith, nat_tests, AllByRecursion, recursion_from_All, eq-eqb, ne_eqb, lt-ltb, le-ltb}
-use Rattle.stream_credit.proofs.Words.{Option, Some, None, Frame, Change, Step, frame_step, change_step}
-use Rattle.stream_credit.proofs.Words.{with_change, steps_of, AreOrderlyFrom, AreAcknowledged, frame_with}
-use Rattle.stream_credit.proofs.Words.{merged, AcknowledgesAt, Acknowledge, StartsAt, AreFrom, IsBrought, met_after}
-use Rattle.stream_credit.proofs.Words.{AreInOrder, IsOrderly, IsOrderlyFrom}
+use Rattle.stream_credit.proofs.Words.{arith, nat_tests, AllByRecursion, recursion_from_All, eq-eqb, ne_eqb, lt-ltb}
+use Rattle.stream_credit.proofs.Words.{le-ltb, Option, Some, None, Frame, Change, Step, frame_step, change_step}
+use Rattle.stream_credit.proofs.Words.{with_change, steps_of, AreOrderlyFrom, AreAcknowledged, frame_with, merged}
+use Rattle.stream_credit.proofs.Words.{AcknowledgesAt, Acknowledge, StartsAt, AreFrom, IsBrought, met_after, AreInOrder}
+use Rattle.stream_credit.proofs.Words.{IsOrderly, IsOrderlyFrom}
 use Rattle.stream_credit.proofs.ChangeLemmas.{drop-next}
 use Rattle.std.proofs.lemmas.List.Elements.{All-weaker}
 

@@ -1,13 +1,13 @@
 -- A stream of which nothing is shown, from one of its frames to the next.
-use Rattle.stream_credit.proofs.Words.{◌≡◌, ℕ, pos, ◌+◌, ◌-◌, ◌^◌, ◌<◌, ◌≤◌, Bool, true, false, List, [], ◌∷◌, drop, length}
-use Rattle.stream_credit.proofs.Words.{slice_get, Some, None, refl, sym, ap, ◌∙◌, arith, inl, inr, cases_Bool, nat_tests}
-use Rattle.stream_credit.proofs.Words.{filter-append, slice_get_within, Sides, StreamLife, Frame, Change, Step, Stream}
-use Rattle.stream_credit.proofs.Words.{Finding, other, side_of, in_order, is_shown, shown, idle_stream, stream_said}
-use Rattle.stream_credit.proofs.Words.{stream_after, IsOrderlyFrom, IsOrderly, frame_step, change_step, initial_after}
-use Rattle.stream_credit.proofs.Words.{stream_run_from, stream_after_all, AreOrderly, AreAcknowledged, QuietStream, Move}
-use Rattle.stream_credit.proofs.Words.{is_live, merged, Acknowledge, IsMove, IsRaised, IsQuiet, has_credit, has_ended}
-use Rattle.stream_credit.proofs.Words.{window_of, stream_of, initial_at, IsMovedBy, IsPassed, IsNext, AreFrom, ArePassed}
-use Rattle.stream_credit.proofs.Words.{StartsAt, IsAhead, ShowsNothing, Side}
+use Rattle.stream_credit.proofs.Words.{◌≡◌, ℕ, pos, ◌+◌, ◌-◌, ◌^◌, ◌<◌, ◌≤◌, Bool, true, false, List, [], ◌∷◌, drop}
+use Rattle.stream_credit.proofs.Words.{length, slice_get, Some, None, refl, sym, ap, ◌∙◌, arith, inl, inr, cases_Bool}
+use Rattle.stream_credit.proofs.Words.{nat_tests, filter-append, slice_get_within, Sides, StreamLife, Frame, Change}
+use Rattle.stream_credit.proofs.Words.{Step, Stream, Finding, other, side_of, in_order, is_shown, shown, idle_stream}
+use Rattle.stream_credit.proofs.Words.{stream_said, stream_after, IsOrderlyFrom, IsOrderly, frame_step, change_step}
+use Rattle.stream_credit.proofs.Words.{initial_after, stream_run_from, stream_after_all, AreOrderly, AreAcknowledged}
+use Rattle.stream_credit.proofs.Words.{QuietStream, Move, is_live, merged, Acknowledge, IsMove, IsRaised, IsQuiet}
+use Rattle.stream_credit.proofs.Words.{has_credit, has_ended, window_of, stream_of, initial_at, IsMovedBy, IsPassed}
+use Rattle.stream_credit.proofs.Words.{IsNext, AreFrom, ArePassed, StartsAt, IsAhead, ShowsNothing, Side}
 use Rattle.audit_terms.proofs.FindingLists.{each-in_order}
 use Rattle.stream_credit.proofs.ChangeLemmas.{drop-next, initial-next, passed-each, none-left}
 use Rattle.stream_credit.proofs.MergedLemmas.{steps_of-merged, acknowledge-all, merged-first, merged-change}

@@ -2,15 +2,13 @@
 -- or cut.
 use Rattle.std.proofs.Common.{All}
 use Rattle.stream_credit.proofs.Words.{◌≡◌, ℕ, ◌+◌, ◌-◌, ◌^◌, ◌<◌, ◌≤◌, Bool, true, false, List, [], ◌∷◌, if◌then◌else◌}
-use Rattle.stream_credit.proofs.Words.{drop, Option, Some, None, MatchBool, refl, sym, ap}
-use Rattle.stream_credit.proofs.Words.{◌∙◌, arith, append-nil, All-from_recursion, Client, Server, Frame, Change}
-use Rattle.stream_credit.proofs.Words.{Finding, place_number, shown, initial_in_force, idle_stream, up_to, IsRun}
-use Rattle.stream_credit.proofs.Words.{IsOrderly, change_step, steps_of, initial_after, stream_run, stream_at_end}
-use Rattle.stream_credit.proofs.Words.{Stream}
-use Rattle.stream_credit.proofs.Words.{AreOrderly, AreAcknowledged, IsAcknowledged, Walk, IsDue, ArePassed, IsBrought}
-use Rattle.stream_credit.proofs.Words.{initial_at, AreFrom, met_after, StartsAt, is_live, step_numbers, opened_up_to}
-use Rattle.stream_credit.proofs.Words.{merged, Acknowledge, frame_with, HasRoomAt, WholeRun, IsAt, IsSound, IsBegun}
-use Rattle.stream_credit.proofs.Words.{HasEnded, HasStopped}
+use Rattle.stream_credit.proofs.Words.{drop, Option, Some, None, MatchBool, refl, sym, ap, ◌∙◌, arith, append-nil}
+use Rattle.stream_credit.proofs.Words.{All-from_recursion, Client, Server, Frame, Change, Finding, place_number, shown}
+use Rattle.stream_credit.proofs.Words.{initial_in_force, idle_stream, up_to, IsRun, IsOrderly, change_step, steps_of}
+use Rattle.stream_credit.proofs.Words.{initial_after, stream_run, stream_at_end, Stream, AreOrderly, AreAcknowledged}
+use Rattle.stream_credit.proofs.Words.{IsAcknowledged, Walk, IsDue, ArePassed, IsBrought, initial_at, AreFrom}
+use Rattle.stream_credit.proofs.Words.{met_after, StartsAt, is_live, step_numbers, opened_up_to, merged, Acknowledge}
+use Rattle.stream_credit.proofs.Words.{frame_with, HasRoomAt, WholeRun, IsAt, IsSound, IsBegun, HasEnded, HasStopped}
 use Rattle.audit_terms.proofs.Watching.{ends, is-cut}
 use Rattle.stream_credit.proofs.ChangeLemmas.{drop-next, initial-brought, within-brought, brought-acknowledged}
 use Rattle.stream_credit.proofs.ChangeLemmas.{passed-each, none-left}

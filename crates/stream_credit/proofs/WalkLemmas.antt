@@ -1,8 +1,8 @@
 -- A walk meets steps as the definition does, looks between them, and stops before one that lies past.
 use Rattle.std.proofs.Common.{length-append}
 use Rattle.stream_credit.proofs.Words.{◌≡◌, ℕ, ℤ, ◌+◌, ◌-◌, ◌*◌, ◌^◌, ◌<◌, ◌≤◌, inl, inr, Bool, true, false, ◌&&◌, ◌||◌}
-use Rattle.stream_credit.proofs.Words.{if◌then◌else◌, List, [], ◌∷◌, ◌++◌, append_assoc, length, Option, Some}
-use Rattle.stream_credit.proofs.Words.{None, is_some, is_none, refl, sym, ap, ◌∙◌, subst, arith, AllByRecursion}
+use Rattle.stream_credit.proofs.Words.{if◌then◌else◌, List, [], ◌∷◌, ◌++◌, append_assoc, length, Option, Some, None}
+use Rattle.stream_credit.proofs.Words.{is_some, is_none, refl, sym, ap, ◌∙◌, subst, arith, AllByRecursion}
 use Rattle.stream_credit.proofs.Words.{option_map_or, cases_Bool, nat_tests, ints, filter-append, Side, Client, Server}
 use Rattle.stream_credit.proofs.Words.{Sides, StreamLife, Frame, Change, Step, Stream, Finding, side_of, life_after}
 use Rattle.stream_credit.proofs.Words.{shown, is_shown, is_past, found_before, change_step, initial_after}

@@ -18,7 +18,8 @@ pub use Rattle.audit_terms.specs.code.Watch.{IsStopped, NeverFallFrom, Watches}
 pub use Rattle.audit_terms.specs.code.runs.Look.{IsRun, found_before, is_past, steps_between, up_to}
 pub use Rattle.audit_terms.specs.code.runs.Orderly.{IsOrderly, IsOrderlyFrom}
 pub use Rattle.audit_terms.specs.code.runs.Streams.{IsAcknowledged, change_step, frame_step, initial_after, steps_of}
-pub use Rattle.audit_terms.specs.code.runs.Streams.{stream_after_all, stream_at_end, stream_run, stream_run_from, with_change}
+pub use Rattle.audit_terms.specs.code.runs.Streams.{stream_after_all, stream_at_end, stream_run, stream_run_from}
+pub use Rattle.audit_terms.specs.code.runs.Streams.{with_change}
 pub use Rattle.audit_terms.specs.declared.findings.Finding.{Finding}
 pub use Rattle.audit_terms.specs.declared.frames.Body.{Body}
 pub use Rattle.audit_terms.specs.declared.frames.Body.TheVariants.{WindowUpdate}
@@ -45,8 +46,7 @@ pub use Rattle.std.proofs.lemmas.Bool.Decides.{nat_tests, when_false, when_true}
 pub use Rattle.std.proofs.lemmas.Grind.{flat_map-append}
 pub use Rattle.std.proofs.lemmas.Int.{ints, to_z-of_z}
 pub use Rattle.std.proofs.lemmas.List.{append-nil, drop-drop, drop_all, drop_more, get_or-drop, length-drop}
-pub use Rattle.std.proofs.lemmas.List.{length-take-le}
-pub use Rattle.std.proofs.lemmas.List.{map-append, nil_from_length, take_all, take_more, take_rest}
+pub use Rattle.std.proofs.lemmas.List.{length-take-le, map-append, nil_from_length, take_all, take_more, take_rest}
 pub use Rattle.std.proofs.lemmas.List.Elements.{All-drop, All-from_recursion, All-take, filter-append}
 pub use Rattle.std.proofs.lemmas.List.Elements.{recursion_from_All}
 pub use Rattle.std.proofs.lemmas.List.Sorted.{IsPartitionPoint-from_clause, IsPartitionedBy-ltb}

@@ -167,7 +167,8 @@ impl Walk {
             return self.meet_each(look, changes, met, number);
         }
         *met = changes.passed(*met, number);
-        self.initial = changes.initial_at(*met);
+        let in_force = changes.initial_at(*met);
+        self.initial = in_force;
         Ok(true)
     }
 

@@ -1,5 +1,6 @@
-use Rattle.stream_credit.proofs.Words.{◌≡◌, ℕ, ◌+◌, ◌-◌, ◌^◌, ◌<◌, ◌≤◌, List, length, take, drop, nat_lt, ap, ◌∙◌, rules}
-use Rattle.stream_credit.proofs.Words.{arith, length-drop, take_rest, IsPartitionPoint-from_clause, Change, AreOrderly}
+use Rattle.stream_credit.proofs.Words.{◌≡◌, ℕ, ◌+◌, ◌-◌, ◌^◌, ◌<◌, ◌≤◌, List, length, take, drop, nat_lt, ap, ◌∙◌}
+use Rattle.stream_credit.proofs.Words.{rules, arith, length-drop, take_rest, IsPartitionPoint-from_clause, Change}
+use Rattle.stream_credit.proofs.Words.{AreOrderly}
 use Rattle.stream_credit.proofs.ChangeLemmas.{few-changes, orderly-parted, passed-is}
 use Rattle.stream_credit.proofs.changes.Changes.passed.Goals as goal
 
