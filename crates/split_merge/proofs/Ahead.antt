@@ -81,7 +81,8 @@ zip-set R S (z ∷ xs) (y ∷ ys) (suc row) x new distinct at here others h =
 -- ---- streams and what they have still to meet
 
 module _ {changes : List Change} {all : List Frame} where
-  pub ahead-alike : (f g : ℕ → List Frame) {streams : List ℕ} {quiets : List QuietStream} → ((s : ℕ) → s ≢ 0 → f s ≡ g s) → AreAhead changes all f streams quiets → AreAhead changes all g streams quiets
+  pub ahead-alike : (f g : ℕ → List Frame) {streams : List ℕ} {quiets : List QuietStream}
+      → ((s : ℕ) → s ≢ 0 → f s ≡ g s) → AreAhead changes all f streams quiets → AreAhead changes all g streams quiets
   ahead-alike f g {streams} {quiets} same h = record {
     orderly = h.orderly;
     rise = h.rise;
@@ -112,7 +113,8 @@ module _ {changes : List Change} {all : List Frame} where
   }
 
   -- the streams of a frame meet it next
-  pub ahead-frame : (i : ℕ) (frame : Frame) {streams : List ℕ} {quiets : List QuietStream} → i < length all → frame ≡ get_or all i frame → AreAhead changes all (λ s. frames_of s (drop i all)) streams quiets
+  pub ahead-frame : (i : ℕ) (frame : Frame) {streams : List ℕ} {quiets : List QuietStream} → i < length all
+      → frame ≡ get_or all i frame → AreAhead changes all (λ s. frames_of s (drop i all)) streams quiets
       → AreAhead changes all (with_next frame.stream frame
       (with_next (promised_by frame) frame (λ s. frames_of s (drop (i + 1) all)))) streams quiets
   ahead-frame i frame l is h =
@@ -148,7 +150,8 @@ module _ {changes : List Change} {all : List Frame} where
           → IsAheadIfQuiet stream changes (frames_of stream all) (frame ∷ rest stream) (get_or quiets row d)
       ahead-next d =
           let here : with_next stream frame rest stream ≡ frame ∷ rest stream = grind (arith, nat_tests) in
-          rw (← here) (zip-at (IsAheadOf changes all (with_next stream frame rest)) streams quiets row stream d h.ahead at)
+          let next = with_next stream frame rest in
+          rw (← here) (zip-at (IsAheadOf changes all next) streams quiets row stream d h.ahead at)
 
       pub ahead-met : (quiet : QuietStream)
           → IsAheadIfQuiet stream changes (frames_of stream all) (rest stream) quiet
@@ -158,8 +161,8 @@ module _ {changes : List Change} {all : List Frame} where
         rise = h.rise;
         acknowledged = h.acknowledged;
         above = h.above;
-        ahead = zip-set (IsAheadOf changes all (with_next stream frame rest)) (IsAheadOf changes all rest) streams quiets
-            row stream quiet distinct at after (λ s y apart was. rw (← there s apart) was) h.ahead;
+        ahead = zip-set (IsAheadOf changes all (with_next stream frame rest)) (IsAheadOf changes all rest) streams
+            quiets row stream quiet distinct at after (λ s y apart was. rw (← there s apart) was) h.ahead;
         unmet = λ s m out. sym (there s (among-apart s stream streams row out at)) ∙ h.unmet s m out;
       }
 

@@ -105,13 +105,14 @@ filled-at from (q ∷ streams) came all (row ∷ rows) positions zero stream pos
     let many = length (noted_positions q all) in
     let order : length own < many = rw same more in
     let end : row.to ≡ from + length own = ap (λ (x : StreamRow). x.to) h.0.is in
-    let place : row.to - from ≡ length own = omega (arith, end) in (
+    let place : row.to - from ≡ length own = omega (arith, end) in
+    let behind = drop-set-lt many positions (length own) position order in (
       omega arith,
       omega (arith, end),
       omega (arith, end, order, h.0.room),
-      rw (place, positions-own q stream position came same above, drop-set-lt many positions (length own) position order) (
+      rw (place, positions-own q stream position came same above, behind) (
         one-put from q position own (noted_positions q all) row positions h.0 order,
-        filled-other (from + many) streams came all rows (drop many positions) stream position (rw same at distinct.0) h.1,
+        filled-other (from + many) streams came all rows _ stream position (rw same at distinct.0) h.1,
       ),
     )
 filled-at from (q ∷ streams) came all (row ∷ rows) positions (suc r) stream position d above distinct at more h =

@@ -162,6 +162,7 @@ pub brought-acknowledged : (frame : Frame) (met : ℕ) (changes : List Change) (
     → IsAcknowledged (frame_with frame change)
 brought-acknowledged frame met changes None h all = λ c k f e. cc
 brought-acknowledged frame met changes (Some change) h all = λ c k f e.
-    let own = All-from_recursion (AcknowledgesAt frame) changes all met change (slice_get_within changes met change h.0) in
+    let within = slice_get_within changes met change h.0 in
+    let own = All-from_recursion (AcknowledgesAt frame) changes all met change within in
     let is = (rw (at-index changes met change h.0) at own) (sym h.1) in
     subst (λ (one : Frame). is_ack one.body ≡ true) (same_Some frame f e) is

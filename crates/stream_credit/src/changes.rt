@@ -3,7 +3,8 @@ ghost use Rattle.std.specs.Option.{ForSome};
 ghost use Rattle.audit_terms.specs.declared.items.Change.{Change};
 ghost use Rattle.audit_terms.specs.InForce.{initial_in_force};
 ghost use Rattle.settings_pair.specs.code.Changes.{AreOrderly};
-ghost use Rattle.stream_credit.specs.code.Changes.{AreFrom, ArePassed, IsBrought, IsDue, after_each, initial_at, met_after};
+ghost use Rattle.stream_credit.specs.code.Changes.{AreFrom, ArePassed, IsBrought, IsDue, after_each, initial_at};
+ghost use Rattle.stream_credit.specs.code.Changes.{met_after};
 
 use audit_terms::{Change, FIRST_WINDOW, Sides, initial_after};
 use std::alloc::{AllocError, Global};

@@ -160,8 +160,8 @@ impl Walk {
             × IsSound L.answers run look.old self.old changes.now met.old rest }
         ensures { IfOk result (λ goes_on. (run : WholeRun L) (rest : List FrameTerm) → StartsAt number rest
             → IsSound L.answers run look.old self.old changes.now met.old rest → MatchBool goes_on
-            (IsSound L.answers run look.new self.new changes.now met.new rest × AreFrom number (drop met.new changes.now))
-            (HasStopped L.answers run look.new self.new)) }
+            (IsSound L.answers run look.new self.new changes.now met.new rest
+            × AreFrom number (drop met.new changes.now)) (HasStopped L.answers run look.new self.new)) }
     {
         if self.is_live() {
             return self.meet_each(look, changes, met, number);
@@ -185,8 +185,8 @@ impl Walk {
             × IsSound L.answers run look.old self.old changes.now met.old rest }
         ensures { IfOk result (λ goes_on. (run : WholeRun L) (rest : List FrameTerm) → StartsAt number rest
             → IsSound L.answers run look.old self.old changes.now met.old rest → MatchBool goes_on
-            (IsSound L.answers run look.new self.new changes.now met.new rest × AreFrom number (drop met.new changes.now))
-            (HasStopped L.answers run look.new self.new)) }
+            (IsSound L.answers run look.new self.new changes.now met.new rest
+            × AreFrom number (drop met.new changes.now)) (HasStopped L.answers run look.new self.new)) }
     {
         while let Some(change) = changes.before(*met, number) {
             if !self.goes_on(look, change.number) {

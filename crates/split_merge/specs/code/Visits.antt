@@ -85,7 +85,8 @@ counted row = record { stream = row.stream; count = row.count + 1 }
 
 -- the rows of some streams, each with its visits among what was noted
 abbrev pub rows_of : (streams : List ℕ) → List (ℕ × ℕ) → List Visited
-rows_of streams notes = map (λ stream. record { stream = stream; count = length (noted_positions stream notes) }) streams
+rows_of streams notes =
+    map (λ stream. record { stream = stream; count = length (noted_positions stream notes) }) streams
 
 -- the table of what was noted
 pub record IsTableOf (notes : List (ℕ × ℕ)) (table : Visits) : Type 0 where

@@ -23,4 +23,5 @@ returns-in-Some c = λ loud came left h.
 
 pub returns-in_default : goal.returns-in_default
 returns-in_default c = λ loud came left h.
-    placing-none left c.args.stream c.args.position h c.in_default.ensures.kept (c.in_default.ensures.place loud h.leads)
+    placing-none left c.args.stream c.args.position h c.in_default.ensures.kept
+    (c.in_default.ensures.place loud h.leads)

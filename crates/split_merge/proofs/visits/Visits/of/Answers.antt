@@ -48,7 +48,8 @@ pub note-requires-in-loop-frame-clause-table : goal.note-requires-in-loop-frame-
 note-requires-in-loop-frame-clause-table c =
     let was = c.loop-frame.invariant in
     let i = c.loop-frame.frame-index in
-    let next = notes-next i i _ c.args.frames.now c.frame-item.result c.loop-frame-test.true c.frame-item.is refl refl in
+    let next = notes-next i i _ c.args.frames.now c.frame-item.result c.loop-frame-test.true c.frame-item.is refl
+    refl in
     let own = noted c.frame-item.result.stream i in
     let once = append_assoc was.came own _ ∙ (rw next at was.noted) in
     (_, c.in_ok-note.ensures.table was.came i was.table, came-fits c.args.frames.now _ _ once c.requires.length)
@@ -101,5 +102,6 @@ returns-clause-table c =
 
 pub returns-clause-ahead : goal.returns-clause-ahead
 returns-clause-ahead c =
-    ahead-alike _ (λ s. []) (λ s n. at_drop_all (λ l. frames_of s l) c.args.frames.now c.loop-frame.frame-index c.loop-frame-test.false)
+    ahead-alike _ (λ s. [])
+    (λ s n. at_drop_all (λ l. frames_of s l) c.args.frames.now c.loop-frame.frame-index c.loop-frame-test.false)
     c.loop-frame.invariant.ahead
