@@ -19,6 +19,7 @@ use Rattle.split_merge.proofs.Positions.{noted-positions, frames_at-positions, p
 use Rattle.split_merge.proofs.Ahead.{zip-apart}
 use Rattle.std.proofs.lemmas.Slice.Zip.{AllZip-long}
 use Rattle.stream_credit.specs.code.QuietStream.{opened_of}
+
 -- ---- the ranges, before any position comes in
 
 laid-filled : (from : ℕ) (streams : List ℕ) (all : List (ℕ × ℕ)) (positions : List ℕ)
