@@ -3,18 +3,17 @@ pub use Rattle.std.proofs.Common.{Bool, List, MatchOption, None, Option, Some, [
 pub use Rattle.std.proofs.Common.{filter, flat_map, get_or, if◌then◌else◌, inl, inr, length, map, min, mul-div_cancel}
 pub use Rattle.std.proofs.Common.{nat_lt, not, option_to_list, refl, rules, set, slice_get, subst, suc, sym, take, true}
 pub use Rattle.std.proofs.Common.{zero, ℕ, ◌&&◌, ◌*◌, ◌++◌, ◌+◌, ◌-◌, ◌/◌, ◌<◌, ◌==◌, ◌^◌, ◌||◌, ◌∙◌, ◌∷◌, ◌≡◌, ◌≢◌}
-pub use Rattle.std.proofs.Common.{◌≤◌, ◌⊎◌}
+pub use Rattle.std.proofs.Common.{◌≤◌}
 pub use Rattle.std.proofs.lemmas.Bool.{OnTrue_from, cases_lt, eq-eqb, ne_eqb}
 pub use Rattle.std.proofs.lemmas.Bool.Decides.{nat_tests}
-pub use Rattle.std.proofs.lemmas.Grind.{common_steps, get_or-set_at}
+pub use Rattle.std.proofs.lemmas.Grind.{common_steps}
 pub use Rattle.std.proofs.lemmas.List.{append-nil, at_drop_all, drop-append-le, drop-drop, drop-set-add, drop-set-lt}
-pub use Rattle.std.proofs.lemmas.List.{drop_all, drop_more, nil_from_length, take_all, take_more_set, get_or-drop}
-pub use Rattle.std.proofs.lemmas.List.{get_or-map, get_or-set_other, get_or-set_same, get_or-take, get_or_append_left}
-pub use Rattle.std.proofs.lemmas.List.{get_or_at, get_or_default, length-append, length-drop, length-map, length-set}
-pub use Rattle.std.proofs.lemmas.List.{length-take-le, length_push, map-append, map_push, places, same_lists}
-pub use Rattle.std.proofs.lemmas.List.{take-append-drop, take-set, take-set-le, take_more, with_items_is}
+pub use Rattle.std.proofs.lemmas.List.{drop_all, drop_more, take_all, take_more_set, get_or-drop, get_or-map}
+pub use Rattle.std.proofs.lemmas.List.{get_or-set_other, get_or-set_same, get_or-take, get_or_append_left, get_or_at}
+pub use Rattle.std.proofs.lemmas.List.{get_or_default, length-append, length-drop, length-map, length-set}
+pub use Rattle.std.proofs.lemmas.List.{length-take-le, length_push, map-append, map_push, places, take-set-le}
+pub use Rattle.std.proofs.lemmas.List.{take_more, with_items_is}
 pub use Rattle.std.proofs.lemmas.List.Elements.{All-filter, All-from_recursion, filter-append, filter_agree}
-pub use Rattle.std.proofs.lemmas.List.Elements.{recursion_from_All}
 pub use Rattle.std.proofs.lemmas.Option.{get_or_from_slice_get, slice_get-get_or, slice_get-map, slice_get_within}
 pub use Rattle.std.specs.List.{All, AllByRecursion, AllZip, between, find, position_or_len, range_with_len}
 pub use Rattle.audit_terms.specs.Finding.{comes_after, in_order, is_shown, shown, upto_stop}
