@@ -56,9 +56,8 @@ promised-small frame range = let small = range.promised in grind arith
 pub zip-apart : {Y : Type 0} (R S : ℕ → Y → Type 0) (q : ℕ) (xs : List ℕ) (ys : List Y) → NotAmong q xs
     → ((x : ℕ) (y : Y) → q ≢ x → R x y → S x y) → AllZip R xs ys → AllZip S xs ys
 zip-apart R S q [] [] out more h = h
-zip-apart R S q [] (y ∷ ys) out more h = absurd h
-zip-apart R S q (x ∷ xs) [] out more h = absurd h
 zip-apart R S q (x ∷ xs) (y ∷ ys) out more h = (more x y out.0 h.0, zip-apart R S q xs ys out.1 more h.1)
+zip-apart R S q xs ys out more h = absurd h
 
 zip-at : {Y : Type 0} (R : ℕ → Y → Type 0) (xs : List ℕ) (ys : List Y) (row x : ℕ) (d : Y) → AllZip R xs ys
     → slice_get xs row ≡ Some x → R x (get_or ys row d)

@@ -12,29 +12,25 @@ use Rattle.split_merge.proofs.Visited.{not_among-at}
 
 pub loud-map : {X Y : Type 0} (f : X → Y) (xs : List X) (quiets : List QuietStream)
     → map f (loud_of xs quiets) ≡ loud_of (map f xs) quiets
-loud-map f [] quiets = refl
-loud-map f (x ∷ xs) [] = refl
 loud-map f (x ∷ xs) (quiet ∷ quiets) = grind (arith, loud-map f xs quiets)
+loud-map f xs quiets = refl
 
 pub loud-streams : (rows : List Visited) (quiets : List QuietStream)
     → streams_in (loud_of rows quiets) ≡ loud_of (streams_in rows) quiets
 loud-streams rows quiets = loud-map (λ (row : Visited). row.stream) rows quiets
 
 pub loud-not_among : (s : ℕ) (xs : List ℕ) (quiets : List QuietStream) → NotAmong s xs → NotAmong s (loud_of xs quiets)
-loud-not_among s [] quiets n = tt
-loud-not_among s (x ∷ xs) [] n = tt
 loud-not_among s (x ∷ xs) (quiet ∷ quiets) n = grind (arith, loud-not_among s xs quiets n.1)
+loud-not_among s xs quiets n = tt
 
 pub loud-distinct : (xs : List ℕ) (quiets : List QuietStream) → AreDistinct xs → AreDistinct (loud_of xs quiets)
-loud-distinct [] quiets h = tt
-loud-distinct (x ∷ xs) [] h = tt
 loud-distinct (x ∷ xs) (quiet ∷ quiets) h =
     grind (arith, loud-distinct xs quiets h.1, loud-not_among x xs quiets h.0)
+loud-distinct xs quiets h = tt
 
 pub loud-total : (rows : List Visited) (quiets : List QuietStream) → total_of (loud_of rows quiets) ≤ total_of rows
-loud-total [] quiets = omega arith
-loud-total (row ∷ rows) [] = omega arith
 loud-total (row ∷ rows) (quiet ∷ quiets) = grind (arith, loud-total rows quiets)
+loud-total rows quiets = omega arith
 
 -- ---- which of the streams are loud
 
@@ -56,13 +52,12 @@ pub opened-filter : (f : ℕ → List ℕ) (xs : List ℕ) (quiets : List QuietS
     → AllZip (λ s quiet. quiet.is_quiet ≡ true → f s ≡ option_to_list (opened_of quiet.opened)) xs quiets
     → opened_in quiets ≡ flat_map f (filter (λ s. quiet_in s xs quiets) xs)
 opened-filter f [] [] h told = refl
-opened-filter f [] (quiet ∷ quiets) h told = absurd told
-opened-filter f (x ∷ xs) [] h told = absurd told
 opened-filter f (x ∷ xs) (quiet ∷ quiets) h told =
     let rest = opened-filter f xs quiets h.1 told.1 in
     let past = filter-past x quiet.is_quiet (λ s. quiet_in s xs quiets) (λ b. b) xs h.0 in
     let first = told.0 in
     grind (arith, nat_tests)
+opened-filter f xs quiets h told = absurd told
 
 each-past : (P : ℕ → Type 0) (other : ℕ) (b : Bool) (h : ℕ → Bool) (xs : List ℕ) → NotAmong other xs
     → AllByRecursion (λ s. h s ≡ true → P s) xs

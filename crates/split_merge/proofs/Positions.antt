@@ -39,10 +39,7 @@ frames-from stream front (frame ∷ frames) position e =
     let later = rw append_assoc at (frames-from stream (front ++ frame ∷ []) frames (position + 1)
     (omega (arith, length_push front frame, e))) in
     let here = rw e at (slice_get-last front frames frame) in
-    elim (cases_Bool (meets stream frame)) [
-      | inl t ↦ rw (t, here) (ap (λ l. frame ∷ l) later)
-      | inr t ↦ rw t later
-    ]
+    grind arith
 
 -- the frames at the positions of a stream are those that it meets
 pub frames_at-positions : (stream : ℕ) (frames : List Frame)

@@ -158,10 +158,7 @@ rows-row rows stream notes is none = elim (cases_Bool (is_among stream (streams_
 
 absent-row : (q stream : ℕ) (rows : List Visited) → NotAmong q (streams_in (with_row stream rows))
     → NotAmong q (streams_in rows)
-absent-row q stream rows = elim (cases_Bool (is_among stream (streams_in rows))) [
-  | inl e ↦ rw e (λ out. out)
-  | inr e ↦ rw (e, streams_in-push) (λ out. (not_among-front q stream (streams_in rows) out).0)
-]
+absent-row q stream rows out = grind (arith, streams_in-push, not_among-front q stream (streams_in rows))
 
 -- ---- one more visit
 
