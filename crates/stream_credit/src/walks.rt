@@ -167,9 +167,15 @@ impl Walk {
             return self.meet_each(look, changes, met, number);
         }
         *met = changes.passed(*met, number);
-        let in_force = changes.initial_at(*met);
-        self.initial = in_force;
+        self.pass(&changes.initial_at(*met));
         Ok(true)
+    }
+
+    /// Passes over changes: only what they leave in force counts.
+    fn pass(&mut self, initial: &Sides<u32>)
+        ensures { self.new ≡ record self.old { initial = initial.now } }
+    {
+        self.initial = *initial;
     }
 
     /// Meets them one by one.

@@ -8,7 +8,7 @@ passed-requires g c =
 
 pub returns : goal.returns
 returns g c = λ run rest starts h. (
-  rw c.initial_at-in_force.ensures
+  rw (c.pass.ensures, c.initial_at.ensures)
       (sound-passed h starts (sym c.is_live.ensures ∙ c.if-is_live.false) c.passed.ensures),
   c.passed.ensures.from,
 )
