@@ -8,7 +8,7 @@ ghost use Rattle.tcp_streams.specs.Packets.{segment_of};
 use crate::interval::{END_OF_OFFSETS, Interval};
 use crate::members::Connection;
 use audit_terms::Side;
-use packet_heads::{Packet, Packets, Segment};
+use packet_heads::{Packets, Segment};
 use std::alloc::{AllocError, Global};
 
 /// Sequence numbers come round at this number (RFC 9293, 3.4).
@@ -49,16 +49,11 @@ pub fn piece_of_member(
     requires named { IsSome (segment_of packets.now member) }
     ensures { result ≡ member_piece initial_number packets.now connection.now side member }
 {
-    match packets.get((member - 1) as usize)? {
-        Packet::Segment(segment) => {
-            if is_sent_by(connection, side, &segment) {
-                piece_of(initial_number, &segment)
-            } else {
-                None
-            }
-        }
-        Packet::Skipped(_) => None,
-        Packet::Refused(_) => None,
+    let segment = packets.segment((member - 1) as usize)?;
+    if is_sent_by(connection, side, segment) {
+        piece_of(initial_number, segment)
+    } else {
+        None
     }
 }
 
