@@ -133,16 +133,14 @@ members-are packets o n (s ∷ past) f k =
 abbrev IsNamed : List Packet → Membership → Type 0
 IsNamed packets m = AreMembers 0 packets m.members
 
-unmap : (packets : List Packet) (xs : List Connection) → All (IsNamed packets) (map membership xs)
-    → All (λ c. IsNamed packets (membership c)) xs
-unmap packets xs all = λ k d lt. rw (get_or-map membership xs k d (membership d) lt) at
-    (all k (membership d) (omega (arith, length-map xs membership)))
-
 pub connections-members : (packets : List Packet) (found : List Connection) → AreNumberedFrom 1 packets
     → map membership found ≡ connections_of (past_of packets)
     → All (λ (c : Connection). AreMembers 0 packets c.members.items) found
 connections-members packets found h same =
     let past = past_of packets in
-    unmap packets found (rw same (All-map (IsNamed packets) (connection_of past) (openings past) (λ k d lt.
+    let named : All (IsNamed packets) (map membership found) =
+    rw same (All-map (IsNamed packets) (connection_of past) (openings past) (λ k d lt.
     (members-are packets (get_or (openings past) k d) (1 + length packets) past
-    (Falls-past_after 1 [] packets h tt) (Known-past_of packets h)).0)))
+    (Falls-past_after 1 [] packets h tt) (Known-past_of packets h)).0)) in
+    λ k d lt. rw (get_or-map membership found k d (membership d) lt) at
+    (named k (membership d) (omega (arith, length-map found membership)))

@@ -1,8 +1,9 @@
-use Rattle.tcp_streams.proofs.Words.{◌-◌}
-use Rattle.tcp_streams.proofs.PieceLemmas.{payload-fits}
+use Rattle.tcp_streams.proofs.Words.{arith}
+use Rattle.tcp_streams.proofs.PieceLemmas.{stands-at}
 use Rattle.tcp_streams.proofs.pieces.piece_of_member.Goals as goal
 
 pub piece_of-requires : goal.piece_of-requires
 piece_of-requires c =
-    let fits = payload-fits c.args.packets.now (c.args.member - 1) _ c.requires.payloads c.in_ok-segment.ensures.some in
-    record { payload = fits.0; short = fits.1 }
+    let (size, small, rise) = c.requires in
+    let stands = stands-at size c.args.packets.now _ _ rise c.in_ok-segment.ensures.some in
+    record { payload = stands.ordered; short = omega (arith, stands.within) }
