@@ -1,11 +1,10 @@
--- On flows: the same sources have the same flow; all flows of a capture fit in it together, since a payload belongs to
--- one connection at most.
-use Rattle.tcp_streams.proofs.Words.{◌≡◌, ℕ, ◌<◌, ◌≤◌, List, [], ◌∷◌, Option, None, Some, refl, sym, ◌∙◌, arith, zero}
-use Rattle.tcp_streams.proofs.Words.{suc, ◌+◌, ◌-◌, length, drop, filter, false≢true, drop-drop, sum_by-cons}
-use Rattle.tcp_streams.proofs.Words.{Side, Client, Server, PayloadsRise, Packet, Carried, Segment, IsFlow}
-use Rattle.tcp_streams.proofs.Words.{IsGap, is_sent_by, segments_of, side_segments, segment_of, Source, arrival}
-use Rattle.tcp_streams.proofs.Words.{end_of_offsets, payload_length, IsSame, AreMembers, payload_sum, Connection}
-use Rattle.tcp_streams.proofs.Words.{Arrival, Bool, false, ◌++◌, ap, map, if◌then◌else◌, option_to_list, nat_tests}
+-- All flows of a capture fit in it together: a payload belongs to one connection at most.
+use Rattle.tcp_streams.proofs.Words.{◌≡◌, ℕ, ◌≤◌, List, [], ◌∷◌, Option, None, Some, refl, sym, ◌∙◌, arith}
+use Rattle.tcp_streams.proofs.Words.{suc, ◌+◌, ◌-◌, drop, filter, false≢true, drop-drop, sum_by-cons}
+use Rattle.tcp_streams.proofs.Words.{Side, Client, Server, PayloadsRise, Packet, Carried, Segment}
+use Rattle.tcp_streams.proofs.Words.{is_sent_by, segments_of, side_segments, segment_of}
+use Rattle.tcp_streams.proofs.Words.{payload_length, AreMembers, payload_sum, Connection}
+use Rattle.tcp_streams.proofs.Words.{Bool, false, ◌++◌, ap, map, if◌then◌else◌, option_to_list, nat_tests}
 use Rattle.tcp_streams.proofs.Words.{append-nil, true, append_assoc, map-append, AreNumberedFrom, is_opening, with_if}
 use Rattle.tcp_streams.proofs.Words.{members, opening_at, openings, Membership, membership, connection_of}
 use Rattle.tcp_streams.proofs.Words.{connections_of, past_after, past_of, Falls}
@@ -16,32 +15,6 @@ use Rattle.std.proofs.lemmas.List.Sums.{sum_by_push}
 use Rattle.tcp_streams.proofs.Lists.{by_option, slice_get-drop}
 use Rattle.tcp_streams.proofs.Numbered.{Falls-past_after, Known, Known-past_of, recs}
 use Rattle.tcp_streams.proofs.PieceLemmas.{PayloadsRise-end, found-at, rise-drop}
-
-arrival-same : (F G : ℕ → Option Source) → IsSame F G → (o : ℕ) → o < end_of_offsets → arrival F o ≡ arrival G o
-arrival-same F G same zero lt = same zero lt
-arrival-same F G same (suc o) lt = rw (arrival-same F G same o (omega (arith, lt)), same (suc o) lt)
-
--- where two sources are the same at each offset that counts, a flow of one is a flow of the other
-pub IsFlow-same : (capture : List ℕ) (F G : ℕ → Option Source) (bytes : List ℕ) (arrivals : List Arrival)
-    (gap : Option ℕ)
-    → IsSame F G → IsFlow capture F bytes arrivals gap → IsFlow capture G bytes arrivals gap
-IsFlow-same capture F G bytes arrivals gap same h =
-    let counts = λ (o : ℕ) (lt : o < length bytes). (let c : o < end_of_offsets = omega (arith, h.run.within) in c) in
-    record {
-      run = record {
-        within = h.run.within;
-        covered = λ o lt. rw (same o (counts o lt)) at (h.run.covered o lt);
-        longest = λ lt. sym (same (length bytes) lt) ∙ h.run.longest lt;
-      };
-      bytes_are = λ o lt. rw (same o (counts o lt)) at (h.bytes_are o lt);
-      rises = h.rises;
-      arrivals_are = λ o lt. rw (arrival-same F G same o (counts o lt)) at (h.arrivals_are o lt);
-      gap_is = by gap h.gap_is;
-    }
-  where
-    by : (g : Option ℕ) → IsGap F (length bytes) g → IsGap G (length bytes) g
-    by None k = λ o a b. sym (same o b) ∙ k o a b
-    by (Some n) (is, (o, past, low, some)) = (is, (o, past, low, rw (same o low) at some))
 
 -- the payloads of rising members lie apart
 members-fit : (packets : List Packet) (done from size : ℕ) (members : List ℕ)
@@ -117,25 +90,18 @@ module _ (q : Segment) (v : ℕ) where
   abbrev shares : List Segment → ℕ
   shares xs = sum_by (share (Some q) v) xs
 
-  shares-later : (n : ℕ) (past : List Segment) → Falls n past → n ≤ q.rec → shares (openings past) ≡ 0
-  shares-later n [] f le = refl
-  shares-later n (s ∷ past) f le =
-      grind (arith, nat_tests, sum_by_push (share (Some q) v) (openings past) s, shares-later s.rec past f.1)
-
-  shares-most : (n : ℕ) (past : List Segment) → Falls n past → shares (openings past) ≤ v
-  shares-most n [] f = omega arith
-  shares-most n (s ∷ past) f = grind (
-    arith,
-    nat_tests,
-    sum_by_push (share (Some q) v) (openings past) s,
-    shares-most s.rec past f.1,
-    (λ (here : s.rec ≤ q.rec). shares-later s.rec past f.1 here),
-  )
+  shares-few : (n : ℕ) (past : List Segment) → Falls n past
+      → (shares (openings past) ≤ v) × (n ≤ q.rec → shares (openings past) ≡ 0)
+  shares-few n [] f = (omega arith, λ le. refl)
+  shares-few n (s ∷ past) f =
+      let rest = shares-few s.rec past f.1 in
+      let push = sum_by_push (share (Some q) v) (openings past) s in
+      (grind (arith, nat_tests, push, rest.0, rest.1), λ le. grind (arith, nat_tests, push, rest.1))
 
 share-most : (x : Option Segment) (v n : ℕ) (past : List Segment) → Falls n past
     → sum_by (share x v) (openings past) ≤ v
 share-most None v n past f = omega (arith, share-none v (openings past))
-share-most (Some q) v n past f = shares-most q v n past f
+share-most (Some q) v n past f = (shares-few q v n past f).0
 
 payload-push : (b : Bool) (ms : List Segment) (s : Segment)
     → payload_sum (with_if b ms s) ≡ payload_sum ms + (if b then payload_length s else 0)

@@ -1,11 +1,12 @@
 -- On intervals: the parts between two offsets, and one list of intervals laid over another.
 use Rattle.tcp_streams.proofs.Words.{◌≡◌, ℕ, ◌<◌, ◌≤◌, true, List, [], ◌∷◌, None, Some, refl, ◌∙◌, arith, zero, suc}
 use Rattle.tcp_streams.proofs.Words.{◌+◌, ◌-◌, ◌^◌, ◌++◌, length, drop, take, ap, get_or, ◌⊎◌, inl, inr, All, option_or}
-use Rattle.tcp_streams.proofs.Words.{nat_tests, take-append-drop, All-head, All-tail, sum_by-append, sum_by-cons}
+use Rattle.tcp_streams.proofs.Words.{nat_tests, take-append-drop, All-head, All-tail, sum_by-cons}
 use Rattle.tcp_streams.proofs.Words.{end_of_offsets, IsInterval, Spans, at, size_of, source_in, width, clipped}
 use Rattle.tcp_streams.proofs.Words.{lie_apart, overlay, Interval}
 use Rattle.std.proofs.Common.{min, max}
-use Rattle.tcp_streams.specs.code.Interval.{IsSettled, part_of}
+use Rattle.tcp_streams.proofs.Words.{IsSome, false≢true}
+use Rattle.tcp_streams.specs.code.Interval.{IsSettled}
 use Rattle.tcp_streams.proofs.Lists.{by_lt}
 
 -- an offset is held, or it lies before, or past
@@ -124,43 +125,30 @@ at-overlay low (x ∷ kept) later o h a b =
       (λ (le : x.upto ≤ o). at-overlay x.upto kept later o h.2 le b),
     )
 
--- how many offsets from d on the intervals hold
-abbrev left_of : ℕ → List Interval → ℕ
-left_of d [] = 0
-left_of d (y ∷ ys) = (y.upto - max y.from d) + left_of d ys
+-- how many offsets below n the intervals hold, each counted as often as it is held
+abbrev below : ℕ → List Interval → ℕ
+below n [] = 0
+below n (x ∷ xs) = (min n x.upto - x.from) + below n xs
 
-left_of-falls : (d e : ℕ) (ys : List Interval) → d ≤ e → left_of e ys ≤ left_of d ys
-left_of-falls d e [] le = omega arith
-left_of-falls d e (y ∷ ys) le = omega (arith, le, left_of-falls d e ys le)
+below-more : (n : ℕ) (xs : List Interval) → (below n xs ≤ below (suc n) xs)
+    × (IsSome (at xs n) → below n xs < below (suc n) xs)
+below-more n [] = (omega arith, λ some. absurd (false≢true some))
+below-more n (x ∷ xs) =
+    let rest = below-more n xs in
+    (omega (arith, rest.0), λ some. grind (arith, nat_tests, rest.0, rest.1))
 
-left_of-all : (ys : List Interval) → left_of 0 ys ≤ size_of ys
-left_of-all [] = omega arith
-left_of-all (y ∷ ys) = omega (arith, left_of-all ys, sum_by-cons width y ys)
+below-all : (n : ℕ) (xs : List Interval) → below n xs ≤ size_of xs
+below-all n [] = omega arith
+below-all n (x ∷ xs) = omega (arith, below-all n xs, sum_by-cons width x xs)
 
-size-clipped : (low high : ℕ) (ys : List Interval) → low ≤ high
-    → size_of (clipped low high ys) + left_of high ys ≤ left_of low ys
-size-clipped low high [] le = omega arith
-size-clipped low high (y ∷ ys) le = grind (
-  arith,
-  nat_tests,
-  sum_by-cons width (part_of y (max y.from low) (min y.upto high)) (clipped low high ys),
-  size-clipped low high ys le,
-)
+covered-below : (n : ℕ) (xs : List Interval) → ((o : ℕ) → o < n → IsSome (at xs o)) → n ≤ below n xs
+covered-below zero xs h = omega arith
+covered-below (suc n) xs h =
+    omega (arith, covered-below n xs (λ o lt. h o (omega arith)), (below-more n xs).1 (h n (omega arith)))
 
-size-overlay : (low : ℕ) (kept later : List Interval) → Spans low kept end_of_offsets
-    → size_of (overlay kept later low) ≤ size_of kept + left_of low later
-size-overlay low [] later h = omega (arith, size-clipped low end_of_offsets later h)
-size-overlay low (x ∷ kept) later h =
-    omega (
-      arith,
-      sum_by-append width (clipped low x.from later) (x ∷ overlay kept later x.upto),
-      sum_by-cons width x kept,
-      sum_by-cons width x (overlay kept later x.upto),
-      size-clipped low x.from later h.0,
-      left_of-falls x.from x.upto later
-          (omega (arith, h.1.some)),
-      size-overlay x.upto kept later h.2,
-    )
+-- so they hold as many offsets as they cover
+pub covered-fit : (n : ℕ) (xs : List Interval) → ((o : ℕ) → o < n → IsSome (at xs o)) → n ≤ size_of xs
+covered-fit n xs h = omega (arith, covered-below n xs h, below-all n xs)
 
 -- pieces that lie apart lie in order
 Spans-apart : (low : ℕ) (pieces : List Interval) → low ≤ 2 ^ 31 → lie_apart low pieces ≡ true
@@ -175,7 +163,7 @@ Spans-apart low (x ∷ xs) le apart h =
 pub settled-apart : (pieces : List Interval) → lie_apart 0 pieces ≡ true → All IsInterval pieces
     → IsSettled pieces pieces
 settled-apart pieces apart all =
-    record { spans = Spans-apart 0 pieces (omega arith) apart all; same = λ o lt. refl; size = omega arith }
+    record { spans = Spans-apart 0 pieces (omega arith) apart all; same = λ o lt. refl }
 
 -- and the settled halves of a list, one laid over the other, settle the list
 pub settled-halves : (kept later pieces : List Interval) (n : ℕ) → IsSettled (take n pieces) kept
@@ -186,13 +174,4 @@ settled-halves kept later pieces n h k = record {
       at-overlay 0 kept later o h.spans (omega arith) lt
       ∙ rw (h.same o lt, k.same o lt, ← at-append (take n pieces) (drop n pieces) o)
       (ap (λ ps. at ps o) (take-append-drop n pieces));
-  size = omega (
-    arith,
-    size-overlay 0 kept later h.spans,
-    left_of-all later,
-    h.size,
-    k.size,
-    sum_by-append width (take n pieces) (drop n pieces),
-    ap size_of (take-append-drop n pieces),
-  );
 }

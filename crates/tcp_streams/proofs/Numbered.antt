@@ -47,12 +47,6 @@ numbered_at n (_ ∷ rest) zero s h at = absurd cc
 numbered_at n (Carried t ∷ rest) (suc i) s h at = omega (arith, numbered_at (n + 1) rest i s h.1 at)
 numbered_at n (_ ∷ rest) (suc i) s h at = omega (arith, numbered_at (n + 1) rest i s h at)
 
-numbered_take : (n : ℕ) (packets : List Packet) (i : ℕ) → AreNumberedFrom n packets → AreNumberedFrom n (take i packets)
-numbered_take n packets zero h = tt
-numbered_take n [] (suc i) h = tt
-numbered_take n (Carried s ∷ rest) (suc i) h = (h.0, numbered_take (n + 1) rest i h.1)
-numbered_take n (_ ∷ rest) (suc i) h = numbered_take (n + 1) rest i h
-
 pub Falls-past_after : (n : ℕ) (past : List Segment) (packets : List Packet) → AreNumberedFrom n packets → Falls n past
     → Falls (n + length packets) (past_after past packets)
 Falls-past_after n past [] h f = Falls-weaker n (n + 0) past (omega arith) f
@@ -64,12 +58,15 @@ Falls-past_after n past (_ ∷ rest) h f =
     (Falls-past_after (n + 1) past rest h (Falls-weaker n (n + 1) past (omega arith) f))
 
 -- the records fall along the past, from below the next segment's
-pub Falls-next : (packets : List Packet) (i : ℕ) (s : Segment) → AreNumberedFrom 1 packets
-    → slice_get packets i ≡ Some (Carried s) → Falls s.rec (past_of (take i packets))
-Falls-next packets i s h is =
-    Falls-weaker (1 + length (take i packets)) s.rec (past_of (take i packets))
-    (omega (arith, numbered_at 1 packets i s h is, length-take i packets))
-    (Falls-past_after 1 [] (take i packets) (numbered_take 1 packets i h) tt)
+pub Falls-next : (n : ℕ) (past : List Segment) (packets : List Packet) (i : ℕ) (s : Segment) → AreNumberedFrom n packets
+    → Falls n past → slice_get packets i ≡ Some (Carried s) → Falls s.rec (past_after past (take i packets))
+Falls-next n past [] i s h f at = absurd (none-some (Carried s) at)
+Falls-next n past (Carried t ∷ rest) zero s h f at = rw ((let same : s ≡ t = cc in same), h.0) f
+Falls-next n past (_ ∷ rest) zero s h f at = absurd cc
+Falls-next n past (Carried t ∷ rest) (suc i) s h f at =
+    Falls-next (n + 1) (t ∷ past) rest i s h.1 (omega (arith, h.0), rw h.0 f) at
+Falls-next n past (_ ∷ rest) (suc i) s h f at =
+    Falls-next (n + 1) past rest i s h (Falls-weaker n (n + 1) past (omega arith) f) at
 
 past_after-few : (past : List Segment) (packets : List Packet)
     → length (past_after past packets) ≤ length past + length packets

@@ -7,7 +7,7 @@ use Rattle.tcp_streams.proofs.Words.{if◌then◌else◌, nat_lt, All-tail, sum_
 use Rattle.tcp_streams.proofs.Words.{IsFlow, IsGap, arrival_at, Source, arrival, end_of_offsets, AreCaptured}
 use Rattle.tcp_streams.proofs.Words.{IsInterval, IsCaptured, Spans, arrival_with, arrivals_after, arrivals_in, at}
 use Rattle.tcp_streams.proofs.Words.{bytes_in, run_length, size_of, source_in, width, AreTimely, Interval, Arrival}
-use Rattle.tcp_streams.proofs.Words.{Flow, IsTrue, bytes_of, common_steps, filter_map-append}
+use Rattle.tcp_streams.proofs.Words.{Flow, IsSame, IsTrue, bytes_of, common_steps, filter_map-append}
 use Rattle.tcp_streams.specs.Sequence.{later_of}
 use Rattle.tcp_streams.specs.code.Assembled.{IsLaidOut}
 use Rattle.tcp_streams.proofs.IntervalLemmas.{Spans-before, at-append, at-in, at-past}
@@ -138,7 +138,7 @@ module _ (capture : List ℕ) where
 abbrev up_to : Arrival → ℕ → Arrival
 up_to a upto = record { upto = upto; rec = a.rec; nanos = a.nanos }
 
--- arrivals from an offset and a record on rise up to an end, with times of a capture, and each byte arrives with its own
+-- arrivals from an offset and a record on: they rise to an end, their times are a capture's, and each byte has its own
 pub record AreArrived (sources : ℕ → Option Source) (low rec end : ℕ) (arrivals : List Arrival) : Type 0 where
   pub rises : Rises low rec arrivals end
   pub timely : AreTimely arrivals
@@ -193,8 +193,8 @@ module _ (size : ℕ) (sources : ℕ → Option Source) where
       (brings a.upto (omega arith) (omega (arith, f.0, f.1.some))) in
       by_lt a.rec x.rec
       (λ e newer.
-      let rest = arrivals-from (arrival_with x) xs a.upto a.rec (omega (arith, f.0, f.1.some)) newer head.timely f.2 tail
-      (stays (arrival_with x) x a.upto (omega arith) (rw begins (rw e at (later before a x a.upto last)))
+      let rest = arrivals-from (arrival_with x) xs a.upto a.rec (omega (arith, f.0, f.1.some)) newer head.timely f.2
+      tail (stays (arrival_with x) x a.upto (omega arith) (rw begins (rw e at (later before a x a.upto last)))
       (λ p q r. brings p (omega arith) r)) past in
       rw e (record {
         rises = (some, k, rest.rises);
@@ -248,54 +248,59 @@ module _ (capture : List ℕ) (whole run rest : List Interval) (same : run ++ re
   run-length : length (bytes_in capture run) ≡ run_end 0 run
   run-length = omega (arith, length-bytes_in capture 0 run is.follows run-held)
 
-  gap-is : IsGap (at whole) (run_end 0 run) (gap_of rest (run_end 0 run))
-  gap-is = by rest is.leaves there
-    where
-      by : (r : List Interval) → IsRest (run_end 0 run) r → ((o : ℕ) → run_end 0 run ≤ o → at whole o ≡ at r o)
-          → IsGap (at whole) (run_end 0 run) (gap_of r (run_end 0 run))
-      by [] leaves later = λ o lt k. later o (omega arith)
-      by (y ∷ ys) leaves later = (
-        refl,
-        (
-          y.from,
-          leaves.0,
-          omega (arith, leaves.1.some, leaves.1.counts),
-          rw (later y.from (omega (arith, leaves.0)), at-in y ys y.from (omega arith) leaves.1.some) refl,
-        ),
-      )
+  -- those of whatever brings what the list brings
+  module _ (sources : ℕ → Option Source) (agree : IsSame sources (at whole)) where
+    in-run : (o : ℕ) → o < run_end 0 run → sources o ≡ at run o
+    in-run o lt = agree o (omega (arith, is.within)) ∙ here o lt
 
-  pub run-arrived : AreArrived (at whole) 0 0 (length (bytes_in capture run)) (arrivals_in run)
-  run-arrived = rw run-length (run-arrivals (length capture) (at whole) run is.follows run-held here)
+    past-run : (o : ℕ) → run_end 0 run ≤ o → o < end_of_offsets → sources o ≡ at rest o
+    past-run o le lt = agree o lt ∙ there o le
 
-  run-flow : IsFlow capture (at whole) (bytes_in capture run) (arrivals_in run)
-      (gap_of rest (length (bytes_in capture run)))
-  run-flow = record {
-    run = rw run-length (record {
-      within = is.within;
-      covered = λ o lt. rw (here o lt) (run-covers 0 run o is.follows (omega arith) lt);
-      longest = λ lt. there (run_end 0 run) (omega arith)
-          ∙ rest-before (run_end 0 run) rest (run_end 0 run) is.leaves (omega arith);
-    });
-    bytes_are = λ o lt. rw (here o (omega (arith, run-length))) (rw (let e : o - 0 ≡ o = omega arith in e) at
-        (bytes-at capture 0 run o is.follows run-held (omega arith) (omega (arith, run-length))));
-    rises = run-arrived.rises;
-    arrivals_are = λ o lt. run-arrived.each o (omega arith) lt;
-    gap_is = rw run-length gap-is;
-  }
+    gap-is : IsGap sources (run_end 0 run) (gap_of rest (run_end 0 run))
+    gap-is = by rest is.leaves past-run
+      where
+        by : (r : List Interval) → IsRest (run_end 0 run) r
+            → ((o : ℕ) → run_end 0 run ≤ o → o < end_of_offsets → sources o ≡ at r o)
+            → IsGap sources (run_end 0 run) (gap_of r (run_end 0 run))
+        by [] leaves later = λ o lt counts. later o (omega arith) counts
+        by (y ∷ ys) leaves later =
+            let counts : y.from < end_of_offsets = omega (arith, leaves.1.some, leaves.1.counts) in (
+              refl,
+              (
+                y.from,
+                leaves.0,
+                counts,
+                rw (
+                  later y.from (omega (arith, leaves.0)) counts,
+                  at-in y ys y.from (omega arith) leaves.1.some,
+                ) refl,
+              ),
+            )
 
-  run-size : length (bytes_in capture run) ≤ size_of whole
-  run-size = omega (arith, run-length, ap size_of same, sum_by-append width run rest, size-run 0 run is.follows)
-    where
-      size-run : (low : ℕ) (xs : List Interval) → Follows low xs → run_end low xs ≡ low + size_of xs
-      size-run low [] f = omega arith
-      size-run low (x ∷ xs) f = omega (arith, f.0, f.1.some, sum_by-cons width x xs, size-run x.upto xs f.2)
+    pub run-arrived : AreArrived sources 0 0 (length (bytes_in capture run)) (arrivals_in run)
+    run-arrived = rw run-length (run-arrivals (length capture) sources run is.follows run-held in-run)
+
+    run-flow : IsFlow capture sources (bytes_in capture run) (arrivals_in run)
+        (gap_of rest (length (bytes_in capture run)))
+    run-flow = record {
+      run = rw run-length (record {
+        within = is.within;
+        covered = λ o lt. rw (in-run o lt) (run-covers 0 run o is.follows (omega arith) lt);
+        longest = λ lt. past-run (run_end 0 run) (omega arith) lt
+            ∙ rest-before (run_end 0 run) rest (run_end 0 run) is.leaves (omega arith);
+      });
+      bytes_are = λ o lt. rw (in-run o (omega (arith, run-length))) (rw (let e : o - 0 ≡ o = omega arith in e) at
+          (bytes-at capture 0 run o is.follows run-held (omega arith) (omega (arith, run-length))));
+      rises = run-arrived.rises;
+      arrivals_are = λ o lt. run-arrived.each o (omega arith) lt;
+      gap_is = rw run-length gap-is;
+    }
 
   -- a flow of these lays the list out
   pub run-laid : (f : Flow) → IsTrue f.started → bytes_of f ≡ bytes_in capture run → f.arrivals.items ≡ arrivals_in run
       → f.gap ≡ gap_of rest (length (bytes_in capture run)) → IsLaidOut capture whole f
   run-laid f started bytes arrivals gap = record {
     started = started;
-    is_flow = rw (bytes, arrivals, gap) run-flow;
-    within = rw bytes run-size;
-    timely = rw arrivals run-arrived.timely;
+    is_flow = λ sources agree. rw (bytes, arrivals, gap) (run-flow sources agree);
+    timely = rw arrivals (run-arrived (at whole) (λ o lt. refl)).timely;
   }

@@ -1,13 +1,14 @@
 -- On the pieces of a side: what lies apart and brings what they bring makes the side's flow, and so do pieces that
 -- follow each other, laid out as they come.
 use Rattle.tcp_streams.proofs.Words.{◌≡◌, ℕ, ◌<◌, ◌≤◌, List, [], ◌∷◌, None, Some, refl, sym, ◌∙◌, arith, ◌+◌, ◌-◌, ◌^◌}
-use Rattle.tcp_streams.proofs.Words.{◌++◌, length, ap, map, All, IfSome, IsTrue, slice_range, filter_map, lt-ltb}
+use Rattle.tcp_streams.proofs.Words.{◌++◌, length, ap, map, IfSome, IsTrue, slice_range, filter_map, lt-ltb}
 use Rattle.tcp_streams.proofs.Words.{append-nil, map-append, IfSome_then, Side, PayloadsRise, Packet, bytes_of}
 use Rattle.tcp_streams.proofs.Words.{is_sent_by, segment_of, side_segments, source, end_of_offsets, IsAssembled}
 use Rattle.tcp_streams.proofs.Words.{AreCaptured, IsInterval, IsSame, arrival_with, arrivals_after, arrivals_in, at}
-use Rattle.tcp_streams.proofs.Words.{bytes_in, size_of, width, member_piece, piece, Interval, Connection, Arrival, Flow}
+use Rattle.tcp_streams.proofs.Words.{bytes_in, width, member_piece, piece, Interval, Connection, Arrival, Flow}
 use Rattle.tcp_streams.specs.code.Assembled.{IsLaidOut, IsOfCapture}
-use Rattle.tcp_streams.proofs.FlowLemmas.{IsFlow-same, side-fits}
+use Rattle.tcp_streams.proofs.FlowLemmas.{side-fits}
+use Rattle.tcp_streams.proofs.IntervalLemmas.{covered-fit}
 use Rattle.tcp_streams.proofs.Lists.{by_Bool, by_option}
 use Rattle.tcp_streams.proofs.PieceLemmas.{ArePiecesOf, AreRising, found-at, piece-is, pieces-are, stands-at}
 use Rattle.tcp_streams.proofs.RunLemmas.{Follows, IsRunOf, bytes_in-push, run-laid, run_end}
@@ -88,21 +89,17 @@ module _ (initial_number : ℕ) (capture : List ℕ) (packets : List Packet) (co
   piece-inside m x e =
       rw (← e) at (member-inside initial_number (length capture) packets connection side m is.size is.payloads)
 
-  side-pieces : ArePiecesOf initial_number (length capture) 0 (side_segments packets connection side) pieces
+  pub side-pieces : ArePiecesOf initial_number (length capture) 0 (side_segments packets connection side) pieces
   side-pieces = pieces-are initial_number (length capture) is.size packets connection side is.payloads is.times
       is.numbered 0 connection.members.items is.members
 
-  pub side-intervals : All IsInterval pieces
-  side-intervals = side-pieces.intervals
-
-  module _ (intervals : List Interval) (same : IsSame (at intervals) (at pieces))
-      (size : size_of intervals ≤ size_of pieces) where
-    sources-same : IsSame (at intervals) (source initial_number (side_segments packets connection side))
-    sources-same = λ o lt. same o lt ∙ sym (side-pieces.same o lt)
+  module _ (intervals : List Interval) (same : IsSame (at intervals) (at pieces)) where
+    sources-same : IsSame (source initial_number (side_segments packets connection side)) (at intervals)
+    sources-same = λ o lt. side-pieces.same o lt ∙ sym (same o lt)
 
     pub intervals-captured : AreCaptured (length capture) (at intervals)
     intervals-captured = λ o lt.
-        rw (sources-same o lt)
+        rw (← sources-same o lt)
         (IfSome_then (source initial_number (side_segments packets connection side) o) (side-pieces.cited o)
         (λ x cited. cited.1))
 
@@ -110,15 +107,18 @@ module _ (initial_number : ℕ) (capture : List ℕ) (packets : List Packet) (co
     pub assembled : (f : Flow) → IsLaidOut capture intervals f
         → IsAssembled capture packets connection side initial_number f
     assembled f laid =
+        let flow = laid.is_flow _ sources-same in
+        let within = covered-fit (length (bytes_of f)) pieces
+        (λ o lt. rw (side-pieces.same o (omega (arith, flow.run.within))) at (flow.run.covered o lt)) in
         let fits = side-fits packets (length capture) connection side is.payloads is.members in
         let fit = side-pieces.fit in
         record {
           started = laid.started;
-          is_flow = IsFlow-same capture _ _ (bytes_of f) f.arrivals.items f.gap sources-same laid.is_flow;
-          within = omega (arith, fit, laid.within);
+          is_flow = flow;
+          within = omega arith;
           orderly = record {
-            short = omega (arith, fit, fits, laid.within, is.size);
-            rises = laid.is_flow.rises;
+            short = omega (arith, is.size);
+            rises = flow.rises;
             timely = laid.timely;
           };
         }
@@ -129,6 +129,6 @@ module _ (initial_number : ℕ) (capture : List ℕ) (packets : List Packet) (co
   laid-assembled f end laid started none =
       let run : IsRunOf 0 pieces [] =
       record { follows = laid.follows; within = run_end-within 0 pieces (omega arith) laid.follows; leaves = tt } in
-      assembled pieces (λ o lt. refl) (omega arith) f (run-laid capture pieces pieces [] (append-nil pieces) run
-      (intervals-captured pieces (λ o lt. refl) (omega arith)) f started laid.bytes_are
+      assembled pieces (λ o lt. refl) f (run-laid capture pieces pieces [] (append-nil pieces) run
+      (intervals-captured pieces (λ o lt. refl)) f started laid.bytes_are
       (laid.arrivals_are ∙ sym (arrivals-each pieces side-pieces.rise)) none)

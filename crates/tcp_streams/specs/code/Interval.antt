@@ -52,11 +52,10 @@ width x = x.upto - x.from
 abbrev pub size_of : List Interval → ℕ
 size_of xs = sum_by width xs
 
--- they lie apart, bring what the pieces bring, and hold no more
+-- they lie apart, and bring what the pieces bring
 pub record IsSettled (pieces intervals : List Interval) : Type 0 where
   pub spans : Spans 0 intervals (2 ^ 31)
   pub same : IsSame (at intervals) (at pieces)
-  pub size : size_of intervals ≤ size_of pieces
 
 -- the part of an interval between two offsets in it
 abbrev pub part_of : Interval → ℕ → ℕ → Interval

@@ -1,6 +1,6 @@
 use Rattle.tcp_streams.proofs.Words.{length}
 use Rattle.std.proofs.lemmas.Result.{MatchResult-weaker}
-use Rattle.tcp_streams.proofs.Sides.{assembled, intervals-captured, side-intervals}
+use Rattle.tcp_streams.proofs.Sides.{assembled, intervals-captured, side-pieces}
 use Rattle.tcp_streams.proofs.assembly.flow_in_any_order.Goals as goal
 
 pub pieces_of-requires : goal.pieces_of-requires
@@ -8,19 +8,19 @@ pieces_of-requires c = (length c.args.capture.now, c.requires.size, c.requires.p
 
 pub settle-requires : goal.settle-requires
 settle-requires c =
-    rw c.in_ok-pieces.ensures (side-intervals c.args.initial_number c.args.capture.now c.args.packets.now
-    c.args.connection.now c.args.side c.requires)
+    rw c.in_ok-pieces.ensures (side-pieces c.args.initial_number c.args.capture.now c.args.packets.now
+    c.args.connection.now c.args.side c.requires).intervals
 
 pub lay_out-requires-clause-captured : goal.lay_out-requires-clause-captured
 lay_out-requires-clause-captured c =
     let settled = rw c.in_ok-pieces.ensures at c.in_ok-intervals.ensures in
     rw c.deref.ensures.value (intervals-captured c.args.initial_number c.args.capture.now c.args.packets.now
-    c.args.connection.now c.args.side c.requires _ settled.same settled.size)
+    c.args.connection.now c.args.side c.requires _ settled.same)
 
 pub returns : goal.returns
 returns c =
     let settled = rw c.in_ok-pieces.ensures at c.in_ok-intervals.ensures in
     MatchResult-weaker c.lay_out.result c.lay_out.ensures
     (λ f laid. assembled c.args.initial_number c.args.capture.now c.args.packets.now c.args.connection.now c.args.side
-    c.requires _ settled.same settled.size f (rw c.deref.ensures.value at laid))
+    c.requires _ settled.same f (rw c.deref.ensures.value at laid))
     (λ _ u. u)

@@ -34,7 +34,7 @@ returns c =
     let whole = take-append-drop n intervals in
     let run = run-of intervals n c.run_length-count.ensures.run c.requires.spans in
     let arrived = rw (← c.in_ok-pieces.ensures, ← c.in_ok-arrivals.ensures) at
-    (run-arrived c.args.capture.now intervals _ _ whole run c.requires.captured) in
+    (run-arrived c.args.capture.now intervals _ _ whole run c.requires.captured _ (λ o lt. refl)) in
     run-laid c.args.capture.now intervals _ _ whole run c.requires.captured _ refl c.in_ok-pieces.ensures
     c.in_ok-arrivals.ensures (rw (← c.in_ok-pieces.ensures) (elim c.if-count-intervals.branch [
       | then-count-intervals w ↦ w.gap-is ∙ ap Some (w.end_of.ensures _ (rw (← w.deref.ensures.value) at arrived.rises))

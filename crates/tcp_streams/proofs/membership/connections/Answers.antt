@@ -1,4 +1,4 @@
-use Rattle.tcp_streams.proofs.Words.{sym, ◌∙◌, arith, take, take_all, past_of}
+use Rattle.tcp_streams.proofs.Words.{[], sym, ◌∙◌, arith, take, take_all, past_of}
 use Rattle.tcp_streams.proofs.Belongings.{shown-connections, strays-of-past}
 use Rattle.tcp_streams.proofs.Numbered.{Falls-next, connections-members, past_of-few, past_of-more, past_of-passed}
 use Rattle.tcp_streams.proofs.membership.connections.Goals as goal
@@ -17,7 +17,7 @@ loop-index-preserved c =
     elim c.match-segment.branch [
       | in-Some+in_ok-add w ↦ rw (w.table-is, past_of-more packets index _ w.in-Some.ensures.some)
           (w.in_ok-add.ensures _ c.loop-index.invariant
-          (Falls-next packets index _ c.requires.numbered w.in-Some.ensures.some))
+          (Falls-next 1 [] packets index _ c.requires.numbered tt w.in-Some.ensures.some))
       | in_default w ↦ rw (w.table-is, past_of-passed packets index (omega arith) w.in_default.ensures.none)
           c.loop-index.invariant
     ]
