@@ -51,6 +51,8 @@ sides-fit packets size connection rise members =
       members-fit packets 0 0 size connection.members.items rise members,
     )
 
+pub ruleset laws = (sides-fit)
+
 pub side-fits : (packets : List Packet) (size : ℕ) (connection : Connection) (side : Side) → PayloadsRise 0 size packets
     → AreMembers 0 packets connection.members.items
     → payload_sum (side_segments packets connection side) ≤ size

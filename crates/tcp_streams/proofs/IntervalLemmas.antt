@@ -1,9 +1,11 @@
 -- On intervals: the parts between two offsets, and one list of intervals laid over another.
 use Rattle.tcp_streams.proofs.Words.{◌≡◌, ℕ, ◌<◌, ◌≤◌, true, List, [], ◌∷◌, None, Some, refl, ◌∙◌, arith, zero, suc}
-use Rattle.tcp_streams.proofs.Words.{◌+◌, ◌-◌, ◌^◌, ◌++◌, length, drop, take, ap, get_or, ◌⊎◌, inl, inr, All, option_or}
+use Rattle.tcp_streams.proofs.Words.{◌+◌, ◌-◌, ◌^◌, ◌++◌, length, drop, take, ap, get_or, All, option_or}
 use Rattle.tcp_streams.proofs.Words.{nat_tests, take-append-drop, All-head, All-tail, sum_by-cons}
 use Rattle.tcp_streams.proofs.Words.{end_of_offsets, IsInterval, Spans, at, size_of, source_in, width, clipped}
 use Rattle.tcp_streams.proofs.Words.{lie_apart, overlay, Interval}
+use Rattle.tcp_streams.proofs.Words.{if◌then◌else◌, nat_lt, ◌&&◌}
+use Rattle.std.specs.Prelude.{nat_le}
 use Rattle.std.proofs.Common.{min, max}
 use Rattle.tcp_streams.proofs.Words.{IsSome, false≢true}
 use Rattle.tcp_streams.specs.code.Interval.{IsSettled}
@@ -82,29 +84,23 @@ Spans-overlay low (x ∷ kept) later h k =
     (Spans-clipped low low x.from 0 end_of_offsets later k (omega arith) h.0 (omega (arith, h.1.some, h.1.counts)))
     (omega arith, h.1, Spans-overlay x.upto kept later h.2 k)
 
--- between the two offsets the parts bring what the intervals bring
-at-clipped-inside : (low high : ℕ) (ys : List Interval) (o : ℕ) → low ≤ o → o < high
-    → at (clipped low high ys) o ≡ at ys o
-at-clipped-inside low high [] o a b = refl
-at-clipped-inside low high (y ∷ ys) o a b = grind (arith, nat_tests, at-clipped-inside low high ys o a b)
-
--- outside they bring nothing
-at-clipped-outside : (low high : ℕ) (ys : List Interval) (o : ℕ) → (o < low) ⊎ (high ≤ o)
-    → at (clipped low high ys) o ≡ None
-at-clipped-outside low high [] o out = refl
-at-clipped-outside low high (y ∷ ys) o out = grind (arith, nat_tests, at-clipped-outside low high ys o out)
+-- between the two offsets the parts bring what the intervals bring, and outside nothing
+at-clipped : (low high : ℕ) (ys : List Interval) (o : ℕ)
+    → at (clipped low high ys) o ≡ (if nat_le low o && nat_lt o high then at ys o else None)
+at-clipped low high [] o = grind arith
+at-clipped low high (y ∷ ys) o = grind (arith, nat_tests, at-clipped low high ys o)
 
 -- before low it brings nothing
 overlay-before : (low : ℕ) (kept later : List Interval) (o : ℕ) → Spans low kept end_of_offsets → o < low
     → at (overlay kept later low) o ≡ None
-overlay-before low [] later o h lt = at-clipped-outside low end_of_offsets later o (inl lt)
+overlay-before low [] later o h lt = grind (arith, nat_tests, at-clipped low end_of_offsets later o)
 overlay-before low (x ∷ kept) later o h lt =
     let after = overlay kept later x.upto in
     grind (
       arith,
       nat_tests,
       at-append (clipped low x.from later) (x ∷ after) o,
-      at-clipped-outside low x.from later o (inl lt),
+      at-clipped low x.from later o,
       overlay-before x.upto kept later o h.2 (omega (arith, h.0, h.1.some)),
     )
 
@@ -112,14 +108,13 @@ overlay-before low (x ∷ kept) later o h lt =
 at-overlay : (low : ℕ) (kept later : List Interval) (o : ℕ) → Spans low kept end_of_offsets → low ≤ o
     → o < end_of_offsets
     → at (overlay kept later low) o ≡ option_or (at kept o) (at later o)
-at-overlay low [] later o h a b = at-clipped-inside low end_of_offsets later o a b
+at-overlay low [] later o h a b = grind (arith, nat_tests, at-clipped low end_of_offsets later o)
 at-overlay low (x ∷ kept) later o h a b =
     grind (
       arith,
       nat_tests,
       at-append (clipped low x.from later) (x ∷ overlay kept later x.upto) o,
-      at-clipped-inside low x.from later o a,
-      (λ (over : x.from ≤ o). at-clipped-outside low x.from later o (inr over)),
+      at-clipped low x.from later o,
       overlay-before x.upto kept later o h.2,
       (λ (lt : o < x.upto). Spans-before x.upto end_of_offsets kept o lt h.2),
       (λ (le : x.upto ≤ o). at-overlay x.upto kept later o h.2 le b),

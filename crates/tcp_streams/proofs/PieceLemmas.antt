@@ -81,6 +81,8 @@ byte-has-offset initial_number s k le lt =
     ≡ k = round-trip (s.seq + (if s.syn then 1 else 0)) initial_number k (omega arith) in
     rw (at, lt-ltb k (payload_length s) lt)
 
+pub ruleset laws = (byte-has-offset)
+
 -- the segment stands in the capture, in a record after this one, and its time is a capture's
 record IsSound (size low : ℕ) (s : Segment) : Type 0 where
   stands : StandsIn size s
