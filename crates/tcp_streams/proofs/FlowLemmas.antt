@@ -51,8 +51,6 @@ sides-fit packets size connection rise members =
       members-fit packets 0 0 size connection.members.items rise members,
     )
 
-pub ruleset laws = (sides-fit)
-
 pub side-fits : (packets : List Packet) (size : ℕ) (connection : Connection) (side : Side) → PayloadsRise 0 size packets
     → AreMembers 0 packets connection.members.items
     → payload_sum (side_segments packets connection side) ≤ size
@@ -168,3 +166,5 @@ flows-fit packets size found numbered rise same =
       members-sum _ past (Falls-past_after 1 [] packets numbered tt) past,
       past-sum 0 size [] packets rise,
     )
+
+pub ruleset laws = (sides-fit)

@@ -23,8 +23,7 @@ pub record StandsIn (size : ℕ) (s : Segment) : Type 0 where
 
 -- an interval of a segment's payload
 pub record IsPieceOf (s : Segment) (x : Interval) : Type 0 where
-  pub some : x.from < x.upto
-  pub counts : x.upto ≤ end_of_offsets
+  pub interval : IsInterval x
   pub first : s.lo ≤ x.index
   pub within : x.index + (x.upto - x.from) ≤ s.hi
   pub rec_is : x.rec ≡ s.rec
@@ -36,11 +35,16 @@ distance-past st o a b c = omega arith
 distance-before : (st o : ℕ) → st < 2 ^ 32 → o < st → (o + (2 ^ 32 - st)) % 2 ^ 32 ≡ o + (2 ^ 32 - st)
 distance-before st o a b = omega arith
 
-stretch-is : (s : Segment) (skipped from upto : ℕ) → upto ≤ end_of_offsets
+stretch-is : (s : Segment) (skipped from upto : ℕ) → s.hi < 2 ^ 31 → upto ≤ end_of_offsets
     → (from < upto → s.lo + skipped + (upto - from) ≤ s.hi) → IfSome (stretch s skipped from upto) (IsPieceOf s)
-stretch-is s skipped from upto counts within =
+stretch-is s skipped from upto short counts within =
     by_lt from upto
-    (λ e lt. rw e (record { some = lt; counts = counts; first = omega arith; within = within lt; rec_is = refl }))
+    (λ e lt. rw e (record {
+      interval = record { some = lt; counts = counts; room = omega (arith, within lt) };
+      first = omega arith;
+      within = within lt;
+      rec_is = refl;
+    }))
     (λ e _. rw e tt)
 
 -- what a payload's byte at this distance from the first brings
@@ -60,8 +64,8 @@ module _ (initial_number size : ℕ) (small : size < 2 ^ 31) (s : Segment) (stan
   piece-is =
       let low : start_of initial_number s < 2 ^ 32 = omega arith in
       by_lt (start_of initial_number s) end_of_offsets
-      (λ e below. rw e (stretch-is s 0 _ _ (omega arith) (λ some. omega arith)))
-      (λ e above. rw e (stretch-is s _ 0 _ (omega arith) (λ some. omega arith)))
+      (λ e below. rw e (stretch-is s 0 _ _ (omega (arith, stands.within)) (omega arith) (λ some. omega arith)))
+      (λ e above. rw e (stretch-is s _ 0 _ (omega (arith, stands.within)) (omega arith) (λ some. omega arith)))
 
   -- the piece of a segment brings what the segment brings
   pub piece-same : IsSame (brings initial_number s) (at (option_to_list (piece initial_number s)))
@@ -154,9 +158,7 @@ module _ (initial_number size : ℕ) (small : size < 2 ^ 31) where
       same = λ o lt. first o ∙ rw (same o lt) (are.same o lt);
     }
     one_more (Some x) is same = record {
-      intervals =
-          let room : x.index + (x.upto - x.from) < 2 ^ 32 = omega (arith, is.within, sound.stands.within) in
-          All-cons IsInterval x rest (record { some = is.some; counts = is.counts; room = room }) are.intervals;
+      intervals = All-cons IsInterval x rest is.interval are.intervals;
       fit = omega (arith, is.first, is.within, are.fit, sum_by-cons payload_length s later, sum_by-cons width x rest);
       rise = (omega (arith, is.rec_is, sound.after), rw is.rec_is are.rise);
       cited = cited;

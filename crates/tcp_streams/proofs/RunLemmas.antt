@@ -10,6 +10,7 @@ use Rattle.tcp_streams.proofs.Words.{bytes_in, run_length, size_of, source_in, w
 use Rattle.tcp_streams.proofs.Words.{Flow, IsSame, IsTrue, bytes_of, common_steps, filter_map-append}
 use Rattle.tcp_streams.specs.Sequence.{later_of}
 use Rattle.tcp_streams.specs.code.Assembled.{IsLaidOut}
+use Rattle.tcp_streams.specs.code.Interval.{IsInside}
 use Rattle.tcp_streams.proofs.IntervalLemmas.{Spans-before, at-append, at-in, at-past}
 use Rattle.tcp_streams.proofs.Lists.{by_lt, length-slice_range, slice_get-left, slice_get-right, slice_get-slice_range}
 
@@ -70,7 +71,7 @@ or-some p q h = grind arith
 
 -- an interval of bytes of the capture, in a record with a number and a time
 pub record IsHeld (size : ℕ) (x : Interval) : Type 0 where
-  pub within : x.index + (x.upto - x.from) ≤ size
+  pub inside : IsInside size x
   pub numbered : 0 < x.rec
   pub timely : x.nanos < 2 ^ 63
 
@@ -82,7 +83,11 @@ held size low (x ∷ xs) f h =
     let end = h (x.upto - 1) (omega (arith, f.0, f.1.some)) (omega (arith, f.1.some, run_end-after x.upto xs f.2)) in
     let last = rw (at-in x xs (x.upto - 1) (omega (arith, f.1.some)) (omega (arith, f.1.some))) at end in
     All-cons (IsHeld size) x xs
-    (record { within = omega (arith, f.1.some, last.0); numbered = last.1; timely = last.2 })
+    (record {
+      inside = record { interval = f.1; captured = omega (arith, f.1.some, last.0) };
+      numbered = last.1;
+      timely = last.2;
+    })
     (held size x.upto xs f.2 (λ o a b. rw (at-past x xs o a) at (h o (omega (arith, f.0, f.1.some)) b)))
 
 -- an interval's bytes
@@ -101,10 +106,7 @@ length-part : (capture : List ℕ) (x : Interval) → x.index + (x.upto - x.from
 length-part capture x h = omega (arith, length-slice_range capture x.index (x.index + width x) (omega arith) h)
 
 module _ (capture : List ℕ) where
-  abbrev AreHeld : List Interval → Type 0
-  AreHeld run = All (IsHeld (length capture)) run
-
-  length-bytes_in : (low : ℕ) (run : List Interval) → Follows low run → AreHeld run
+  length-bytes_in : (low : ℕ) (run : List Interval) → Follows low run → All (IsHeld (length capture)) run
       → low + length (bytes_in capture run) ≡ run_end low run
   length-bytes_in low [] f h = omega arith
   length-bytes_in low (x ∷ xs) f h = omega (
@@ -112,16 +114,16 @@ module _ (capture : List ℕ) where
     f.0,
     f.1.some,
     length-append (part capture x) (bytes_in capture xs),
-    length-part capture x (All-head (IsHeld (length capture)) x xs h).within,
+    length-part capture x (All-head (IsHeld (length capture)) x xs h).inside.captured,
     length-bytes_in x.upto xs f.2 (All-tail (IsHeld (length capture)) x xs h),
   )
 
   -- each byte is the capture's at its index
-  bytes-at : (low : ℕ) (run : List Interval) (o : ℕ) → Follows low run → AreHeld run → low ≤ o → o < run_end low run
+  bytes-at : (low : ℕ) (run : List Interval) (o : ℕ) → Follows low run → All (IsHeld (length capture)) run → low ≤ o → o < run_end low run
       → IsSomeAnd (at run o) (λ (s : Source). slice_get capture s.index ≡ slice_get (bytes_in capture run) (o - low))
   bytes-at low [] o f h a b = absurd (omega (arith, a, b))
   bytes-at low (x ∷ xs) o f h a b =
-      let size = length-part capture x (All-head (IsHeld (length capture)) x xs h).within in
+      let size = length-part capture x (All-head (IsHeld (length capture)) x xs h).inside.captured in
       by_lt o x.upto
       (λ _ lt. rw (
         at-in x xs o (omega (arith, f.0)) lt,
@@ -242,8 +244,8 @@ module _ (capture : List ℕ) (whole run rest : List Interval) (same : run ++ re
   run-held = held (length capture) 0 run is.follows
       (λ o le lt. rw (here o lt) at (captured o (omega (arith, is.within))))
 
-  pub run-in_capture : All (λ (x : Interval). x.index + (x.upto - x.from) ≤ length capture) run
-  run-in_capture = All-weaker (IsHeld (length capture)) _ (λ x is. is.within) run run-held
+  pub run-inside : All (IsInside (length capture)) run
+  run-inside = All-weaker (IsHeld (length capture)) _ (λ x is. is.inside) run run-held
 
   run-length : length (bytes_in capture run) ≡ run_end 0 run
   run-length = omega (arith, length-bytes_in capture 0 run is.follows run-held)

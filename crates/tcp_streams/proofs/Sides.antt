@@ -1,6 +1,7 @@
 -- On the pieces of a side: what lies apart and brings what they bring makes the side's flow, and so do pieces that
 -- follow each other, laid out as they come.
 use Rattle.tcp_streams.proofs.Words.{◌≡◌, ℕ, ◌<◌, ◌≤◌, List, [], ◌∷◌, None, Some, refl, sym, ◌∙◌, arith, ◌+◌, ◌-◌, ◌^◌}
+use Rattle.tcp_streams.specs.code.Interval.{IsInside}
 use Rattle.tcp_streams.proofs.Words.{◌++◌, length, ap, map, IfSome, IsTrue, slice_range, filter_map, lt-ltb}
 use Rattle.tcp_streams.proofs.Words.{append-nil, map-append, IfSome_then, Side, PayloadsRise, Packet, bytes_of}
 use Rattle.tcp_streams.proofs.Words.{is_sent_by, segment_of, side_segments, source, end_of_offsets, IsAssembled}
@@ -13,11 +14,6 @@ use Rattle.tcp_streams.proofs.Lists.{by_Bool, by_option}
 use Rattle.tcp_streams.proofs.PieceLemmas.{ArePiecesOf, AreRising, found-at, piece-is, pieces-are, stands-at}
 use Rattle.tcp_streams.proofs.RunLemmas.{Follows, IsRunOf, bytes_in-push, run-laid, run_end}
 
--- an interval of bytes of the capture
-pub record IsInside (size : ℕ) (x : Interval) : Type 0 where
-  pub interval : IsInterval x
-  pub captured : x.index + (x.upto - x.from) ≤ size
-
 -- the piece of a member lies in the capture
 member-inside : (initial_number size : ℕ) (packets : List Packet) (connection : Connection) (side : Side) (m : ℕ)
     → size < 2 ^ 31 → PayloadsRise 0 size packets
@@ -29,10 +25,7 @@ member-inside initial_number size packets connection side m small rise =
     let stands = stands-at size packets (m - 1) s rise (found-at packets m s e) in
     rw e (by_Bool (is_sent_by connection side s)
     (λ sent. rw sent (IfSome_then (piece initial_number s) (piece-is initial_number size small s stands)
-    (λ x is. record {
-      interval = record { some = is.some; counts = is.counts; room = omega (arith, is.within, stands.within) };
-      captured = omega (arith, is.within, stands.within);
-    })))
+    (λ x is. record { interval = is.interval; captured = omega (arith, is.within, stands.within) })))
     (λ other. rw other tt)))
 
 -- pieces in order of record bring an arrival each

@@ -4,7 +4,7 @@ ghost use Rattle.std.specs.Prelude.{◌≡◌, ◌+◌, ◌-◌, ◌<◌, ◌≤
 ghost use Rattle.std.specs.List.{slice_range};
 ghost use Rattle.tcp_streams.specs.Bytes.{joined};
 ghost use Rattle.tcp_streams.specs.code.Assembled.{IsAssembled, IsOfCapture};
-ghost use Rattle.tcp_streams.specs.code.Interval.{IsInterval, arrival_with, width};
+ghost use Rattle.tcp_streams.specs.code.Interval.{IsInside, arrival_with, width};
 
 use crate::interval::Interval;
 use crate::layout::arrival_with;
@@ -28,8 +28,7 @@ struct Laid<'a> {
 impl<'a> Laid<'a> {
     /// Adds an interval of the capture, and when its bytes arrived.
     fn add(&mut self, capture: &Capture<'a>, x: &Interval) -> Result<(), AllocError>
-        requires interval { IsInterval x.now }
-        requires captured { x.now.index + (x.now.upto - x.now.from) ≤ length capture.now }
+        requires { IsInside (length capture.now) x.now }
         ensures bytes { OnOk result (joined self.new.pieces.items ≡ joined self.old.pieces.items
             ++ slice_range capture.now x.now.index (x.now.index + width x.now)) }
         ensures arrivals { OnOk result (self.new.arrivals.items ≡ self.old.arrivals.items ++ arrival_with x.now ∷ []) }

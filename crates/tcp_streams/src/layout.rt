@@ -1,9 +1,8 @@
 ghost use Rattle.std.specs.Prelude.{◌≡◌, ◌+◌, ◌-◌, ◌<◌, ◌≤◌, ◌^◌, length, All, IfOk};
 ghost use Rattle.tcp_streams.specs.Bytes.{joined};
 ghost use Rattle.tcp_streams.specs.code.Assembled.{IsLaidOut};
-ghost use Rattle.tcp_streams.specs.code.Interval.{AreCaptured, IsInterval, Spans, arrival_with, arrivals_in, at};
+ghost use Rattle.tcp_streams.specs.code.Interval.{AreCaptured, IsInside, Spans, arrival_with, arrivals_in, at};
 ghost use Rattle.tcp_streams.specs.code.Interval.{bytes_in, run_length};
-ghost use Rattle.tcp_streams.specs.declared.interval.Interval.{Interval as Held};
 
 use crate::interval::Interval;
 use crate::streams::{Arrival, Flow, end_of};
@@ -58,8 +57,7 @@ fn pieces_in<'a>(
     capture: &Capture<'a>,
     run: &[Interval],
 ) -> Result<Vec<&'a [u8]>, AllocError>
-    requires intervals { All IsInterval run.now }
-    requires captured { All (λ (x : Held). x.index + (x.upto - x.from) ≤ length capture.now) run.now }
+    requires { All (IsInside (length capture.now)) run.now }
     ensures { IfOk result (λ v. joined v.items ≡ bytes_in capture.now run.now) }
 {
     let mut pieces = Vec::with_capacity(alloc, run.len())?;

@@ -19,6 +19,11 @@ pub record IsInterval (x : Interval) : Type 0 where
   pub counts : x.upto ≤ end_of_offsets
   pub room : x.index + (x.upto - x.from) < 2 ^ 32
 
+-- an interval of bytes of a capture of this size
+pub record IsInside (size : ℕ) (x : Interval) : Type 0 where
+  pub interval : IsInterval x
+  pub captured : x.index + (x.upto - x.from) ≤ size
+
 abbrev pub holds : Interval → ℕ → Bool
 holds x o = nat_le x.from o && nat_lt o x.upto
 

@@ -9,9 +9,8 @@ piece_of_member-requires c = (length c.args.capture.now, c.requires.size, c.requ
 
 pub add-requires : goal.add-requires
 add-requires c =
-    let is = piece-inside c.args.initial_number c.args.capture.now c.args.packets.now c.args.connection.now c.args.side
-    c.requires _ _ c.in-Some.ensures in
-    record { interval = is.interval; captured = is.captured }
+    piece-inside c.args.initial_number c.args.capture.now c.args.packets.now c.args.connection.now c.args.side
+    c.requires _ _ c.in-Some.ensures
 
 pub loop-member-preserved : goal.loop-member-preserved
 loop-member-preserved c =

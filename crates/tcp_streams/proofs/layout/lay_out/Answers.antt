@@ -1,7 +1,7 @@
-use Rattle.tcp_streams.proofs.Words.{◌≡◌, ℕ, ◌<◌, List, [], ◌∷◌, Some, refl, sym, ◌∙◌, arith, length, drop, ap, All}
-use Rattle.tcp_streams.proofs.Words.{take-append-drop, All-nil, All-cons, joined, IsInterval, Interval, Spans, run_length, take, ◌^◌}
+use Rattle.tcp_streams.proofs.Words.{◌≡◌, ℕ, ◌<◌, List, [], ◌∷◌, Some, refl, sym, ◌∙◌, arith, length, drop, ap}
+use Rattle.tcp_streams.proofs.Words.{take-append-drop, joined, Interval, Spans, run_length, take, ◌^◌}
 use Rattle.std.proofs.lemmas.List.{at_drop_all, at_drop_more}
-use Rattle.tcp_streams.proofs.RunLemmas.{Follows, IsRunOf, gap_of, run-in_capture, run-is, run-arrived, run-laid}
+use Rattle.tcp_streams.proofs.RunLemmas.{IsRunOf, gap_of, run-inside, run-is, run-arrived, run-laid}
 use Rattle.tcp_streams.proofs.layout.lay_out.Goals as goal
 use Rattle.tcp_streams.proofs.layout.lay_out.Goals.{then-count-intervals, else-count-intervals}
 
@@ -10,22 +10,14 @@ run-of : (intervals : List Interval) (n : ℕ) → n ≡ run_length 0 intervals 
     → IsRunOf 0 (take n intervals) (drop n intervals)
 run-of intervals n is spans = rw is (run-is 0 intervals spans)
 
-all-follow : (low : ℕ) (run : List Interval) → Follows low run → All IsInterval run
-all-follow low [] f = All-nil IsInterval
-all-follow low (x ∷ xs) f = All-cons IsInterval x xs f.1 (all-follow x.upto xs f.2)
-
 gap_of-some : (xs : List Interval) (k n : ℕ) → k < length xs → gap_of (drop k xs) n ≡ Some n
 gap_of-some [] k n lt = absurd (omega arith)
 gap_of-some (x ∷ xs) k n lt = at_drop_more (λ l. gap_of l n) (x ∷ xs) k x lt
 
 pub pieces_in-requires : goal.pieces_in-requires
 pieces_in-requires c =
-    let run = run-of c.args.intervals.now _ c.run_length-count.ensures.run c.requires.spans in
-    record {
-      intervals = all-follow 0 _ run.follows;
-      captured = run-in_capture c.args.capture.now c.args.intervals.now _ _
-          (take-append-drop c.run_length-count.result _) run c.requires.captured;
-    }
+    run-inside c.args.capture.now c.args.intervals.now _ _ (take-append-drop c.run_length-count.result _)
+    (run-of c.args.intervals.now _ c.run_length-count.ensures.run c.requires.spans) c.requires.captured
 
 pub returns : goal.returns
 returns c =
