@@ -7,14 +7,13 @@ use Rattle.std.specs.Io.KnownBytes.{Consumes, IsAtEnd}
 use Rattle.std.proofs.KnownBytes.{Consumes-more, Consumes-nil, Consumes-trans}
 use Rattle.std.proofs.Math.Seq.{drop-length}
 use Rattle.std.proofs.Transfers.{starts_with_of_eq, starts_with_trans}
-use Rattle.std.proofs.lemmas.Bool.{cases_lt}
 use Rattle.std.proofs.lemmas.List.{append-nil, append_assoc, nil_from_length, take_all}
 use Rattle.input_output.specs.code.Front.{Lasts}
-use Rattle.input_output.specs.Account.{HaveGiven, OfGiven, kept}
+use Rattle.input_output.specs.Account.{HaveGiven, IsReadToEnd, kept}
 use Rattle.input_output.specs.code.Reading.{HasConsumed, HasPassed, HasReadOnce, IsSound}
 use Rattle.input_output.specs.code.Reads.{HasRead}
 use Rattle.input_output.specs.declared.capture_reader.CaptureReader.{CaptureReader}
-use Rattle.input_output.specs.declared.capture_reader.ReadState.TheVariants.{Open}
+use Rattle.input_output.specs.declared.capture_reader.ReadState.TheVariants.{Open, Ended}
 
 module _ {R : Type 0} where
   -- where nothing was passed over the reads gave what is kept
@@ -89,26 +88,26 @@ module _ {R : Type 0} where
 
   -- at the end the reads gave all of the reader's bytes, or 2^31 of them
   pub gave_front : (a b : Option (List ℕ)) (reader : CaptureReader R) (given : List ℕ) → HaveGiven reader given
-      → Consumes a b given → length (kept reader) + reader.passed ≤ 2 ^ 31
-      → (length (kept reader) + reader.passed < 2 ^ 31 → IsAtEnd b)
-      → IfSome a (λ all. HaveGiven reader (take (2 ^ 31) all))
-  gave_front None b reader given gave is limit ends = tt
-  gave_front (Some all) None reader given gave is limit ends = absurd is
-  gave_front (Some all) (Some rest) reader given gave is limit ends =
+      → Consumes a b given → IsSound reader → (reader.state ≡ Open → length (kept reader) + reader.passed ≡ 2 ^ 31)
+      → (reader.state ≡ Ended → IsAtEnd b) → IfSome a (λ all. HaveGiven reader (take (2 ^ 31) all))
+  gave_front None b reader given gave is sound whole ends = tt
+  gave_front (Some all) None reader given gave is sound whole ends = absurd is
+  gave_front (Some all) (Some rest) reader given gave is sound whole ends =
       let size = given_size reader given gave in
-      let front : take (2 ^ 31) all ≡ given = elim (cases_lt (length given) (2 ^ 31)) [
-        | inl short ↦
-            let whole : all ≡ given =
-            is ∙ ap (λ r. given ++ r) (ends (omega (arith, size, short))) ∙ append-nil given in
-            ap (take (2 ^ 31)) whole ∙ take_all (2 ^ 31) given (omega (arith, short))
-        | inr long ↦ ap (take (2 ^ 31)) is ∙ take_at given rest (2 ^ 31) (omega (arith, size, limit, long))
+      let front : take (2 ^ 31) all ≡ given = elim sound.well [
+        | inl unended ↦ ap (take (2 ^ 31)) is ∙ take_at given rest (2 ^ 31) (omega (arith, size, whole unended))
+        | inr ended ↦
+            ap (take (2 ^ 31)) (is ∙ ap (λ r. given ++ r) (ends ended) ∙ append-nil given)
+            ∙ take_all (2 ^ 31) given (omega (arith, size, sound.limit))
       ] in
       subst (HaveGiven reader) (sym front) gave
 
-  -- and as many
-  pub gave_all : (reader : CaptureReader R) → length (kept reader) + reader.passed ≡ 2 ^ 31
-      → OfGiven reader (λ given. length given ≡ 2 ^ 31)
-  gave_all reader full given gave = given_size reader given gave ∙ full
+  pub read_to_end : (reader : CaptureReader R) → IsSound reader
+      → (reader.state ≡ Open → length (kept reader) + reader.passed ≡ 2 ^ 31) → IsReadToEnd reader
+  read_to_end reader sound whole = elim sound.well [
+    | inl unended ↦ inr (unended, λ given gave. given_size reader given gave ∙ whole unended)
+    | inr ended ↦ inl ended
+  ]
 
 -- a walk that stands of some bytes stands of more
 pub walk_lasts : {W : Type 0} (stands : List ℕ → W → Type 0) (whole first later : List ℕ) (walk : W) → whole ≡ first
