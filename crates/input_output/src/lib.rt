@@ -29,8 +29,8 @@
 //! so no answer depends on the key: no contract of a table names it.
 //!
 //! Wrong bodies that the prover refuses: a read or a write that is told to have filled or taken all; a reading that
-//! ends at half of 2^31 bytes; a range that ends with its first part. Tested, in `crate_tests`: which calls readers and
-//! writers get. Trusted: that a file or a pipe gives and keeps its bytes.
+//! ends at half of 2^31 bytes; a capture without half of its last part; a range that ends with its first part. Tested,
+//! in `crate_tests`: which calls readers and writers get. Trusted: that a file or a pipe gives and keeps its bytes.
 #![tactic(auto)]
 
 mod capture_reader;

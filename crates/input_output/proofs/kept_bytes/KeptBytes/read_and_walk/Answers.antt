@@ -41,10 +41,12 @@ returns-in-Ok-clause-read g c =
 
 pub returns-in-Ok-clause-walk : goal.returns-in-Ok-clause-walk
 returns-in-Ok-clause-walk g c = on_ok_weaker c.read_beside-read.result.1
-    (walk_lasts g.W.FrontWalk.stands _ _ _ _ (ap (λ full. joined (map (λ part. part.items) full)) c.deref.ensures.value))
+    (walk_lasts g.W.FrontWalk.stands _ _ _ _
+    (ap (λ full. joined (map (λ part. part.items) full)) c.deref.ensures.value))
     c.read_beside-read.ensures.walk
 
 pub returns-in-Err-clause-walk : goal.returns-in-Err-clause-walk
 returns-in-Err-clause-walk g c = on_ok_weaker c.read_beside-read.result.1
-    (walk_lasts g.W.FrontWalk.stands _ _ _ _ (ap (λ full. joined (map (λ part. part.items) full)) c.deref.ensures.value))
+    (walk_lasts g.W.FrontWalk.stands _ _ _ _
+    (ap (λ full. joined (map (λ part. part.items) full)) c.deref.ensures.value))
     c.read_beside-read.ensures.walk
