@@ -1,22 +1,23 @@
 -- The stops of a desk one by one, that the board of a closed desk is settled, and its parts in the order of their jobs.
-use Rattle.stop_desk.proofs.Words.{All, All-contains, All-map, BoardPart, Bool, ClosedView, Contains, ⊎_elim}
+use Rattle.stop_desk.proofs.Words.{All, All-contains, All-map, BoardPart, Bool, ClosedView, Contains}
 use Rattle.stop_desk.proofs.Words.{Contains-permutation, DeskId, IsAllWorked, IsAtMost, IsConnection, IsDeskSettled}
 use Rattle.stop_desk.proofs.Words.{IsGiven, IsLeast, IsLeastOnDesk, IsNonDecreasingBy, IsPartOf, IsPermutation}
 use Rattle.stop_desk.proofs.Words.{IsPermutation-map, IsPermutation-sym, IsSettled, IsStop, Job, List, None, Option}
 use Rattle.stop_desk.proofs.Words.{Part, PassView, Some, [], ap, arith, board_with, cases_lt, closed_of, cond_both}
 use Rattle.stop_desk.proofs.Words.{count_by, drop, eqb-true, final_stop, get_or, get_or-drop, get_or-map}
 use Rattle.stop_desk.proofs.Words.{get_or-map-range_with_len, get_or-range_with_len, get_or_from_slice_get, get_or_past}
-use Rattle.stop_desk.proofs.Words.{if◌then◌else◌, inl, inr, length, length-drop, length-map, length-map-range_with_len}
-use Rattle.stop_desk.proofs.Words.{length-range_with_len, ltb-true, map, marks, nat_tests, opening_stop, part_of}
-use Rattle.stop_desk.proofs.Words.{parts_of, past_places, place_at, range_with_len, refl, slice_get, slice_get_within}
-use Rattle.stop_desk.proofs.Words.{stop_of, subst, suc, sum_by-IsPermutation, sym, zero, ℕ, ◌+◌, ◌<◌, ◌==◌, ◌∙◌, ◌∷◌}
-use Rattle.stop_desk.proofs.Words.{◌≡◌, ◌≤◌, ◌⊎◌}
+use Rattle.stop_desk.proofs.Words.{if◌then◌else◌, inl, inr, length, length-drop, length-map}
+use Rattle.stop_desk.proofs.Words.{length-map-range_with_len, length-range_with_len, ltb-true, map, marks, nat_tests}
+use Rattle.stop_desk.proofs.Words.{opening, opening_stop, part_of, parts_of, past_places, place_at, range_with_len}
+use Rattle.stop_desk.proofs.Words.{refl, slice_get, slice_get_within, stop_of, stops, subst, suc, sum_by-IsPermutation}
+use Rattle.stop_desk.proofs.Words.{sym, zero, ℕ, ⊎_elim, ◌+◌, ◌<◌, ◌==◌, ◌∙◌, ◌∷◌, ◌≡◌, ◌≤◌, ◌⊎◌}
 use Rattle.std.proofs.lemmas.List.Folds.{fold-map}
 use Rattle.stop_desk.specs.code.Crew.{opening_stops, last_stops_from, last_stops, IsDone}
 use Rattle.stop_desk.specs.code.Settling.{HasSettled}
 use Rattle.stop_desk.specs.declared.settling.Settled.{Settled}
 use Rattle.stop_desk.proofs.RoundMembers.{contains-none, contains-first, contains-later, contains-cases, map-contains}
 use Rattle.stop_desk.proofs.RoundMembers.{contains-here, contains-got, contains-map, count-cons, count-some, some-count}
+use Rattle.stop_desk.proofs.RoundSteps.{least-some}
 
 -- marks counted, and marks in a list
 contains-marks : (c p : ℕ) (ms : List (ℕ × ℕ)) → Contains ms (c, p) → 0 < marks c p ms
@@ -94,23 +95,19 @@ module _ {M : Type 0} (makes : ℕ → Option ℕ → M → Type 0) (jobs : List
       subst (λ (p : BoardPart). (job : Job) × (slice_get jobs p.job ≡ Some job) × IsPartOf last.seen last.lowered job p)
       is (l.job, l.is_job, l.of_job)
 
-  given-from : (c p : ℕ) → IsConnection desk c → (opening_stop desk c ≡ Some p) ⊎ (0 < marks c p last.lowered) →
+  given-there : (c p : ℕ) → IsConnection desk c → (opening_stop desk c ≡ Some p) ⊎ (0 < marks c p last.lowered) →
       Given c p
-  given-from c p there (inl e) = inl (opening-at desk c there ∙ e)
-  given-from c p there (inr k) = inr (marks-contains c p last.lowered k)
-
-  given-there : (c p : ℕ) → IsConnection desk c → Given c p →
-      (opening_stop desk c ≡ Some p) ⊎ (0 < marks c p last.lowered)
-  given-there c p there (inl e) = inl (sym (opening-at desk c there) ∙ e)
-  given-there c p there (inr k) = inr (contains-marks c p last.lowered k)
+  given-there c p there (inl e) = inl (opening-at desk c there ∙ e)
+  given-there c p there (inr k) = inr (marks-contains c p last.lowered k)
 
   least-there : (c : ℕ) → IsConnection desk c → (stop : Option ℕ) → IsLeastOnDesk desk last.lowered c stop →
       IsLeast (Given c) stop
-  least-there c there None l = λ place given. grind (arith, given-there c place there given, l.0, l.1 place)
+  least-there c there None l =
+      λ place given. grind (arith, opening-at desk c there, contains-marks c place last.lowered, l.0, l.1 place)
   least-there c there (Some q) l = (
-    given-from c q there l.2,
-    λ place given. ⊎_elim (λ e. at_most q (opening_stop desk c) place e l.0) (l.1 place)
-        (given-there c place there given),
+    given-there c q there l.2,
+    λ place given. ⊎_elim (λ e. at_most q (opening_stop desk c) place (sym (opening-at desk c there) ∙ e) l.0)
+        (λ k. l.1 place (contains-marks c place last.lowered k)) given,
   )
 
   -- of no other connection is there a place
@@ -135,7 +132,7 @@ module _ {M : Type 0} (makes : ℕ → Option ℕ → M → Type 0) (jobs : List
       parts_of_jobs = parts-are;
       lowered_real = h.0.lowered_real;
       seen_given = λ c p k.
-          given-from c p (h.0.seen_there c p k) (s.given c p (contains-marks c p last.seen k));
+          given-there c p (h.0.seen_there c p k) (s.given c p (contains-marks c p last.seen k));
       stops_least = least;
     };
     made = λ part k. (let l = h.0.laid part k in (l.in_round, l.made));
@@ -164,27 +161,27 @@ module _ {X : Type 0} (number : X → ℕ) where
   in-turn first (suc count) (x ∷ xs) rise among once =
       rw head (ap (λ ns. first ∷ ns) (in-turn (first + 1) count xs
       (λ i j d le lt. rise (suc i) (suc j) d (omega arith) (omega arith)) later once-later)) where
-        one : count_by (has first) (x ∷ xs) ≡ 1
-        one = once first (omega arith) (omega arith)
-
         -- the one with the least number is not before the first
         head : number x ≡ first
         head =
-            let (y, (k, lt, at), is) = count-some (has first) (x ∷ xs) (let o = one in omega arith) in
-            let least = rise 0 k y (omega arith) lt in
-            let same = ap number at ∙ eqb-true (number y) first is in
-            let bounds = among x (contains-here x xs) in
-            omega arith
-
-        later : (y : X) → Contains xs y → (first + 1 ≤ number y) × (number y < first + 1 + count)
-        later y k =
-            let bounds = among y (contains-later x xs y k) in
-            grind (arith, nat_tests, head, one, count-cons (has first) x xs, some-count (has first) xs y k)
+            let once = once first (omega arith) (omega arith) in
+            let (y, (k, lt, at), is) = count-some (has first) (x ∷ xs) (omega arith) in
+            grind (arith, nat_tests, rise 0 k y (omega arith) lt, ap number at, eqb-true (number y) first is, among x (contains-here x xs))
 
         once-later : (n : ℕ) → first + 1 ≤ n → n < first + 1 + count → count_by (has n) xs ≡ 1
         once-later n low high =
-            let o = once n (omega arith) (omega arith) in
-            grind (arith, nat_tests, head, count-cons (has n) x xs)
+            grind (arith, nat_tests, head, count-cons (has n) x xs, once n (omega arith) (omega arith))
+
+        later : (y : X) → Contains xs y → (first + 1 ≤ number y) × (number y < first + 1 + count)
+        later y k = grind (
+          arith,
+          nat_tests,
+          head,
+          among y (contains-later x xs y k),
+          once first (omega arith) (omega arith),
+          count-cons (has first) x xs,
+          some-count (has first) xs y k,
+        )
 
 module _ {M : Type 0} where
   abbrev number : Part M → ℕ
@@ -224,12 +221,9 @@ module _ {M : Type 0} where
     not-below : (part : Part M) → Contains sorted part → (place : ℕ) → part.upto ≡ Some place →
         (stop : ℕ) × (stop_of stops part.connection ≡ Some stop) × (stop ≤ place)
     not-below part k place e =
-        by_stop _ (stop_of stops part.connection) (board.stops_least part.connection)
-        (board.seen_given part.connection place ((of-job part k).2.upto_seen place e)) where
-          by_stop : (Holds : ℕ → Type 0) (stop : Option ℕ) → IsLeast Holds stop → Holds place →
-              (least : ℕ) × (stop ≡ Some least) × (least ≤ place)
-          by_stop Holds None l given = absurd (l place given)
-          by_stop Holds (Some least) l given = (least, refl, l.1 place given)
+        let given = board.seen_given part.connection place ((of-job part k).2.upto_seen place e) in
+        let (least, is, _, low) = least-some _ _ place (board.stops_least part.connection) given in
+        (least, is, low place given)
 
 module _ {M : Type 0} (makes : ℕ → Option ℕ → M → Type 0) (jobs : List Job) (desk : DeskId) (round : ℕ)
     (parts : List (Part M)) (closed : ClosedView) (done : IsDone makes jobs desk round parts closed) where

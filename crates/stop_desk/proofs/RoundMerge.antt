@@ -1,24 +1,25 @@
 -- The parts of a settled board, taken job by job, hold with what they leave out the findings of all jobs. So it gives,
 -- up to the stop, what the whole jobs give: each place seen is a real error, so none lies below the least; each part
 -- has everything up to the least; so the least is kept and was lowered.
-use Rattle.stop_desk.proofs.Words.{Board, BoardMerges, Bool, Contains, Contains-append_cases, Contains-append_left}
-use Rattle.stop_desk.proofs.Words.{Contains-append_right, Finding, IsGiven, IsInOrder, IsLeast, IsPartOf, IsPast}
-use Rattle.stop_desk.proofs.Words.{IsSettled, Job, JobStopsAt, List, Merges, None, NoneBefore, Option, Round, Some}
-use Rattle.stop_desk.proofs.Words.{StopsAt, [], add-zero, ap, append-nil, append_assoc, arith, comes_after, ⊎_elim}
-use Rattle.stop_desk.proofs.Words.{comes_after_is, eq-eqb, eqb-true, false, filter, findings_of_jobs, findings_of_parts}
-use Rattle.stop_desk.proofs.Words.{if◌then◌else◌, in_order, in_order-alike, in_order-append_comm, in_order-ordered, inl}
-use Rattle.stop_desk.proofs.Words.{inr, length, length-filter, ne_eqb, not, not-true, parts_of, put_by, refl, slice_get}
-use Rattle.stop_desk.proofs.Words.{stop_of, stops, subst, suc, sym, true, true≢false, upto_stop, zero, ℕ, ℕ_discrete}
-use Rattle.stop_desk.proofs.Words.{◌++◌, ◌+◌, ◌<◌, ◌==◌, ◌∙◌, ◌∷◌, ◌≡◌, ◌≤◌, ◌⊎◌}
-use Rattle.std.proofs.lemmas.List.Filters.{sum_by-filter_both}
+use Rattle.stop_desk.proofs.Words.{Board, BoardMerges, Contains, Contains-append_cases, Contains-append_left}
+use Rattle.stop_desk.proofs.Words.{Contains-append_right, Contains-permutation, Finding, IsGiven, IsInOrder, IsLeast}
+use Rattle.stop_desk.proofs.Words.{IsPartOf, IsPast, IsPermutation, IsPermutation-middle, IsPermutation-sym, IsSettled}
+use Rattle.stop_desk.proofs.Words.{Job, JobStopsAt, List, Merges, None, NoneBefore, Option, Round, Some, StopsAt, []}
+use Rattle.stop_desk.proofs.Words.{add-zero, ap, append_assoc, arith, comes_after, comes_after_is, cond_both, eq-eqb}
+use Rattle.stop_desk.proofs.Words.{eqb-true, false, findings_of_jobs, findings_of_parts, if◌then◌else◌, in_order}
+use Rattle.stop_desk.proofs.Words.{in_order-alike, in_order-append_comm, in_order-ordered, inl, inr, length, nat_tests}
+use Rattle.stop_desk.proofs.Words.{ne_eqb, parts_of, put_by, refl, slice_get, stop_of, stops, suc}
+use Rattle.stop_desk.proofs.Words.{sum_by-IsPermutation, sym, true, upto_stop, zero, ℕ, ℕ_discrete, ⊎_elim, ◌++◌, ◌+◌}
+use Rattle.stop_desk.proofs.Words.{◌<◌, ◌==◌, ◌∙◌, ◌∷◌, ◌≡◌, ◌≤◌, ◌⊎◌}
+use Rattle.std.proofs.lemmas.Grind.{flat_map-append}
 use Rattle.std.specs.Cmp.{nat_cmp_is}
 use Rattle.std.specs.declared.cmp.Ordering.TheVariants.{Greater}
 use Rattle.stop_desk.specs.code.Board.{Part}
 use native.Mathlib.Nat.{zero-add}
 use Rattle.stop_desk.proofs.RoundMembers.{contains-none, contains-here, contains-later, contains-cases}
 use Rattle.stop_desk.proofs.RoundMembers.{contains-flat_map, flat_map-contains, contains-in_order, in_order-contains}
-use Rattle.stop_desk.proofs.RoundMembers.{filter-contains}
-use Rattle.stop_desk.proofs.RoundSteps.{least-holds, least-moves}
+use Rattle.stop_desk.proofs.RoundMembers.{contains-apart, count-cons, count-some, some-count}
+use Rattle.stop_desk.proofs.RoundSteps.{least-holds, least-moves, least-some}
 
 -- the same findings in another order
 swap-front : (xs ys zs : List Finding) → in_order (xs ++ (ys ++ zs)) ≡ in_order (ys ++ (xs ++ zs))
@@ -69,12 +70,6 @@ abbrev pub IsOneOf : List (ℕ × ℕ) → List (ℕ × ℕ) → ℕ → List Jo
 IsOneOf seen lowered first jobs part =
     (at : ℕ) × (job : Job) × (part.job ≡ first + at) × (slice_get jobs at ≡ Some job) × IsPartOf seen lowered job part
 
--- the only one of a list
-only-one : {X : Type 0} (xs : List X) → length xs ≡ 1 → (x : X) × (xs ≡ x ∷ [])
-only-one [] e = absurd (omega arith)
-only-one (x ∷ []) e = (x, refl)
-only-one (x ∷ y ∷ ys) e = absurd (omega arith)
-
 module _ (seen lowered : List (ℕ × ℕ)) (connection : ℕ) where
   abbrev IsWhole : (kept whole : List Finding) → Type 0
   IsWhole = Leaves (IsBeyond seen connection)
@@ -100,67 +95,40 @@ module _ (seen lowered : List (ℕ × ℕ)) (connection : ℕ) where
     | no other ↦ rw (ne_eqb part.connection connection other) whole-none
   ])
 
-  -- parts that pass a test, and the others
   abbrev own : List Part → List Finding
   own parts = findings_of_parts connection parts
 
-  one-more : (b : Bool) (part : Part) (ps qs : List Part) → in_order (of_part connection part ++ (own ps ++ own qs))
-      ≡ in_order (own (if b then part ∷ ps else ps) ++ own (if not b then part ∷ qs else qs))
-  one-more true part ps qs = ap in_order (sym (append_assoc (of_part connection part) (own ps) (own qs)))
-  one-more false part ps qs = swap-front (of_part connection part) (own ps) (own qs)
+  -- one job, whose part stands between others, and the jobs of these
+  module _ (first : ℕ) (job : Job) (jobs : List Job) (front : List Part) (part : Part) (back : List Part)
+      (is_first : part.job ≡ first)
+      (one : (at : ℕ) → at < suc (length jobs) → parts_of (first + at) (front ++ part ∷ back) ≡ 1)
+      (are : (p : Part) → Contains (front ++ part ∷ back) p → IsOneOf seen lowered first (job ∷ jobs) p) where
+    of_first : IsOneOf seen lowered first (job ∷ jobs) part → IsPartOf seen lowered job part
+    of_first (zero, j, e, got, h) = (let same : j ≡ job = cc in rw same at h)
+    of_first (suc at, j, e, got, h) = absurd (omega arith)
 
-  both-alike : (test : Part → Bool) (parts : List Part) →
-      in_order (own parts) ≡ in_order (own (filter test parts) ++ own (filter (λ p. not (test p)) parts))
-  both-alike test [] = refl
-  both-alike test (part ∷ parts) =
-      let mine = of_part connection part in
-      in_order-alike mine mine (own parts) (own (filter test parts) ++ own (filter (λ p. not (test p)) parts)) refl
-      (both-alike test parts)
-      ∙ one-more (test part) part (filter test parts) (filter (λ p. not (test p)) parts)
+    moved : IsPermutation (front ++ part ∷ back) (part ∷ (front ++ back))
+    moved = IsPermutation-middle front part back
 
-  -- one job and others, each having one part
-  module _ (first : ℕ) (job : Job) (jobs : List Job) (parts : List Part)
-      (one : (at : ℕ) → at < suc (length jobs) → parts_of (first + at) parts ≡ 1)
-      (are : (part : Part) → Contains parts part → IsOneOf seen lowered first (job ∷ jobs) part) where
-    abbrev of_it : Part → Bool
-    of_it p = p.job == first
+    counted : (n : ℕ) → parts_of n (front ++ part ∷ back) ≡ (if part.job == n then 1 else 0) + parts_of n (front ++ back)
+    counted n = sym (sum_by-IsPermutation _ _ _ moved) ∙ count-cons (λ (p : Part). p.job == n) part (front ++ back)
 
-    abbrev others : List Part
-    others = filter (λ p. not (of_it p)) parts
-
-    taken : (part : Part) × (filter of_it parts ≡ part ∷ [])
-    taken = only-one (filter of_it parts) (length-filter of_it parts ∙ rw add-zero at (one 0 (omega arith)))
-
-    is-taken : Contains parts taken.0 × (of_it taken.0 ≡ true)
-    is-taken = filter-contains of_it parts taken.0 (rw taken.1 (contains-here taken.0 []))
-
-    right : IsOneOf seen lowered first (job ∷ jobs) taken.0 → IsPartOf seen lowered job taken.0
-    right (zero, j, e, got, h) = (let same : j ≡ job = cc in rw same at h)
-    right (suc at, j, e, got, h) = (let is = eqb-true taken.0.job first is-taken.1 in absurd (omega arith))
-
-    one-later : (at : ℕ) → at < length jobs → parts_of (suc first + at) others ≡ 1
+    one-later : (at : ℕ) → at < length jobs → parts_of (suc first + at) (front ++ back) ≡ 1
     one-later at l =
-        let is = eqb-true taken.0.job first is-taken.1 in
-        let all : parts_of (suc first + at) parts ≡ 1
-        = subst (λ n. parts_of n parts ≡ 1) (omega arith) (one (suc at) (omega arith)) in
-        let sum = sum_by-filter_both of_it (λ p. not (of_it p)) (λ _. refl)
-        (λ (p : Part). if p.job == suc first + at then 1 else 0) parts in
-        let none : parts_of (suc first + at) (filter of_it parts) ≡ 0
-        = rw taken.1 (rw (ne_eqb taken.0.job (suc first + at) (λ e. omega arith)) refl) in
-        omega arith
+        let next : suc first + at ≡ first + suc at = omega arith in
+        rw next (grind (arith, nat_tests, counted (first + suc at), one (suc at) (omega arith)))
 
-    later : (p : Part) → Contains others p → IsOneOf seen lowered (suc first) jobs p
-    later p k =
-        let (among, apart) = filter-contains (λ p. not (of_it p)) parts p k in by_number (are p among) apart where
-          by_number : IsOneOf seen lowered first (job ∷ jobs) p → not (of_it p) ≡ true →
-              IsOneOf seen lowered (suc first) jobs p
-          by_number (zero, j, e, got, h) apart =
-              absurd (true≢false (sym (eq-eqb p.job first (omega arith)) ∙ not-true (of_it p) apart))
-          by_number (suc at, j, e, got, h) apart = (at, j, omega arith, got, h)
+    later : (p : Part) → Contains (front ++ back) p → IsOneOf seen lowered (suc first) jobs p
+    later p k = by_number (are p (Contains-permutation _ _ p (IsPermutation-sym _ _ moved) (contains-later part _ p k)))
+      where
+        by_number : IsOneOf seen lowered first (job ∷ jobs) p → IsOneOf seen lowered (suc first) jobs p
+        by_number (zero, j, e, got, h) =
+            let again = some-count (λ (q : Part). q.job == first) (front ++ back) p k (eq-eqb p.job first (omega arith)) in
+            absurd (grind (arith, nat_tests, counted first, rw add-zero at (one 0 (omega arith))))
+        by_number (suc at, j, e, got, h) = (at, j, omega arith, got, h)
 
-    parts-alike : in_order (own parts) ≡ in_order (of_part connection taken.0 ++ own others)
-    parts-alike = both-alike of_it parts ∙ ap (λ ps. in_order (own ps ++ own others)) taken.1
-        ∙ ap (λ fs. in_order (fs ++ own others)) (append-nil (of_part connection taken.0))
+    split : in_order (own (front ++ part ∷ back)) ≡ in_order (of_part connection part ++ own (front ++ back))
+    split = simp flat_map-append (swap-front (own front) (of_part connection part) (own back))
 
   -- of all
   pub whole-parts : (first : ℕ) (jobs : List Job) (parts : List Part) →
@@ -170,10 +138,17 @@ module _ (seen lowered : List (ℕ × ℕ)) (connection : ℕ) where
   whole-parts first [] [] one are = whole-none
   whole-parts first [] (part ∷ parts) one are = (let got = (are part (contains-here part parts)).3 in cc)
   whole-parts first (job ∷ jobs) parts one are =
-      leaves-alike _ _ _ (parts-alike first job jobs parts one are)
+      let once = rw add-zero at (one 0 (omega arith)) in
+      let (part, among, is) = count-some (λ (p : Part). p.job == first) parts (omega arith) in
+      let (front, back, apart) = contains-apart parts part among in
+      let is_first = eqb-true part.job first is in
+      let one' = rw apart at one in
+      let are' = rw apart at are in
+      rw apart (leaves-alike _ _ _ (split first job jobs front part back is_first one' are')
       (leaves-both _ (of_job connection job) _ (findings_of_jobs connection jobs)
-      (whole-part job _ (right first job jobs parts one are (are _ (is-taken first job jobs parts one are).0)))
-      (whole-parts (suc first) jobs _ (one-later first job jobs parts one are) (later first job jobs parts one are)))
+      (whole-part job part (of_first first job jobs front part back is_first one' are' (are part among)))
+      (whole-parts (suc first) jobs (front ++ back) (one-later first job jobs front part back is_first one' are')
+      (later first job jobs front part back is_first one' are'))))
 
 -- what stands at a later place comes after
 after-place : (x y : Finding) → y.place < x.place → comes_after x y ≡ true
@@ -247,81 +222,76 @@ module _ (round : Round) (board : Board) (settled : IsSettled round board) (conn
   real place (inr k) =
       stops-right earlier whole place (stops-job round connection place (settled.lowered_real connection place k))
 
-  -- at or before each error there is one that was kept
-  abbrev HasKeptBefore : ℕ → Type 0
-  HasKeptBefore place = (least : ℕ) × (least ≤ place) × StopsAt (earlier ++ kept) least
+  -- where a part stops was lowered
+  lowered_part : (part : Part) (found : Finding) → Contains board.parts part →
+      Contains (of_part connection part) found → stops found ≡ true → Contains board.lowered (connection, found.place)
+  lowered_part part found among own s =
+      cond_both (part.connection == connection) part.findings []
+      (λ fs. Contains fs found → Contains board.lowered (connection, found.place))
+      (λ is there. rw (eqb-true part.connection connection is) at
+      ((settled.parts_of_jobs part among).2.stops_lowered found.place (found, there, s, refl)))
+      (λ _ none. absurd (contains-none found none)) own
 
-  kept_before : (bound place : ℕ) → place < bound → StopsAt (earlier ++ whole) place → HasKeptBefore place
-  kept_before zero place l h = absurd (omega arith)
-  kept_before (suc bound) place l h = elim (stops-cases earlier whole place h) [
-    | inl k ↦ (place, omega arith, stops-left earlier kept place k)
-    | inr (found, among, stopping, at) ↦ elim (Contains-append_cases kept parts.left_out found
+  -- an error of all was kept, or was left out past a place that was given
+  kept_or_past : (place : ℕ) → StopsAt (earlier ++ whole) place →
+      StopsAt (earlier ++ kept) place ⊎ ((seen : ℕ) × (seen < place) × IsGiven round board.lowered connection seen)
+  kept_or_past place h = elim (stops-cases earlier whole place h) [
+    | inl k ↦ inl (stops-left earlier kept place k)
+    | inr (found, among, s, at) ↦ elim (Contains-append_cases kept parts.left_out found
         (in_order-contains _ found (rw (sym parts.together) at (contains-in_order whole found among)))) [
-          | inl own ↦ (place, omega arith, stops-right earlier kept place (found, own, stopping, at))
-          | inr left ↦ (let (stop, seen, low) = parts.beyond found left in
-              let (least, before, there) = kept_before bound stop (omega arith)
-              (real stop (settled.seen_given connection stop seen)) in
-              (least, omega arith, there))
+          | inl own ↦ inl (stops-right earlier kept place (found, own, s, at))
+          | inr out ↦ (let (seen, there, low) = parts.beyond found out in
+              inr (seen, omega arith, settled.seen_given connection seen there))
         ]
   ]
 
-  before : (place : ℕ) → StopsAt (earlier ++ whole) place → HasKeptBefore place
-  before place h = kept_before (suc place) place (omega arith) h
-
-  -- what is left out lies past an error that was kept
-  beyond_stop : (found : Finding) → Contains parts.left_out found →
-      (place : ℕ) × StopsAt (earlier ++ kept) place × (place < found.place)
-  beyond_stop found k =
-      let (stop, seen, low) = parts.beyond found k in
-      let (least, first, there) = before stop (real stop (settled.seen_given connection stop seen)) in
-      (least, there, omega arith)
-
-  merged : upto_stop (in_order (earlier ++ kept)) ≡ upto_stop (in_order (earlier ++ whole))
-  merged =
-      sym (cut-all parts.left_out (earlier ++ kept) beyond_stop)
-      ∙ ap upto_stop (in_order-append_comm parts.left_out (earlier ++ kept)
-      ∙ ap in_order (append_assoc earlier kept parts.left_out)
-      ∙ in_order-alike earlier earlier (kept ++ parts.left_out) whole refl parts.together)
-
-  -- where a part stops was lowered
-  lowered_part : (part : Part) (found : Finding) (b : Bool) → Contains board.parts part →
-      (part.connection == connection) ≡ b → Contains (if b then part.findings else []) found → stops found ≡ true →
-      Contains board.lowered (connection, found.place)
-  lowered_part part found true among t own s = rw (eqb-true part.connection connection t) at
-      ((settled.parts_of_jobs part among).2.stops_lowered found.place (found, own, s, refl))
-  lowered_part part found false among t own s = absurd (contains-none found own)
-
-  -- an error that was kept is given
-  abbrev HasGivenBefore : ℕ → Type 0
-  HasGivenBefore place = (least : ℕ) × (least ≤ place) × IsGiven round board.lowered connection least
-
-  opened : (stop : Option ℕ) (place : ℕ) → stop_of round.opening_stops connection ≡ stop →
-      IsLeast (StopsAt earlier) stop → StopsAt earlier place → HasGivenBefore place
-  opened None place e o k = absurd (o place k)
-  opened (Some least) place e o k = (least, o.1 place k, inl e)
-
-  given : (place : ℕ) → StopsAt (earlier ++ kept) place → HasGivenBefore place
-  given place h = elim (stops-cases earlier kept place h) [
-    | inl k ↦ opened _ place refl opening k
+  -- so at or before each error a place was given, and at or before each that was given an error was kept
+  given_before : (place : ℕ) → StopsAt (earlier ++ kept) place →
+      (least : ℕ) × (least ≤ place) × IsGiven round board.lowered connection least
+  given_before place h = elim (stops-cases earlier kept place h) [
+    | inl k ↦ (let (least, is, _, low) = least-some (StopsAt earlier) _ place opening k in (least, low place k, inl is))
     | inr (found, among, s, at) ↦
         (let (part, there, own) = flat_map-contains (of_part connection) board.parts found among in
-        (found.place, omega arith, inr (lowered_part part found _ there refl own s)))
+        (place, omega arith, inr (rw at at (lowered_part part found there own s))))
   ]
+
+  kept_before : (place : ℕ) → IsGiven round board.lowered connection place →
+      (least : ℕ) × (least ≤ place) × StopsAt (earlier ++ kept) least
+  kept_before place g =
+      let (least, _, first, low) = least-some (IsGiven round board.lowered connection) _ place
+      (settled.stops_least connection) g in
+      elim (kept_or_past least (real least first)) [
+        | inl k ↦ (least, low place g, k)
+        | inr (seen, before, given) ↦ (let not_before = low seen given in absurd (omega arith))
+      ]
+
+  -- what is left out lies past an error that was kept
+  past_kept : (found : Finding) → Contains parts.left_out found →
+      (place : ℕ) × StopsAt (earlier ++ kept) place × (place < found.place)
+  past_kept found k =
+      let (seen, there, low) = parts.beyond found k in
+      let (least, before, stopping) = kept_before seen (settled.seen_given connection seen there) in
+      (least, stopping, omega arith)
 
   -- so the board's stop is the least error of all, and of what was kept
   merges : Merges round board connection earlier
   merges =
       let is = settled.stops_least connection in
       let stop = stop_of board.stops connection in record {
-        findings = merged;
-        stop =
-            least-moves (IsGiven round board.lowered connection) (StopsAt (earlier ++ whole)) stop
+        findings =
+            sym (cut-all parts.left_out (earlier ++ kept) past_kept)
+            ∙ ap upto_stop (in_order-append_comm parts.left_out (earlier ++ kept)
+            ∙ ap in_order (append_assoc earlier kept parts.left_out)
+            ∙ in_order-alike earlier earlier (kept ++ parts.left_out) whole refl parts.together);
+        stop = least-moves (IsGiven round board.lowered connection) (StopsAt (earlier ++ whole)) stop
             (λ place g. (place, omega arith, real place g))
-            (λ place k. let (first, low, there) = before place k in let (least, lower, is) = given first there in
-            (least, omega arith, is)) is;
-        kept_stop =
-            least-moves (IsGiven round board.lowered connection) (StopsAt (earlier ++ kept)) stop
-            (λ place g. before place (real place g)) given is;
+            (λ place k. elim (kept_or_past place k) [
+              | inl own ↦ given_before place own
+              | inr (seen, low, given) ↦ (seen, omega arith, given)
+            ])
+            is;
+        kept_stop = least-moves (IsGiven round board.lowered connection) (StopsAt (earlier ++ kept)) stop
+            kept_before given_before is;
       }
 
 pub board_merges_lem : BoardMerges

@@ -38,17 +38,17 @@ Grows xs ys = (connection place : ℕ) → Contains xs (connection, place) → C
 
 pub part-grows : {seen lowered seen' lowered' : List (ℕ × ℕ)} {job : Job} {part : Part} → Grows seen seen' →
     Grows lowered lowered' → IsPartOf seen lowered job part → IsPartOf seen' lowered' job part
-part-grows {part} s l h = record {
-  of_connection = h.of_connection;
-  cut = h.cut;
-  upto_seen = λ place e. s part.connection place (h.upto_seen place e);
-  stops_lowered = λ place k. l part.connection place (h.stops_lowered place k);
-}
+part-grows s l h = grind (arith, s, l, h)
 
 -- a least place is one of those
 pub least-holds : (Holds : ℕ → Type 0) (stop : Option ℕ) (place : ℕ) → stop ≡ Some place → IsLeast Holds stop →
     Holds place
 least-holds Holds stop place e h = (rw e at h).0
+
+pub least-some : (Holds : ℕ → Type 0) (stop : Option ℕ) (place : ℕ) → IsLeast Holds stop → Holds place →
+    (least : ℕ) × (stop ≡ Some least) × Holds least × ((q : ℕ) → Holds q → least ≤ q)
+least-some Holds None place h k = absurd (h place k)
+least-some Holds (Some least) place h k = (least, refl, h.0, h.1)
 
 -- the least of some places and one more
 least-lesser : (Holds Holds' : ℕ → Type 0) (stop : Option ℕ) (place : ℕ) → ((q : ℕ) → Holds q → Holds' q) →
@@ -77,25 +77,11 @@ least-moves Holds Holds' (Some least) to from h =
 -- at the start
 start-least : (round : Round) (connection : ℕ) (stop : Option ℕ) → stop_of round.opening_stops connection ≡ stop →
     IsLeast (IsGiven round [] connection) stop
-start-least round connection None e = λ place given. grind (arith, given)
-start-least round connection (Some least) e = (inl e, λ place given. grind (arith, given))
+start-least round connection None e = grind arith
+start-least round connection (Some least) e = grind arith
 
 start-kept : (round : Round) → IsKept round (round_start round)
-start-kept round = record {
-  draws = record {
-    below = λ worker number h. absurd (contains-none _ h);
-    by_one = λ one other number h. absurd (contains-none _ h);
-    parts_drawn = λ worker part h. absurd (contains-none _ h);
-    parts_once = λ job. omega arith;
-  };
-  parts = λ part h. absurd (contains-none part h);
-  places = record {
-    lowered_right = λ connection place h. absurd (contains-none _ h);
-    seen_right = λ connection place h. absurd (contains-none _ h);
-    stops_right = λ connection. start-least round connection _ refl;
-    wide = refl;
-  };
-}
+start-kept round = grind (arith, contains-none, start-least round)
 
 module _ (round : Round) (state : RoundState) (h : IsKept round state) where
   abbrev seen : List (ℕ × ℕ)
@@ -107,19 +93,13 @@ module _ (round : Round) (state : RoundState) (h : IsKept round state) where
   -- a number is drawn
   draw-kept : (worker number : ℕ) → number ≡ state.next → IsKept round (after_event state (Draw worker number))
   draw-kept worker number e =
-      let cases = contains-cases (worker, number) state.drawn in record {
+      let cases = contains-cases (worker, number) state.drawn in
+      let d = h.draws in record {
         draws = record {
-          below = λ w n k. grind (arith, cases (w, n) k, h.draws.below w n);
-          by_one = λ v w n j k. grind (
-            arith,
-            cases (v, n) j,
-            cases (w, n) k,
-            h.draws.below v n,
-            h.draws.below w n,
-            h.draws.by_one v w n,
-          );
-          parts_drawn = λ w part k. contains-later _ state.drawn _ (h.draws.parts_drawn w part k);
-          parts_once = h.draws.parts_once;
+          below = λ w n k. grind (arith, cases (w, n) k, d.below w n);
+          by_one = λ v w n j k. grind (arith, cases (v, n) j, cases (w, n) k, d.below v n, d.below w n, d.by_one v w n);
+          parts_drawn = λ w part k. contains-later _ state.drawn _ (d.parts_drawn w part k);
+          parts_once = d.parts_once;
         };
         parts = h.parts;
         places = h.places;
@@ -211,13 +191,7 @@ module _ (round : Round) (state : RoundState) (h : IsKept round state) where
 
     finish-kept : IsKept round (after_event state (Finish worker part))
     finish-kept = record {
-      draws = record {
-        below = h.draws.below;
-        by_one = h.draws.by_one;
-        parts_drawn = contains-pair worker part state.parts (λ w p. Contains state.drawn (w, p.job)) work.0
-            h.draws.parts_drawn;
-        parts_once = once;
-      };
+      draws = grind (arith, contains-cases (worker, part) state.parts, h.draws, work.0, once);
       parts = contains-each part (by_all state.parts) _ (
         job,
         is_job,

@@ -2,9 +2,9 @@
 use Rattle.stop_desk.proofs.Words.{Allows, Dealt, Fits, Holds, Joins, Kept, Knows, List, Lowers, Opening, PassState}
 use Rattle.stop_desk.proofs.Words.{Sees, Splits, State, Stops, [], allowance_in, ap, arith, cases_lt, drawn_by}
 use Rattle.stop_desk.proofs.Words.{drawn_in, draws_in, get_elem?, get_or, get_or-set_other, get_or-set_same, given_part}
-use Rattle.stop_desk.proofs.Words.{if◌then◌else◌, inl, inr, is_mark, is_number, joined, keeps, kept_part, knows, le-ltb}
+use Rattle.stop_desk.proofs.Words.{if◌then◌else◌, inl, inr, is_mark, is_number, joined, keeps, kept_part, knows}
 use Rattle.stop_desk.proofs.Words.{learned_by, length, length-append, length-set, lowered_by, lowered_in, min, nat_lt}
-use Rattle.stop_desk.proofs.Words.{nat_tests, none, once_below, opening, opening_view, past_places, refl, seen_by}
+use Rattle.stop_desk.proofs.Words.{nat_tests, none, opening, opening_view, past_places, refl, seen_by}
 use Rattle.stop_desk.proofs.Words.{seen_in, set, set-get_or, share, some, some-ne-none, spent, step, subst, sym, times}
 use Rattle.stop_desk.proofs.Words.{weigh, ℕ, ℕ_discrete, ◌%◌, ◌++◌, ◌+◌, ◌-◌, ◌<◌, ◌^◌, ◌∙◌, ◌∷◌, ◌≡◌, ◌≤◌}
 use Rattle.atomic_table.proofs.Lists.{at_set, at_snoc, set_again}
@@ -18,13 +18,7 @@ module _ (o : Opening) (s : State (Unit {0}) Knows) (h : Holds o s) (words : Lis
   dealt-kept : get_or words 0 0 ≡ get_or s.words 0 0 → weigh allowance_in views ≡ weigh allowance_in s.views
       → weigh draws_in views ≡ weigh draws_in s.views
       → ((x : ℕ) → weigh (drawn_in x) views ≡ weigh (drawn_in x) s.views) → Dealt o.whole words views
-  dealt-kept same allowances draws drawn = record {
-    in_word = h.0.in_word;
-    some_word = omega (arith, h.0.some_word);
-    whole_is = omega (arith, h.0.whole_is);
-    lengths = omega (arith, h.0.lengths);
-    each_once = λ x. drawn x ∙ h.0.each_once x ∙ ap (once_below x) (sym same);
-  }
+  dealt-kept same allowances draws drawn = grind (arith, drawn, h.0)
 
   -- stops are kept where the stop words and the sums are
   stops-kept : ((c : ℕ) → get_or words (c + 1) 0 ≡ get_or s.words (c + 1) 0)
@@ -53,31 +47,15 @@ fits-snoc opened views w new all j u at =
 -- a pass with a share knows what the desk was opened with
 pub fits-sharing : (opened : List ℕ) (v w : Knows) → Fits opened v → w.opened ≡ v.opened
     → 0 < length v.drawn + v.allowance → 0 < length w.drawn + w.allowance → Fits opened w
-fits-sharing opened v w fits same some_share some_share' = record {
-  idle = λ none. absurd (omega arith);
-  knowing = λ _. same ∙ fits.knowing some_share;
-}
+fits-sharing opened v w fits same some_share some_share' = grind (arith, fits)
 
 -- at the start
 pub starts : (o : Opening) → o.whole < 2 ^ 64 → 0 < length o.words.items → get_or o.words.items 0 0 ≡ 0
     → Holds o (opening {S = Unit {0}} o.words.items [] (opening_view o))
 starts o fits wide zeroth = (
-  record {
-    in_word = fits;
-    some_word = wide;
-    whole_is = omega arith;
-    lengths = sym zeroth;
-    each_once = λ x. rw (zeroth, le-ltb x 0 (omega arith)) refl;
-  },
-  record {
-    wide = refl;
-    below_opening = λ c. omega arith;
-    below_lowered = λ c p there. absurd (omega arith);
-    below_seen = λ c p there. absurd (omega arith);
-    reached = λ c. inl refl;
-  },
-  fits-snoc o.words.items [] (opening_view o) (record { idle = λ _. (refl, refl); knowing = λ _. refl })
-      (λ j u at. absurd (some-ne-none u (sym at))),
+  grind (arith, nat_tests),
+  grind arith,
+  fits-snoc o.words.items [] (opening_view o) (grind arith) (λ j u at. absurd (some-ne-none u (sym at))),
 )
 
 -- a step of the pass `id`, which knew v
@@ -117,19 +95,15 @@ module _ (o : Opening) (s : State (Unit {0}) Knows) (id : ℕ) (v : Knows) (h : 
       let next : get_or words 0 0 ≡ n + 1 = get_or-set_same s.words 0 _ 0 h.0.some_word ∙ wraps in
       let more = length-append v.drawn (n ∷ []) in
       let long : length words ≡ length s.words = length-set s.words 0 _ in (
-        record {
-          in_word = h.0.in_word;
-          some_word = omega (arith, h.0.some_word);
-          whole_is = omega (arith, h.0.whole_is, changed allowance_in drew);
-          lengths = omega (arith, h.0.lengths, changed draws_in drew);
-          each_once = λ x. rw next (grind (
-            arith,
-            nat_tests,
-            h.0.each_once x,
-            changed (drawn_in x) drew,
-            weigh-snoc (is_number x) v.drawn n,
-          ));
-        },
+        grind (
+          arith,
+          nat_tests,
+          h.0,
+          changed allowance_in drew,
+          changed draws_in drew,
+          λ (x : ℕ). changed (drawn_in x) drew,
+          λ (x : ℕ). weigh-snoc (is_number x) v.drawn n,
+        ),
         stops-kept o s h words (after drew) long (λ c. get_or-set_other s.words 0 (c + 1) _ 0 (λ e. omega arith))
             (λ c p. same (lowered_in c p) drew refl) (λ c p. same (seen_in c p) drew refl),
         fits drew refl (omega arith) (omega arith),
@@ -149,14 +123,9 @@ module _ (o : Opening) (s : State (Unit {0}) Knows) (id : ℕ) (v : Knows) (h : 
   -- what the pass knew of connection c is not below the stop word
   sees-below : (c : ℕ) (me : PassState) → 0 < share v →
       Sees c (v, me.1) (get_or s.words (c + 1) 0) (saw c, me.1)
-  sees-below c me some_share = record {
-    opening = subst (λ os. get_or s.words (c + 1) 0 ≤ get_or os (c + 1) 0) (sym ((h.2 id v at).knowing some_share))
-        (h.1.below_opening c);
-    lowered = λ p there. h.1.below_lowered c p (omega (arith, part (lowered_in c p)));
-    seen = λ p there.
-        (let (low, place, given) = h.1.below_seen c p (omega (arith, part (seen_in c p))) in (low, place));
-    added = refl;
-  }
+  sees-below c me some_share =
+      let opened = (h.2 id v at).knowing some_share in
+      grind (arith, h.1, λ (p : ℕ). part (lowered_in c p), λ (p : ℕ). part (seen_in c p))
 
   look-kept : (c : ℕ) → 0 < share v → Kept o.whole opened s.words (after (saw c))
   look-kept c some_share =
@@ -264,7 +233,7 @@ module _ (o : Opening) (s : State (Unit {0}) Knows) (id : ℕ) (v : Knows) (h : 
             (λ c p. sum (lowered_in c p) (let all = weigh-append (is_mark c p) v.lowered w.lowered in omega arith))
             (λ c p. sum (seen_in c p) (let all = weigh-append (is_mark c p) v.seen w.seen in omega arith)),
         fits-set opened (after both) other spent
-            (record { idle = λ _. (refl, refl); knowing = λ low. absurd (omega arith) })
+            (grind arith)
             (fits both refl some_share (omega arith)),
       )
 

@@ -200,7 +200,7 @@ module _ {M : Type 0} (makes : ℕ → Option ℕ → M → Type 0) (jobs : List
     worked-past : length jobs ≤ n → IsAllWorked makes jobs desk round whole parts claimed
     worked-past past = (
       record {
-        desk_is = ap (λ (v : PassView). v.desk) draws.added ∙ h.desk_is;
+        desk_is = rw draws.added h.desk_is;
         whole_is = same-whole;
         drawn = λ job lt. grind (arith, nat_tests, more-times job, h.drawn job lt);
         laid = rw draws.added h.laid;
