@@ -36,7 +36,7 @@ opening-at desk c there =
     ∙ ap place_at (get_or-drop 1 desk.opened c 0 ∙ ap (λ n. get_or desk.opened n 0) (omega arith))
 
 opening-past : (desk : DeskId) (c : ℕ) → length desk.opened ≤ c + 1 → stop_of (opening_stops desk) c ≡ None
-opening-past desk c past = get_or_past (opening_stops desk) c None
+opening-past desk c past = get_or_past _ c None
     (omega (arith, length-map (drop 1 desk.opened) place_at, length-drop 1 desk.opened))
 
 last_from-is : (closed : ClosedView) (first : ℕ) (words : List ℕ) →
@@ -124,7 +124,7 @@ module _ {M : Type 0} (makes : ℕ → Option ℕ → M → Type 0) (jobs : List
     | inr past ↦ rw (final-past closed c past) (not-past c past)
   ]
 
-  done : IsDone makes jobs desk round parts closed
+  pub done : IsDone makes jobs desk round parts closed
   done = record {
     desk_is = refl;
     board = record {
@@ -137,14 +137,6 @@ module _ {M : Type 0} (makes : ℕ → Option ℕ → M → Type 0) (jobs : List
     };
     made = λ part k. (let l = h.0.laid part k in (l.in_round, l.made));
   }
-
-pub closes : {M : Type 0} (makes : ℕ → Option ℕ → M → Type 0) (jobs : List Job) (round whole : ℕ) (desk : DeskId)
-    → All (λ (job : Job). IsConnection desk job.connection) jobs → (parts : List (Part M)) (last : PassView)
-    (closed : ClosedView) → IsAllWorked makes jobs desk round whole parts last
-    → closed ≡ closed_of desk closed.words last.drawn last.seen last.lowered → IsDeskSettled closed
-    → IsDone makes jobs desk round parts closed
-closes makes jobs round whole desk all parts last closed h is s =
-    rw is (done makes jobs round whole desk all parts last closed.words h (rw is at s))
 
 -- elements that do not fall by number, one for each of `count` numbers from `first` on, have these numbers in turn
 module _ {X : Type 0} (number : X → ℕ) where

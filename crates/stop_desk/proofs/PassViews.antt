@@ -10,8 +10,8 @@ use Rattle.stop_desk.specs.code.Settled.{IsLeast}
 use Rattle.stop_desk.proofs.Weights.{weigh-whole}
 
 nothing-drawn : (x : ℕ) (xs : List ℕ) → length xs ≡ 0 → times x xs ≡ 0
-nothing-drawn x [] none = refl
-nothing-drawn x (y ∷ ys) none = absurd (omega arith)
+nothing-drawn x [] e = refl
+nothing-drawn x (y ∷ ys) e = absurd (omega arith)
 
 weigh-share : (views : List Knows) → weigh share views ≡ weigh draws_in views + weigh allowance_in views
 weigh-share [] = omega arith
@@ -34,10 +34,9 @@ least-stop d lowered c n below low reached = elim (cases_lt n past_places) [
   | inl place ↦ rw (place_at-place n place) (
     at_most-stop n (get_or d.opened (c + 1) 0) below,
     λ p there. (low p there).0,
-    elim reached [ inl same ↦ inl (rw (← same) (place_at-place n place)) | inr there ↦ inr there ],
+    grind (arith, place_at-place n place, reached),
   )
-  | inr none ↦ rw (place_at-none n none)
-      (place_at-none _ (omega arith), λ p there. (let h = low p there in absurd (omega arith)))
+  | inr past ↦ rw (place_at-none n past) (place_at-none _ (omega arith), grind (arith, low))
 ]
 
 -- the last pass has all draws, places seen and places lowered, so what the rule says of all views it says of that one
@@ -99,11 +98,11 @@ looks t a c n me after s = rw s.added (elim (cases_lt n past_places) [
     λ p there. (s.lowered p there).0,
     refl,
   )
-  | inr none ↦ rw (le-ltb n past_places none) (
+  | inr past ↦ rw (le-ltb n past_places past) (
     refl,
     place_at-none (get_or me.0.opened (c + 1) 0) (omega (arith, s.opening)),
-    λ p there. (let h = s.seen p there in absurd (omega arith)),
-    λ p there. (let h = s.lowered p there in absurd (omega arith)),
+    grind (arith, s.seen),
+    grind (arith, s.lowered),
   )
 ])
 

@@ -68,19 +68,15 @@ part_2 = all-kept the_place [] 2 job_2 refl (λ place h. absurd (none_stops job_
 error_stops : StopsAt job_1.findings (error 7 3).place
 error_stops = (error 7 3, contains-here (error 7 3) (overrun 8 3 ∷ []), refl, refl)
 
--- what was drawn before the last
-drawn_before : (w n : ℕ) (last : ℕ × ℕ) (drawn : List (ℕ × ℕ)) → Contains (last ∷ (w, n) ∷ drawn) (w, n)
-drawn_before w n last drawn = (1, omega arith, refl)
-
 allowed : AreAllowed example (round_start example) example_events
 allowed =
     pair refl (pair refl (pair refl (
-      (1, job_1, (contains-here (pair 1 1) ((0, 0) ∷ []), refl), refl, refl, error_stops),
+      (1, job_1, ((0, omega arith, refl), refl), refl, refl, error_stops),
       pair refl (
-        (job_0, (drawn_before 0 0 (1, 1) [], refl), refl, part_0),
+        (job_0, ((1, omega arith, refl), refl), refl, part_0),
         pair refl (
-          (job_1, (drawn_before 1 1 (0, 2) ((0, 0) ∷ []), refl), refl, part_1),
-          pair refl ((job_2, (drawn_before 0 2 (1, 3) ((1, 1) ∷ (0, 0) ∷ []), refl), refl, part_2), pair refl tt),
+          (job_1, ((1, omega arith, refl), refl), refl, part_1),
+          pair refl ((job_2, ((1, omega arith, refl), refl), refl, part_2), pair refl tt),
         ),
       ),
     )))

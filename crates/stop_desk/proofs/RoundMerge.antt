@@ -8,7 +8,7 @@ use Rattle.stop_desk.proofs.Words.{Job, JobStopsAt, List, Merges, None, NoneBefo
 use Rattle.stop_desk.proofs.Words.{add-zero, ap, append_assoc, arith, comes_after, comes_after_is, cond_both, eq-eqb}
 use Rattle.stop_desk.proofs.Words.{eqb-true, false, findings_of_jobs, findings_of_parts, if◌then◌else◌, in_order}
 use Rattle.stop_desk.proofs.Words.{in_order-alike, in_order-append_comm, in_order-ordered, inl, inr, length, nat_tests}
-use Rattle.stop_desk.proofs.Words.{ne_eqb, parts_of, put_by, refl, slice_get, stop_of, stops, suc}
+use Rattle.stop_desk.proofs.Words.{ne_eqb, parts_of, put_by, refl, slice_get, stop_of, stops, subst, suc}
 use Rattle.stop_desk.proofs.Words.{sum_by-IsPermutation, sym, true, upto_stop, zero, ℕ, ℕ_discrete, ⊎_elim, ◌++◌, ◌+◌}
 use Rattle.stop_desk.proofs.Words.{◌<◌, ◌==◌, ◌∙◌, ◌∷◌, ◌≡◌, ◌≤◌, ◌⊎◌}
 use Rattle.std.proofs.lemmas.Grind.{flat_map-append}
@@ -77,11 +77,9 @@ module _ (seen lowered : List (ℕ × ℕ)) (connection : ℕ) where
   whole-none : IsWhole [] []
   whole-none = record { left_out = []; together = refl; beyond = λ found k. absurd (contains-none found k) }
 
-  past-seen : (part : Part) → part.connection ≡ connection →
-      ((place : ℕ) → part.upto ≡ Some place → Contains seen (part.connection, place)) → (upto : Option ℕ) →
-      part.upto ≡ upto → (found : Finding) → IsPast upto found.place → IsBeyond seen connection found
-  past-seen part is upto_seen None e found h = absurd h
-  past-seen part is upto_seen (Some stop) e found h = (stop, rw is at (upto_seen stop e), h)
+  past-some : (upto : Option ℕ) (place : ℕ) → IsPast upto place → (stop : ℕ) × (upto ≡ Some stop) × (stop < place)
+  past-some None place h = absurd h
+  past-some (Some stop) place h = (stop, refl, h)
 
   -- of one part
   whole-part : (job : Job) (part : Part) → IsPartOf seen lowered job part →
@@ -90,45 +88,14 @@ module _ (seen lowered : List (ℕ × ℕ)) (connection : ℕ) where
     | yes same ↦ rw (eq-eqb part.connection connection same) (record {
       left_out = h.cut.left_out;
       together = h.cut.together;
-      beyond = λ found k. past-seen part same h.upto_seen part.upto refl found (h.cut.past found k);
+      beyond = λ found k. (let (stop, is, low) = past-some part.upto found.place (h.cut.past found k) in
+          (stop, rw same at (h.upto_seen stop is), low));
     })
     | no other ↦ rw (ne_eqb part.connection connection other) whole-none
   ])
 
   abbrev own : List Part → List Finding
   own parts = findings_of_parts connection parts
-
-  -- one job, whose part stands between others, and the jobs of these
-  module _ (first : ℕ) (job : Job) (jobs : List Job) (front : List Part) (part : Part) (back : List Part)
-      (is_first : part.job ≡ first)
-      (one : (at : ℕ) → at < suc (length jobs) → parts_of (first + at) (front ++ part ∷ back) ≡ 1)
-      (are : (p : Part) → Contains (front ++ part ∷ back) p → IsOneOf seen lowered first (job ∷ jobs) p) where
-    of_first : IsOneOf seen lowered first (job ∷ jobs) part → IsPartOf seen lowered job part
-    of_first (zero, j, e, got, h) = (let same : j ≡ job = cc in rw same at h)
-    of_first (suc at, j, e, got, h) = absurd (omega arith)
-
-    moved : IsPermutation (front ++ part ∷ back) (part ∷ (front ++ back))
-    moved = IsPermutation-middle front part back
-
-    counted : (n : ℕ) → parts_of n (front ++ part ∷ back) ≡ (if part.job == n then 1 else 0) + parts_of n (front ++ back)
-    counted n = sym (sum_by-IsPermutation _ _ _ moved) ∙ count-cons (λ (p : Part). p.job == n) part (front ++ back)
-
-    one-later : (at : ℕ) → at < length jobs → parts_of (suc first + at) (front ++ back) ≡ 1
-    one-later at l =
-        let next : suc first + at ≡ first + suc at = omega arith in
-        rw next (grind (arith, nat_tests, counted (first + suc at), one (suc at) (omega arith)))
-
-    later : (p : Part) → Contains (front ++ back) p → IsOneOf seen lowered (suc first) jobs p
-    later p k = by_number (are p (Contains-permutation _ _ p (IsPermutation-sym _ _ moved) (contains-later part _ p k)))
-      where
-        by_number : IsOneOf seen lowered first (job ∷ jobs) p → IsOneOf seen lowered (suc first) jobs p
-        by_number (zero, j, e, got, h) =
-            let again = some-count (λ (q : Part). q.job == first) (front ++ back) p k (eq-eqb p.job first (omega arith)) in
-            absurd (grind (arith, nat_tests, counted first, rw add-zero at (one 0 (omega arith))))
-        by_number (suc at, j, e, got, h) = (at, j, omega arith, got, h)
-
-    split : in_order (own (front ++ part ∷ back)) ≡ in_order (of_part connection part ++ own (front ++ back))
-    split = simp flat_map-append (swap-front (own front) (of_part connection part) (own back))
 
   -- of all
   pub whole-parts : (first : ℕ) (jobs : List Job) (parts : List Part) →
@@ -138,17 +105,53 @@ module _ (seen lowered : List (ℕ × ℕ)) (connection : ℕ) where
   whole-parts first [] [] one are = whole-none
   whole-parts first [] (part ∷ parts) one are = (let got = (are part (contains-here part parts)).3 in cc)
   whole-parts first (job ∷ jobs) parts one are =
-      let once = rw add-zero at (one 0 (omega arith)) in
-      let (part, among, is) = count-some (λ (p : Part). p.job == first) parts (omega arith) in
-      let (front, back, apart) = contains-apart parts part among in
-      let is_first = eqb-true part.job first is in
-      let one' = rw apart at one in
-      let are' = rw apart at are in
-      rw apart (leaves-alike _ _ _ (split first job jobs front part back is_first one' are')
-      (leaves-both _ (of_job connection job) _ (findings_of_jobs connection jobs)
-      (whole-part job part (of_first first job jobs front part back is_first one' are' (are part among)))
-      (whole-parts (suc first) jobs (front ++ back) (one-later first job jobs front part back is_first one' are')
-      (later first job jobs front part back is_first one' are'))))
+      leaves-alike _ _ _ split (leaves-both _ (of_job connection job) _ (findings_of_jobs connection jobs)
+      (whole-part job taken.0 (of_first (are taken.0 taken.1)))
+      (whole-parts (suc first) jobs (apart.0 ++ apart.1) one-later later)) where
+        -- the part of the first job, and those before and behind it
+        taken : (part : Part) × Contains parts part × ((part.job == first) ≡ true)
+        taken =
+            let once = rw add-zero at (one 0 (omega arith)) in
+            count-some (λ (p : Part). p.job == first) parts (omega arith)
+
+        apart : (front : List Part) × (back : List Part) × (parts ≡ front ++ taken.0 ∷ back)
+        apart = contains-apart parts taken.0 taken.1
+
+        is_first : taken.0.job ≡ first
+        is_first = eqb-true taken.0.job first taken.2
+
+        of_first : IsOneOf seen lowered first (job ∷ jobs) taken.0 → IsPartOf seen lowered job taken.0
+        of_first (zero, j, e, got, h) = (let same : j ≡ job = cc in rw same at h)
+        of_first (suc at, j, e, got, h) = (let is = is_first in absurd (omega arith))
+
+        moved : IsPermutation parts (taken.0 ∷ (apart.0 ++ apart.1))
+        moved = subst (λ ps. IsPermutation ps (taken.0 ∷ (apart.0 ++ apart.1))) (sym apart.2)
+            (IsPermutation-middle apart.0 taken.0 apart.1)
+
+        split : in_order (own parts) ≡ in_order (of_part connection taken.0 ++ own (apart.0 ++ apart.1))
+        split =
+            ap (λ ps. in_order (own ps)) apart.2
+            ∙ simp flat_map-append (swap-front (own apart.0) (of_part connection taken.0) (own apart.1))
+
+        counted : (n : ℕ) → parts_of n parts ≡ (if taken.0.job == n then 1 else 0) + parts_of n (apart.0 ++ apart.1)
+        counted n =
+            sym (sum_by-IsPermutation (λ (p : Part). if p.job == n then 1 else 0) _ _ moved)
+            ∙ count-cons (λ (p : Part). p.job == n) taken.0 (apart.0 ++ apart.1)
+
+        one-later : (at : ℕ) → at < length jobs → parts_of (suc first + at) (apart.0 ++ apart.1) ≡ 1
+        one-later at l =
+            let next : suc first + at ≡ first + suc at = omega arith in
+            rw next (grind (arith, nat_tests, is_first, counted (first + suc at), one (suc at) (omega arith)))
+
+        later : (p : Part) → Contains (apart.0 ++ apart.1) p → IsOneOf seen lowered (suc first) jobs p
+        later p k =
+            by_number (are p (Contains-permutation _ _ p (IsPermutation-sym _ _ moved) (contains-later taken.0 _ p k)))
+          where
+            by_number : IsOneOf seen lowered first (job ∷ jobs) p → IsOneOf seen lowered (suc first) jobs p
+            by_number (zero, j, e, got, h) =
+                let again = some-count (λ (q : Part). q.job == first) (apart.0 ++ apart.1) p k (eq-eqb p.job first (omega arith)) in
+                absurd (grind (arith, nat_tests, is_first, counted first, rw add-zero at (one 0 (omega arith))))
+            by_number (suc at, j, e, got, h) = (at, j, omega arith, got, h)
 
 -- what stands at a later place comes after
 after-place : (x y : Finding) → y.place < x.place → comes_after x y ≡ true
@@ -158,8 +161,7 @@ after-place x y l = rw (sym (nat_cmp_is x.place y.place Greater l)) refl
 after-none : (x : Finding) (ys : List Finding) (y : Finding) → NoneBefore comes_after comes_after_is x ys →
     Contains ys y → comes_after x y ≡ false
 after-none x [] y o h = absurd (contains-none y h)
-after-none x (z ∷ ys) y o h =
-    elim (contains-cases z ys y h) [ inl same ↦ rw same at o.0 | inr k ↦ after-none x ys y o.1 k ]
+after-none x (z ∷ ys) y o h = grind (arith, contains-cases z ys y h, after-none x ys y, o)
 
 -- what comes after a finding that stops is cut
 cut-put : (x y : Finding) (zs : List Finding) → IsInOrder comes_after comes_after_is zs → Contains zs y →

@@ -1,10 +1,9 @@
 -- What the machine of workers keeps true after each event, from which a finished run is settled.
-use Rattle.stop_desk.proofs.Words.{⊎_elim}
 use Rattle.stop_desk.proofs.Words.{AreAllowed, Bool, Contains, Draw, Event, Finish, HasConnections, IsAllowed, IsAtWork}
 use Rattle.stop_desk.proofs.Words.{IsGiven, IsLeast, IsPartOf, Job, JobStopsAt, List, Look, Lower, None, Option, Round}
 use Rattle.stop_desk.proofs.Words.{RoundState, RunSettles, Some, [], after_event, after_events, ap, arith, by_all}
-use Rattle.stop_desk.proofs.Words.{by_worker, cases_lt, eq-eqb, eqb-true, get_or-set_other, get_or-set_same, inl, inr}
-use Rattle.stop_desk.proofs.Words.{length, length-set, lesser, min, nat_tests, parts_of, refl, round_start, slice_get}
+use Rattle.stop_desk.proofs.Words.{by_worker, eq-eqb, eqb-true, get_or-set_other, get_or-set_same, inl, inr}
+use Rattle.stop_desk.proofs.Words.{length, length-set, lesser, nat_tests, parts_of, refl, round_start, slice_get}
 use Rattle.stop_desk.proofs.Words.{slice_set, stop_of, subst, sym, ℕ, ℕ_discrete, ◌<◌, ◌==◌, ◌∙◌, ◌∷◌, ◌≡◌, ◌≤◌, ◌⊎◌}
 use Rattle.stop_desk.specs.code.Board.{Part}
 use Rattle.stop_desk.proofs.RoundMembers.{contains-none, contains-here, contains-later, contains-cases, contains-each}
@@ -55,11 +54,8 @@ least-lesser : (Holds Holds' : ℕ → Type 0) (stop : Option ℕ) (place : ℕ)
     Holds' place → ((q : ℕ) → Holds' q → (place ≡ q) ⊎ Holds q) → IsLeast Holds stop →
     IsLeast Holds' (Some (lesser stop place))
 least-lesser Holds Holds' None place more here back h = (here, λ q k. grind (arith, back q k, h q))
-least-lesser Holds Holds' (Some stop) place more here back h = (
-  ⊎_elim (λ low. (let e : min stop place ≡ stop = omega arith in rw e (more stop h.0)))
-      (λ high. (let e : min stop place ≡ place = omega arith in rw e here)) (cases_lt stop place),
-  λ q k. grind (arith, back q k, h.1 q),
-)
+least-lesser Holds Holds' (Some stop) place more here back h =
+    (grind (arith, more stop h.0, here), λ q k. grind (arith, back q k, h.1 q))
 
 -- the least of some places is that of others, where at or before each of the ones there is one of the others
 pub least-moves : (Holds Holds' : ℕ → Type 0) (stop : Option ℕ) →
@@ -130,8 +126,7 @@ module _ (round : Round) (state : RoundState) (h : IsKept round state) where
     now = (connection, place) ∷ lowered
 
     given-more : (c q : ℕ) → IsGiven round lowered c q → IsGiven round now c q
-    given-more c q (inl e) = inl e
-    given-more c q (inr k) = inr (contains-later (connection, place) lowered (c, q) k)
+    given-more c q given = grind (arith, given, contains-later (connection, place) lowered (c, q))
 
     given-cases : (c q : ℕ) → IsGiven round now c q → ((connection ≡ c) × (place ≡ q)) ⊎ IsGiven round lowered c q
     given-cases c q given = grind (arith, contains-cases (connection, place) lowered (c, q))

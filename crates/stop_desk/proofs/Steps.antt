@@ -135,16 +135,13 @@ module _ (o : Opening) (s : State (Unit {0}) Knows) (id : ℕ) (v : Knows) (h : 
       = λ c' p. same (lowered_in c' p) w refl in (
         dealt-kept o s h s.words (after w) refl refl (same allowance_in w refl) (same draws_in w refl)
             (λ x. same (drawn_in x) w refl),
-        record {
-          wide = h.1.wide;
-          below_opening = h.1.below_opening;
-          below_lowered = λ c' p there. h.1.below_lowered c' p (rw (low c' p) at there);
-          below_seen = λ c' p there. rw (low c' p) (elim (seen-cases (nat_lt n past_places) c' p c n v.seen refl) [
-            | inl old ↦ h.1.below_seen c' p (omega (arith, changed (seen_in c' p) w))
-            | inr (on, at, place) ↦ rw (on, at) (omega arith, place, h.1.reached c)
-          ]);
-          reached = λ c'. rw (low c' (get_or s.words (c' + 1) 0)) (h.1.reached c');
-        },
+        grind (
+          arith,
+          h.1,
+          low,
+          λ (c' p : ℕ). changed (seen_in c' p) w,
+          λ (c' p : ℕ). seen-cases (nat_lt n past_places) c' p c n v.seen refl,
+        ),
         fits w refl some_share some_share,
       )
 
@@ -182,11 +179,9 @@ module _ (o : Opening) (s : State (Unit {0}) Knows) (id : ℕ) (v : Knows) (h : 
             (same draws_in w refl) (λ x. same (drawn_in x) w refl),
         record {
           wide = long ∙ h.1.wide;
-          below_opening = λ c'. omega (arith, falls c', h.1.below_opening c');
+          below_opening = grind (arith, falls, h.1.below_opening);
           below_lowered = λ c' p' there. grind (arith, nat_tests, more c' p', falls c', here, h.1.below_lowered c' p');
-          below_seen = λ c' p' there.
-              (let (low, is, given) = h.1.below_seen c' p' (rw (same (seen_in c' p') w refl) at there) in
-              (omega (arith, falls c'), is, grind (arith, more c' p', given)));
+          below_seen = λ c' p' there. grind (arith, same (seen_in c' p') w refl, more c' p', falls c', h.1.below_seen c' p');
           reached = λ c'. elim (ℕ_discrete c' c) [
             | yes is ↦ rw is (elim (cases_lt p n) [
               | inl falls ↦ (let low : get_or words (c + 1) 0 ≡ p = omega arith in

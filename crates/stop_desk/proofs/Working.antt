@@ -1,13 +1,13 @@
 -- A job that is done, and what a worker has done after one draw more, and when no job is left.
-use Rattle.stop_desk.proofs.Words.{All, AllByRecursion, Asked, BoardPart, Contains, Contains-append_cases, ⊎_elim}
+use Rattle.stop_desk.proofs.Words.{All, AllByRecursion, Asked, BoardPart, Contains, Contains-append_cases}
 use Rattle.stop_desk.proofs.Words.{Contains-append_left, Contains-append_right, Contains-push_cases, DeskId, DoesJob}
 use Rattle.stop_desk.proofs.Words.{Draws, DrewJobs, Finding, IsAllWorked, IsClaim, IsConnection, IsCut, IsLaid, IsLook}
 use Rattle.stop_desk.proofs.Words.{IsWorked, Job, List, Looked, None, Option, Part, PassView, Some, StopsAt, [], ap}
-use Rattle.stop_desk.proofs.Words.{append-nil, append_assoc, arith, cases_lt, eqb, false, filter, flat_map, get_or}
-use Rattle.stop_desk.proofs.Words.{if◌then◌else◌, inl, inr, is_number, length, length-append, list_any, map, map-append}
+use Rattle.stop_desk.proofs.Words.{append-nil, append_assoc, arith, eqb, false, filter, flat_map, get_or, if◌then◌else◌}
+use Rattle.stop_desk.proofs.Words.{inl, inr, is_number, joined, length, length-append, list_any, map, map-append}
 use Rattle.stop_desk.proofs.Words.{nat_tests, part_of, parts_of, pass_draws, pass_of, refl, slice_get, slice_get-get_or}
-use Rattle.stop_desk.proofs.Words.{stops, stops_on, subst, sum_by-append, sym, times, true, ℕ, ◌++◌, ◌+◌, ◌<◌, ◌==◌}
-use Rattle.stop_desk.proofs.Words.{◌∙◌, ◌∷◌, ◌≡◌, ◌≤◌}
+use Rattle.stop_desk.proofs.Words.{step, stops, stops_on, subst, sum_by-append, sym, times, true, ℕ, ⊎_elim, ◌++◌, ◌+◌}
+use Rattle.stop_desk.proofs.Words.{◌<◌, ◌==◌, ◌∙◌, ◌∷◌, ◌≡◌, ◌≤◌}
 use Rattle.std.proofs.lemmas.Map.Steps.{length-le_from_distinct_below}
 use Rattle.std.specs.List.{IsDistinct}
 use Rattle.stop_desk.specs.declared.claims.Claim.{Claim}
@@ -113,20 +113,15 @@ module _ {M : Type 0} (makes : ℕ → Option ℕ → M → Type 0) (jobs : List
         kept = refl;
         seen_kept = λ c p. Contains-append_left before.seen answers (c, p);
         lowered_kept = λ c p. Contains-append_left before.lowered errors (c, p);
-        seen_there = λ c p k. elim (Contains-append_cases before.seen answers (c, p) k) [
-          | inl old ↦ inl old
-          | inr new ↦ (let (one, among, is) = flat_map-contains _ asked (c, p) new in
-              inr (job-there before.desk jobs part.job c lt all
-              (sym (answer-on part.connection c p one.answer is) ∙ connection_is)))
-        ];
-        lowered_real = λ c p k. elim (Contains-append_cases before.lowered errors (c, p) k) [
-          | inl old ↦ inl old
-          | inr new ↦ (let job = job_at jobs part.job in
-              let (is, stopping) = stops_on-contains part.connection part.findings.items c p new in
-              let whole = cut-stops job.findings part.upto part.findings.items p cut stopping in
-              let among = contains-got jobs part.job job (at-job jobs part.job lt) in
-              inr (job, among, sym connection_is ∙ is, whole))
-        ];
+        seen_there = λ c p k. ⊎_elim inl (λ new. (let (one, among, is) = flat_map-contains _ asked (c, p) new in
+            inr (job-there before.desk jobs part.job c lt all
+            (sym (answer-on part.connection c p one.answer is) ∙ connection_is))))
+            (Contains-append_cases before.seen answers (c, p) k);
+        lowered_real = λ c p k. ⊎_elim inl (λ new. (let job = job_at jobs part.job in
+            let (is, stopping) = stops_on-contains part.connection part.findings.items c p new in
+            let among = contains-got jobs part.job job (at-job jobs part.job lt) in
+            inr (job, among, sym connection_is ∙ is, cut-stops job.findings part.upto part.findings.items p cut stopping)))
+            (Contains-append_cases before.lowered errors (c, p) k);
       },
       record {
         in_round = in_round;
@@ -161,8 +156,8 @@ has-times q [] h = cc
 has-times q (x ∷ xs) h = grind (arith, nat_tests, has-times q xs)
 
 few-distinct : (n : ℕ) (xs : List ℕ) → ((x : ℕ) → n ≤ x → times x xs ≡ 0) → ((x : ℕ) → times x xs ≤ 1) → length xs ≤ n
-few-distinct n xs none once = length-le_from_distinct_below xs n (distinct xs once) (λ q h. ⊎_elim (λ low. low)
-    (λ past. (let some = has-times q xs h in let no = none q past in absurd (omega arith))) (cases_lt q n))
+few-distinct n xs none once = length-le_from_distinct_below xs n (distinct xs once)
+    (λ q h. grind (arith, none q, has-times q xs h))
 
 module _ {M : Type 0} (makes : ℕ → Option ℕ → M → Type 0) (jobs : List Job) (round : ℕ) where
   -- a part stays one where more was seen and lowered
@@ -190,11 +185,13 @@ module _ {M : Type 0} (makes : ℕ → Option ℕ → M → Type 0) (jobs : List
     more-times x = ap (λ (v : PassView). times x v.drawn) draws.added ∙ weigh-snoc (is_number x) before.drawn n
 
     same-whole : pass_draws claimed ≡ whole
-    same-whole =
-        let long = ap (λ (v : PassView). length v.drawn) draws.added ∙ length-append before.drawn (n ∷ []) in
-        let all = h.whole_is in
-        let paid = draws.paid in
-        omega arith
+    same-whole = omega (
+      arith,
+      ap (λ (v : PassView). length v.drawn) draws.added,
+      length-append before.drawn (n ∷ []),
+      h.whole_is,
+      draws.paid,
+    )
 
     -- a number past all jobs
     worked-past : length jobs ≤ n → IsAllWorked makes jobs desk round whole parts claimed
@@ -229,23 +226,15 @@ module _ {M : Type 0} (makes : ℕ → Option ℕ → M → Type 0) (jobs : List
               parts_of-append job parts (part ∷ []),
               count-cons (λ (p : BoardPart). p.job == job) (part_of part) [],
             );
-            laid = λ other k. elim (Contains-push_cases parts part other k) [
-              | inl old ↦ laid-grows goes.seen_kept goes.lowered_kept (rw draws.added (h.laid other old))
-              | inr new ↦ rw new at laid
-            ];
-            seen_there = λ c p k. elim (goes.seen_there c p k) [
-              | inl old ↦ h.seen_there c p (rw draws.added at old)
-              | inr there ↦ rw (ap (λ (v : PassView). v.desk) draws.added ∙ h.desk_is) at there
-            ];
-            lowered_real = λ c p k. elim (goes.lowered_real c p k) [
-              | inl old ↦ h.lowered_real c p (rw draws.added at old)
-              | inr real ↦ real
-            ];
+            laid = λ other k. ⊎_elim
+                (λ old. laid-grows goes.seen_kept goes.lowered_kept (rw draws.added (h.laid other old)))
+                (λ new. rw new at laid) (Contains-push_cases parts part other k);
+            seen_there = λ c p k. ⊎_elim (λ old. h.seen_there c p (rw draws.added at old))
+                (λ there. rw (draws.added, h.desk_is) at there) (goes.seen_there c p k);
+            lowered_real = λ c p k. ⊎_elim (λ old. h.lowered_real c p (rw draws.added at old)) (λ real. real)
+                (goes.lowered_real c p k);
           },
-          (
-            λ x past. grind (arith, nat_tests, after-times x, drew.0 x past),
-            λ x. grind (arith, nat_tests, after-times x, drew.1 x, draws.fresh),
-          ),
+          (grind (arith, nat_tests, after-times, drew.0), grind (arith, nat_tests, after-times, drew.1, draws.fresh)),
         )
 
   -- no job is left: a worker whose allowance is one more than the jobs never runs out of it
@@ -254,10 +243,7 @@ module _ {M : Type 0} (makes : ℕ → Option ℕ → M → Type 0) (jobs : List
       IsClaim count before claim after → ((n : ℕ) → claim ≡ Drawn n → ⊥) →
       IsAllWorked makes jobs desk round (count + 1) parts after
   worked-ends desk count parts before after Spent counted h drew is no_job =
-      let few = few-distinct (length jobs) before.drawn drew.0 drew.1 in
-      let all = h.whole_is in
-      let spent = is.0 in
-      absurd (omega arith)
+      absurd (omega (arith, few-distinct (length jobs) before.drawn drew.0 drew.1, h.whole_is, is.0))
   worked-ends desk count parts before after (Drawn n) counted h drew is no_job = absurd (no_job n refl)
   worked-ends desk count parts before after Done counted h drew (n, past, draws) no_job =
       worked-past desk (count + 1) parts before after n h draws (omega arith)
