@@ -1,8 +1,8 @@
 -- The worked examples of a round of two workers.
 use Rattle.stop_desk.proofs.Words.{All-contains, All-from_recursion, AllByRecursion, AreAllowed, Contains, Finding}
 use Rattle.stop_desk.proofs.Words.{HasConnections, IsCut, IsFinished, IsPartOf, Job, List, None, Some, StopsAt, []}
-use Rattle.stop_desk.proofs.Words.{after_events, ap, arith, false, in_order, refl, round_start, slice_get}
-use Rattle.stop_desk.proofs.Words.{stops, subst, suc, sym, true≢false, zero, ℕ, ◌<◌, ◌∙◌, ◌∷◌, ◌≡◌, ⊎_elim}
+use Rattle.stop_desk.proofs.Words.{after_events, ap, arith, false, in_order, refl, round_start, stops, suc, sym, zero}
+use Rattle.stop_desk.proofs.Words.{ℕ, ⊎_elim, ◌<◌, ◌∙◌, ◌∷◌, ◌≡◌}
 use Rattle.stop_desk.specs.examples.Rounds.{overrun, error, job, part, example, example_events, TwoWorkersFinish}
 use Rattle.stop_desk.specs.examples.Rounds.{TwoWorkersSettle, DrawnTwice, LookInvents, CutUnseen, AllSkipped}
 use Rattle.stop_desk.specs.examples.Rounds.{OverrunLowered, ErrorNotLowered}
@@ -29,7 +29,7 @@ none_stops : (xs : List Finding) (place : ℕ) → AllByRecursion (λ (x : Findi
     StopsAt xs place → ⊥
 none_stops xs place none (found, among, s, at) =
     let all = All-from_recursion (λ (x : Finding). stops x ≡ false) xs none in
-    true≢false (sym s ∙ All-contains (λ (x : Finding). stops x ≡ false) xs found all among)
+    let off = All-contains (λ (x : Finding). stops x ≡ false) xs found all among in cc
 
 -- the place of the error, whichever name it has
 among-one : (place : ℕ) → (error 7 3).place ≡ place → Contains the_place (0, place)
@@ -114,24 +114,21 @@ error_not_lowered (drawn, (drawn', (finish, rest))) =
 -- what is left out of a part that is empty, and goes up to the error, lies past the error
 skipped : (cut : IsCut job_0.findings (Some (error 7 3).place) []) → ⊥
 skipped cut =
-    let first = overrun 6 1 in
-    let past : (error 7 3).place < first.place
-    = cut.past first (in_order-contains cut.left_out first (rw cut.together
-    (contains-in_order job_0.findings first (contains-here first (overrun 9 1 ∷ []))))) in
+    let among = contains-in_order job_0.findings (overrun 6 1) (contains-here (overrun 6 1) (overrun 9 1 ∷ [])) in
+    let past : (error 7 3).place < (overrun 6 1).place
+    = cut.past (overrun 6 1) (in_order-contains cut.left_out (overrun 6 1) (rw cut.together among)) in
     absurd (omega arith)
 
 pub all_skipped : AllSkipped
 all_skipped (drawn, (drawn', (lowered, (seen, ((j, at_work, is, right), rest))))) =
-    skipped (subst (λ (k : Job). IsCut k.findings (Some (error 7 3).place) []) (let same : j ≡ job_0 = cc in same)
-    right.cut)
+    let same : j ≡ job_0 = cc in skipped (rw same at right.cut)
 
 pub overrun_lowered : OverrunLowered
 overrun_lowered (drawn, ((number, j, at_work, got, of_it, stopping), rest)) =
     let zeroth : number ≡ 0 = ap (λ (x : ℕ × ℕ). x.1) (sym (contains-one (pair 0 0) (pair 0 number) at_work.0)) in
-    let first : Some job_0 ≡ Some j = subst (λ n. slice_get example.jobs n ≡ Some j) zeroth got in
+    let first = rw zeroth at got in
     let same : j ≡ job_0 = cc in
-    none_stops job_0.findings (overrun 6 1).place (pair refl (pair refl tt))
-    (subst (λ (k : Job). StopsAt k.findings (overrun 6 1).place) same stopping)
+    none_stops job_0.findings (overrun 6 1).place (pair refl (pair refl tt)) (rw same at stopping)
 
 pub ruleset two_workers = (two_workers_finish, two_workers_settle)
 

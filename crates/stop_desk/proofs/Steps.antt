@@ -1,36 +1,15 @@
 -- How the parts of the rule go over a step, that each step of a pass keeps the rule, and what its play says.
-use Rattle.stop_desk.proofs.Words.{Allows, Dealt, Fits, Holds, Joins, Kept, Knows, List, Lowers, Opening, PassState}
-use Rattle.stop_desk.proofs.Words.{Sees, Splits, State, Stops, [], allowance_in, ap, arith, cases_lt, drawn_by}
-use Rattle.stop_desk.proofs.Words.{drawn_in, draws_in, get_elem?, get_or, get_or-set_other, get_or-set_same, given_part}
-use Rattle.stop_desk.proofs.Words.{if◌then◌else◌, inl, inr, is_mark, is_number, joined, keeps, kept_part, knows}
-use Rattle.stop_desk.proofs.Words.{learned_by, length, length-append, length-set, lowered_by, lowered_in, min, nat_lt}
-use Rattle.stop_desk.proofs.Words.{nat_tests, none, opening, opening_view, past_places, refl, seen_by}
-use Rattle.stop_desk.proofs.Words.{seen_in, set, set-get_or, share, some, some-ne-none, spent, step, subst, sym, times}
-use Rattle.stop_desk.proofs.Words.{weigh, ℕ, ℕ_discrete, ◌%◌, ◌++◌, ◌+◌, ◌-◌, ◌<◌, ◌^◌, ◌∙◌, ◌∷◌, ◌≡◌, ◌≤◌}
+use Rattle.stop_desk.proofs.Words.{Allows, Fits, Holds, Joins, Kept, Knows, List, Lowers, Opening, PassState, Sees}
+use Rattle.stop_desk.proofs.Words.{Splits, State, [], allowance_in, ap, arith, cases_lt, drawn_by, drawn_in, get_elem?}
+use Rattle.stop_desk.proofs.Words.{get_or, get_or-set_other, get_or-set_same, given_part, if◌then◌else◌, inl, inr}
+use Rattle.stop_desk.proofs.Words.{is_mark, is_number, joined, keeps, kept_part, knows, learned_by, length}
+use Rattle.stop_desk.proofs.Words.{length-append, length-set, lowered_by, lowered_in, min, nat_lt, nat_tests, none}
+use Rattle.stop_desk.proofs.Words.{opening, opening_view, past_places, refl, seen_by, seen_in, set, set-get_or, share}
+use Rattle.stop_desk.proofs.Words.{some, some-ne-none, spent, step, subst, sym, times, weigh, ℕ, ℕ_discrete, ◌%◌, ◌++◌}
+use Rattle.stop_desk.proofs.Words.{◌+◌, ◌-◌, ◌<◌, ◌^◌, ◌∙◌, ◌∷◌, ◌≡◌, ◌≤◌}
 use Rattle.atomic_table.proofs.Lists.{at_set, at_snoc, set_again}
-use Rattle.stop_desk.proofs.Weights.{weigh-set, weigh-snoc, weigh-append, weigh-same, weigh-part, weigh-split}
-use Rattle.stop_desk.proofs.Weights.{weigh-join, seen-cases}
-
--- a step from the words and views of a state to others
-module _ (o : Opening) (s : State (Unit {0}) Knows) (h : Holds o s) (words : List ℕ) (views : List Knows)
-    (long : length words ≡ length s.words) where
-  -- draws are kept where word 0 and the sums are
-  dealt-kept : get_or words 0 0 ≡ get_or s.words 0 0 → weigh allowance_in views ≡ weigh allowance_in s.views
-      → weigh draws_in views ≡ weigh draws_in s.views
-      → ((x : ℕ) → weigh (drawn_in x) views ≡ weigh (drawn_in x) s.views) → Dealt o.whole words views
-  dealt-kept same allowances draws drawn = grind (arith, drawn, h.0)
-
-  -- stops are kept where the stop words and the sums are
-  stops-kept : ((c : ℕ) → get_or words (c + 1) 0 ≡ get_or s.words (c + 1) 0)
-      → ((c p : ℕ) → weigh (lowered_in c p) views ≡ weigh (lowered_in c p) s.views)
-      → ((c p : ℕ) → weigh (seen_in c p) views ≡ weigh (seen_in c p) s.views) → Stops o.words.items words views
-  stops-kept same lowered seen = record {
-    wide = long ∙ h.1.wide;
-    below_opening = λ c. omega (arith, same c, h.1.below_opening c);
-    below_lowered = λ c p there. rw (same c) (h.1.below_lowered c p (rw (lowered c p) at there));
-    below_seen = λ c p there. rw (same c, lowered c p) (h.1.below_seen c p (rw (seen c p) at there));
-    reached = λ c. rw (same c, lowered c (get_or s.words (c + 1) 0)) (h.1.reached c);
-  }
+use Rattle.stop_desk.proofs.Weights.{weigh-set, weigh-snoc, weigh-append, weigh-part}
+use Rattle.stop_desk.proofs.Weights.{seen-cases}
 
 pub fits-set : (opened : List ℕ) (views : List Knows) (id : ℕ) (w : Knows) → Fits opened w
     → ((j : ℕ) (u : Knows) → get_elem? views j ≡ some u → Fits opened u)
@@ -68,9 +47,6 @@ module _ (o : Opening) (s : State (Unit {0}) Knows) (id : ℕ) (v : Knows) (h : 
   abbrev after : Knows → List Knows
   after w = set s.views id w
 
-  same : (f : Knows → ℕ) (w : Knows) → f w ≡ f v → weigh f (after w) ≡ weigh f s.views
-  same f w e = weigh-same f s.views id v w at e
-
   changed : (f : Knows → ℕ) (w : Knows) → weigh f (after w) + f v ≡ weigh f s.views + f w
   changed f w = weigh-set f s.views id v w at
 
@@ -94,18 +70,17 @@ module _ (o : Opening) (s : State (Unit {0}) Knows) (id : ℕ) (v : Knows) (h : 
       = omega (arith, h.0.whole_is, h.0.in_word, part allowance_in) in
       let next : get_or words 0 0 ≡ n + 1 = get_or-set_same s.words 0 _ 0 h.0.some_word ∙ wraps in
       let more = length-append v.drawn (n ∷ []) in
-      let long : length words ≡ length s.words = length-set s.words 0 _ in (
-        grind (
-          arith,
-          nat_tests,
-          h.0,
-          changed allowance_in drew,
-          changed draws_in drew,
-          λ (x : ℕ). changed (drawn_in x) drew,
-          λ (x : ℕ). weigh-snoc (is_number x) v.drawn n,
-        ),
-        stops-kept o s h words (after drew) long (λ c. get_or-set_other s.words 0 (c + 1) _ 0 (λ e. omega arith))
-            (λ c p. same (lowered_in c p) drew refl) (λ c p. same (seen_in c p) drew refl),
+      let long : length words ≡ length s.words = length-set s.words 0 _ in
+      let other : (c : ℕ) → get_or words (c + 1) 0 ≡ get_or s.words (c + 1) 0
+      = λ c. get_or-set_other s.words 0 (c + 1) _ 0 (λ e. omega arith) in (
+        grind (arith, nat_tests, h.0, changed, λ (x : ℕ). weigh-snoc (is_number x) v.drawn n),
+        record {
+          wide = long ∙ h.1.wide;
+          below_opening = grind (arith, other, h.1.below_opening);
+          below_lowered = grind (arith, other, changed, h.1.below_lowered);
+          below_seen = grind (arith, other, changed, h.1.below_seen);
+          reached = λ c. rw (other c) (grind (arith, changed, h.1.reached c));
+        },
         fits drew refl (omega arith) (omega arith),
       )
 
@@ -130,20 +105,8 @@ module _ (o : Opening) (s : State (Unit {0}) Knows) (id : ℕ) (v : Knows) (h : 
   look-kept : (c : ℕ) → 0 < share v → Kept o.whole opened s.words (after (saw c))
   look-kept c some_share =
       let n : ℕ = get_or s.words (c + 1) 0 in
-      let w : Knows = saw c in
-      let low : (c' p : ℕ) → weigh (lowered_in c' p) (after w) ≡ weigh (lowered_in c' p) s.views
-      = λ c' p. same (lowered_in c' p) w refl in (
-        dealt-kept o s h s.words (after w) refl refl (same allowance_in w refl) (same draws_in w refl)
-            (λ x. same (drawn_in x) w refl),
-        grind (
-          arith,
-          h.1,
-          low,
-          λ (c' p : ℕ). changed (seen_in c' p) w,
-          λ (c' p : ℕ). seen-cases (nat_lt n past_places) c' p c n v.seen refl,
-        ),
-        fits w refl some_share some_share,
-      )
+      let cases = λ (c' p : ℕ). seen-cases (nat_lt n past_places) c' p c n v.seen refl in
+      (grind (arith, h.0, changed), grind (arith, h.1, changed, cases), fits (saw c) refl some_share some_share)
 
   -- a lowering of the stop of connection c to p
   abbrev lowered : (c p : ℕ) → Knows
@@ -174,14 +137,12 @@ module _ (o : Opening) (s : State (Unit {0}) Knows) (id : ℕ) (v : Knows) (h : 
       + is_mark c' p' (c, p) =
       λ c' p'. (let sum = changed (lowered_in c' p') w in
       let marked = weigh-snoc (is_mark c' p') v.lowered (c, p) in omega arith) in (
-        dealt-kept o s h words (after w) long
-            (get_or-set_other s.words (c + 1) 0 (min n p) 0 (λ e. omega arith)) (same allowance_in w refl)
-            (same draws_in w refl) (λ x. same (drawn_in x) w refl),
+        grind (arith, h.0, changed, get_or-set_other s.words (c + 1) 0 (min n p) 0 (λ e. omega arith)),
         record {
           wide = long ∙ h.1.wide;
           below_opening = grind (arith, falls, h.1.below_opening);
           below_lowered = λ c' p' there. grind (arith, nat_tests, more c' p', falls c', here, h.1.below_lowered c' p');
-          below_seen = λ c' p' there. grind (arith, same (seen_in c' p') w refl, more c' p', falls c', h.1.below_seen c' p');
+          below_seen = λ c' p' there. grind (arith, changed, more c' p', falls c', h.1.below_seen c' p');
           reached = λ c'. elim (ℕ_discrete c' c) [
             | yes is ↦ rw is (elim (cases_lt p n) [
               | inl falls ↦ (let low : get_or words (c + 1) 0 ≡ p = omega arith in
@@ -201,12 +162,9 @@ module _ (o : Opening) (s : State (Unit {0}) Knows) (id : ℕ) (v : Knows) (h : 
   split-kept amount some_part less =
       let left : Knows = kept_part amount v in
       let right : Knows = given_part amount v in
-      let views : List Knows = after left ++ right ∷ [] in
-      let sum = λ (f : Knows → ℕ) (whole : f left + f right ≡ f v). weigh-split f s.views id v left right at whole in (
-        dealt-kept o s h s.words views refl refl (sum allowance_in (omega arith))
-            (sum draws_in (omega arith)) (λ x. sum (drawn_in x) (omega arith)),
-        stops-kept o s h s.words views refl (λ c. refl) (λ c p. sum (lowered_in c p) (omega arith))
-            (λ c p. sum (seen_in c p) (omega arith)),
+      let more = λ (f : Knows → ℕ). weigh-snoc f (after left) right in (
+        grind (arith, h.0, changed, more),
+        grind (arith, h.1, changed, more),
         fits-snoc opened (after left) right
             (fits-sharing opened v right (h.2 id v at) refl (omega arith) (omega arith))
             (fits left refl (omega arith) (omega arith)),
@@ -218,18 +176,12 @@ module _ (o : Opening) (s : State (Unit {0}) Knows) (id : ℕ) (v : Knows) (h : 
   join-kept other w at' some_share =
       let both : Knows = joined v w in
       let views : List Knows = set (after both) other spent in
-      let sum = λ (f : Knows → ℕ) (whole : f both + f spent ≡ f v + f w).
-      weigh-join f s.views id other v w both spent at at' whole in
+      let sum : (f : Knows → ℕ) → weigh f views + f v + f w ≡ weigh f s.views + f both + f spent
+      = λ f. omega (arith, changed f both, weigh-set f (after both) other w spent at') in
       let longer = length-append v.drawn w.drawn in (
-        dealt-kept o s h s.words views refl refl (sum allowance_in (omega arith))
-            (sum draws_in (omega arith))
-            (λ x. sum (drawn_in x) (let all = weigh-append (is_number x) v.drawn w.drawn in omega arith)),
-        stops-kept o s h s.words views refl (λ c. refl)
-            (λ c p. sum (lowered_in c p) (let all = weigh-append (is_mark c p) v.lowered w.lowered in omega arith))
-            (λ c p. sum (seen_in c p) (let all = weigh-append (is_mark c p) v.seen w.seen in omega arith)),
-        fits-set opened (after both) other spent
-            (grind arith)
-            (fits both refl some_share (omega arith)),
+        grind (arith, h.0, sum, λ (x : ℕ). weigh-append (is_number x) v.drawn w.drawn),
+        grind (arith, h.1, sum, λ (c p : ℕ). weigh-append (is_mark c p)),
+        fits-set opened (after both) other spent (grind arith) (fits both refl some_share (omega arith)),
       )
 
 pub draws : (o : Opening) (slots id : ℕ) (me : PassState) → 0 < me.0.allowance

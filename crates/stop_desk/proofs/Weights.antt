@@ -17,25 +17,10 @@ module _ {X : Type 0} where
   weigh-set f (x ∷ xs) zero v w at = let same : f x ≡ f v = ap f (some-injective x v at) in omega arith
   weigh-set f (x ∷ xs) (suc i) v w at = let rest = weigh-set f xs i v w at in omega arith
 
-  pub weigh-same : (f : X → ℕ) (xs : List X) (i : ℕ) (v w : X) → get_elem? xs i ≡ some v → f w ≡ f v
-      → weigh f (set xs i w) ≡ weigh f xs
-  weigh-same f xs i v w at same = let sum = weigh-set f xs i v w at in omega arith
-
   pub weigh-part : (f : X → ℕ) (xs : List X) (i : ℕ) (v : X) → get_elem? xs i ≡ some v → f v ≤ weigh f xs
   weigh-part f [] i v at = absurd (some-ne-none v (sym at))
   weigh-part f (x ∷ xs) zero v at = let same : f x ≡ f v = ap f (some-injective x v at) in omega arith
   weigh-part f (x ∷ xs) (suc i) v at = let rest = weigh-part f xs i v at in omega arith
-
-  pub weigh-split : (f : X → ℕ) (xs : List X) (i : ℕ) (v left right : X) → get_elem? xs i ≡ some v
-      → f left + f right ≡ f v → weigh f (set xs i left ++ right ∷ []) ≡ weigh f xs
-  weigh-split f xs i v left right at whole =
-      omega (arith, weigh-set f xs i v left at, weigh-snoc f (set xs i left) right)
-
-  pub weigh-join : (f : X → ℕ) (xs : List X) (i j : ℕ) (v w both spent : X) → get_elem? xs i ≡ some v
-      → get_elem? (set xs i both) j ≡ some w → f both + f spent ≡ f v + f w
-      → weigh f (set (set xs i both) j spent) ≡ weigh f xs
-  weigh-join f xs i j v w both spent at other whole =
-      omega (arith, weigh-set f xs i v both at, weigh-set f (set xs i both) j w spent other)
 
   -- where f weighs nothing, and g nothing of what f weighs nothing, g weighs nothing
   weigh-nothing : (f g : X → ℕ) (xs : List X) → weigh f xs ≡ 0
