@@ -6,8 +6,8 @@ use Rattle.stop_desk.proofs.Words.{IsPermutation-map, IsPermutation-sym, IsSettl
 use Rattle.stop_desk.proofs.Words.{Part, PassView, Round, Some, [], ap, arith, board_with, cases_lt, closed_of}
 use Rattle.stop_desk.proofs.Words.{cond_both, count_by, drop, eqb-true, final_stop, get_or, get_or-drop, get_or-map}
 use Rattle.stop_desk.proofs.Words.{get_or-map-range_with_len, get_or_from_slice_get, get_or_past, if◌then◌else◌}
-use Rattle.stop_desk.proofs.Words.{in_order, inl, inr, length, length-drop, length-map, length-map-range_with_len}
-use Rattle.stop_desk.proofs.Words.{ltb-true, map, marks, nat_tests, opening, opening_stop, part_of, parts_of}
+use Rattle.stop_desk.proofs.Words.{inl, inr, length, length-drop, length-map, length-map-range_with_len}
+use Rattle.stop_desk.proofs.Words.{ltb-true, map, marks, nat_tests, opening_stop, part_of, parts_of}
 use Rattle.stop_desk.proofs.Words.{past_places, place_at, range_with_len, refl, slice_get, slice_get_within, stop_of}
 use Rattle.stop_desk.proofs.Words.{stops, subst, suc, sum_by-IsPermutation, sym, zero, ℕ, ⊎_elim, ◌+◌, ◌<◌, ◌==◌, ◌∙◌}
 use Rattle.stop_desk.proofs.Words.{◌∷◌, ◌≡◌, ◌≤◌, ◌⊎◌}

@@ -56,7 +56,8 @@ contains-got xs i x e = (i, slice_get_within xs i x e, get_or_from_slice_get xs 
 pub contains-apart : {X : Type 0} (xs : List X) (x : X) → Contains xs x →
     (front : List X) × (back : List X) × (xs ≡ front ++ x ∷ back)
 contains-apart xs x (k, lt, is) =
-    (take k xs, drop (k + 1) xs, sym (take-append-drop k xs) ∙ ap (λ ys. take k xs ++ ys) (rw (drop_more xs k x lt, is)))
+    let back : drop k xs ≡ x ∷ drop (k + 1) xs = rw (drop_more xs k x lt, is) in
+    (take k xs, drop (k + 1) xs, sym (take-append-drop k xs) ∙ ap (λ ys. take k xs ++ ys) back)
 
 -- each element of a list's image, and of its images
 pub contains-map : {X Y : Type 0} (f : X → Y) (xs : List X) (x : X) → Contains xs x → Contains (map f xs) (f x)

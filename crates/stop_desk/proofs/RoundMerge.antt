@@ -46,14 +46,6 @@ leaves-both kept whole kept' whole' h k = record {
       ⊎_elim (h.beyond found) (k.beyond found) (Contains-append_cases h.left_out k.left_out found c);
 }
 
-leaves-alike : {IsOut : Finding → Type 0} (kept kept' whole : List Finding) → in_order kept ≡ in_order kept' →
-    Leaves IsOut kept' whole → Leaves IsOut kept whole
-leaves-alike kept kept' whole e h = record {
-  left_out = h.left_out;
-  together = in_order-alike kept kept' h.left_out h.left_out e refl ∙ h.together;
-  beyond = h.beyond;
-}
-
 -- what a part and a job have of a connection
 abbrev pub of_part : (connection : ℕ) → Part → List Finding
 of_part connection part = if part.connection == connection then part.findings else []
@@ -105,9 +97,15 @@ module _ (seen lowered : List (ℕ × ℕ)) (connection : ℕ) where
   whole-parts first [] [] one are = whole-none
   whole-parts first [] (part ∷ parts) one are = (let got = (are part (contains-here part parts)).3 in cc)
   whole-parts first (job ∷ jobs) parts one are =
-      leaves-alike _ _ _ split (leaves-both _ (of_job connection job) _ (findings_of_jobs connection jobs)
+      let both = leaves-both _ (of_job connection job) _ (findings_of_jobs connection jobs)
       (whole-part job taken.0 (of_first (are taken.0 taken.1)))
-      (whole-parts (suc first) jobs (apart.0 ++ apart.1) one-later later)) where
+      (whole-parts (suc first) jobs (apart.0 ++ apart.1) one-later later) in record {
+        left_out = both.left_out;
+        together =
+            in_order-alike (own parts) (of_part connection taken.0 ++ own (apart.0 ++ apart.1)) both.left_out
+            both.left_out split refl ∙ both.together;
+        beyond = both.beyond;
+      } where
         -- the part of the first job, and those before and behind it
         taken : (part : Part) × Contains parts part × ((part.job == first) ≡ true)
         taken =
@@ -149,7 +147,8 @@ module _ (seen lowered : List (ℕ × ℕ)) (connection : ℕ) where
           where
             by_number : IsOneOf seen lowered first (job ∷ jobs) p → IsOneOf seen lowered (suc first) jobs p
             by_number (zero, j, e, got, h) =
-                let again = some-count (λ (q : Part). q.job == first) (apart.0 ++ apart.1) p k (eq-eqb p.job first (omega arith)) in
+                let here = eq-eqb p.job first (omega arith) in
+                let again = some-count (λ (q : Part). q.job == first) (apart.0 ++ apart.1) p k here in
                 absurd (grind (arith, nat_tests, is_first, counted first, rw add-zero at (one 0 (omega arith))))
             by_number (suc at, j, e, got, h) = (at, j, omega arith, got, h)
 
@@ -167,11 +166,8 @@ after-none x (z ∷ ys) y o h = grind (arith, contains-cases z ys y h, after-non
 cut-put : (x y : Finding) (zs : List Finding) → IsInOrder comes_after comes_after_is zs → Contains zs y →
     stops y ≡ true → comes_after x y ≡ true → upto_stop (put_by comes_after x zs) ≡ upto_stop zs
 cut-put x y [] o h s l = absurd (contains-none y h)
-cut-put x y (z ∷ zs) o h s l = elim (contains-cases z zs y h) [
-  | inl same ↦ rw (rw (sym same) at l, rw (sym same) at s)
-  | inr k ↦ rw (comes_after_is.above x z y l (after-none z zs y o.0 k))
-      (ap (λ us. if stops z then z ∷ [] else z ∷ us) (cut-put x y zs o.1 k s l))
-]
+cut-put x y (z ∷ zs) o h s l =
+    grind (arith, contains-cases z zs y h, comes_after_is.above x z y l, after-none z zs y o.0, cut-put x y zs o.1)
 
 -- so it is with all that comes after it
 pub cut-all : (xs ys : List Finding) →
@@ -197,12 +193,9 @@ stops-cases xs ys place h =
 -- what a job of the connection finds is among all findings of its jobs
 stops-job : (round : Round) (connection place : ℕ) → JobStopsAt round connection place →
     StopsAt (findings_of_jobs connection round.jobs) place
-stops-job round connection place (job, among, is, (found, there, stopping, at)) = (
-  found,
-  contains-flat_map (of_job connection) round.jobs job found among (rw (eq-eqb job.connection connection is) there),
-  stopping,
-  at,
-)
+stops-job round connection place (job, among, is, (found, there, stopping, at)) =
+    let own : Contains (of_job connection job) found = rw (eq-eqb job.connection connection is) there in
+    (found, contains-flat_map (of_job connection) round.jobs job found among own, stopping, at)
 
 module _ (round : Round) (board : Board) (settled : IsSettled round board) (connection : ℕ) (earlier : List Finding)
     (opening : IsLeast (StopsAt earlier) (stop_of round.opening_stops connection)) where

@@ -1,10 +1,11 @@
 -- What the machine of workers keeps true after each event, from which a finished run is settled.
-use Rattle.stop_desk.proofs.Words.{AreAllowed, Bool, Contains, Draw, Event, Finish, HasConnections, IsAllowed, IsAtWork}
-use Rattle.stop_desk.proofs.Words.{IsGiven, IsLeast, IsPartOf, Job, JobStopsAt, List, Look, Lower, None, Option, Round}
-use Rattle.stop_desk.proofs.Words.{RoundState, RunSettles, Some, [], after_event, after_events, ap, arith, by_all}
-use Rattle.stop_desk.proofs.Words.{by_worker, eq-eqb, eqb-true, get_or-set_other, get_or-set_same, inl, inr}
-use Rattle.stop_desk.proofs.Words.{length, length-set, lesser, nat_tests, parts_of, refl, round_start, slice_get}
-use Rattle.stop_desk.proofs.Words.{slice_set, stop_of, subst, sym, ℕ, ℕ_discrete, ◌<◌, ◌==◌, ◌∙◌, ◌∷◌, ◌≡◌, ◌≤◌, ◌⊎◌}
+use Rattle.stop_desk.proofs.Words.{AreAllowed, Bool, Contains, Draw, Event, Finish, HasConnections, Holds, IsAllowed}
+use Rattle.stop_desk.proofs.Words.{IsAtWork, IsGiven, IsLeast, IsPartOf, Job, JobStopsAt, List, Look, Lower, None}
+use Rattle.stop_desk.proofs.Words.{Option, Round, RoundState, RunSettles, Some, [], after_event, after_events, ap}
+use Rattle.stop_desk.proofs.Words.{arith, by_all, by_worker, eq-eqb, eqb-true, get_or-set_other, get_or-set_same, inl}
+use Rattle.stop_desk.proofs.Words.{inr, length, length-set, lesser, nat_tests, parts_of, refl, round_start, slice_get}
+use Rattle.stop_desk.proofs.Words.{slice_set, stop_of, stops, subst, sym, ℕ, ℕ_discrete, ◌<◌, ◌==◌, ◌∙◌, ◌∷◌, ◌≡◌, ◌≤◌}
+use Rattle.stop_desk.proofs.Words.{◌⊎◌}
 use Rattle.stop_desk.specs.code.Board.{Part}
 use Rattle.stop_desk.proofs.RoundMembers.{contains-none, contains-here, contains-later, contains-cases, contains-each}
 use Rattle.stop_desk.proofs.RoundMembers.{contains-pair, own-all, contains-own, map-contains, count-cons, count-some}
@@ -66,8 +67,7 @@ least-moves Holds Holds' (Some least) to from h =
     let above : (q : ℕ) → Holds' q → least ≤ q
     = λ q k. (let (p, low, is) = from q k in let l = h.1 p is in omega arith) in
     let (first, low, is) = to least h.0 in
-    let l = above first is in
-    let same : first ≡ least = omega arith in
+    let same : first ≡ least = omega (arith, above first is) in
     (rw same at is, above)
 
 -- at the start
@@ -187,13 +187,10 @@ module _ (round : Round) (state : RoundState) (h : IsKept round state) where
     finish-kept : IsKept round (after_event state (Finish worker part))
     finish-kept = record {
       draws = grind (arith, contains-cases (worker, part) state.parts, h.draws, work.0, once);
-      parts = contains-each part (by_all state.parts) _ (
-        job,
-        is_job,
-        part-grows (λ c q. own-all worker state.seen (c, q))
-            (λ c q. own-all worker state.lowered (c, q)) is_part,
-      )
-          h.parts;
+      parts =
+          (let of_all = part-grows (λ c q. own-all worker state.seen (c, q))
+          (λ c q. own-all worker state.lowered (c, q)) is_part in
+          contains-each part (by_all state.parts) _ (job, is_job, of_all) h.parts);
       places = h.places;
     }
 

@@ -4,9 +4,9 @@ use Rattle.stop_desk.proofs.Words.{Splits, State, [], allowance_in, ap, arith, c
 use Rattle.stop_desk.proofs.Words.{get_or, get_or-set_other, get_or-set_same, given_part, if◌then◌else◌, inl, inr}
 use Rattle.stop_desk.proofs.Words.{is_mark, is_number, joined, keeps, kept_part, knows, learned_by, length}
 use Rattle.stop_desk.proofs.Words.{length-append, length-set, lowered_by, lowered_in, min, nat_lt, nat_tests, none}
-use Rattle.stop_desk.proofs.Words.{opening, opening_view, past_places, refl, seen_by, seen_in, set, set-get_or, share}
-use Rattle.stop_desk.proofs.Words.{some, some-ne-none, spent, step, subst, sym, times, weigh, ℕ, ℕ_discrete, ◌%◌, ◌++◌}
-use Rattle.stop_desk.proofs.Words.{◌+◌, ◌-◌, ◌<◌, ◌^◌, ◌∙◌, ◌∷◌, ◌≡◌, ◌≤◌}
+use Rattle.stop_desk.proofs.Words.{past_places, refl, seen_by, seen_in, set, set-get_or, share, some, spent, step}
+use Rattle.stop_desk.proofs.Words.{subst, times, weigh, ℕ, ℕ_discrete, ◌%◌, ◌++◌, ◌+◌, ◌-◌, ◌<◌, ◌^◌, ◌∙◌, ◌∷◌, ◌≡◌}
+use Rattle.stop_desk.proofs.Words.{◌≤◌}
 use Rattle.atomic_table.proofs.Lists.{at_set, at_snoc, set_again}
 use Rattle.stop_desk.proofs.Weights.{weigh-set, weigh-snoc, weigh-append, weigh-part}
 use Rattle.stop_desk.proofs.Weights.{seen-cases}
@@ -14,28 +14,12 @@ use Rattle.stop_desk.proofs.Weights.{seen-cases}
 pub fits-set : (opened : List ℕ) (views : List Knows) (id : ℕ) (w : Knows) → Fits opened w
     → ((j : ℕ) (u : Knows) → get_elem? views j ≡ some u → Fits opened u)
     → (j : ℕ) (u : Knows) → get_elem? (set views id w) j ≡ some u → Fits opened u
-fits-set opened views id w new all j u at =
-    elim (at_set views id j w u at) [ inl here ↦ rw here.1 at new | inr there ↦ all j u there.1 ]
+fits-set opened views id w new all j u at = grind (arith, at_set views id j w u at, all j u, new)
 
 pub fits-snoc : (opened : List ℕ) (views : List Knows) (w : Knows) → Fits opened w
     → ((j : ℕ) (u : Knows) → get_elem? views j ≡ some u → Fits opened u)
     → (j : ℕ) (u : Knows) → get_elem? (views ++ w ∷ []) j ≡ some u → Fits opened u
-fits-snoc opened views w new all j u at =
-    elim (at_snoc views w u j at) [ inl there ↦ all j u there | inr is ↦ rw is at new ]
-
--- a pass with a share knows what the desk was opened with
-pub fits-sharing : (opened : List ℕ) (v w : Knows) → Fits opened v → w.opened ≡ v.opened
-    → 0 < length v.drawn + v.allowance → 0 < length w.drawn + w.allowance → Fits opened w
-fits-sharing opened v w fits same some_share some_share' = grind (arith, fits)
-
--- at the start
-pub starts : (o : Opening) → o.whole < 2 ^ 64 → 0 < length o.words.items → get_or o.words.items 0 0 ≡ 0
-    → Holds o (opening {S = Unit {0}} o.words.items [] (opening_view o))
-starts o fits wide zeroth = (
-  grind (arith, nat_tests),
-  grind arith,
-  fits-snoc o.words.items [] (opening_view o) (grind arith) (λ j u at. absurd (some-ne-none u (sym at))),
-)
+fits-snoc opened views w new all j u at = grind (arith, at_snoc views w u j at, all j u, new)
 
 -- a step of the pass `id`, which knew v
 module _ (o : Opening) (s : State (Unit {0}) Knows) (id : ℕ) (v : Knows) (h : Holds o s)
@@ -55,8 +39,7 @@ module _ (o : Opening) (s : State (Unit {0}) Knows) (id : ℕ) (v : Knows) (h : 
 
   fits : (w : Knows) → w.opened ≡ v.opened → 0 < share v → 0 < share w → (j : ℕ) (u : Knows)
       → get_elem? (after w) j ≡ some u → Fits opened u
-  fits w e some_share some_share' =
-      fits-set opened s.views id w (fits-sharing opened v w (h.2 id v at) e some_share some_share') h.2
+  fits w e some_share some_share' = fits-set opened s.views id w (grind (arith, h.2 id v at)) h.2
 
   -- a draw
   abbrev drew : Knows
@@ -165,9 +148,7 @@ module _ (o : Opening) (s : State (Unit {0}) Knows) (id : ℕ) (v : Knows) (h : 
       let more = λ (f : Knows → ℕ). weigh-snoc f (after left) right in (
         grind (arith, h.0, changed, more),
         grind (arith, h.1, changed, more),
-        fits-snoc opened (after left) right
-            (fits-sharing opened v right (h.2 id v at) refl (omega arith) (omega arith))
-            (fits left refl (omega arith) (omega arith)),
+        fits-snoc opened (after left) right (grind (arith, h.2 id v at)) (fits left refl (omega arith) (omega arith)),
       )
 
   -- and one of two

@@ -6,11 +6,12 @@ use Rattle.stop_desk.proofs.Words.{IsWorked, Job, List, Looked, None, Option, Pa
 use Rattle.stop_desk.proofs.Words.{append-nil, append_assoc, arith, eqb, false, filter, flat_map, get_or, if◌then◌else◌}
 use Rattle.stop_desk.proofs.Words.{inl, inr, is_number, joined, length, length-append, list_any, map, map-append}
 use Rattle.stop_desk.proofs.Words.{nat_tests, part_of, parts_of, pass_draws, pass_of, refl, slice_get, slice_get-get_or}
-use Rattle.stop_desk.proofs.Words.{step, stops, stops_on, subst, sum_by-append, sym, times, true, ℕ, ⊎_elim, ◌++◌, ◌+◌}
-use Rattle.stop_desk.proofs.Words.{◌<◌, ◌==◌, ◌∙◌, ◌∷◌, ◌≡◌, ◌≤◌}
+use Rattle.stop_desk.proofs.Words.{stops, stops_on, subst, sum_by-append, sym, times, true, ℕ, ⊎_elim, ◌++◌, ◌+◌, ◌<◌}
+use Rattle.stop_desk.proofs.Words.{◌==◌, ◌∙◌, ◌∷◌, ◌≡◌, ◌≤◌}
 use Rattle.std.proofs.lemmas.Map.Steps.{length-le_from_distinct_below}
 use Rattle.std.specs.List.{IsDistinct}
 use Rattle.stop_desk.specs.declared.claims.Claim.{Claim}
+use Rattle.stop_desk.specs.declared.desk_looks.DeskLook.{DeskLook}
 use Rattle.stop_desk.specs.declared.claims.Claim.TheVariants.{Spent, Job as Drawn, Done}
 use Rattle.stop_desk.proofs.RoundMembers.{pair, contains-none, contains-here, contains-one, contains-got, contains-map}
 use Rattle.stop_desk.proofs.RoundMembers.{map-contains, contains-in_order, in_order-contains, contains-filter}
@@ -62,17 +63,17 @@ one-look c before between (Some place) more look =
     ∙ ap (λ s. pass_of before.desk before.allowance before.drawn s before.lowered)
     (append_assoc before.seen ((c, place) ∷ []) more)
 
-module _ {L : Type 0} (answers : L → List Finding → Option ℕ → L → Type 0) (pass : L → PassView) (c : ℕ)
-    (IsOn : L → Type 0)
-    (is_look : (s : L) (found : List Finding) (answer : Option ℕ) (t : L) → IsOn s → answers s found answer t →
-    IsOn t × IsLook c (pass s) answer (pass t)) where
-  pub watched : (before : L) (asked : List Asked) (after : L) → IsOn before → Looked answers before asked after →
-      pass after ≡ saw_more (pass before) (answers_on c asked)
-  watched before [] after on h = rw (append-nil (pass before).seen) (ap pass (sym h))
-  watched before (first ∷ rest) after on (between, step, others) =
-      let (still, look) = is_look before first.handed first.answer between on step in
-      watched between rest after still others
-      ∙ one-look c (pass before) (pass between) first.answer (answers_on c rest) look
+-- what a look at a desk says
+abbrev LooksAt : DeskLook → List Finding → Option ℕ → DeskLook → Type 0
+LooksAt before found answer after = (after.connection ≡ before.connection) × (after.desk.now ≡ before.desk.now)
+    × IsLook before.connection before.pass answer after.pass
+
+pub watched : (before : DeskLook) (asked : List Asked) (after : DeskLook) → Looked LooksAt before asked after →
+    after.pass ≡ saw_more before.pass (answers_on before.connection asked)
+watched before [] after h = rw (append-nil before.pass.seen) (ap (λ (l : DeskLook). l.pass) (sym h))
+watched before (first ∷ rest) after (between, (on, _, look), others) =
+    rw on at (watched between rest after others)
+    ∙ one-look before.connection before.pass between.pass first.answer (answers_on before.connection rest) look
 
 pub no_job : Job
 no_job = record { connection = 0; findings = [] }
@@ -120,7 +121,8 @@ module _ {M : Type 0} (makes : ℕ → Option ℕ → M → Type 0) (jobs : List
         lowered_real = λ c p k. ⊎_elim inl (λ new. (let job = job_at jobs part.job in
             let (is, stopping) = stops_on-contains part.connection part.findings.items c p new in
             let among = contains-got jobs part.job job (at-job jobs part.job lt) in
-            inr (job, among, sym connection_is ∙ is, cut-stops job.findings part.upto part.findings.items p cut stopping)))
+            let whole = cut-stops job.findings part.upto part.findings.items p cut stopping in
+            inr (job, among, sym connection_is ∙ is, whole)))
             (Contains-append_cases before.lowered errors (c, p) k);
       },
       record {
