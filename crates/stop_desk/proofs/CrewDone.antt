@@ -1,18 +1,19 @@
 -- The stops of a desk one by one, that the board of a closed desk is settled, and its parts in the order of their jobs.
-use Rattle.stop_desk.proofs.Words.{All, All-contains, All-map, Board, BoardPart, Bool, ClosedView, Contains}
-use Rattle.stop_desk.proofs.Words.{Contains-permutation, DeskId, IsAllWorked, IsAtMost, IsConnection, IsDeskSettled}
-use Rattle.stop_desk.proofs.Words.{IsGiven, IsLeast, IsLeastOnDesk, IsNonDecreasingBy, IsPartOf, IsPermutation}
-use Rattle.stop_desk.proofs.Words.{IsPermutation-map, IsPermutation-sym, IsSettled, IsStop, Job, List, None, Option}
-use Rattle.stop_desk.proofs.Words.{Part, PassView, Round, Some, [], ap, arith, board_with, cases_lt, closed_of}
-use Rattle.stop_desk.proofs.Words.{cond_both, count_by, drop, eqb-true, final_stop, get_or, get_or-drop, get_or-map}
-use Rattle.stop_desk.proofs.Words.{get_or-map-range_with_len, get_or_from_slice_get, get_or_past, if◌then◌else◌}
-use Rattle.stop_desk.proofs.Words.{inl, inr, length, length-drop, length-map, length-map-range_with_len}
-use Rattle.stop_desk.proofs.Words.{ltb-true, map, marks, nat_tests, opening_stop, part_of, parts_of}
-use Rattle.stop_desk.proofs.Words.{past_places, place_at, range_with_len, refl, slice_get, slice_get_within, stop_of}
-use Rattle.stop_desk.proofs.Words.{stops, subst, suc, sum_by-IsPermutation, sym, zero, ℕ, ⊎_elim, ◌+◌, ◌<◌, ◌==◌, ◌∙◌}
-use Rattle.stop_desk.proofs.Words.{◌∷◌, ◌≡◌, ◌≤◌, ◌⊎◌}
+use Rattle.stop_desk.proofs.Words.{All, Bool, ClosedView, Contains, Contains-permutation, DeskId, IsAllWorked, IsAtMost}
+use Rattle.stop_desk.proofs.Words.{IsConnection, IsDeskSettled, IsLeastOnDesk, IsNonDecreasingBy, IsPermutation}
+use Rattle.stop_desk.proofs.Words.{IsPermutation-map, IsPermutation-sym, IsStop, List, None, Option, Part, PassView}
+use Rattle.stop_desk.proofs.Words.{Some, [], ap, arith, board_with, cases_lt, closed_of, cond_both, count_by, drop}
+use Rattle.stop_desk.proofs.Words.{eqb-true, final_stop, get_or, get_or_from_slice_get, if◌then◌else◌, inl, inr, length}
+use Rattle.stop_desk.proofs.Words.{ltb-true, map, marks, nat_tests, opening_stop, part_of, past_places, place_at}
+use Rattle.stop_desk.proofs.Words.{range_with_len, refl, slice_get, slice_get_within, stops, subst, suc}
+use Rattle.stop_desk.proofs.Words.{sum_by-IsPermutation, sym, zero, ℕ, ⊎_elim, ◌+◌, ◌<◌, ◌==◌, ◌∙◌, ◌∷◌, ◌≡◌, ◌≤◌, ◌⊎◌}
+use Rattle.std.proofs.lemmas.List.{get_or-drop, get_or-map, get_or_past, length-drop, length-map}
+use Rattle.std.proofs.lemmas.List.Elements.{All-contains, All-map}
 use Rattle.std.proofs.lemmas.List.Folds.{fold-map}
-use Rattle.stop_desk.specs.code.Crew.{opening_stops, last_stops_from, last_stops, IsDone}
+use Rattle.std.proofs.lemmas.List.FromFn.{get_or-map-range_with_len, length-map-range_with_len}
+use Rattle.stop_desk.specs.code.Board.{Board, IsGiven, IsLeast, IsPartOf, IsSettled, Job, Part as BoardPart, Round}
+use Rattle.stop_desk.specs.code.Board.{parts_of, stop_of}
+use Rattle.stop_desk.specs.code.Crew.{IsDone, last_stops, last_stops_from, opening_stops}
 use Rattle.stop_desk.specs.code.Settling.{HasSettled}
 use Rattle.stop_desk.specs.declared.settling.Settled.{Settled}
 use Rattle.stop_desk.proofs.RoundMembers.{contains-none, contains-first, contains-later, contains-cases, map-contains}

@@ -1,11 +1,11 @@
 -- What the fields of a pass and of a desk show, what a pass has after a look, and what the last pass knows.
-use Rattle.stop_desk.proofs.Words.{All, DeskId, Final, Holds, IsAtMost, IsLook, IsStop, Knows, List, None, Opening}
-use Rattle.stop_desk.proofs.Words.{Option, PassState, PassView, Seen, Sees, Settled, Some, [], allowance_in, ap, arith}
-use Rattle.stop_desk.proofs.Words.{cases_lt, closed_of, cond_both, drawn_in, draws_in, get_elem?, get_or, inl, inr}
-use Rattle.stop_desk.proofs.Words.{le-ltb, length, lowered_in, lt-ltb, map, marks, nat_lt, once_below, pass_of}
-use Rattle.stop_desk.proofs.Words.{past_places, place_at, refl, seen_in, share, some, some-injective, some-ne-none}
+use Rattle.stop_desk.proofs.Words.{All, DeskId, Final, IsAtMost, IsLook, IsStop, Knows, List, None, Opening, Option}
+use Rattle.stop_desk.proofs.Words.{PassState, PassView, Seen, Sees, Settled, Some, [], ap, arith, cases_lt, closed_of}
+use Rattle.stop_desk.proofs.Words.{cond_both, get_elem?, get_or, inl, inr, le-ltb, length, lt-ltb, map, marks, nat_lt}
+use Rattle.stop_desk.proofs.Words.{once_below, pass_of, past_places, place_at, refl, some, some-injective, some-ne-none}
 use Rattle.stop_desk.proofs.Words.{stop_word, suc, sym, times, weigh, zero, ℕ, ◌+◌, ◌<◌, ◌∙◌, ◌∷◌, ◌≡◌, ◌≤◌, ◌⊎◌}
 use Rattle.atomic_table.specs.Seated.{TableId}
+use Rattle.stop_desk.specs.code.Rule.{Holds, allowance_in, drawn_in, draws_in, lowered_in, seen_in, share}
 use Rattle.stop_desk.specs.code.Settled.{IsLeast}
 use Rattle.stop_desk.proofs.Weights.{weigh-whole}
 

@@ -1,10 +1,12 @@
 -- Cuts of lists in order, cuts put together, and what joins findings that are cut at their stop.
-use Rattle.stop_desk.proofs.Words.{Bool, Finding, IsCut, IsInOrder, IsPast, IsPermutation-filter_both, List, NoneBefore}
-use Rattle.stop_desk.proofs.Words.{Option, [], ap, append-nil, arith, comes_after, comes_after_is, false, filter}
-use Rattle.stop_desk.proofs.Words.{in_order, in_order-append_comm, in_order-append_left, in_order-in_order}
-use Rattle.stop_desk.proofs.Words.{in_order-ordered, in_order-permutation, leb-false, nat_le, not, not-true}
-use Rattle.stop_desk.proofs.Words.{ordered-in_order, put_by, refl, subst, sym, true, upto_stop, ℕ, ◌++◌, ◌∙◌, ◌∷◌, ◌≡◌}
-use Rattle.stop_desk.specs.laws.Cuts.{FrontIsCut, WholeIsCut, CutsJoin, StopsJoin}
+use Rattle.stop_desk.proofs.Words.{Bool, Finding, IsInOrder, IsPermutation-filter_both, List, NoneBefore, Option, []}
+use Rattle.stop_desk.proofs.Words.{ap, append-nil, arith, comes_after, false, filter, in_order, in_order-ordered}
+use Rattle.stop_desk.proofs.Words.{leb-false, nat_le, not, not-true, ordered-in_order, put_by, refl, subst, sym, true}
+use Rattle.stop_desk.proofs.Words.{upto_stop, ℕ, ◌++◌, ◌∙◌, ◌∷◌, ◌≡◌}
+use Rattle.audit_terms.proofs.FindingOrder.{comes_after_is, in_order-append_comm, in_order-append_left}
+use Rattle.audit_terms.proofs.FindingOrder.{in_order-in_order, in_order-permutation}
+use Rattle.stop_desk.specs.code.Board.{IsCut, IsPast}
+use Rattle.stop_desk.specs.laws.Cuts.{CutsJoin, FrontIsCut, StopsJoin, WholeIsCut}
 use Rattle.stop_desk.proofs.RoundMembers.{contains-none, filter-contains}
 use Rattle.stop_desk.proofs.RoundMerge.{Leaves, leaves-both}
 

@@ -1,11 +1,12 @@
 -- The worked examples of a round of two workers.
-use Rattle.stop_desk.proofs.Words.{All-contains, All-from_recursion, AllByRecursion, AreAllowed, Contains, Finding}
-use Rattle.stop_desk.proofs.Words.{HasConnections, IsCut, IsFinished, IsPartOf, Job, List, None, Some, StopsAt, []}
-use Rattle.stop_desk.proofs.Words.{after_events, ap, arith, false, in_order, refl, round_start, stops, suc, sym, zero}
-use Rattle.stop_desk.proofs.Words.{ℕ, ⊎_elim, ◌<◌, ◌∙◌, ◌∷◌, ◌≡◌}
-use Rattle.stop_desk.specs.examples.Rounds.{overrun, error, job, part, example, example_events, TwoWorkersFinish}
-use Rattle.stop_desk.specs.examples.Rounds.{TwoWorkersSettle, DrawnTwice, LookInvents, CutUnseen, AllSkipped}
-use Rattle.stop_desk.specs.examples.Rounds.{OverrunLowered, ErrorNotLowered}
+use Rattle.stop_desk.proofs.Words.{AllByRecursion, Contains, Finding, HasConnections, List, None, Some, [], ap, arith}
+use Rattle.stop_desk.proofs.Words.{false, in_order, refl, stops, suc, sym, zero, ℕ, ⊎_elim, ◌<◌, ◌∙◌, ◌∷◌, ◌≡◌}
+use Rattle.std.proofs.lemmas.List.Elements.{All-contains, All-from_recursion}
+use Rattle.stop_desk.specs.code.Board.{IsCut, IsPartOf, Job, StopsAt}
+use Rattle.stop_desk.specs.examples.Rounds.{AllSkipped, CutUnseen, DrawnTwice, ErrorNotLowered, LookInvents}
+use Rattle.stop_desk.specs.examples.Rounds.{OverrunLowered, TwoWorkersFinish, TwoWorkersSettle, error, example}
+use Rattle.stop_desk.specs.examples.Rounds.{example_events, job, overrun, part}
+use Rattle.stop_desk.specs.laws.Machine.{AreAllowed, IsFinished, after_events, round_start}
 use Rattle.stop_desk.proofs.RoundCuts.{front_is_cut_lem, whole_is_cut_lem}
 use Rattle.stop_desk.proofs.RoundMembers.{pair, contains-none, contains-here, contains-cases, contains-one}
 use Rattle.stop_desk.proofs.RoundMembers.{contains-in_order, in_order-contains}

@@ -1,17 +1,15 @@
 -- Membership in lists, in what one worker or all did, and in lists put in order.
-use Rattle.stop_desk.proofs.Words.{All-contains, All-contains_itself, All-filter, All-map, Bool, Contains}
-use Rattle.stop_desk.proofs.Words.{Contains-append_cases, Contains-append_left, Contains-append_right}
-use Rattle.stop_desk.proofs.Words.{Contains-permutation, Finding, IsPermutation, IsPermutation-cons}
-use Rattle.stop_desk.proofs.Words.{IsPermutation-filter_both, IsPermutation-middle, IsPermutation-refl}
-use Rattle.stop_desk.proofs.Words.{IsPermutation-sym, IsPermutation-trans, List, Some, [], ap, arith, by_all, by_worker}
-use Rattle.stop_desk.proofs.Words.{comes_after, cond_both, count_by, drop, eq-eqb, filter, filter_passes, flat_map}
-use Rattle.stop_desk.proofs.Words.{get_or, get_or-map, get_or_from_slice_get, if◌then◌else◌, in_order, inl, inr, length}
-use Rattle.stop_desk.proofs.Words.{length-filter, length-map, map, not, put_by, refl, slice_get, slice_get_within}
-use Rattle.stop_desk.proofs.Words.{subst, suc, sum_by-cons, sym, take, true, zero, ℕ, ⊎_elim, ◌++◌, ◌+◌, ◌<◌, ◌==◌, ◌∙◌}
-use Rattle.stop_desk.proofs.Words.{◌∷◌, ◌≡◌, ◌⊎◌}
-use Rattle.std.proofs.Common.{take-append-drop}
-use Rattle.std.proofs.lemmas.List.{drop_more}
-use Rattle.std.proofs.lemmas.List.Elements.{Contains-get_or}
+use Rattle.stop_desk.proofs.Words.{Bool, Contains, Contains-append_right, Contains-permutation, Finding, IsPermutation}
+use Rattle.stop_desk.proofs.Words.{IsPermutation-cons, IsPermutation-filter_both, IsPermutation-middle}
+use Rattle.stop_desk.proofs.Words.{IsPermutation-refl, IsPermutation-sym, IsPermutation-trans, List, Some, [], ap}
+use Rattle.stop_desk.proofs.Words.{arith, comes_after, cond_both, count_by, drop, eq-eqb, filter, flat_map, get_or}
+use Rattle.stop_desk.proofs.Words.{get_or_from_slice_get, if◌then◌else◌, in_order, inl, inr, length, length-filter, map}
+use Rattle.stop_desk.proofs.Words.{not, put_by, refl, slice_get, slice_get_within, subst, suc, sum_by-cons, sym, take}
+use Rattle.stop_desk.proofs.Words.{take-append-drop, true, zero, ℕ, ⊎_elim, ◌++◌, ◌+◌, ◌<◌, ◌==◌, ◌∙◌, ◌∷◌, ◌≡◌, ◌⊎◌}
+use Rattle.std.proofs.lemmas.List.{drop_more, get_or-map, length-map}
+use Rattle.std.proofs.lemmas.List.Elements.{All-contains, All-contains_itself, All-filter, All-map}
+use Rattle.std.proofs.lemmas.List.Elements.{Contains-append_cases, Contains-append_left, Contains-get_or, filter_passes}
+use Rattle.stop_desk.specs.laws.Machine.{by_all, by_worker}
 
 -- a pair, where its type is not known
 abbrev pub pair : {X Y : Type 0} → X → Y → X × Y

@@ -1,12 +1,12 @@
 -- What the machine of workers keeps true after each event, from which a finished run is settled.
-use Rattle.stop_desk.proofs.Words.{AreAllowed, Bool, Contains, Draw, Event, Finish, HasConnections, Holds, IsAllowed}
-use Rattle.stop_desk.proofs.Words.{IsAtWork, IsGiven, IsLeast, IsPartOf, Job, JobStopsAt, List, Look, Lower, None}
-use Rattle.stop_desk.proofs.Words.{Option, Round, RoundState, RunSettles, Some, [], after_event, after_events, ap}
-use Rattle.stop_desk.proofs.Words.{arith, by_all, by_worker, eq-eqb, eqb-true, get_or-set_other, get_or-set_same, inl}
-use Rattle.stop_desk.proofs.Words.{inr, length, length-set, lesser, nat_tests, parts_of, refl, round_start, slice_get}
-use Rattle.stop_desk.proofs.Words.{slice_set, stop_of, stops, subst, sym, ℕ, ℕ_discrete, ◌<◌, ◌==◌, ◌∙◌, ◌∷◌, ◌≡◌, ◌≤◌}
-use Rattle.stop_desk.proofs.Words.{◌⊎◌}
-use Rattle.stop_desk.specs.code.Board.{Part}
+use Rattle.stop_desk.proofs.Words.{Bool, Contains, HasConnections, List, None, Option, RunSettles, Some, [], ap, arith}
+use Rattle.stop_desk.proofs.Words.{eq-eqb, eqb-true, get_or-set_other, get_or-set_same, inl, inr, length, length-set}
+use Rattle.stop_desk.proofs.Words.{nat_tests, refl, slice_get, slice_set, stops, subst, sym, ℕ, ℕ_discrete, ◌<◌, ◌==◌}
+use Rattle.stop_desk.proofs.Words.{◌∙◌, ◌∷◌, ◌≡◌, ◌≤◌, ◌⊎◌}
+use Rattle.stop_desk.specs.code.Board.{IsGiven, IsLeast, IsPartOf, Job, JobStopsAt, Part, Round, parts_of, stop_of}
+use Rattle.stop_desk.specs.code.Rule.{Holds}
+use Rattle.stop_desk.specs.laws.Machine.{AreAllowed, Draw, Event, Finish, IsAllowed, IsAtWork, Look, Lower, RoundState}
+use Rattle.stop_desk.specs.laws.Machine.{after_event, after_events, by_all, by_worker, lesser, round_start}
 use Rattle.stop_desk.proofs.RoundMembers.{contains-none, contains-here, contains-later, contains-cases, contains-each}
 use Rattle.stop_desk.proofs.RoundMembers.{contains-pair, own-all, contains-own, map-contains, count-cons, count-some}
 use Rattle.stop_desk.proofs.RoundMembers.{some-count, contains-got}

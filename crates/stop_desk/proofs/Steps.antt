@@ -1,13 +1,13 @@
 -- How the parts of the rule go over a step, that each step of a pass keeps the rule, and what its play says.
-use Rattle.stop_desk.proofs.Words.{Allows, Fits, Holds, Joins, Kept, Knows, List, Lowers, Opening, PassState, Sees}
-use Rattle.stop_desk.proofs.Words.{Splits, State, [], allowance_in, ap, arith, cases_lt, drawn_by, drawn_in, get_elem?}
-use Rattle.stop_desk.proofs.Words.{get_or, get_or-set_other, get_or-set_same, given_part, if◌then◌else◌, inl, inr}
-use Rattle.stop_desk.proofs.Words.{is_mark, is_number, joined, keeps, kept_part, knows, learned_by, length}
-use Rattle.stop_desk.proofs.Words.{length-append, length-set, lowered_by, lowered_in, min, nat_lt, nat_tests, none}
-use Rattle.stop_desk.proofs.Words.{past_places, refl, seen_by, seen_in, set, set-get_or, share, some, spent, step}
-use Rattle.stop_desk.proofs.Words.{subst, times, weigh, ℕ, ℕ_discrete, ◌%◌, ◌++◌, ◌+◌, ◌-◌, ◌<◌, ◌^◌, ◌∙◌, ◌∷◌, ◌≡◌}
-use Rattle.stop_desk.proofs.Words.{◌≤◌}
+use Rattle.stop_desk.proofs.Words.{Allows, Joins, Knows, List, Opening, PassState, Sees, Splits, State, [], ap, arith}
+use Rattle.stop_desk.proofs.Words.{cases_lt, get_elem?, get_or, get_or-set_other, get_or-set_same, if◌then◌else◌, inl}
+use Rattle.stop_desk.proofs.Words.{inr, is_mark, is_number, joined, keeps, length, length-append, length-set, min}
+use Rattle.stop_desk.proofs.Words.{nat_lt, nat_tests, none, past_places, refl, set, some, step, subst, times, weigh, ℕ}
+use Rattle.stop_desk.proofs.Words.{ℕ_discrete, ◌%◌, ◌++◌, ◌+◌, ◌-◌, ◌<◌, ◌^◌, ◌∙◌, ◌∷◌, ◌≡◌, ◌≤◌}
 use Rattle.atomic_table.proofs.Lists.{at_set, at_snoc, set_again}
+use Rattle.std.proofs.lemmas.List.{set-get_or}
+use Rattle.stop_desk.specs.code.Plays.{Lowers, drawn_by, given_part, kept_part, learned_by, lowered_by, seen_by, spent}
+use Rattle.stop_desk.specs.code.Rule.{Fits, Holds, Kept, allowance_in, drawn_in, knows, lowered_in, seen_in, share}
 use Rattle.stop_desk.proofs.Weights.{weigh-set, weigh-snoc, weigh-append, weigh-part}
 use Rattle.stop_desk.proofs.Weights.{seen-cases}
 

@@ -1,18 +1,17 @@
 -- A job that is done, and what a worker has done after one draw more, and when no job is left.
-use Rattle.stop_desk.proofs.Words.{All, AllByRecursion, Asked, BoardPart, Contains, Contains-append_cases}
-use Rattle.stop_desk.proofs.Words.{Contains-append_left, Contains-append_right, Contains-push_cases, DeskId, DoesJob}
-use Rattle.stop_desk.proofs.Words.{Draws, DrewJobs, Finding, IsAllWorked, IsClaim, IsConnection, IsCut, IsLaid, IsLook}
-use Rattle.stop_desk.proofs.Words.{IsWorked, Job, List, Looked, None, Option, Part, PassView, Some, StopsAt, [], ap}
-use Rattle.stop_desk.proofs.Words.{append-nil, append_assoc, arith, eqb, false, filter, flat_map, get_or, if◌then◌else◌}
-use Rattle.stop_desk.proofs.Words.{inl, inr, is_number, joined, length, length-append, list_any, map, map-append}
-use Rattle.stop_desk.proofs.Words.{nat_tests, part_of, parts_of, pass_draws, pass_of, refl, slice_get, slice_get-get_or}
-use Rattle.stop_desk.proofs.Words.{stops, stops_on, subst, sum_by-append, sym, times, true, ℕ, ⊎_elim, ◌++◌, ◌+◌, ◌<◌}
-use Rattle.stop_desk.proofs.Words.{◌==◌, ◌∙◌, ◌∷◌, ◌≡◌, ◌≤◌}
-use Rattle.std.proofs.lemmas.Map.Steps.{length-le_from_distinct_below}
-use Rattle.std.specs.List.{IsDistinct}
+use Rattle.stop_desk.proofs.Words.{All, Asked, Contains, Contains-append_right, DeskId, DoesJob, Draws, DrewJobs}
+use Rattle.stop_desk.proofs.Words.{Finding, IsAllWorked, IsClaim, IsConnection, IsLaid, IsLook, IsWorked, List, Looked}
+use Rattle.stop_desk.proofs.Words.{None, Option, Part, PassView, Some, [], ap, append-nil, append_assoc, arith, filter}
+use Rattle.stop_desk.proofs.Words.{flat_map, get_or, if◌then◌else◌, inl, inr, is_number, joined, length, length-append}
+use Rattle.stop_desk.proofs.Words.{map, nat_tests, not, part_of, pass_draws, pass_of, refl, slice_get, slice_get-get_or}
+use Rattle.stop_desk.proofs.Words.{stops, stops_on, subst, suc, sum_by-append, sym, times, zero, ℕ, ⊎_elim, ◌++◌, ◌+◌}
+use Rattle.stop_desk.proofs.Words.{◌<◌, ◌==◌, ◌∙◌, ◌∷◌, ◌≡◌, ◌≤◌}
+use Rattle.std.proofs.lemmas.List.{map-append}
+use Rattle.std.proofs.lemmas.List.Elements.{Contains-append_cases, Contains-append_left, Contains-push_cases}
+use Rattle.stop_desk.specs.code.Board.{IsCut, Job, Part as BoardPart, StopsAt, parts_of}
 use Rattle.stop_desk.specs.declared.claims.Claim.{Claim}
+use Rattle.stop_desk.specs.declared.claims.Claim.TheVariants.{Done, Job as Drawn, Spent}
 use Rattle.stop_desk.specs.declared.desk_looks.DeskLook.{DeskLook}
-use Rattle.stop_desk.specs.declared.claims.Claim.TheVariants.{Spent, Job as Drawn, Done}
 use Rattle.stop_desk.proofs.RoundMembers.{pair, contains-none, contains-here, contains-one, contains-got, contains-map}
 use Rattle.stop_desk.proofs.RoundMembers.{map-contains, contains-in_order, in_order-contains, contains-filter}
 use Rattle.stop_desk.proofs.RoundMembers.{filter-contains, count-cons, contains-flat_map, flat_map-contains}
@@ -142,24 +141,23 @@ module _ {M : Type 0} (makes : ℕ → Option ℕ → M → Type 0) (jobs : List
       },
     )
 
+-- a list without a number
+without : (n x : ℕ) (xs : List ℕ) → times x (filter (λ y. not (y == n)) xs) ≡ (if x == n then 0 else times x xs)
+without n x [] = grind (arith, nat_tests)
+without n x (y ∷ ys) = grind (arith, nat_tests, without n x ys)
+
+length-without : (n : ℕ) (xs : List ℕ) → length (filter (λ y. not (y == n)) xs) + times n xs ≡ length xs
+length-without n [] = omega arith
+length-without n (y ∷ ys) = grind (arith, nat_tests, length-without n ys)
+
 -- different numbers below a bound are at most so many
-none-of : (x : ℕ) (ys : List ℕ) → times x ys ≡ 0 → AllByRecursion (λ y. eqb x y ≡ false) ys
-none-of x [] none = tt
-none-of x (y ∷ ys) none = (grind (arith, nat_tests), none-of x ys (omega arith))
-
-distinct : (xs : List ℕ) → ((x : ℕ) → times x xs ≤ 1) → IsDistinct eqb xs
-unfolding IsDistinct
-distinct [] once = tt
-distinct (x ∷ xs) once =
-    (none-of x xs (grind (arith, nat_tests, once x)), distinct xs (λ y. (let o = once y in omega arith)))
-
-has-times : (q : ℕ) (xs : List ℕ) → list_any (eqb q) xs ≡ true → 0 < times q xs
-has-times q [] h = cc
-has-times q (x ∷ xs) h = grind (arith, nat_tests, has-times q xs)
-
 few-distinct : (n : ℕ) (xs : List ℕ) → ((x : ℕ) → n ≤ x → times x xs ≡ 0) → ((x : ℕ) → times x xs ≤ 1) → length xs ≤ n
-few-distinct n xs none once = length-le_from_distinct_below xs n (distinct xs once)
-    (λ q h. grind (arith, none q, has-times q xs h))
+few-distinct zero [] none once = omega arith
+few-distinct zero (x ∷ xs) none once = absurd (grind (arith, nat_tests, none x))
+few-distinct (suc n) xs none once =
+    let rest = few-distinct n (filter (λ y. not (y == n)) xs) (λ x past. grind (arith, nat_tests, without n x xs, none x))
+    (λ x. grind (arith, nat_tests, without n x xs, once x)) in
+    omega (arith, once n, length-without n xs)
 
 module _ {M : Type 0} (makes : ℕ → Option ℕ → M → Type 0) (jobs : List Job) (round : ℕ) where
   -- a part stays one where more was seen and lowered
