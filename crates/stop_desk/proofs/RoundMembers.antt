@@ -1,8 +1,7 @@
 -- Membership in lists, in what one worker or all did, and in lists put in order.
-use Rattle.stop_desk.proofs.Words.{Bool, Contains, Contains-append_right, Contains-permutation, Finding, IsPermutation}
-use Rattle.stop_desk.proofs.Words.{IsPermutation-cons, IsPermutation-filter_both, IsPermutation-middle}
-use Rattle.stop_desk.proofs.Words.{IsPermutation-refl, IsPermutation-sym, IsPermutation-trans, List, Some, [], ap}
-use Rattle.stop_desk.proofs.Words.{arith, comes_after, cond_both, count_by, drop, eq-eqb, filter, flat_map, get_or}
+use Rattle.stop_desk.proofs.Words.{Bool, Contains, Contains-append_right, Contains-permutation, Finding}
+use Rattle.stop_desk.proofs.Words.{IsPermutation-filter_both, IsPermutation-middle, List, Some, [], ap, arith}
+use Rattle.stop_desk.proofs.Words.{comes_after, cond_both, count_by, drop, eq-eqb, filter, flat_map, get_or}
 use Rattle.stop_desk.proofs.Words.{get_or_from_slice_get, if◌then◌else◌, in_order, inl, inr, length, length-filter, map}
 use Rattle.stop_desk.proofs.Words.{not, put_by, refl, slice_get, slice_get_within, subst, suc, sum_by-cons, sym, take}
 use Rattle.stop_desk.proofs.Words.{take-append-drop, true, zero, ℕ, ⊎_elim, ◌++◌, ◌+◌, ◌<◌, ◌==◌, ◌∙◌, ◌∷◌, ◌≡◌, ◌⊎◌}
@@ -10,6 +9,9 @@ use Rattle.std.proofs.lemmas.List.{drop_more, get_or-map, length-map}
 use Rattle.std.proofs.lemmas.List.Elements.{All-contains, All-contains_itself, All-filter, All-map}
 use Rattle.std.proofs.lemmas.List.Elements.{Contains-append_cases, Contains-append_left, Contains-get_or, filter_passes}
 use Rattle.stop_desk.specs.laws.Machine.{by_all, by_worker}
+use Rattle.std.proofs.lemmas.List.Elements.{recursion_from_All, All-from_recursion}
+use Rattle.audit_terms.proofs.FindingLists.{each-in_order}
+use Rattle.audit_terms.proofs.FindingOrder.{in_order-permutation}
 
 -- a pair, where its type is not known
 abbrev pub pair : {X Y : Type 0} → X → Y → X × Y
@@ -128,21 +130,18 @@ module _ {X : Type 0} (test : X → Bool) where
   some-count xs x h t = omega (arith, length-filter test xs, (contains-filter test xs x h t).1)
 
 -- putting in order keeps the elements
-put-moves : (x : Finding) (ys : List Finding) → IsPermutation (x ∷ ys) (put_by comes_after x ys)
-put-moves x [] = IsPermutation-refl (x ∷ [])
-put-moves x (y ∷ ys) = cond_both (comes_after x y) (y ∷ put_by comes_after x ys) (x ∷ y ∷ ys)
-    (IsPermutation (x ∷ y ∷ ys))
-    (λ _. IsPermutation-trans _ (y ∷ x ∷ ys) _ (IsPermutation-sym _ _ (IsPermutation-middle (y ∷ []) x ys))
-    (IsPermutation-cons y _ _ (put-moves x ys)))
-    (λ _. IsPermutation-refl _)
-
-order-moves : (xs : List Finding) → IsPermutation xs (in_order xs)
-order-moves [] = IsPermutation-refl []
-order-moves (x ∷ xs) =
-    IsPermutation-trans _ (x ∷ in_order xs) _ (IsPermutation-cons x _ _ (order-moves xs)) (put-moves x (in_order xs))
+put-here : (x : Finding) (ys : List Finding) → Contains (put_by comes_after x ys) x
+put-here x [] = contains-here x []
+put-here x (y ∷ ys) = cond_both (comes_after x y) _ _ (λ zs. Contains zs x)
+    (λ _. contains-later y _ x (put-here x ys)) (λ _. contains-here x (y ∷ ys))
 
 pub contains-in_order : (xs : List Finding) (z : Finding) → Contains xs z → Contains (in_order xs) z
-contains-in_order xs z h = Contains-permutation xs (in_order xs) z (order-moves xs) h
+contains-in_order xs z h =
+    let (front, back, is) = contains-apart xs z h in
+    subst (λ zs. Contains zs z) (in_order-permutation _ _ (IsPermutation-middle front z back) ∙ ap in_order (sym is))
+    (put-here z (in_order (front ++ back)))
 
 pub in_order-contains : (xs : List Finding) (z : Finding) → Contains (in_order xs) z → Contains xs z
-in_order-contains xs z h = Contains-permutation _ xs z (IsPermutation-sym xs _ (order-moves xs)) h
+in_order-contains xs z h =
+    let each = each-in_order (Contains xs) xs (recursion_from_All (Contains xs) xs (All-contains_itself xs)) in
+    All-contains (Contains xs) _ z (All-from_recursion (Contains xs) _ each) h

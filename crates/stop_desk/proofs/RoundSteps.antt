@@ -1,6 +1,6 @@
 -- What the machine of workers keeps true after each event, from which a finished run is settled.
 use Rattle.stop_desk.proofs.Words.{Bool, Contains, HasConnections, List, None, Option, RunSettles, Some, [], ap, arith}
-use Rattle.stop_desk.proofs.Words.{eq-eqb, eqb-true, get_or-set_other, get_or-set_same, inl, inr, length, length-set}
+use Rattle.stop_desk.proofs.Words.{eq-eqb, eqb-true, get_or-set_other, get_or-set_same, inr, length, length-set}
 use Rattle.stop_desk.proofs.Words.{nat_tests, refl, slice_get, slice_set, stops, subst, sym, ℕ, ℕ_discrete, ◌<◌, ◌==◌}
 use Rattle.stop_desk.proofs.Words.{◌∙◌, ◌∷◌, ◌≡◌, ◌≤◌, ◌⊎◌}
 use Rattle.stop_desk.specs.code.Board.{IsGiven, IsLeast, IsPartOf, Job, JobStopsAt, Part, Round, parts_of, stop_of}
@@ -141,8 +141,7 @@ module _ (round : Round) (state : RoundState) (h : IsKept round state) where
           (λ q k. grind (arith, given-cases connection q k)) (h.places.stops_right connection))))
       | no other ↦ rw (get_or-set_other state.stops connection c (Some _) None (λ e. other (sym e)))
           (least-moves (IsGiven round lowered c) _ _ (λ q k. (q, omega arith, given-more c q k))
-          (λ q k. (q, omega arith, elim (given-cases c q k) [ inl new ↦ absurd (other new.0) | inr old ↦ old ]))
-          (h.places.stops_right c))
+          (λ q k. (q, omega arith, grind (arith, given-cases c q k, other))) (h.places.stops_right c))
     ]
 
     lower-kept : IsKept round (after_event state (Lower worker connection place))

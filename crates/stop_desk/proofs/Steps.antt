@@ -105,35 +105,27 @@ module _ (o : Opening) (s : State (Unit {0}) Knows) (id : ℕ) (v : Knows) (h : 
       let w : Knows = lowered c p in
       let words : List ℕ = fallen c p in
       let long : length words ≡ length s.words = length-set s.words (c + 1) (min n p) in
-      let inside : c + 1 < length s.words =
-      (let wide : length v.opened ≡ length opened = ap length ((h.2 id v at).knowing some_share) in
-      let wide' = h.1.wide in omega arith) in
+      let inside : c + 1 < length s.words = omega (arith, ap length ((h.2 id v at).knowing some_share), h.1.wide) in
       let here : get_or words (c + 1) 0 ≡ min n p = get_or-set_same s.words (c + 1) (min n p) 0 inside in
-      let elsewhere = λ (c' : ℕ) (apart : c' ≡ c → ⊥).
-      get_or-set_other s.words (c + 1) (c' + 1) (min n p) 0 (λ e. apart (omega arith)) in
+      let other : (c' : ℕ) → (c' ≡ c → ⊥) → get_or words (c' + 1) 0 ≡ get_or s.words (c' + 1) 0
+      = λ c' apart. get_or-set_other s.words (c + 1) (c' + 1) (min n p) 0 (λ e. apart (omega arith)) in
       let falls : (c' : ℕ) → get_or words (c' + 1) 0 ≤ get_or s.words (c' + 1) 0
-      = λ c'. (elim (ℕ_discrete c' c) [
-        | yes is ↦ rw is (omega arith)
-        | no apart ↦ (let e = elsewhere c' apart in omega arith)
-      ]) in
-      let more : (c' p' : ℕ) → weigh (lowered_in c' p') (after w) ≡ weigh (lowered_in c' p') s.views
-      + is_mark c' p' (c, p) =
-      λ c' p'. (let sum = changed (lowered_in c' p') w in
-      let marked = weigh-snoc (is_mark c' p') v.lowered (c, p) in omega arith) in (
+      = λ c'. grind (arith, nat_tests, here, other c') in
+      let marked = λ (c' p' : ℕ). weigh-snoc (is_mark c' p') v.lowered (c, p) in (
         grind (arith, h.0, changed, get_or-set_other s.words (c + 1) 0 (min n p) 0 (λ e. omega arith)),
         record {
           wide = long ∙ h.1.wide;
           below_opening = grind (arith, falls, h.1.below_opening);
-          below_lowered = λ c' p' there. grind (arith, nat_tests, more c' p', falls c', here, h.1.below_lowered c' p');
-          below_seen = λ c' p' there. grind (arith, changed, more c' p', falls c', h.1.below_seen c' p');
+          below_lowered = λ c' p' there. grind (arith, nat_tests, changed, marked c' p', falls c', here, h.1.below_lowered c' p');
+          below_seen = λ c' p' there. grind (arith, changed, marked c' p', falls c', h.1.below_seen c' p');
           reached = λ c'. elim (ℕ_discrete c' c) [
             | yes is ↦ rw is (elim (cases_lt p n) [
               | inl falls ↦ (let low : get_or words (c + 1) 0 ≡ p = omega arith in
-                  rw low (inr (grind (arith, nat_tests, more c p))))
+                  rw low (inr (grind (arith, nat_tests, changed, marked c p))))
               | inr stays ↦ (let low : get_or words (c + 1) 0 ≡ n = omega arith in
-                  rw low (grind (arith, more c n, h.1.reached c)))
+                  rw low (grind (arith, changed, marked c n, h.1.reached c)))
             ])
-            | no apart ↦ rw (elsewhere c' apart) (grind (arith, more c' (get_or s.words (c' + 1) 0), h.1.reached c'))
+            | no apart ↦ rw (other c' apart) (grind (arith, changed, marked c', h.1.reached c'))
           ];
         },
         fits w refl some_share some_share,
