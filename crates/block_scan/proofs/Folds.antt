@@ -1,12 +1,10 @@
 -- What the laws of a summary give: of items that fit, to advance by their summary is to take their steps.
 use Rattle.std.proofs.Common.{◌≡◌, ◌+◌, ◌-◌, ◌<◌, ℕ, zero, suc, List, [], ◌∷◌, ◌++◌, map, length, get_or, take, drop}
-use Rattle.std.proofs.Common.{drop-drop, get_or-drop, take-append-drop, Option, Some, None, Bor, refl, sym, ap, ◌∙◌}
+use Rattle.std.proofs.Common.{drop-drop, get_or-drop, take-append-drop, Bor, refl, sym, ap, ◌∙◌}
 use Rattle.std.proofs.Common.{append_assoc, arith}
 use Rattle.std.specs.List.{AllZip, range_with_len}
-use Rattle.std.specs.Option.{option_copied}
-use Rattle.std.specs.Prelude.{slice_get, unwrap_or, Result, Ok, IfOk}
+use Rattle.std.specs.Prelude.{Result, Ok, IfOk}
 use Rattle.std.proofs.lemmas.List.{append-nil, drop_more, get_or_push, length_push, take_more}
-use Rattle.std.proofs.lemmas.Option.{unwrap_or-slice_get}
 use Rattle.block_scan.specs.code.Summary.{SummaryLaws, summary_of}
 use Rattle.block_scan.specs.code.List.{items_of, state_after, states_after, states_before}
 use Rattle.block_scan.specs.code.Carried.{carried}
@@ -26,11 +24,6 @@ drop_next xs i x lt read = rw (drop_more xs i x lt, ← read) refl
 abbrev pub last_or : {State : Type 0} → List State → State → State
 last_or states start = get_or states (length states - 1) start
 
-pub last_or-is : {State : Type 0} (last : Option (Bor State)) (start : Bor State) (states : List State)
-    → option_copied last ≡ slice_get states (length states - 1) → (unwrap_or last start).now ≡ last_or states start.now
-last_or-is None start states e = ap (λ o. unwrap_or o start.now) e ∙ unwrap_or-slice_get states _ start.now
-last_or-is (Some y) start states e = ap (λ o. unwrap_or o start.now) e ∙ unwrap_or-slice_get states _ start.now
-
 module _ {Sum Item State : Type 0} {empty : Sum} {of : Item → Sum} {join : Sum → Sum → Sum} {advance : State → Sum
     → State} {step : State → Item → State} {fits : State → List Item → Type 0}
     (laws : SummaryLaws empty of join advance step fits) where
@@ -39,17 +32,15 @@ module _ {Sum Item State : Type 0} {empty : Sum} {of : Item → Sum} {join : Sum
   advance-state_after s [] f = laws.advance_by_none s f
   advance-state_after s (x ∷ a) f =
       let front = laws.first_fit s (x ∷ []) a f in
-      let one = laws.one s x front in
-      rw (← advance-state_after (step s x) a (laws.rest_fits s (x ∷ []) a f), ← laws.advance_by_one s x front, ← one)
-      (sym (laws.advance_twice s (x ∷ []) a f))
+      let moved = advance-state_after (step s x) a (laws.rest_fits s (x ∷ []) a f) in
+      rw (← moved, ← laws.advance_by_one s x front, ← laws.one s x front) (sym (laws.advance_twice s (x ∷ []) a f))
 
   pub carried-before : (s : State) (blocks : List (List Item)) → fits s (items_of blocks)
       → carried advance s (map (summary_of empty of join) blocks) ≡ states_before step s blocks
   carried-before s [] f = refl
-  carried-before s (b ∷ blocks) f = rw (
-    advance-state_after s b (laws.first_fit s b (items_of blocks) f),
-    carried-before (state_after step s b) blocks (laws.rest_fits s b (items_of blocks) f),
-  ) refl
+  carried-before s (b ∷ blocks) f =
+      let moved = advance-state_after s b (laws.first_fit s b (items_of blocks) f) in
+      rw (moved, carried-before (state_after step s b) blocks (laws.rest_fits s b (items_of blocks) f))
 
   -- the summary of the items up to a place, and of one more
   pub next_summary : (s : State) (items : List Item) (i : ℕ) (x : Item) → fits s items → i < length items
@@ -124,9 +115,7 @@ module _ {State Item : Type 0} (step : State → Item → State) where
     parts_joined k start (b ∷ blocks) (p ∷ parts) c e h =
         let carry : get_or carries k start ≡ start = let at = get_or-drop k carries 0 start in grind arith in
         let block : get_or all k b ≡ b = let at = get_or-drop k all 0 b in grind arith in
-        rw (
-          states_after-append start b.now (items_of (map (λ b. b.now) blocks)),
-          ← rw (carry, block) at (h.0 start b),
-          ← parts_joined (k + 1) (state_after step start b.now) blocks parts (rw c at (sym (drop-drop 1 k carries)))
-              (rw e at (sym (drop-drop 1 k all))) h.1,
-        ) refl
+        let here = rw (carry, block) at (h.0 start b) in
+        let later = parts_joined (k + 1) (state_after step start b.now) blocks parts
+        (rw c at (sym (drop-drop 1 k carries))) (rw e at (sym (drop-drop 1 k all))) h.1 in
+        rw (states_after-append start b.now (items_of (map (λ b. b.now) blocks)), ← here, ← later)

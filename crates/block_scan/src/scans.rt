@@ -1,4 +1,4 @@
-ghost use Rattle.std.specs.Prelude.{◌≡◌, ◌<◌, List, map, length, slice_index_or, IfOk};
+ghost use Rattle.std.specs.Prelude.{◌≡◌, ◌-◌, ◌<◌, List, map, length, slice_index_or, IfOk};
 ghost use Rattle.block_scan.specs.code.Summary.{summary_of};
 ghost use Rattle.block_scan.specs.code.List.{items_of, states_after, states_before};
 
@@ -44,6 +44,13 @@ where
     Ok(states)
 }
 
+/// The last of the states so far, or the first one where there is none.
+fn last_or<'a, T>(states: &'a [T], start: &'a T) -> &'a T
+    ensures { result.now ≡ slice_index_or states.now (length states.now - 1) start.now }
+{
+    states.last().unwrap_or(start)
+}
+
 /// The state after each item of a block, from the state before it.
 fn scan_block<S: Summary + Drop>(
     alloc: Global,
@@ -58,7 +65,7 @@ where
     let mut states = Vec::with_capacity(alloc, items.len())?;
     for item in items {
         let sum = S::of(item);
-        let next = S::advance(states.last().unwrap_or(start), &sum);
+        let next = S::advance(last_or(states.as_slice(), start), &sum);
         states.push(next)?;
     }
     Ok(states)
