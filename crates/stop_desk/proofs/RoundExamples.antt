@@ -49,12 +49,8 @@ part_0 = record {
 all-kept : (seen lowered : List (ℕ × ℕ)) (number : ℕ) (j : Job) → in_order j.findings ≡ j.findings →
     ((place : ℕ) → StopsAt j.findings place → Contains lowered (j.connection, place)) →
     IsPartOf seen lowered j (part number j.connection None j.findings)
-all-kept seen lowered number j ordered stops_lowered = record {
-  of_connection = refl;
-  cut = whole_is_cut_lem j.findings None ordered;
-  upto_seen = λ place e. cc;
-  stops_lowered = stops_lowered;
-}
+all-kept seen lowered number j ordered stops_lowered =
+    grind (arith, whole_is_cut_lem j.findings None ordered, stops_lowered)
 
 part_1 : IsPartOf [] the_place job_1 (part 1 0 None job_1.findings)
 part_1 = all-kept [] the_place 1 job_1 refl

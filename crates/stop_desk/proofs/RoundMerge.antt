@@ -186,10 +186,6 @@ stops-left xs ys place h = (h.0, Contains-append_left xs ys h.0 h.1, h.2, h.3)
 stops-right : (xs ys : List Finding) (place : ℕ) → StopsAt ys place → StopsAt (xs ++ ys) place
 stops-right xs ys place h = (h.0, Contains-append_right xs ys h.0 h.1, h.2, h.3)
 
-stops-cases : (xs ys : List Finding) (place : ℕ) → StopsAt (xs ++ ys) place → StopsAt xs place ⊎ StopsAt ys place
-stops-cases xs ys place h =
-    elim (Contains-append_cases xs ys h.0 h.1) [ inl k ↦ inl (h.0, k, h.2, h.3) | inr k ↦ inr (h.0, k, h.2, h.3) ]
-
 -- what a job of the connection finds is among all findings of its jobs
 stops-job : (round : Round) (connection place : ℕ) → JobStopsAt round connection place →
     StopsAt (findings_of_jobs connection round.jobs) place
@@ -230,10 +226,10 @@ module _ (round : Round) (board : Board) (settled : IsSettled round board) (conn
   -- an error of all was kept, or was left out past a place that was given
   kept_or_past : (place : ℕ) → StopsAt (earlier ++ whole) place →
       StopsAt (earlier ++ kept) place ⊎ ((seen : ℕ) × (seen < place) × IsGiven round board.lowered connection seen)
-  kept_or_past place h = elim (stops-cases earlier whole place h) [
-    | inl k ↦ inl (stops-left earlier kept place k)
-    | inr (found, among, s, at) ↦ elim (Contains-append_cases kept parts.left_out found
-        (in_order-contains _ found (rw (sym parts.together) at (contains-in_order whole found among)))) [
+  kept_or_past place (found, among, s, at) = elim (Contains-append_cases earlier whole found among) [
+    | inl k ↦ inl (stops-left earlier kept place (found, k, s, at))
+    | inr k ↦ elim (Contains-append_cases kept parts.left_out found
+        (in_order-contains _ found (rw (sym parts.together) at (contains-in_order whole found k)))) [
           | inl own ↦ inl (stops-right earlier kept place (found, own, s, at))
           | inr out ↦ (let (seen, there, low) = parts.beyond found out in
               inr (seen, omega arith, settled.seen_given connection seen there))
@@ -243,10 +239,10 @@ module _ (round : Round) (board : Board) (settled : IsSettled round board) (conn
   -- so at or before each error a place was given, and at or before each that was given an error was kept
   given_before : (place : ℕ) → StopsAt (earlier ++ kept) place →
       (least : ℕ) × (least ≤ place) × IsGiven round board.lowered connection least
-  given_before place h = elim (stops-cases earlier kept place h) [
-    | inl k ↦ (let (least, is, _, low) = least-some (StopsAt earlier) _ place opening k in (least, low place k, inl is))
-    | inr (found, among, s, at) ↦
-        (let (part, there, own) = flat_map-contains (of_part connection) board.parts found among in
+  given_before place (found, among, s, at) = elim (Contains-append_cases earlier kept found among) [
+    | inl k ↦ (let (least, is, _, low) = least-some (StopsAt earlier) _ place opening (found, k, s, at) in
+        (least, low place (found, k, s, at), inl is))
+    | inr k ↦ (let (part, there, own) = flat_map-contains (of_part connection) board.parts found k in
         (place, omega arith, inr (rw at at (lowered_part part found there own s))))
   ]
 

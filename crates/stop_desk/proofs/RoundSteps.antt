@@ -211,7 +211,7 @@ events-kept round has state (event ∷ events) a h =
 pub run_settles_lem : RunSettles
 run_settles_lem round has events allowed finished =
     let h = events-kept round has (round_start round) events allowed (start-kept round) in record {
-      one_part_each = λ job l. (let n = finished job l in let once = h.draws.parts_once job in omega arith);
+      one_part_each = λ job l. omega (arith, finished job l, h.draws.parts_once job);
       parts_of_jobs = h.parts;
       lowered_real = h.places.lowered_right;
       seen_given = h.places.seen_right;

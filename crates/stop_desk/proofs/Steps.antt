@@ -159,13 +159,9 @@ module _ (o : Opening) (s : State (Unit {0}) Knows) (id : ℕ) (v : Knows) (h : 
 
 pub draws : (o : Opening) (slots id : ℕ) (me : PassState) → 0 < me.0.allowance
     → Allows (Holds o) slots id me 0 (λ n. (n + 1) % 2 ^ 64) (drawn_by (step slots 0 1 0 none) me)
-draws o slots id me left s h _ at _ = (
-  drew o s id me.0 h at,
-  keeps,
-  tt,
-  draw-kept o s id me.0 h at left,
-  (omega arith, draw-fresh o s id me.0 h at, refl),
-)
+draws o slots id me left s h _ at _ =
+    let drawn = draw-fresh o s id me.0 h at in
+    (drew o s id me.0 h at, keeps, tt, draw-kept o s id me.0 h at left, (omega arith, drawn, refl))
 
 pub sees : (o : Opening) (slots id : ℕ) (me : PassState) (c : ℕ) → 0 < share me.0
     → Allows (Holds o) slots id me (c + 1) (λ n. n) (seen_by (step slots (c + 1) 0 0 none) me)
