@@ -1,19 +1,18 @@
 -- What the laws of a summary give: of items that fit, to advance by their summary is to take their steps.
-use Rattle.std.proofs.Common.{◌≡◌, ◌+◌, ◌-◌, ◌<◌, ℕ, zero, suc, List, [], ◌∷◌, ◌++◌, map, length, get_or, take, drop}
-use Rattle.std.proofs.Common.{drop-drop, get_or-drop, take-append-drop, Bor, refl, sym, ap, ◌∙◌}
-use Rattle.std.proofs.Common.{append_assoc, arith}
-use Rattle.std.specs.List.{AllZip, range_with_len}
-use Rattle.std.specs.Prelude.{Result, Ok, IfOk}
-use Rattle.std.proofs.lemmas.List.{append-nil, drop_more, get_or_push, length_push, take_more}
-use Rattle.block_scan.specs.code.Summary.{SummaryLaws, summary_of}
-use Rattle.block_scan.specs.code.List.{items_of, state_after, states_after, states_before}
-use Rattle.block_scan.specs.code.Carried.{carried}
+use Rattle.block_scan.proofs.Words.{AllZip, Bor, List, SummaryLaws, [], ap, append-nil, append_assoc, arith, carried}
+use Rattle.block_scan.proofs.Words.{drop, drop_more, get_or, get_or_push, items_of, length, length_push, map}
+use Rattle.block_scan.proofs.Words.{range_with_len, refl, state_after, states_after, states_before, summary_of, sym}
+use Rattle.block_scan.proofs.Words.{take, take_more, ◌++◌, ◌-◌, ◌<◌, ◌∙◌, ◌∷◌, ◌≡◌}
+use Rattle.std.proofs.Common.{drop-drop, get_or-drop, suc, take-append-drop, zero, ℕ, ◌+◌}
+use Rattle.std.specs.Prelude.{IfOk, Ok, Result}
 
 -- one block more
 pub items_of-push : {Item : Type 0} (blocks : List (Bor (List Item))) (block : Bor (List Item))
     → items_of (map (λ b. b.now) (blocks ++ block ∷ [])) ≡ items_of (map (λ b. b.now) blocks) ++ block.now
 items_of-push [] block = append-nil block.now
 items_of-push (b ∷ blocks) block = rw (items_of-push blocks block, append_assoc) refl
+
+pub ruleset block_pushed = (items_of-push, append_assoc, take-append-drop)
 
 -- what is left of a list from a place within it
 pub drop_next : {X : Type 0} (xs : List X) (i : ℕ) (x : X) → i < length xs → x ≡ get_or xs i x
@@ -71,12 +70,13 @@ module _ {Sum Item State : Type 0} {empty : Sum} {of : Item → Sum} {join : Sum
   -- there is a state before each block, and the block fits it
   pub block_fits : (s : State) (blocks : List (Bor (List Item))) → let plain = map (λ b. b.now) blocks in
       fits s (items_of plain) → (k : ℕ) → k < length blocks → (k < length (states_before step s plain))
+      × (k < length blocks)
       × ((t : State) (d : Bor (List Item)) → fits (get_or (states_before step s plain) k t) (get_or blocks k d).now)
   block_fits s [] f k lt = absurd (omega arith)
-  block_fits s (b ∷ blocks) f zero lt = (omega arith, λ t d. laws.first_fit s b.now _ f)
+  block_fits s (b ∷ blocks) f zero lt = (omega arith, lt, λ t d. laws.first_fit s b.now _ f)
   block_fits s (b ∷ blocks) f (suc k) lt =
       let h = block_fits (state_after step s b.now) blocks (laws.rest_fits s b.now _ f) k (omega arith) in
-      (omega (arith, h.0), h.1)
+      (omega (arith, h.0), lt, h.2)
 
   -- summaries of blocks whose items fit
   abbrev pub AreSums : State → List Sum → Type 0

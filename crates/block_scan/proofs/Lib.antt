@@ -1,1 +1,2 @@
+mod Words
 pub mod Folds

@@ -1,5 +1,4 @@
-use Rattle.std.proofs.Common.{◌≡◌, ◌++◌, map, length}
-use Rattle.block_scan.specs.code.List.{items_of}
+use Rattle.block_scan.proofs.Words.{items_of, length, map, ◌++◌, ◌≡◌}
 use Rattle.block_scan.proofs.blocks.cut.Given as goal
 
 abbrev pub invariant-loop-rest : goal.invariant-loop-rest

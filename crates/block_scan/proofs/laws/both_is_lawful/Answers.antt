@@ -1,4 +1,4 @@
-use Rattle.block_scan.specs.code.BothLaws.{both_laws}
+use Rattle.block_scan.proofs.Words.{both_laws}
 use Rattle.block_scan.proofs.laws.both_is_lawful.Goals as goal
 
 pub returns : goal.returns

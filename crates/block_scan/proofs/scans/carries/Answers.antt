@@ -1,5 +1,4 @@
-use Rattle.std.proofs.Common.{sym, ◌∙◌, append_assoc}
-use Rattle.std.proofs.lemmas.List.{append-nil, drop_all}
+use Rattle.block_scan.proofs.Words.{append-nil, append_assoc, drop_all, sym, ◌∙◌}
 use Rattle.block_scan.proofs.Folds.{carried-before, drop_next, next_sum}
 use Rattle.block_scan.proofs.scans.carries.Goals as goal
 

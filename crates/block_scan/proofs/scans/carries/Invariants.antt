@@ -1,5 +1,4 @@
-use Rattle.std.proofs.Common.{◌≡◌, ◌++◌, drop}
-use Rattle.block_scan.specs.code.Carried.{carried}
+use Rattle.block_scan.proofs.Words.{carried, drop, ◌++◌, ◌≡◌}
 use Rattle.block_scan.proofs.Folds.{AreSums}
 use Rattle.block_scan.proofs.scans.carries.Given as goal
 

@@ -1,5 +1,4 @@
-use Rattle.std.proofs.Common.{◌≡◌, ◌++◌, map}
-use Rattle.block_scan.specs.code.List.{items_of}
+use Rattle.block_scan.proofs.Words.{items_of, map, ◌++◌, ◌≡◌}
 use Rattle.block_scan.proofs.scans.joined.Given as goal
 
 abbrev pub invariant-loop-part : goal.invariant-loop-part

@@ -1,6 +1,4 @@
-use Rattle.std.proofs.Common.{sym, ◌∙◌}
-use Rattle.rayon.proofs.ListFacts.{IfOk-then}
-use Rattle.std.proofs.lemmas.Simd.{map-map}
+use Rattle.block_scan.proofs.Words.{IfOk-then, map-map, sym, ◌∙◌}
 use Rattle.block_scan.proofs.scans.scan.Goals as goal
 
 pub carries-requires : goal.carries-requires

@@ -1,5 +1,4 @@
-use Rattle.std.proofs.Common.{◌∷◌, [], sym, ◌∙◌}
-use Rattle.std.proofs.lemmas.List.{append-nil, drop_all}
+use Rattle.block_scan.proofs.Words.{[], append-nil, drop_all, sym, ◌∙◌, ◌∷◌}
 use Rattle.block_scan.proofs.Folds.{drop_next, goes_on}
 use Rattle.block_scan.proofs.scans.scan_block.Goals as goal
 
@@ -9,11 +8,13 @@ advance-next-requires g c =
     let laws = g.met.S.Summary.laws in
     let rest = drop_next c.args.items.now c.loop-item.item-index x c.loop-item-test.true c.item-item.is in
     let alone = laws.first_fit _ (x ∷ []) _ (rw rest at c.loop-item.invariant).0 in
-    record { fits = (
-      x ∷ [],
-      rw (c.last_or.ensures, c.as_slice.ensures.value) alone,
-      c.of-sum.ensures ∙ sym (laws.one _ x alone),
-    ) }
+    record {
+      fits = (
+        x ∷ [],
+        rw (c.last_or.ensures, c.as_slice.ensures.value) alone,
+        c.of-sum.ensures ∙ sym (laws.one _ x alone),
+      );
+    }
 
 pub loop-item-preserved : goal.loop-item-preserved
 loop-item-preserved g c =

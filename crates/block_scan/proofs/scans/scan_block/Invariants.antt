@@ -1,4 +1,4 @@
-use Rattle.std.proofs.Common.{drop}
+use Rattle.block_scan.proofs.Words.{drop}
 use Rattle.block_scan.proofs.Folds.{GoesOn}
 use Rattle.block_scan.proofs.scans.scan_block.Given as goal
 

@@ -1,8 +1,5 @@
-use Rattle.std.proofs.Common.{◌≡◌, ◌<◌, ◌-◌, length, get_or, Bor, refl, ap, ◌∙◌, arith}
-use Rattle.std.specs.List.{range_with_len}
-use Rattle.std.specs.declared.alloc.AllocError.{AllocError}
-use Rattle.rayon.specs.Numbers.{nat_range}
-use Rattle.rayon.proofs.ToStd.{nat_range-All}
+use Rattle.block_scan.proofs.Words.{AllocError, Bor, ap, arith, get_or, length, nat_range, nat_range-All}
+use Rattle.block_scan.proofs.Words.{range_with_len, refl, ◌-◌, ◌<◌, ◌∙◌, ◌≡◌}
 use Rattle.block_scan.proofs.Folds.{block_fits, parts_joined}
 use Rattle.block_scan.proofs.scans.scan_blocks.Goals as goal
 
@@ -17,14 +14,10 @@ collect-requires-clause-ready g c κs within =
     (λ i. (i < length carries) × (i < length blocks)
     × ((s : g.row.S-State.Denot) (b : Bor _) → m.fits (get_or carries i s) (get_or blocks i b).now))
     0 (length blocks)
-    (λ i low high. let is = block_fits laws start blocks fit i high in rw before (is.0, high, is.1)) in
-    rw (
-      c.map.ensures.base,
-      c.with_min_len.ensures.base,
-      c.map.ensures.f,
-      c.into_par_iter.ensures.0,
-      c.into_par_iter.ensures.1,
-    ) (λ k d lt. (inside k d lt, λ y p. tt))
+    (λ i low high. rw before (block_fits laws start blocks fit i high)) in
+    let ends = c.into_par_iter.ensures in
+    rw (c.map.ensures.base, c.with_min_len.ensures.base, c.map.ensures.f, ends.0, ends.1)
+    (λ k d lt. (inside k d lt, λ y p. tt))
 
 pub returns : goal.returns
 returns g c = λ start before.

@@ -1,4 +1,4 @@
-use Rattle.std.proofs.Common.{◌∷◌, [], take, sym, ◌∙◌}
+use Rattle.block_scan.proofs.Words.{[], sym, take, ◌∙◌, ◌∷◌}
 use Rattle.block_scan.proofs.Folds.{next_summary}
 use Rattle.block_scan.proofs.scans.sum_of.Goals as goal
 

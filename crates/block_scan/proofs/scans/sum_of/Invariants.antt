@@ -1,5 +1,4 @@
-use Rattle.std.proofs.Common.{◌≡◌, take}
-use Rattle.block_scan.specs.code.Summary.{summary_of}
+use Rattle.block_scan.proofs.Words.{summary_of, take, ◌≡◌}
 use Rattle.block_scan.proofs.scans.sum_of.Given as goal
 
 abbrev pub invariant-loop-item : goal.invariant-loop-item

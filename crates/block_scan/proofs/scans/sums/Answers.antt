@@ -1,8 +1,4 @@
-use Rattle.std.proofs.Common.{List, Bor, map, get_or, ◌∙◌}
-use Rattle.rayon.proofs.ListFacts.{IfOk-then}
-use Rattle.rayon.proofs.ToStd.{slice-map}
-use Rattle.block_scan.specs.code.Summary.{summary_of}
-use Rattle.block_scan.specs.code.List.{states_before}
+use Rattle.block_scan.proofs.Words.{Bor, IfOk-then, List, get_or, map, slice-map, states_before, summary_of, ◌∙◌}
 use Rattle.block_scan.proofs.Folds.{block_fits}
 use Rattle.block_scan.proofs.scans.sums.Goals as goal
 
@@ -12,7 +8,7 @@ collect-requires-clause-ready g c κs within =
     let (s, fit) = c.requires.fits in
     let befores = states_before g.S.Summary.step s (map (λ b. b.now) c.args.blocks.now) in
     rw (c.map.ensures.base, c.with_min_len.ensures.base, c.par_iter.ensures) (λ k d lt x e.
-    ((get_or befores k s, rw e ((block_fits laws s c.args.blocks.now fit k lt).1 s d)), λ y h. tt))
+    ((get_or befores k s, rw e ((block_fits laws s c.args.blocks.now fit k lt).2 s d)), λ y h. tt))
 
 pub returns : goal.returns
 returns g c =

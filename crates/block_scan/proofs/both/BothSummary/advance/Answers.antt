@@ -1,5 +1,4 @@
-use Rattle.std.proofs.Common.{ap}
-use Rattle.block_scan.specs.code.BothLaws.{summary-both}
+use Rattle.block_scan.proofs.Words.{ap, summary-both}
 use Rattle.block_scan.proofs.both.BothSummary.advance.Goals as goal
 
 pub advance-requires : goal.advance-requires
