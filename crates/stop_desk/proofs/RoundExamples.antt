@@ -32,16 +32,12 @@ none_stops xs place none (found, among, s, at) =
     let all = All-from_recursion (λ (x : Finding). stops x ≡ false) xs none in
     let off = All-contains (λ (x : Finding). stops x ≡ false) xs found all among in cc
 
--- the place of the error, whichever name it has
-among-one : (place : ℕ) → (error 7 3).place ≡ place → Contains the_place (0, place)
-among-one place p = (0, omega arith, ap (pair 0) p)
-
 -- of job 0, what lies past the error is left out
 part_0 : IsPartOf the_place [] job_0 (part 0 0 (Some (error 7 3).place) (overrun 6 1 ∷ []))
 part_0 = record {
   of_connection = refl;
   cut = front_is_cut_lem job_0.findings (error 7 3).place refl;
-  upto_seen = λ place e. among-one place cc;
+  upto_seen = λ place e. (let is : (error 7 3).place ≡ place = cc in (0, omega arith, ap (pair 0) is));
   stops_lowered = λ place h. absurd (none_stops (overrun 6 1 ∷ []) place (refl, tt) h);
 }
 
@@ -54,21 +50,17 @@ all-kept seen lowered number j ordered stops_lowered =
 
 part_1 : IsPartOf [] the_place job_1 (part 1 0 None job_1.findings)
 part_1 = all-kept [] the_place 1 job_1 refl
-    (λ place h. ⊎_elim (λ e. among-one place (ap (λ (x : Finding). x.place) e ∙ h.3))
+    (λ place h. ⊎_elim (λ e. (0, omega arith, ap (pair 0) (ap (λ (x : Finding). x.place) e ∙ h.3)))
     (λ k. absurd (none_stops (overrun 8 3 ∷ []) place (refl, tt) (h.0, k, h.2, h.3)))
     (contains-cases (error 7 3) (overrun 8 3 ∷ []) h.0 h.1))
 
 part_2 : IsPartOf the_place [] job_2 (part 2 1 None job_2.findings)
 part_2 = all-kept the_place [] 2 job_2 refl (λ place h. absurd (none_stops job_2.findings place (refl, tt) h))
 
--- the error of job 1
-error_stops : StopsAt job_1.findings (error 7 3).place
-error_stops = (error 7 3, contains-here (error 7 3) (overrun 8 3 ∷ []), refl, refl)
-
 allowed : AreAllowed example (round_start example) example_events
 allowed =
     pair refl (pair refl (pair refl (
-      (1, job_1, ((0, omega arith, refl), refl), refl, refl, error_stops),
+      (1, job_1, ((0, omega arith, refl), refl), refl, refl, (error 7 3, (0, omega arith, refl), refl, refl)),
       pair refl (
         (job_0, ((1, omega arith, refl), refl), refl, part_0),
         pair refl (
@@ -106,7 +98,8 @@ cut_unseen (drawn, (drawn', (lowered, (finish, rest)))) =
 
 pub error_not_lowered : ErrorNotLowered
 error_not_lowered (drawn, (drawn', (finish, rest))) =
-    absurd (contains-none (pair 0 (error 7 3).place) (finish.3.stops_lowered (error 7 3).place error_stops))
+    let lowered = finish.3.stops_lowered (error 7 3).place (error 7 3, (0, omega arith, refl), refl, refl) in
+    absurd (contains-none (pair 0 (error 7 3).place) lowered)
 
 -- what is left out of a part that is empty, and goes up to the error, lies past the error
 skipped : (cut : IsCut job_0.findings (Some (error 7 3).place) []) → ⊥

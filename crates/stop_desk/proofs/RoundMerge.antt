@@ -19,7 +19,7 @@ use native.Mathlib.Nat.{zero-add}
 use Rattle.stop_desk.proofs.RoundMembers.{contains-none, contains-here, contains-later, contains-cases}
 use Rattle.stop_desk.proofs.RoundMembers.{contains-flat_map, flat_map-contains, contains-in_order, in_order-contains}
 use Rattle.stop_desk.proofs.RoundMembers.{contains-apart, count-cons, count-some, some-count}
-use Rattle.stop_desk.proofs.RoundSteps.{least-holds, least-moves, least-some}
+use Rattle.stop_desk.proofs.RoundSteps.{least-moves, least-some}
 
 -- the same findings in another order
 swap-front : (xs ys zs : List Finding) → in_order (xs ++ (ys ++ zs)) ≡ in_order (ys ++ (xs ++ zs))
@@ -209,7 +209,7 @@ module _ (round : Round) (board : Board) (settled : IsSettled round board) (conn
 
   -- a place given is an error
   real : (place : ℕ) → IsGiven round board.lowered connection place → StopsAt (earlier ++ whole) place
-  real place (inl e) = stops-left earlier whole place (least-holds (StopsAt earlier) _ place e opening)
+  real place (inl e) = stops-left earlier whole place (rw e at opening).0
   real place (inr k) =
       stops-right earlier whole place (stops-job round connection place (settled.lowered_real connection place k))
 

@@ -40,11 +40,7 @@ pub part-grows : {seen lowered seen' lowered' : List (ℕ × ℕ)} {job : Job} {
     Grows lowered lowered' → IsPartOf seen lowered job part → IsPartOf seen' lowered' job part
 part-grows s l h = grind (arith, s, l, h)
 
--- a least place is one of those
-pub least-holds : (Holds : ℕ → Type 0) (stop : Option ℕ) (place : ℕ) → stop ≡ Some place → IsLeast Holds stop →
-    Holds place
-least-holds Holds stop place e h = (rw e at h).0
-
+-- the least of places, where there is one
 pub least-some : (Holds : ℕ → Type 0) (stop : Option ℕ) (place : ℕ) → IsLeast Holds stop → Holds place →
     (least : ℕ) × (stop ≡ Some least) × Holds least × ((q : ℕ) → Holds q → least ≤ q)
 least-some Holds None place h k = absurd (h place k)
@@ -112,8 +108,7 @@ module _ (round : Round) (state : RoundState) (h : IsKept round state) where
     places = record {
       lowered_right = h.places.lowered_right;
       seen_right = contains-pair connection place seen (IsGiven round lowered)
-          (least-holds (IsGiven round lowered connection) _ place (sym e) (h.places.stops_right connection))
-          h.places.seen_right;
+          (rw (← e) at (h.places.stops_right connection)).0 h.places.seen_right;
       stops_right = h.places.stops_right;
       wide = h.places.wide;
     };

@@ -56,11 +56,8 @@ saw_more pass more = pass_of pass.desk pass.allowance pass.drawn (pass.seen ++ m
 
 one-look : (c : ℕ) (before between : PassView) (answer : Option ℕ) (more : List (ℕ × ℕ)) →
     IsLook c before answer between → saw_more between more ≡ saw_more before (answer_on c answer ++ more)
-one-look c before between None more look = ap (λ v. saw_more v more) look.0
-one-look c before between (Some place) more look =
-    ap (λ v. saw_more v more) look.3
-    ∙ ap (λ s. pass_of before.desk before.allowance before.drawn s before.lowered)
-    (append_assoc before.seen ((c, place) ∷ []) more)
+one-look c before between None more look = rw look.0
+one-look c before between (Some place) more look = rw (look.3, append_assoc before.seen)
 
 -- what a look at a desk says
 abbrev LooksAt : DeskLook → List Finding → Option ℕ → DeskLook → Type 0
