@@ -1,10 +1,10 @@
 -- Cuts of lists in order, cuts put together, and what joins findings that are cut at their stop.
-use Rattle.stop_desk.proofs.Words.{Bool, Finding, IsInOrder, IsPermutation-filter_both, List, NoneBefore, Option, []}
-use Rattle.stop_desk.proofs.Words.{ap, append-nil, arith, comes_after, false, filter, in_order, in_order-ordered}
-use Rattle.stop_desk.proofs.Words.{leb-false, nat_le, not, not-true, ordered-in_order, put_by, refl, subst, sym, true}
-use Rattle.stop_desk.proofs.Words.{upto_stop, ℕ, ◌++◌, ◌∙◌, ◌∷◌, ◌≡◌}
+use Rattle.stop_desk.proofs.Words.{Bool, Finding, IsPermutation-filter_both, List, Option, [], ap, append-nil, arith}
+use Rattle.stop_desk.proofs.Words.{comes_after, false, filter, in_order, leb-false, nat_le, not, not-true, put_by, refl}
+use Rattle.stop_desk.proofs.Words.{subst, sym, true, upto_stop, ℕ, ◌++◌, ◌∙◌, ◌∷◌, ◌≡◌}
 use Rattle.audit_terms.proofs.FindingOrder.{comes_after_is, in_order-append_comm, in_order-append_left}
 use Rattle.audit_terms.proofs.FindingOrder.{in_order-in_order, in_order-permutation}
+use Rattle.audit_terms.proofs.OrderedLists.{IsInOrder, NoneBefore, in_order-ordered, ordered-in_order}
 use Rattle.stop_desk.specs.code.Board.{IsCut, IsPast}
 use Rattle.stop_desk.specs.laws.Cuts.{CutsJoin, FrontIsCut, StopsJoin, WholeIsCut}
 use Rattle.stop_desk.proofs.RoundMembers.{contains-none, filter-contains}

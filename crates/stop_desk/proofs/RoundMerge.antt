@@ -1,16 +1,17 @@
 -- The parts of a settled board, taken job by job, hold with what they leave out the findings of all jobs. So it gives,
 -- up to the stop, what the whole jobs give: each place seen is a real error, so none lies below the least; each part
 -- has everything up to the least; so the least is kept and was lowered.
-use Rattle.stop_desk.proofs.Words.{BoardMerges, Contains, Contains-append_right, Contains-permutation, Finding}
-use Rattle.stop_desk.proofs.Words.{IsInOrder, IsPermutation, IsPermutation-middle, IsPermutation-sym, List, Merges}
-use Rattle.stop_desk.proofs.Words.{None, NoneBefore, Option, Some, [], add-zero, ap, append_assoc, arith, comes_after}
-use Rattle.stop_desk.proofs.Words.{cond_both, eq-eqb, eqb-true, false, if◌then◌else◌, in_order, in_order-ordered, inl}
+use Rattle.stop_desk.proofs.Words.{BoardMerges, Contains, Contains-append_cases, Contains-append_right}
+use Rattle.stop_desk.proofs.Words.{Contains-permutation, Finding, IsPermutation, IsPermutation-middle}
+use Rattle.stop_desk.proofs.Words.{IsPermutation-sym, List, Merges, None, Option, Some, [], add-zero, ap, append_assoc}
+use Rattle.stop_desk.proofs.Words.{arith, comes_after, cond_both, eq-eqb, eqb-true, false, if◌then◌else◌, in_order, inl}
 use Rattle.stop_desk.proofs.Words.{inr, length, nat_tests, ne_eqb, put_by, refl, slice_get, stops, subst, suc}
 use Rattle.stop_desk.proofs.Words.{sum_by-IsPermutation, sym, true, upto_stop, zero, ℕ, ℕ_discrete, ⊎_elim, ◌++◌, ◌+◌}
 use Rattle.stop_desk.proofs.Words.{◌<◌, ◌==◌, ◌∙◌, ◌∷◌, ◌≡◌, ◌≤◌, ◌⊎◌}
 use Rattle.audit_terms.proofs.FindingOrder.{comes_after_is, in_order-alike, in_order-append_comm}
+use Rattle.audit_terms.proofs.OrderedLists.{IsInOrder, NoneBefore, in_order-ordered}
 use Rattle.std.proofs.lemmas.Grind.{flat_map-append}
-use Rattle.std.proofs.lemmas.List.Elements.{Contains-append_cases, Contains-append_left}
+use Rattle.std.proofs.lemmas.List.Elements.{Contains-append_left}
 use Rattle.std.specs.Cmp.{nat_cmp_is}
 use Rattle.std.specs.declared.cmp.Ordering.TheVariants.{Greater}
 use Rattle.stop_desk.specs.code.Board.{Board, IsGiven, IsLeast, IsPartOf, IsPast, IsSettled, Job, JobStopsAt, Part}

@@ -116,7 +116,8 @@ module _ (o : Opening) (s : State (Unit {0}) Knows) (id : ℕ) (v : Knows) (h : 
         record {
           wide = long ∙ h.1.wide;
           below_opening = grind (arith, falls, h.1.below_opening);
-          below_lowered = λ c' p' there. grind (arith, nat_tests, changed, marked c' p', falls c', here, h.1.below_lowered c' p');
+          below_lowered = λ c' p' there.
+              grind (arith, nat_tests, changed, marked c' p', falls c', here, h.1.below_lowered c' p');
           below_seen = λ c' p' there. grind (arith, changed, marked c' p', falls c', h.1.below_seen c' p');
           reached = λ c'. elim (ℕ_discrete c' c) [
             | yes is ↦ rw is (elim (cases_lt p n) [

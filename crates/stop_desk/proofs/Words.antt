@@ -1,12 +1,11 @@
 -- The words that the proofs of this crate share, so that each names one module for them.
 pub use Rattle.atomic_table.specs.Table.{Allows, Final, Joins, Seen, Splits, State, keeps, step}
-pub use Rattle.audit_terms.proofs.OrderedLists.{IsInOrder, NoneBefore, in_order-ordered, ordered-in_order}
 pub use Rattle.audit_terms.specs.Finding.{comes_after, in_order, stops, upto_stop}
 pub use Rattle.audit_terms.specs.Order.{put_by}
 pub use Rattle.audit_terms.specs.code.runs.Look.{Asked, Looked}
 pub use Rattle.audit_terms.specs.declared.findings.Finding.{Finding}
 pub use Rattle.std.proofs.Common.{All, Bool, Contains, List, None, Option, Some, [], add-zero, ap, append-nil}
-pub use Rattle.std.proofs.Common.{append_assoc, arith, count_by, drop, eq-eqb, eqb, eqb-true, false, filter, flat_map}
+pub use Rattle.std.proofs.Common.{append_assoc, arith, count_by, drop, eq-eqb, eqb-true, false, filter, flat_map}
 pub use Rattle.std.proofs.Common.{get_or, get_or-set_other, get_or-set_same, if◌then◌else◌, inl, inr, le-ltb, leb-false}
 pub use Rattle.std.proofs.Common.{length, length-append, length-set, lt-ltb, ltb-true, map, min, mul_comm, nat_le}
 pub use Rattle.std.proofs.Common.{nat_lt, ne_eqb, not, refl, rules, set, slice_get, slice_set, subst, suc, sym, take}
@@ -14,13 +13,12 @@ pub use Rattle.std.proofs.Common.{take-append-drop, true, zero, ℕ, ⊎_elim, �
 pub use Rattle.std.proofs.Common.{◌^◌, ◌∙◌, ◌∷◌, ◌≡◌, ◌≤◌, ◌⊎◌}
 pub use Rattle.std.proofs.lemmas.Bool.{cases_lt, cond_both, not-true}
 pub use Rattle.std.proofs.lemmas.Bool.Decides.{nat_tests}
-pub use Rattle.std.proofs.lemmas.List.Elements.{Contains-append_right}
-pub use Rattle.std.proofs.lemmas.List.Sorted.{Contains-permutation, IsPermutation-cons, IsPermutation-filter_both}
-pub use Rattle.std.proofs.lemmas.List.Sorted.{IsPermutation-map, IsPermutation-middle, IsPermutation-refl}
-pub use Rattle.std.proofs.lemmas.List.Sorted.{IsPermutation-sym, IsPermutation-trans, sum_by-IsPermutation}
+pub use Rattle.std.proofs.lemmas.List.Elements.{Contains-append_cases, Contains-append_right}
+pub use Rattle.std.proofs.lemmas.List.Sorted.{Contains-permutation, IsPermutation-filter_both, IsPermutation-map}
+pub use Rattle.std.proofs.lemmas.List.Sorted.{IsPermutation-middle, IsPermutation-sym, sum_by-IsPermutation}
 pub use Rattle.std.proofs.lemmas.List.Sums.{length-filter, sum_by-append, sum_by-cons}
 pub use Rattle.std.proofs.lemmas.Option.{get_or_from_slice_get, slice_get-get_or, slice_get_within}
-pub use Rattle.std.specs.List.{AllByRecursion, list_any, range_with_len}
+pub use Rattle.std.specs.List.{AllByRecursion, range_with_len}
 pub use Rattle.std.specs.List.Sorted.{IsNonDecreasingBy, IsPermutation}
 pub use Rattle.stop_desk.specs.code.Calls.{Draws, IsAtMost, IsClaim, IsLook}
 pub use Rattle.stop_desk.specs.code.Counts.{is_mark, is_number, marks, once_below, times, weigh}

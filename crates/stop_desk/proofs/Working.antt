@@ -1,13 +1,13 @@
 -- A job that is done, and what a worker has done after one draw more, and when no job is left.
-use Rattle.stop_desk.proofs.Words.{All, Asked, Contains, Contains-append_right, DeskId, DoesJob, Draws, DrewJobs}
-use Rattle.stop_desk.proofs.Words.{Finding, IsAllWorked, IsClaim, IsConnection, IsLaid, IsLook, IsWorked, List, Looked}
-use Rattle.stop_desk.proofs.Words.{None, Option, Part, PassView, Some, [], ap, append-nil, append_assoc, arith, filter}
-use Rattle.stop_desk.proofs.Words.{flat_map, get_or, if◌then◌else◌, inl, inr, is_number, joined, length, length-append}
-use Rattle.stop_desk.proofs.Words.{map, nat_tests, not, part_of, pass_draws, pass_of, refl, slice_get, slice_get-get_or}
-use Rattle.stop_desk.proofs.Words.{stops, stops_on, subst, suc, sum_by-append, sym, times, zero, ℕ, ⊎_elim, ◌++◌, ◌+◌}
-use Rattle.stop_desk.proofs.Words.{◌<◌, ◌==◌, ◌∙◌, ◌∷◌, ◌≡◌, ◌≤◌}
+use Rattle.stop_desk.proofs.Words.{All, Asked, Contains, Contains-append_cases, Contains-append_right, DeskId, DoesJob}
+use Rattle.stop_desk.proofs.Words.{Draws, DrewJobs, Finding, IsAllWorked, IsClaim, IsConnection, IsLaid, IsLook}
+use Rattle.stop_desk.proofs.Words.{IsWorked, List, Looked, None, Option, Part, PassView, Some, [], ap, append-nil}
+use Rattle.stop_desk.proofs.Words.{append_assoc, arith, filter, flat_map, get_or, if◌then◌else◌, inl, inr, is_number}
+use Rattle.stop_desk.proofs.Words.{joined, length, length-append, map, nat_tests, not, part_of, pass_draws, pass_of}
+use Rattle.stop_desk.proofs.Words.{refl, slice_get, slice_get-get_or, stops, stops_on, subst, suc, sum_by-append, sym}
+use Rattle.stop_desk.proofs.Words.{times, zero, ℕ, ⊎_elim, ◌++◌, ◌+◌, ◌<◌, ◌==◌, ◌∙◌, ◌∷◌, ◌≡◌, ◌≤◌}
 use Rattle.std.proofs.lemmas.List.{map-append}
-use Rattle.std.proofs.lemmas.List.Elements.{Contains-append_cases, Contains-append_left, Contains-push_cases}
+use Rattle.std.proofs.lemmas.List.Elements.{Contains-append_left, Contains-push_cases}
 use Rattle.stop_desk.specs.code.Board.{IsCut, Job, Part as BoardPart, StopsAt, parts_of}
 use Rattle.stop_desk.specs.declared.claims.Claim.{Claim}
 use Rattle.stop_desk.specs.declared.claims.Claim.TheVariants.{Done, Job as Drawn, Spent}
@@ -152,7 +152,8 @@ few-distinct : (n : ℕ) (xs : List ℕ) → ((x : ℕ) → n ≤ x → times x 
 few-distinct zero [] none once = omega arith
 few-distinct zero (x ∷ xs) none once = absurd (grind (arith, nat_tests, none x))
 few-distinct (suc n) xs none once =
-    let rest = few-distinct n (filter (λ y. not (y == n)) xs) (λ x past. grind (arith, nat_tests, without n x xs, none x))
+    let rest = few-distinct n (filter (λ y. not (y == n)) xs)
+    (λ x past. grind (arith, nat_tests, without n x xs, none x))
     (λ x. grind (arith, nat_tests, without n x xs, once x)) in
     omega (arith, once n, length-without n xs)
 
