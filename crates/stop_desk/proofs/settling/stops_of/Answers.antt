@@ -1,4 +1,5 @@
-use Rattle.stop_desk.proofs.Words.{[], arith, final_stop, map-range_with_len_more, sym, ◌++◌, ◌∙◌, ◌∷◌}
+use Rattle.stop_desk.proofs.Words.{[], arith, final_stop, sym, ◌++◌, ◌∙◌, ◌∷◌}
+use Rattle.std.proofs.lemmas.List.FromFn.{map-range_with_len_more}
 use Rattle.stop_desk.proofs.CrewDone.{last_stops-is}
 use Rattle.stop_desk.proofs.settling.stops_of.Goals as goal
 
