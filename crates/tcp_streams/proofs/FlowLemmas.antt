@@ -1,13 +1,11 @@
 -- All flows of a capture fit in it together: a payload belongs to one connection at most.
-use Rattle.tcp_streams.proofs.Words.{◌≡◌, ℕ, ◌≤◌, List, [], ◌∷◌, Option, None, Some, refl, sym, ◌∙◌, arith}
-use Rattle.tcp_streams.proofs.Words.{suc, ◌+◌, ◌-◌, drop, filter, false≢true, drop-drop, sum_by-cons}
-use Rattle.tcp_streams.proofs.Words.{Side, Client, Server, PayloadsRise, Packet, Carried, Segment}
-use Rattle.tcp_streams.proofs.Words.{is_sent_by, segments_of, side_segments, segment_of}
-use Rattle.tcp_streams.proofs.Words.{payload_length, AreMembers, payload_sum, Connection}
-use Rattle.tcp_streams.proofs.Words.{Bool, false, ◌++◌, ap, map, if◌then◌else◌, option_to_list, nat_tests}
-use Rattle.tcp_streams.proofs.Words.{append-nil, true, append_assoc, map-append, AreNumberedFrom, is_opening, with_if}
-use Rattle.tcp_streams.proofs.Words.{members, opening_at, openings, Membership, membership, connection_of}
-use Rattle.tcp_streams.proofs.Words.{connections_of, past_after, past_of, Falls}
+use Rattle.tcp_streams.proofs.Words.{◌≡◌, ℕ, ◌≤◌, List, [], ◌∷◌, Option, None, Some, refl, sym, ◌∙◌, arith, suc, ◌+◌}
+use Rattle.tcp_streams.proofs.Words.{◌-◌, drop, filter, false≢true, drop-drop, sum_by-cons, Side, Client, Server}
+use Rattle.tcp_streams.proofs.Words.{PayloadsRise, Packet, Carried, Segment, is_sent_by, segments_of, side_segments}
+use Rattle.tcp_streams.proofs.Words.{segment_of, payload_length, AreMembers, payload_sum, Connection, Bool, false, ◌++◌}
+use Rattle.tcp_streams.proofs.Words.{ap, map, if◌then◌else◌, option_to_list, nat_tests, append-nil, true, append_assoc}
+use Rattle.tcp_streams.proofs.Words.{map-append, AreNumberedFrom, is_opening, with_if, members, opening_at, openings}
+use Rattle.tcp_streams.proofs.Words.{Membership, membership, connection_of, connections_of, past_after, past_of, Falls}
 use Rattle.std.specs.Prelude.{sum_by}
 use Rattle.std.proofs.lemmas.List.Filters.{sum_by-filter_both}
 use Rattle.std.proofs.lemmas.List.Folds.{fold-map}
@@ -159,10 +157,7 @@ flows-fit packets size found numbered rise same =
     omega (
       arith,
       sides,
-      shown,
       ap (sum_by payload) same,
-      defined,
-      named,
       members-sum _ past (Falls-past_after 1 [] packets numbered tt) past,
       past-sum 0 size [] packets rise,
     )

@@ -1,13 +1,11 @@
 -- On intervals: the parts between two offsets, and one list of intervals laid over another.
 use Rattle.tcp_streams.proofs.Words.{◌≡◌, ℕ, ◌<◌, ◌≤◌, true, List, [], ◌∷◌, None, Some, refl, ◌∙◌, arith, zero, suc}
-use Rattle.tcp_streams.proofs.Words.{◌+◌, ◌-◌, ◌^◌, ◌++◌, length, drop, take, ap, get_or, All, option_or}
-use Rattle.tcp_streams.proofs.Words.{nat_tests, take-append-drop, All-head, All-tail, sum_by-cons}
-use Rattle.tcp_streams.proofs.Words.{end_of_offsets, IsInterval, Spans, at, size_of, source_in, width, clipped}
-use Rattle.tcp_streams.proofs.Words.{lie_apart, overlay, Interval}
-use Rattle.tcp_streams.proofs.Words.{if◌then◌else◌, nat_lt, ◌&&◌}
+use Rattle.tcp_streams.proofs.Words.{◌+◌, ◌-◌, ◌^◌, ◌++◌, length, drop, take, ap, get_or, All, option_or, nat_tests}
+use Rattle.tcp_streams.proofs.Words.{take-append-drop, All-head, All-tail, sum_by-cons, end_of_offsets, IsInterval}
+use Rattle.tcp_streams.proofs.Words.{Spans, at, size_of, source_in, width, clipped, lie_apart, overlay, Interval}
+use Rattle.tcp_streams.proofs.Words.{if◌then◌else◌, nat_lt, ◌&&◌, IsSome, false≢true}
 use Rattle.std.specs.Prelude.{nat_le}
 use Rattle.std.proofs.Common.{min, max}
-use Rattle.tcp_streams.proofs.Words.{IsSome, false≢true}
 use Rattle.tcp_streams.specs.code.Interval.{IsSettled}
 use Rattle.tcp_streams.proofs.Lists.{by_lt}
 

@@ -222,13 +222,8 @@ module _ (initial_number size : ℕ) (small : size < 2 ^ 31) (packets : List Pac
   pub pieces-are : (low : ℕ) (members : List ℕ) → AreMembers low packets members
       → ArePiecesOf initial_number size low (filter (is_sent_by connection side) (segments_of packets members))
       (filter_map (member_piece initial_number packets connection side) members)
-  pieces-are low [] h = record {
-    intervals = All-nil IsInterval;
-    fit = omega arith;
-    rise = tt;
-    cited = λ o. tt;
-    same = λ o lt. refl;
-  }
+  pieces-are low [] h =
+      record { intervals = All-nil IsInterval; fit = omega arith; rise = tt; cited = λ o. tt; same = λ o lt. refl }
   pieces-are low (m ∷ rest) h =
       let later = pieces-are m rest h.2 in
       let le : low ≤ m = omega (arith, h.0) in

@@ -82,12 +82,9 @@ held size low [] f h = All-nil (IsHeld size)
 held size low (x ∷ xs) f h =
     let end = h (x.upto - 1) (omega (arith, f.0, f.1.some)) (omega (arith, f.1.some, run_end-after x.upto xs f.2)) in
     let last = rw (at-in x xs (x.upto - 1) (omega (arith, f.1.some)) (omega (arith, f.1.some))) at end in
+    let inside : IsInside size x = record { interval = f.1; captured = omega (arith, f.1.some, last.0) } in
     All-cons (IsHeld size) x xs
-    (record {
-      inside = record { interval = f.1; captured = omega (arith, f.1.some, last.0) };
-      numbered = last.1;
-      timely = last.2;
-    })
+    (record { inside = inside; numbered = last.1; timely = last.2 })
     (held size x.upto xs f.2 (λ o a b. rw (at-past x xs o a) at (h o (omega (arith, f.0, f.1.some)) b)))
 
 -- an interval's bytes

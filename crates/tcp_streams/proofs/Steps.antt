@@ -9,7 +9,7 @@ use Rattle.tcp_streams.proofs.Words.{opening_at, openings, opens, strays, Member
 use Rattle.tcp_streams.proofs.Words.{IsOpened, IsUnopened, Stray, Pair, Opened}
 use Rattle.tcp_streams.proofs.Words.{◌≤◌, not, sym, slice_get, ap, get_or-map, get_or_from_slice_get, slice_get_within}
 use Rattle.tcp_streams.proofs.Words.{is_request, membership, standing_of, IsTableOf, Connection, Table}
-use Rattle.std.specs.Prelude.{find, option_map}
+use Rattle.std.specs.Prelude.{◌||◌, find, option_map}
 use Rattle.std.proofs.lemmas.List.Elements.{filter-append}
 use Rattle.std.proofs.lemmas.List.Folds.{find-append}
 use Rattle.std.proofs.lemmas.List.Sums.{count_by-le-length, length-filter}
@@ -40,11 +40,8 @@ Stands-grown past s p (Some (Unopened k)) l a h = record {
   at = slice_get-with_if _ (first_strays past) s k h.first h.at;
   of_pair = h.of_pair;
 }
-Stands-grown past s p (Some (Opened k)) l a h = record {
-  last = h.last;
-  opened = l ∙ h.opened;
-  at = slice_get-with_if (opens s past) (openings past) s k h.last h.at;
-}
+Stands-grown past s p (Some (Opened k)) l a h =
+    record { last = h.last; opened = l ∙ h.opened; at = slice_get-with_if _ (openings past) s k h.last h.at }
 
 -- no stray passes, so none is kept
 filter-none : (p : Segment → Bool) (xs : List Segment) → list_any p xs ≡ false → filter p xs ≡ []
@@ -100,6 +97,11 @@ module _ (past : List Segment) (s : Segment) where
   stray-counted f e =
       let own = is_of (pair_of f) in
       rw (filter-append own (strays past) (s ∷ []), e, length-append (filter own (strays past)) (s ∷ []))
+
+  -- whether a pair has a stray, where the segment is one
+  strays-any : (p : Pair) → opening_at s past ≡ None
+      → list_any (is_of p) (strays (s ∷ past)) ≡ (list_any (is_of p) (strays past) || list_any (is_of p) (s ∷ []))
+  strays-any p none = rw none (list_any-append (is_of p) (strays past) (s ∷ []))
 
   module _ (standing : Pair → Option Standing) (opened : List Membership) (found : List Stray)
       (shown : IsShown past standing opened found) where
@@ -181,12 +183,7 @@ module _ (past : List Segment) (s : Segment) where
           strays_are = rw (strays_grow, firsts_stay) cc (but, counts, here);
           stands = λ p. Stands-grown past s p (standing p) (last_opening-kept past s e p)
               (by_Bool (is_of p s)
-              (λ q. rw (
-                strays_grow,
-                list_any-append (is_of p) (strays past) (s ∷ []),
-                is_pair-same p (pair_of s) q,
-                u.some_stray,
-              ))
+              (λ q. rw (strays-any p looks_back, is_pair-same p (pair_of s) q, u.some_stray))
               (λ q. list_any-other _ (strays past) s (is_of p) q))
               (shown.stands p);
         }
@@ -211,12 +208,7 @@ module _ (past : List Segment) (s : Segment) where
           stands = λ p. rw (sets p) (by_Bool (is_pair (pair_of s) p)
               (λ q. let same = is_pair-same (pair_of s) p q in rw q (record {
                 unopened = last_opening-kept past s e p ∙ rw (← same) u.unopened;
-                some_stray = rw (
-                  strays_grow,
-                  list_any-append (is_of p) (strays past) (s ∷ []),
-                  is_pair-sym p (pair_of s),
-                  q,
-                ) (or_right _ true refl);
+                some_stray = rw (strays-any p looks_back, is_pair-sym p (pair_of s), q) (or_right _ true refl);
                 first = s;
                 at = rw (firsts_grow, shown.strays_are, length-map (first_strays past) (stray_of (strays past)))
                     (slice_get-last (first_strays past) s);

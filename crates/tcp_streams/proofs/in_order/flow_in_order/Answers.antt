@@ -24,14 +24,9 @@ loop-member-preserved c =
       | in-Some+else-piece-laid+in_ok-add w ↦
           let is = piece-inside c.args.initial_number c.args.capture.now c.args.packets.now c.args.connection.now
           c.args.side c.requires _ _ w.in-Some.ensures in
-          rw (
-            next,
-            w.in-Some.is,
-            w.laid-is,
-            w.in_ok-add.ensures.bytes,
-            w.in_ok-add.ensures.arrivals,
-            w.in_ok-add.ensures.end,
-          ) (IsLaid-more c.args.capture.now _ _ _ _ w.in-Some.piece c.loop-member.invariant
+          let laid = w.in_ok-add.ensures in
+          rw (next, w.in-Some.is, w.laid-is, laid.bytes, laid.arrivals, laid.end)
+          (IsLaid-more c.args.capture.now _ _ _ _ w.in-Some.piece c.loop-member.invariant
           (omega (arith, w.if-piece-laid.false)) is)
       | in_default w ↦ rw (w.laid-is, next, w.in_default.is, append-nil (filter_map f (take k members)))
           c.loop-member.invariant
