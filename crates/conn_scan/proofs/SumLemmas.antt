@@ -1,10 +1,10 @@
 -- What the sums of a block's items need.
-use Rattle.conn_scan.proofs.Terms.{◌≡◌, ℤ, ◌-◌, ◌*◌, ◌^◌, ◌≤◌, List, [], ◌∷◌, ◌++◌, length, map, ap, sym, ◌∙◌}
-use Rattle.conn_scan.proofs.Terms.{arith, length-append, AllByRecursion, length-map, Side, Client, Server, ConnectionState}
-use Rattle.conn_scan.proofs.Terms.{Item, HasRoom, summary_of, summary-shown}
-use Rattle.conn_scan.proofs.Terms.{change_of, credit_of, no_change, one_change, credit_join, AreSmall, ChangesFit}
-use Rattle.conn_scan.proofs.Terms.{Block, walked, MovesLittle, ItemsFit, conn_sum_of, conn_none}
-use Rattle.conn_scan.proofs.Terms.{conn_one, conn_join, room-wider, IsRoomy, roomy, credit_shows}
+use Rattle.conn_scan.proofs.Terms.{◌≡◌, ℤ, ◌-◌, ◌*◌, ◌^◌, ◌≤◌, List, [], ◌∷◌, ◌++◌, length, map, ap, sym, ◌∙◌, arith}
+use Rattle.conn_scan.proofs.Terms.{length-append, AllByRecursion, length-map, Side, Client, Server, Item}
+use Rattle.conn_scan.proofs.Terms.{ConnectionState, HasRoom, summary_of, summary-shown, change_of, credit_of, roomy}
+use Rattle.conn_scan.proofs.Terms.{one_change, credit_join, AreSmall, ChangesFit, Block, walked, MovesLittle}
+use Rattle.conn_scan.proofs.Terms.{ItemsFit, conn_sum_of, conn_none, conn_one, conn_join, room-wider, IsRoomy}
+use Rattle.conn_scan.proofs.Terms.{no_change, credit_shows}
 use Rattle.audit_terms.specs.Sides.{side_of}
 use Rattle.conn_scan.specs.declared.sums.ConnSum.{ConnSum}
 use Rattle.conn_scan.specs.code.ConnSumLaws.{conn_shows}

@@ -1,6 +1,6 @@
 -- What parts get of records, one after the other.
-use Rattle.h2audit_split.proofs.Terms.{Bool, List, [], ap, append-nil, append_assoc, arith, cases_lt, cond-false, drop}
-use Rattle.h2audit_split.proofs.Terms.{drop-append-le, false, front_of, given, given_from, if◌then◌else◌, inl, inr}
+use Rattle.h2audit_split.proofs.Terms.{Bool, List, [], ap, append-nil, append_assoc, arith, cond-false, drop}
+use Rattle.h2audit_split.proofs.Terms.{drop-append-le, false, front_of, given, given_from, if◌then◌else◌}
 use Rattle.h2audit_split.proofs.Terms.{length, length-append, length-drop, length-take, min, ne_eqb, pair_of, part_at}
 use Rattle.h2audit_split.proofs.Terms.{part_of, refl, sym, take, take-append-le, take-take, take_all, true, ℕ, ◌++◌}
 use Rattle.h2audit_split.proofs.Terms.{◌+◌, ◌<◌, ◌==◌, ◌∙◌, ◌∷◌, ◌≡◌, ◌≤◌}

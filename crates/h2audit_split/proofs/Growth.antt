@@ -1,7 +1,7 @@
 -- How parts grow, step by step.
 use Rattle.h2audit_split.proofs.Terms.{AllGrow, Appends-nil, Appends-trans, Grows, List, OneGrows, Option, Part, []}
 use Rattle.h2audit_split.proofs.Terms.{append-nil, arith, both_ways, cases_Bool, cases_eq, eq-eqb, false, get_or}
-use Rattle.h2audit_split.proofs.Terms.{if◌then◌else◌, inl, inr, is_some, length-append, ne_eqb, refl, subst, sym, true}
+use Rattle.h2audit_split.proofs.Terms.{if◌then◌else◌, inl, inr, is_some, length-append, ne_eqb, refl, sym, true}
 use Rattle.h2audit_split.proofs.Terms.{ℕ, ◌++◌, ◌==◌, ◌∙◌, ◌≡◌}
 
 module _ {W : Type 0} (contents : W → Option (List ℕ)) where

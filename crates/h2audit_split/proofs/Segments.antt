@@ -76,9 +76,9 @@ module _ (k : ℕ) (d : List ℕ) (many : 64 ≤ k) where
   -- it names the endpoints of the segment behind it, where no line of the decision passes it over
   named : (ipv4.version d == 4) ≡ true → (ipv4.protocol d == 6) ≡ true → 20 ≤ length d
       → 20 ≤ length (ipv4.segment_bytes d) → (names_endpoints (take k d) ≡ true) × (pair_in (take k d) ≡ record {
-    from = record { address = ipv4.source_address d; port = tcp.source_port (ipv4.segment_bytes d) };
-    to = record { address = ipv4.destination_address d; port = tcp.destination_port (ipv4.segment_bytes d) };
-  })
+        from = record { address = ipv4.source_address d; port = tcp.source_port (ipv4.segment_bytes d) };
+        to = record { address = ipv4.destination_address d; port = tcp.destination_port (ipv4.segment_bytes d) };
+      })
   named is_version is_protocol long segment_long =
       let (version, protocol, source, destination, same, short) = kept in
       let h : ℕ = ipv4.header_length d in

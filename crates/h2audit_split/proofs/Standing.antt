@@ -1,7 +1,7 @@
 -- From one place of a dealer in a capture to the next.
 use Rattle.h2audit_split.proofs.Terms.{AllByRecursion, AllGrow, AreSplit, BeginsWithRecord, Bool, Dealer, HasEntered}
 use Rattle.h2audit_split.proofs.Terms.{IsDealt, IsRecord, List, OneGrows, Option, Part, [], ap, append-nil}
-use Rattle.h2audit_split.proofs.Terms.{append_assoc, ap₂, arith, big_bytes, big_from-append, captured_length, cases_eq}
+use Rattle.h2audit_split.proofs.Terms.{append_assoc, arith, big_bytes, big_from-append, captured_length, cases_eq}
 use Rattle.h2audit_split.proofs.Terms.{concat, drop, false, front_of, if◌then◌else◌, inl, inr, length, length-append}
 use Rattle.h2audit_split.proofs.Terms.{length-take-le, little_from-append, min, order_of, part_at, part_bytes}
 use Rattle.h2audit_split.proofs.Terms.{part_numbers, refl, subst, sym, take, take-append-drop, take_min, true, ℕ, ◌++◌}

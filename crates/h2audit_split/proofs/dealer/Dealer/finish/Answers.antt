@@ -1,5 +1,5 @@
-use Rattle.h2audit_split.proofs.Terms.{List, ap, append-nil, arith, drop, drop_min, eqb-false, eqb-true, length}
-use Rattle.h2audit_split.proofs.Terms.{nil_from_length, sym, take, take_min, take_rest, ℕ, ◌-◌, ◌<◌, ◌∙◌, ◌≡◌}
+use Rattle.h2audit_split.proofs.Terms.{List, ap, append-nil, arith, drop, drop_min, length}
+use Rattle.h2audit_split.proofs.Terms.{nil_from_length, take, take_min, take_rest, ℕ, ◌-◌, ◌<◌, ◌∙◌, ◌≡◌}
 use Rattle.h2audit_split.proofs.Standing.{dealt_all, dealt_rest}
 use Rattle.std.proofs.lemmas.Bool.Decides.{nat_tests}
 use Rattle.h2audit_split.proofs.dealer.Dealer.finish.Goals as goal
