@@ -5,9 +5,8 @@
 //! - [`Rising`] is what is known of the streams that items open, [`Latest`] are the settings that they bring and the
 //!   lengths of their frames.
 //! - [`Block`] is a range of frames with the numbers of those that open streams and the changes of settings: its items
-//!   are walked one by one, and no list of them is made. [`items`] is that list, for who wants it. A number counts as
-//!   an opening on HEADERS alone, and numbers of no frame are passed over. [`numbers_from`] and [`changes_from`] are
-//!   what a later block needs of both.
+//!   are walked one by one, and no list of them is made. A number counts as an opening on HEADERS alone, and numbers of
+//!   no frame are passed over. [`numbers_from`] and [`changes_from`] are what a later block needs of both.
 //! - [`ConnSum`] is all of these, a lawful summary of `block_scan` whose steps are those of the connection, and
 //!   [`block_sum`] that of a block. It takes each item in place, and none is made of an item alone to be joined: most
 //!   frames move a credit or nothing.
@@ -24,7 +23,7 @@
 //!
 //! Wrong bodies that the prover refuses: a block that starts afresh, an item or a join that leaves out what is before,
 //! clear by the total alone, HEADERS that all count as openings, a run that looks once. Tested, in `round_tests`: that
-//! the calls succeed where there is memory, and how often a run over 1,000 frames looks.
+//! the calls succeed where there is memory, within rounds over random frames.
 #![tactic(auto)]
 
 mod block_items;
@@ -38,7 +37,7 @@ mod rising;
 mod sums;
 
 pub use audit_terms::ConnectionState as ConnState;
-pub use block_items::{Block, changes_from, items, numbers_from};
+pub use block_items::{Block, changes_from, numbers_from};
 pub use blocks::{BlockRun, block_findings};
 pub use cleared::clear;
 pub use credits::Credit;
