@@ -1,10 +1,9 @@
 -- What is noted frame by frame is where the frames stand that each stream meets.
-use Rattle.split_merge.proofs.Terms.{◌≡◌, ◌≢◌, ℕ, ◌+◌, ◌<◌, ◌≤◌, ◌==◌, if◌then◌else◌, List, [], ◌∷◌, ◌++◌, inl, inr}
-use Rattle.split_merge.proofs.Terms.{length, refl, ap, ◌∙◌, arith, All, nat_tests, append_assoc, length_push, Frame}
-use Rattle.split_merge.proofs.Terms.{promised_by, meets, frames_of, positions_of, noted, notes_from, noted_positions}
-use Rattle.split_merge.proofs.Terms.{AllByRecursion, All-from_recursion, promises, positions_from, frames_at, ◌^◌, ◌*◌}
-use Rattle.split_merge.proofs.Terms.{get_or, drop, drop_more, length-append}
-use Rattle.std.proofs.lemmas.Bool.{cases_Bool}
+use Rattle.split_merge.proofs.Terms.{◌≡◌, ◌≢◌, ℕ, ◌+◌, ◌<◌, ◌≤◌, ◌==◌, if◌then◌else◌, List, [], ◌∷◌, ◌++◌, length, refl}
+use Rattle.split_merge.proofs.Terms.{ap, arith, All, nat_tests, append_assoc, length_push, Frame, promised_by}
+use Rattle.split_merge.proofs.Terms.{frames_of, positions_of, noted, notes_from, noted_positions, AllByRecursion}
+use Rattle.split_merge.proofs.Terms.{All-from_recursion, promises, positions_from, frames_at, ◌^◌, ◌*◌, get_or, drop}
+use Rattle.split_merge.proofs.Terms.{drop_more, length-append}
 use Rattle.split_merge.proofs.Visited.{slice_get-last, noted_positions-append}
 
 -- ---- a stream other than 0

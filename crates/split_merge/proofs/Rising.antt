@@ -1,7 +1,7 @@
 -- Where a stream stands among rows: at the front, where streams rise, or behind it, in a table.
 use Rattle.split_merge.proofs.Terms.{◌≡◌, ◌≢◌, ℕ, ◌+◌, ◌-◌, ◌<◌, ◌≤◌, ◌==◌, not, Bool, true, false, List, [], ◌∷◌, ◌++◌}
-use Rattle.split_merge.proofs.Terms.{length, get_or, slice_get, take, drop, Some, refl, sym, ap, ◌∙◌, subst, arith}
-use Rattle.split_merge.proofs.Terms.{cases_lt, nat_tests, common_steps, length-take-le, length-append, drop_all}
+use Rattle.split_merge.proofs.Terms.{length, get_or, slice_get, take, drop, Some, refl, sym, ap, ◌∙◌, arith, cases_lt}
+use Rattle.split_merge.proofs.Terms.{nat_tests, common_steps, length-take-le, length-append, drop_all}
 use Rattle.split_merge.proofs.Terms.{get_or_append_left, get_or_at, slice_get-get_or, get_or_from_slice_get}
 use Rattle.split_merge.proofs.Terms.{slice_get_within, find, RowIndex, Visited, NotAmong, is_among, streams_in}
 use Rattle.split_merge.proofs.Terms.{get_or-take, get_or-drop, length-drop, drop-append-le, position_or_len, AreBelow}
@@ -119,17 +119,20 @@ module _ (streams : List ℕ) (before after : RowIndex) (is : IsIndex streams be
       → after.rising ≡ before.rising + 1 → after.others.keys ≡ before.others.keys → row ≡ length streams
       → IsRowOf true stream row streams after
   row-above row all below e keys at =
-      let new = absent-by_index stream streams (λ i l s. let b = below i l in absurd (omega (arith, b, s))) in
-      (at, new, record {
-        distinct = distinct-push stream streams new is.distinct;
-        above = not_among-push 0 stream streams is.above (λ z. above (sym z));
-        within = omega (arith, e, all, long);
-        rises = λ i j p l.
-            let last = get_or_at streams stream [] 0 j in
-            grind (arith, is.rises i j, below i, at-front i, at-front j, cases_lt j (length streams));
-        others = keys ∙ is.others ∙ drop_all before.rising streams (omega (arith, all))
-            ∙ sym (drop_all after.rising (streams ++ stream ∷ []) (omega (arith, e, all, long)));
-      })
+      let new = absent-by_index stream streams (λ i l s. let b = below i l in absurd (omega (arith, b, s))) in (
+        at,
+        new,
+        record {
+          distinct = distinct-push stream streams new is.distinct;
+          above = not_among-push 0 stream streams is.above (λ z. above (sym z));
+          within = omega (arith, e, all, long);
+          rises = λ i j p l.
+              let last = get_or_at streams stream [] 0 j in
+              grind (arith, is.rises i j, below i, at-front i, at-front j, cases_lt j (length streams));
+          others = keys ∙ is.others ∙ drop_all before.rising streams (omega (arith, all))
+              ∙ sym (drop_all after.rising (streams ++ stream ∷ []) (omega (arith, e, all, long)));
+        },
+      )
 
   -- what the table says of a stream that is not at the front
   pub row-in_table : (place : ℕ) → NotBefore before.rising stream streams → after.rising ≡ before.rising
@@ -143,24 +146,29 @@ module _ (streams : List ℕ) (before after : RowIndex) (is : IsIndex streams be
       let behind = none-from_test stream before.others.keys none in
       let new = absent-from_both streams before is stream out behind in
       let n = ap length is.others ∙ length-drop before.rising streams in
-      let last = at ∙ place-behind stream before.others.keys behind in
-      (omega (arith, n, last, is.within), new, record {
-        distinct = distinct-push stream streams new is.distinct;
-        above = not_among-push 0 stream streams is.above (λ z. above (sym z));
-        within = omega (arith, same, is.within, long);
-        rises = λ i j p l. let w = is.within in grind (arith, is.rises i j, at-front i, at-front j);
-        others = keys ∙ rw none (ap (λ l. l ++ stream ∷ []) is.others)
-            ∙ sym (drop-append-le before.rising streams (stream ∷ []) is.within)
-            ∙ ap (λ n. drop n (streams ++ stream ∷ [])) (sym same);
-      })
+      let last = at ∙ place-behind stream before.others.keys behind in (
+        omega (arith, n, last, is.within),
+        new,
+        record {
+          distinct = distinct-push stream streams new is.distinct;
+          above = not_among-push 0 stream streams is.above (λ z. above (sym z));
+          within = omega (arith, same, is.within, long);
+          rises = λ i j p l. let w = is.within in grind (arith, is.rises i j, at-front i, at-front j);
+          others = keys ∙ rw none (ap (λ l. l ++ stream ∷ []) is.others)
+              ∙ sym (drop-append-le before.rising streams (stream ∷ []) is.within)
+              ∙ ap (λ n. drop n (streams ++ stream ∷ [])) (sym same);
+        },
+      )
   row-in_table place out same keys at stored false e =
       let found : is_among stream before.others.keys ≡ true = grind arith in
       let kept : after.others.keys ≡ before.others.keys = keys ∙ rw found refl in
-      let is_stream : stored.0 ≡ stream = let t = stored.2 in grind (arith, nat_tests) in
-      (behind-front streams before is place stream (rw (← kept) (stored.1 ∙ ap Some is_stream)), record {
-        distinct = is.distinct;
-        above = is.above;
-        within = rw same is.within;
-        rises = rw same is.rises;
-        others = rw (same, kept) is.others;
-      })
+      let is_stream : stored.0 ≡ stream = let t = stored.2 in grind (arith, nat_tests) in (
+        behind-front streams before is place stream (rw (← kept) (stored.1 ∙ ap Some is_stream)),
+        record {
+          distinct = is.distinct;
+          above = is.above;
+          within = rw same is.within;
+          rises = rw same is.rises;
+          others = rw (same, kept) is.others;
+        },
+      )

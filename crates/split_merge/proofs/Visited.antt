@@ -3,10 +3,9 @@ use Rattle.split_merge.proofs.Terms.{◌≡◌, ◌≢◌, ℕ, ◌<◌, zero, s
 use Rattle.split_merge.proofs.Terms.{length, get_or, slice_get, inl, inr, filter, arith, refl, sym, ap, ◌∙◌, Some}
 use Rattle.split_merge.proofs.Terms.{append_assoc, find, nat_tests, get_or-map, length-map, get_or_from_slice_get}
 use Rattle.split_merge.proofs.Terms.{slice_get-get_or, slice_get_within, first_of, Visited, NotAmong, AreDistinct}
-use Rattle.split_merge.proofs.Terms.{is_among, with_stream, streams_in, ◌||◌, ◌&&◌, map_push, filter_agree}
-use Rattle.split_merge.proofs.Terms.{slice_get-map, ◌+◌, ◌≤◌, set, append-nil, length-set, length_push, filter-append}
-use Rattle.split_merge.proofs.Terms.{noted_positions, total_of, counted, noted, IsIndex, IsTableOf, map-append, rows_of}
-use Rattle.split_merge.proofs.Terms.{with_row}
+use Rattle.split_merge.proofs.Terms.{is_among, with_stream, streams_in, ◌||◌, map_push, slice_get-map, ◌+◌, ◌≤◌, set}
+use Rattle.split_merge.proofs.Terms.{append-nil, length-set, length_push, filter-append, noted_positions, total_of}
+use Rattle.split_merge.proofs.Terms.{counted, noted, IsIndex, IsTableOf, map-append, rows_of, with_row}
 use Rattle.std.proofs.lemmas.Bool.{cases_Bool}
 use Rattle.split_merge.specs.declared.visits.Visits.{Visits}
 

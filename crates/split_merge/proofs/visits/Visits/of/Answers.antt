@@ -1,6 +1,6 @@
-use Rattle.split_merge.proofs.Terms.{append_assoc, ◌+◌, ◌++◌, [], drop, refl, sym, ap, length, ◌∙◌, arith, drop_more}
-use Rattle.split_merge.proofs.Terms.{append-nil, promised_by, first_of, streams_of, IsInRange, frames_of, streams_in}
-use Rattle.split_merge.proofs.Terms.{with_stream, with_next, at_drop_all, length-append, noted, notes_from}
+use Rattle.split_merge.proofs.Terms.{append_assoc, ◌+◌, ◌++◌, [], drop, refl, sym, ◌∙◌, arith, drop_more, append-nil}
+use Rattle.split_merge.proofs.Terms.{promised_by, first_of, streams_of, IsInRange, frames_of, streams_in, with_stream}
+use Rattle.split_merge.proofs.Terms.{with_next, at_drop_all, noted, notes_from}
 use Rattle.split_merge.proofs.Visited.{named-more, named-first}
 use Rattle.split_merge.proofs.Positions.{came-fits, came-more, notes-next}
 use Rattle.split_merge.proofs.Ahead.{ahead-none, ahead-frame, ahead-alike, promised-small, in_range_at}

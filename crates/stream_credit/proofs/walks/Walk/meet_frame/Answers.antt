@@ -45,6 +45,7 @@ pub returns : goal.returns
 returns g c = λ run frames h.
     let (sound, from) = when_true _ _ c.if-not-branch.false (c.in_ok-meet_changes.ensures run _ refl h) in
     let counted = rw c.if-not-goes_on.ensures.kept at c.in_ok-count_frame.ensures.counted in
+    let step = step-on (frame-at sound c.at-change.ensures from) refl c.if-not-goes_on.ensures.kept
+    c.if-not-goes_on.ensures.goes_on c.in_ok-count_frame.ensures.counted c.in_ok-count_frame.ensures.room in
     rw c.met_after.ensures (sound-next sound c.args.frame.now.number c.at-change.result c.at-change.ensures
-    sound.acknowledged.1 counted.initial (step-on (frame-at sound c.at-change.ensures from) refl c.if-not-goes_on.ensures.kept
-    c.if-not-goes_on.ensures.goes_on c.in_ok-count_frame.ensures.counted c.in_ok-count_frame.ensures.room))
+    sound.acknowledged.1 counted.initial step)
