@@ -4,9 +4,9 @@
 //!   for each connection, with its findings, the stalls that they tell of, and how its audit ended.
 //! - [`capture_lines`] begins it, from the packets and the strays. Each kind of line has a definition of its own in
 //!   `specs/`; `specs/Line.antt` and `specs/Endpoint.antt` say how a line is spelled.
-//! - Which stalls findings tell of, the definition (`specs/Stalls.antt`) says by looking forward from each beginning for
-//!   the first end of the same side and stream; the code goes over the list once, from the back, with the nearest end of
-//!   each window in a table.
+//! - Which stalls findings tell of, the definition (`specs/Stalls.antt`) says by looking forward from each beginning
+//!   for the first end of the same side and stream; the code goes over the list once, from the back, with the nearest
+//!   end of each window in a table.
 //! - [`Told`] is what is kept of a connection from its flows on. Of a flow that is its [`Reach`], length and gap. Of
 //!   frames it is their number where nothing is shown of them ([`QuietConnection`]), and else the frames and what was
 //!   found in them ([`AuditedFrames`]). It stands for an [`Audited`], which the definitions are over, and of which it

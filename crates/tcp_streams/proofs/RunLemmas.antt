@@ -116,7 +116,8 @@ module _ (capture : List ℕ) where
   )
 
   -- each byte is the capture's at its index
-  bytes-at : (low : ℕ) (run : List Interval) (o : ℕ) → Follows low run → All (IsHeld (length capture)) run → low ≤ o → o < run_end low run
+  bytes-at : (low : ℕ) (run : List Interval) (o : ℕ) → Follows low run → All (IsHeld (length capture)) run
+      → low ≤ o → o < run_end low run
       → IsSomeAnd (at run o) (λ (s : Source). slice_get capture s.index ≡ slice_get (bytes_in capture run) (o - low))
   bytes-at low [] o f h a b = absurd (omega (arith, a, b))
   bytes-at low (x ∷ xs) o f h a b =
