@@ -1,4 +1,4 @@
--- Lists whose elements are the same, each list's by a reading of its own; lists that go side by side; and lists to which
+-- Lists whose elements are the same, each list's by a reading of its own; lists that go side by side; lists to which
 -- loops add.
 use Rattle.audit_rounds.proofs.Words.{◌≡◌, ℕ, zero, suc, ◌+◌, ◌<◌, ◌==◌, if◌then◌else◌, false, Bool, List, [], ◌∷◌}
 use Rattle.audit_rounds.proofs.Words.{◌++◌, All, AllZip, Bor, Vec, Global, Some, get_or, slice_get, length, map, take}

@@ -19,13 +19,13 @@ pub record IsRemaining (whole : Block) (stop : Option ℕ) (found : List Finding
   pub least : IsLeast (StopsAt found) stop
 
 -- that of each connection
-pub record AreRemaining (connections : List Block) (stops : List (Option ℕ)) (found : List (Vec Finding Global)) : Type 0
-  where
-    pub number : length stops ≡ length connections
-    pub founds : length connections ≡ length found
-    pub each : (n : ℕ) (whole : Block) (stop : Option ℕ) (list : Vec Finding Global) → n < length connections
-        → IsRemaining (slice_index_or connections n whole) (slice_index_or stops n stop)
-        (slice_index_or found n list).items
+pub record AreRemaining (connections : List Block) (stops : List (Option ℕ)) (found : List (Vec Finding Global))
+    : Type 0 where
+  pub number : length stops ≡ length connections
+  pub founds : length connections ≡ length found
+  pub each : (n : ℕ) (whole : Block) (stop : Option ℕ) (list : Vec Finding Global) → n < length connections
+      → IsRemaining (slice_index_or connections n whole) (slice_index_or stops n stop)
+      (slice_index_or found n list).items
 
 -- up to the first error, what was found of each connection with what its blocks show
 pub record AreGoneThrough (credits_shown : Bool) (connections : List Block) (found last : List (Vec Finding Global))

@@ -13,8 +13,8 @@ loop-done-preserved g c =
     let within = at.invariant.within in
     record {
       within = omega (arith, left, long, few, within);
-      shown = batch-more items_in (λ (frames : Bor (List Frame)). shown c.args.credits_shown (pass frames.now)) at.all.items
-          c.in_ok-found.found.items c.append.new.self.items c.args.connections.now cut.result.0.now
+      shown = batch-more items_in (λ (frames : Bor (List Frame)). shown c.args.credits_shown (pass frames.now))
+          at.all.items c.in_ok-found.found.items c.append.new.self.items c.args.connections.now cut.result.0.now
           c.split_at.result.1.now at.done c.batch_length.result long cut.ensures.front c.split_at.ensures.back
           c.in_ok-append.ensures.items at.invariant.shown (rw c.of-crew.ensures.setup at c.in_ok-found.ensures);
     }

@@ -44,7 +44,8 @@ loop-n-preserved c =
             ← one.is,
             ← at.invariant.left at.n told.result.now (omega arith) here,
             ← told.ensures.value,
-          ) (rw c.as_slice-in-loop-n.ensures.value at c.in_ok-with_quiet.ensures)) n list (omega (arith, m, here, number))
+          ) (rw c.as_slice-in-loop-n.ensures.value at c.in_ok-with_quiet.ensures)) n list
+          (omega (arith, m, here, number))
           (λ ne. at.invariant.done n list other (omega (arith, m, ne)));
       left = λ n list m l.
           ap (λ (v : Vec ℕ Global). v.items) (get_or-set_other all at.n n new list (λ e. omega (arith, m, e)))
