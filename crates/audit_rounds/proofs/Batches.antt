@@ -2,14 +2,14 @@
 -- frames, and so its rounds have few jobs.
 use Rattle.audit_rounds.proofs.Words.{◌≡◌, ℕ, suc, ◌+◌, ◌*◌, ◌<◌, ◌≤◌, ◌==◌, ◌++◌, Bool, true, false, not, min, nat_lt}
 use Rattle.audit_rounds.proofs.Words.{if◌then◌else◌, List, [], ◌∷◌, map, take, drop, filter, length, get_or, All, refl}
-use Rattle.audit_rounds.proofs.Words.{sym, ap, ◌∙◌, subst, arith, Option, None, Vec, Global, Bor, AllZip, sum_by, zip}
+use Rattle.audit_rounds.proofs.Words.{sym, ap, ◌∙◌, arith, Option, None, Vec, Global, Bor, AllZip, sum_by, zip}
 use Rattle.audit_rounds.proofs.Words.{list_any, length-map, length-append, map-append, take-append-drop, sum_by-cons}
 use Rattle.audit_rounds.proofs.Words.{nil_from_length, All-take, All-drop, All-append, All-head, All-tail, All-filter}
 use Rattle.audit_rounds.proofs.Words.{get_or-zip, length-zip, eqb-true, Frame, Finding, Change, stops, shown, is_past}
 use Rattle.audit_rounds.proofs.Words.{◌^◌, length-orderly, pass, promised_by, first_of, streams_of, IsOrderly, Block}
 use Rattle.audit_rounds.proofs.Words.{StreamRow, SplitFrames, IsSplit, groups, Streams, Prepared, MadeReady, IsPrepared}
-use Rattle.audit_rounds.proofs.Words.{found_before, AreMadeReady, AreReady, AreRests, AreFew, RowsAreFew, IsBatch}
-use Rattle.audit_rounds.proofs.Words.{has_frames, spread, front_of, chosen_of, job_at, plan_from, IsStreamsOf}
+use Rattle.audit_rounds.proofs.Words.{AreMadeReady, AreReady, AreRests, RowsAreFew, IsBatch, has_frames, spread}
+use Rattle.audit_rounds.proofs.Words.{front_of, chosen_of, job_at, plan_from, IsStreamsOf}
 use Rattle.std.proofs.Common.{◌/◌}
 use Rattle.std.proofs.Math.Nat.{min-le_right}
 use Rattle.std.proofs.lemmas.List.{length-take}

@@ -1,12 +1,12 @@
--- Lists whose elements are the same, each list's by a reading of its own; lists that go side by side; and lists to
--- which loops add.
-use Rattle.audit_rounds.proofs.Words.{◌≡◌, ℕ, zero, suc, ◌+◌, ◌<◌, ◌==◌, if◌then◌else◌, false, Bool, List, [], ◌∷◌}
-use Rattle.audit_rounds.proofs.Words.{◌++◌, All, AllZip, Bor, Vec, Global, Some, get_or, slice_get, length, map, take}
-use Rattle.audit_rounds.proofs.Words.{drop, set, sum_by, refl, sym, ap, ◌∙◌, subst, arith, nat_tests, append_assoc}
-use Rattle.audit_rounds.proofs.Words.{append-nil, length-map, length-append, get_or-map, map-append, nil_from_length}
-use Rattle.audit_rounds.proofs.Words.{take_more, get_or-append_seam, All-map, All-nil, All-head, All-tail, Finding}
-use Rattle.audit_rounds.proofs.Words.{Frame, flat_map, slice_get-get_or, get_or_from_slice_get, NeverFallFrom, Result}
-use Rattle.audit_rounds.proofs.Words.{Ok, Err, IfOk}
+-- Lists whose elements are the same, each list's by a reading of its own; lists that go side by side; lists to which
+-- loops add.
+use Rattle.audit_rounds.proofs.Words.{◌≡◌, ℕ, zero, suc, ◌+◌, ◌<◌, ◌==◌, if◌then◌else◌, false, List, [], ◌∷◌, ◌++◌, All}
+use Rattle.audit_rounds.proofs.Words.{AllZip, Bor, Vec, Global, Some, get_or, slice_get, length, map, take, drop, set}
+use Rattle.audit_rounds.proofs.Words.{sum_by, refl, sym, ap, ◌∙◌, subst, arith, nat_tests, append_assoc, append-nil}
+use Rattle.audit_rounds.proofs.Words.{length-map, length-append, get_or-map, map-append, nil_from_length, take_more}
+use Rattle.audit_rounds.proofs.Words.{get_or-append_seam, All-map, All-nil, All-head, All-tail, Finding, Frame}
+use Rattle.audit_rounds.proofs.Words.{flat_map, slice_get-get_or, get_or_from_slice_get, NeverFallFrom, Result, Ok, Err}
+use Rattle.audit_rounds.proofs.Words.{IfOk}
 use Rattle.std.specs.Ordering.{nat_cmp}
 use Rattle.std.specs.List.Sorted.{IsSorted}
 use Rattle.std.specs.List.{sum}

@@ -1,8 +1,7 @@
 -- What the round over streams begins from, connection after connection and finding after finding.
-use Rattle.audit_rounds.proofs.Words.{◌≡◌, ℕ, ◌+◌, ◌<◌, ◌⊎◌, inl, inr, min, ⊎_elim, true, if◌then◌else◌, List, [], ◌∷◌}
-use Rattle.audit_rounds.proofs.Words.{◌++◌, length, get_or, take, Option, Some, None, refl, ap, ◌∙◌, arith, AllZip}
-use Rattle.audit_rounds.proofs.Words.{take_more, Contains-append_left, Finding, stops, StopsAt, IsLeast, contains-none}
-use Rattle.audit_rounds.proofs.Words.{lesser, IsFirstStop}
+use Rattle.audit_rounds.proofs.Words.{◌≡◌, ℕ, ◌+◌, ◌⊎◌, inl, inr, min, ⊎_elim, true, if◌then◌else◌, List, [], ◌∷◌, ◌++◌}
+use Rattle.audit_rounds.proofs.Words.{Option, Some, None, refl, ap, ◌∙◌, arith, Contains-append_left, Finding, stops}
+use Rattle.audit_rounds.proofs.Words.{StopsAt, IsLeast, contains-none, lesser, IsFirstStop}
 use Rattle.std.proofs.lemmas.Bool.{cases_lt, cond_both}
 use Rattle.std.proofs.lemmas.List.Elements.{Contains-push_cases, Contains-push}
 use Rattle.stop_desk.proofs.RoundSteps.{least-moves}

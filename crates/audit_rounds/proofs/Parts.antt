@@ -1,7 +1,7 @@
 -- Parts of orderly frames.
-use Rattle.audit_rounds.proofs.Words.{zero, suc, take, drop, ◌≡◌, ℕ, ◌+◌, ◌≤◌, Bool, true, false, if◌then◌else◌, List}
-use Rattle.audit_rounds.proofs.Words.{[], ◌∷◌, filter, All, arith, All-filter, Frame, Change, meets, is_ack, IsOrderly}
-use Rattle.audit_rounds.proofs.Words.{IsOrderlyFrom, frames_of, AreAcknowledged}
+use Rattle.audit_rounds.proofs.Words.{zero, suc, take, drop, ◌≡◌, ℕ, ◌+◌, ◌≤◌, Bool, true, List, [], ◌∷◌, filter, All}
+use Rattle.audit_rounds.proofs.Words.{arith, All-filter, Frame, Change, meets, is_ack, IsOrderly, IsOrderlyFrom}
+use Rattle.audit_rounds.proofs.Words.{frames_of, AreAcknowledged}
 
 -- orderly from an earlier number on
 pub orderly-earlier : (low high : ℕ) (frames : List Frame) → low ≤ high → IsOrderlyFrom high frames

@@ -1,12 +1,12 @@
 -- The rounds make the pass.
 use Rattle.audit_rounds.proofs.Words.{◌==◌, ◌&&◌, ◌||◌, true, not, is_none, pos, is_ack, taken, ◌≡◌, ℕ, ◌+◌, Bool}
-use Rattle.audit_rounds.proofs.Words.{false, List, [], ◌∷◌, ◌++◌, Option, Some, None, refl, sym, ap, ◌∙◌, arith}
-use Rattle.audit_rounds.proofs.Words.{append-nil, AllByRecursion, Sides, Body, Unreadable, Frame, Finding, side_of}
-use Rattle.audit_rounds.proofs.Words.{in_order, upto_stop, shown, local_said, no_previous, previous_after, local_run}
+use Rattle.audit_rounds.proofs.Words.{false, List, [], ◌∷◌, ◌++◌, Option, Some, None, refl, sym, ap, ◌∙◌, append-nil}
+use Rattle.audit_rounds.proofs.Words.{AllByRecursion, Sides, Body, Unreadable, Frame, Finding, side_of, in_order}
+use Rattle.audit_rounds.proofs.Words.{upto_stop, shown, local_said, no_previous, previous_after, local_run}
 use Rattle.audit_rounds.proofs.Words.{local_run_from, InForce, settings_said, initial_in_force, in_force_after}
 use Rattle.audit_rounds.proofs.Words.{settings_run, settings_run_from, changes_of, connection_start, streams_of}
-use Rattle.audit_rounds.proofs.Words.{frames_of, stream_run, joined, shown-append, streams_shown, blocks_shown}
-use Rattle.audit_rounds.proofs.Words.{IsOrderly, IsOrderlyFrom, flat_map}
+use Rattle.audit_rounds.proofs.Words.{frames_of, stream_run, shown-append, streams_shown, blocks_shown, IsOrderly}
+use Rattle.audit_rounds.proofs.Words.{IsOrderlyFrom}
 use Rattle.audit_terms.specs.declared.kinds.Kind.{Kind}
 use Rattle.audit_terms.specs.declared.kinds.Kind.TheVariants.{BadPadding, BadPreface, BadPriority, BadSetting}
 use Rattle.audit_terms.specs.declared.kinds.Kind.TheVariants.{BrokenBlock, Push, UnmatchedAck, WrongSize, WrongStream}

@@ -138,10 +138,8 @@ module _ (c : Bool) (frames : List Frame) (found : List Finding) (stop : Option 
   shown_back = shown c (block_run (connection_after_all connection_start front) back)
 
   both : blocks_shown c (front ∷ back ∷ []) ≡ shown_front ++ shown_back
-  both =
-      ap (λ l. shown c (block_run connection_start front ++ l))
-      (append-nil (block_run (connection_after_all connection_start front) back))
-      ∙ shown-append c (block_run connection_start front) _
+  both = rw (append-nil (block_run (connection_after_all connection_start front) back))
+      (shown-append c (block_run connection_start front) _)
 
   back-left : upto_stop (in_order (streams ++ shown_front))
       ≡ upto_stop (in_order (streams ++ (shown_front ++ shown_back)))

@@ -2,20 +2,18 @@
 use Rattle.audit_rounds.proofs.Words.{◌≡◌, ℕ, zero, suc, ◌+◌, ◌*◌, ◌-◌, ◌^◌, ◌<◌, ◌≤◌, ◌==◌, Bool, not, if◌then◌else◌}
 use Rattle.audit_rounds.proofs.Words.{List, [], ◌∷◌, ◌++◌, length, map, flat_map, get_or, slice_get, All, Option, Some}
 use Rattle.audit_rounds.proofs.Words.{None, refl, sym, ap, ◌∙◌, arith, append-nil, Vec, Global, AllZip, AllByRecursion}
-use Rattle.audit_rounds.proofs.Words.{flat_map-append, nat_tests, All-nil, All-append, All-map, All-filter}
-use Rattle.audit_rounds.proofs.Words.{All-contains, slice_get_within, Frame, Finding, Sides, in_order, IsOrderly}
-use Rattle.audit_rounds.proofs.Words.{IsOrderlyFrom, InForce, in_force_after, initial_in_force, settings_said}
-use Rattle.audit_rounds.proofs.Words.{settings_run, settings_run_from, local_said, no_previous, previous_after}
-use Rattle.audit_rounds.proofs.Words.{local_run, local_run_from, streams_of, side_of, length-orderly, at-in_order}
-use Rattle.audit_rounds.proofs.Words.{AreAcknowledged, StreamRow, groups, IsSplit, IsStop, Prepared, Streams, StreamJob}
-use Rattle.audit_rounds.proofs.Words.{IsPrepared, found_before, IsReady, IsJobOf, job_at, plan_from, IsFirstStop}
-use Rattle.audit_rounds.proofs.Words.{IsStreamsOf, IsRow, true, filter, subst, list_any, length-map, get_or-map}
-use Rattle.audit_rounds.proofs.Words.{get_or_default, slice_get-get_or, get_or_from_slice_get, list_any-IsPermutation}
-use Rattle.audit_rounds.proofs.Words.{All-head, All-tail, AllZip-long, Change, upto_stop, shown, changes_of, frames_of}
-use Rattle.audit_rounds.proofs.Words.{stream_run, stream_at_end, option_to_list, frames_at, Job, StopsAt, IsLeast}
-use Rattle.audit_rounds.proofs.Words.{findings_of_jobs, findings_of_parts, board_merges_lem, Part, Settled, part_of}
-use Rattle.audit_rounds.proofs.Words.{openings_of, streams_shown, Reaches, AgreeWithin, IsAfterStreams, AreAfterStreams}
-use Rattle.audit_rounds.proofs.Words.{numbers_told, IsInOrder, AreReady, job_of, of_rows, rows_opened}
+use Rattle.audit_rounds.proofs.Words.{flat_map-append, nat_tests, All-map, All-filter, All-contains, slice_get_within}
+use Rattle.audit_rounds.proofs.Words.{Frame, Finding, in_order, IsOrderly, initial_in_force, settings_run, no_previous}
+use Rattle.audit_rounds.proofs.Words.{local_run, streams_of, length-orderly, AreAcknowledged, StreamRow, groups}
+use Rattle.audit_rounds.proofs.Words.{IsSplit, IsStop, Prepared, Streams, StreamJob, IsPrepared, found_before, IsReady}
+use Rattle.audit_rounds.proofs.Words.{IsJobOf, job_at, plan_from, IsFirstStop, IsStreamsOf, IsRow, true, filter, subst}
+use Rattle.audit_rounds.proofs.Words.{list_any, length-map, get_or-map, get_or_default, slice_get-get_or}
+use Rattle.audit_rounds.proofs.Words.{get_or_from_slice_get, list_any-IsPermutation, All-head, All-tail, AllZip-long}
+use Rattle.audit_rounds.proofs.Words.{Change, shown, changes_of, frames_of, stream_run, stream_at_end, option_to_list}
+use Rattle.audit_rounds.proofs.Words.{frames_at, Job, StopsAt, IsLeast, findings_of_jobs, findings_of_parts}
+use Rattle.audit_rounds.proofs.Words.{board_merges_lem, Part, Settled, part_of, openings_of, streams_shown, Reaches}
+use Rattle.audit_rounds.proofs.Words.{AgreeWithin, IsAfterStreams, AreAfterStreams, numbers_told, IsInOrder, AreReady}
+use Rattle.audit_rounds.proofs.Words.{job_of, of_rows, rows_opened}
 use Rattle.std.proofs.lemmas.List.{map-id}
 use Rattle.std.proofs.lemmas.List.Elements.{All-weaker, All-from_recursion}
 use Rattle.std.specs.List.{between}

@@ -1,6 +1,6 @@
 -- What is made of one stream, of several, and of a job.
 use Rattle.audit_rounds.proofs.Words.{◌≡◌, ℕ, ◌-◌, ◌^◌, ◌≤◌, ◌⊎◌, inl, inr, min, ⊎_elim, Bool, List, [], ◌∷◌, ◌++◌, All}
-use Rattle.audit_rounds.proofs.Words.{get_or, append-nil, append_assoc, Option, Some, None, refl, sym, ap, ◌∙◌, arith}
+use Rattle.audit_rounds.proofs.Words.{get_or, append-nil, append_assoc, Option, Some, None, refl, sym, ap, arith}
 use Rattle.audit_rounds.proofs.Words.{option_to_list, All-contains, All-append, All-nil, Contains-append_left, Finding}
 use Rattle.audit_rounds.proofs.Words.{in_order, Asked, IsRun, place_number, opened_up_to, IsPast, whole_is_cut_lem}
 use Rattle.audit_rounds.proofs.Words.{RunLooks, Result, Ok, Err, IfOk, Frame, IsOrderly, shown, stream_run, Reaches}

@@ -1,4 +1,4 @@
-use Rattle.audit_rounds.proofs.Words.{◌≡◌, ◌<◌, length, map, sym, ◌∙◌, arith, block_job}
+use Rattle.audit_rounds.proofs.Words.{◌<◌, length, map, sym, ◌∙◌, arith, block_job}
 use Rattle.audit_rounds.proofs.Lists.{if_ok-then}
 use Rattle.audit_rounds.proofs.Settles.{each-block, each-fits, each-place, gone-through, jobs-inside, parts-within}
 use Rattle.audit_rounds.proofs.block_rounds.rounds_over_blocks.Goals as goal

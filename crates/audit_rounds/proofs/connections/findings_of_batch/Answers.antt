@@ -1,5 +1,4 @@
-use Rattle.audit_rounds.proofs.Words.{◌≡◌, [], refl, List, ap, map, sym, ◌∙◌, subst, Bor, Frame, Prepared, shown, pass}
-use Rattle.audit_rounds.proofs.Words.{IsBatch}
+use Rattle.audit_rounds.proofs.Words.{◌≡◌, [], refl, List, ◌∙◌, Frame, Prepared, shown, pass}
 use Rattle.audit_rounds.proofs.Batches.{batch-ready, framed-batch, spread-said}
 use Rattle.audit_rounds.proofs.Lists.{frames_in, if_ok-then, maps-alike}
 use Rattle.audit_rounds.proofs.connections.findings_of_batch.Goals as goal

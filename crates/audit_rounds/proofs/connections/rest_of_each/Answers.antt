@@ -1,5 +1,5 @@
-use Rattle.audit_rounds.proofs.Words.{ℕ, length, ap, ◌∙◌, sym, arith, get_or, get_or_default, length_push, Block}
-use Rattle.audit_rounds.proofs.Words.{IsRest, Option, Prepared, Vec, Global}
+use Rattle.audit_rounds.proofs.Words.{ℕ, length, ap, ◌∙◌, arith, get_or, get_or_default, length_push, Block, IsRest}
+use Rattle.audit_rounds.proofs.Words.{Option, Prepared, Vec, Global}
 use Rattle.audit_rounds.proofs.Lists.{each-push}
 use Rattle.audit_rounds.proofs.connections.rest_of_each.Goals as goal
 

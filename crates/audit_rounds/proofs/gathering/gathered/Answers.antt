@@ -1,5 +1,5 @@
-use Rattle.audit_rounds.proofs.Words.{◌≡◌, ◌<◌, ◌++◌, [], ◌∷◌, map, length, get_or, sym, ap, ◌∙◌, arith, length-set}
-use Rattle.audit_rounds.proofs.Words.{Vec, Global, Finding, map-append, into_iter_items, findings_of_parts, part_of}
+use Rattle.audit_rounds.proofs.Words.{◌<◌, ◌++◌, [], ◌∷◌, map, length, get_or, sym, ap, ◌∙◌, arith, length-set, Vec}
+use Rattle.audit_rounds.proofs.Words.{Global, Finding, map-append, into_iter_items, findings_of_parts, part_of}
 use Rattle.stop_desk.specs.code.Board.{Part as BoardPart}
 use Rattle.audit_rounds.proofs.Lists.{part-more, taken-all, taken-holds, taken-more}
 use Rattle.audit_rounds.proofs.gathering.gathered.Goals as goal

@@ -1,6 +1,5 @@
-use Rattle.audit_rounds.proofs.Words.{◌<◌, ◌++◌, [], take, length, length-set, sym, ap, ◌∙◌, arith, Vec, Global, ℕ}
-use Rattle.audit_rounds.proofs.Words.{get_or, get_or_default, get_or-set_other, take_more, Part, IsInOrder}
-use Rattle.audit_rounds.proofs.Words.{numbers_told}
+use Rattle.audit_rounds.proofs.Words.{◌<◌, ◌++◌, [], take, length, length-set, ap, ◌∙◌, arith, Vec, Global, ℕ, get_or}
+use Rattle.audit_rounds.proofs.Words.{get_or_default, get_or-set_other, take_more, Part, IsInOrder, numbers_told}
 use Rattle.audit_rounds.proofs.Lists.{each-set, part-more}
 use Rattle.audit_rounds.proofs.opened.opened_each.Goals as goal
 

@@ -1,6 +1,6 @@
 use Rattle.audit_rounds.proofs.Words.{◌≡◌, sym, ◌∙◌, ◌<◌, arith, length, All-map, AllZip-long, Job, job_of, plan_from}
-use Rattle.audit_rounds.proofs.Words.{found_before, Bool, ℕ, List, map, Option, Vec, Global, Streams, StreamJob, Settled}
-use Rattle.audit_rounds.proofs.Words.{HasSettled, HaveSettled}
+use Rattle.audit_rounds.proofs.Words.{found_before, Bool, ℕ, List, map, Option, Vec, Global, Streams, StreamJob}
+use Rattle.audit_rounds.proofs.Words.{Settled, HasSettled, HaveSettled}
 use Rattle.audit_rounds.specs.code.StreamJobs.{Makes}
 use Rattle.audit_rounds.proofs.Batches.{few-rows}
 use Rattle.audit_rounds.proofs.StreamRounds.{planned, ready-each, stops-are-places}
