@@ -5,13 +5,13 @@
 //! on, it looks where its connection stops by now, each time that a look is due, and goes no further than it has to;
 //! where it finds a connection error, it lowers the stop.
 //!
-//! 1. In the first round, a job is a group of the streams of a connection, but for the quiet ones, of which nothing is
+//! 1. In the round over streams, a job is a group of those of a connection, but for the quiet ones, of which nothing is
 //!    shown: those are told when the connection is split. With what the split tells of them, this tells which frames
 //!    open streams. A job goes through its streams one after the other, and makes the looks that are due of each. It
 //!    went up to the least of the places at which their runs stopped (`IsWork` of `specs/code/Streams.antt`).
-//! 2. What a connection shows by itself, up to its stop, is found in blocks of its frames. In the second round, blocks
+//! 2. What a connection shows by itself, up to its stop, is found in blocks of its frames. In the next round, blocks
 //!    are summed, and the sums carry the connection's state from block to block.
-//! 3. In the third, blocks that are not clear are gone through, each from the state before it; where credits are shown,
+//! 3. In the last, blocks that are not clear are gone through, each from the state before it; where credits are shown,
 //!    all blocks are.
 //!
 //! What its blocks show is merged with all that was found of a connection before, the faults of single frames and the

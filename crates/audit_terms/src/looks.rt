@@ -1,10 +1,9 @@
 //! When a run looks for the stop of its connection.
 
-ghost use Rattle.std.specs.Prelude.{◌≡◌, ℕ, ◌+◌, ◌*◌, ◌≤◌, List, [], ◌∷◌, ◌++◌, Option};
-ghost use Rattle.std.specs.Bool.{OnTrue, OnFalse};
+ghost use Rattle.std.specs.Prelude.{◌≡◌, ℕ, List, [], Option};
 ghost use Rattle.audit_terms.specs.declared.findings.Finding.{Finding as FindingTerm};
-ghost use Rattle.audit_terms.specs.code.runs.Look.{is_past, steps_between, found_before};
-ghost use Rattle.audit_terms.specs.code.Watch.{Watches, IsStopped, NeverFallFrom};
+ghost use Rattle.audit_terms.specs.code.runs.Look.{is_past};
+ghost use Rattle.audit_terms.specs.code.Watch.{GoesOn, HasMetBefore, NeverFallFrom, Watches};
 
 use crate::findings::Finding;
 use crate::places::Place;
@@ -62,15 +61,8 @@ impl Watch {
     /// Whether the run goes on to a step at a frame of this number, before which it looks if that is due. `found` is
     /// what was found at the frames before.
     pub fn goes_on<L: Look>(&mut self, look: &mut L, found: &[Finding], number: u32) -> bool
-        requires { (met : ℕ) × (met ≤ number) × (met + self.old.left ≡ steps_between * self.old.looks) }
-        ensures goes_on { OnTrue result ((start : L) (whole : List FindingTerm) (met left : List ℕ)
-            → found.now ≡ found_before number whole
-            → Watches L.answers start look.old whole met (number ∷ left) self.old
-            → Watches L.answers start look.new whole (met ++ number ∷ []) left self.new) }
-        ensures stops { OnFalse result ((start : L) (whole : List FindingTerm) (met left : List ℕ)
-            → found.now ≡ found_before number whole
-            → Watches L.answers start look.old whole met (number ∷ left) self.old
-            → IsStopped L.answers start look.new whole (met ++ number ∷ left) number self.new) }
+        requires { HasMetBefore number self.old }
+        ensures { GoesOn L.answers look.old look.new found.now number self.old self.new result }
     {
         if self.is_past(number) {
             return false;

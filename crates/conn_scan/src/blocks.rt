@@ -1,10 +1,9 @@
-ghost use Rattle.std.specs.Prelude.{◌≡◌, ℕ, ◌+◌, ◌-◌, ◌*◌, ◌^◌, ◌≤◌, List, [], ◌∷◌, ◌++◌, All, map, IfOk, OnOk};
-ghost use Rattle.std.specs.Bool.{OnTrue, OnFalse};
+ghost use Rattle.std.specs.Prelude.{◌≡◌, ℕ, ◌+◌, ◌-◌, ◌^◌, ◌≤◌, All, map, IfOk, OnOk};
 ghost use Rattle.audit_terms.specs.declared.findings.Finding.{Finding as FindingTerm};
 ghost use Rattle.audit_terms.specs.declared.frames.Frame.{Frame as FrameTerm};
 ghost use Rattle.audit_terms.specs.Place.{place_number};
-ghost use Rattle.audit_terms.specs.code.runs.Look.{IsRun, up_to, found_before, steps_between};
-ghost use Rattle.audit_terms.specs.code.Watch.{Watches, IsStopped};
+ghost use Rattle.audit_terms.specs.code.runs.Look.{IsRun, up_to};
+ghost use Rattle.audit_terms.specs.code.Watch.{GoesOn, HasMetBefore};
 ghost use Rattle.audit_terms.specs.code.runs.Orderly.{IsInRange};
 ghost use Rattle.audit_terms.specs.Connection.{connection_said, connection_after};
 ghost use Rattle.audit_terms.specs.code.runs.Blocks.{block_run};
@@ -80,16 +79,8 @@ pub fn block_findings<L: Look>(
 
 /// Whether the run goes on to an item, before which it looks if that is due. `found` is what the items before show.
 fn goes_on<L: Look>(watch: &mut Watch, look: &mut L, found: &[Finding], item: &Item) -> bool
-    requires { (met : ℕ) × (met ≤ item.now.frame.number) × (met + watch.old.left ≡ steps_between * watch.old.looks) }
-    ensures goes_on { OnTrue result ((start : L) (whole : List FindingTerm) (met left : List ℕ)
-        → found.now ≡ found_before item.now.frame.number whole
-        → Watches L.answers start look.old whole met (item.now.frame.number ∷ left) watch.old
-        → Watches L.answers start look.new whole (met ++ item.now.frame.number ∷ []) left watch.new) }
-    ensures stops { OnFalse result ((start : L) (whole : List FindingTerm) (met left : List ℕ)
-        → found.now ≡ found_before item.now.frame.number whole
-        → Watches L.answers start look.old whole met (item.now.frame.number ∷ left) watch.old
-        → IsStopped L.answers start look.new whole
-        (met ++ item.now.frame.number ∷ left) item.now.frame.number watch.new) }
+    requires { HasMetBefore item.now.frame.number watch.old }
+    ensures { GoesOn L.answers look.old look.new found.now item.now.frame.number watch.old watch.new result }
 {
     watch.goes_on(look, found, item.frame.number)
 }

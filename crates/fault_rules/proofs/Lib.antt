@@ -1,4 +1,4 @@
-pub mod PieceLemmas
+pub mod ShareLemmas
 mod SaidInTurn
 mod Acknowledged
 mod Bounds

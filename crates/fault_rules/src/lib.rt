@@ -14,21 +14,21 @@
 //! windows. Each is below 2^32, so credits stay below 2^60 over the fewer than 2^28 frames of a connection, and no sum
 //! wraps; that bound is bookkeeping of code (`Room` of `audit_terms`).
 //!
-//! [`local_faults`] answers exactly `local_run` of `audit_terms`, one walk over the frames that knows no pieces. The
-//! code cuts the frames into a piece for each worker, of 4,096 frames at least. All that a piece needs of those before
-//! it is the last frame of each side. That is carried from piece to piece first, by a look back from each piece's end
-//! as far as the frame sought, so that no frame is looked at more than once for each side. The pieces' findings are
+//! [`local_faults`] answers exactly `local_run` of `audit_terms`, one walk over the frames that knows no shares. The
+//! code cuts the frames into a share for each worker, of 4,096 frames at least. All that a share needs of those before
+//! it is the last frame of each side. That is carried from share to share first, by a look back from each share's end
+//! as far as the frame sought, so that no frame is looked at more than once for each side. The shares' findings are
 //! joined in order, whichever thread was done first.
 //!
-//! Wrong bodies that the prover refuses: an overflowing grant that is added, a piece that begins without the frames
-//! before it. Tested by whole reports: that the calls succeed where there is memory, once over several pieces. Trusted:
+//! Wrong bodies that the prover refuses: an overflowing grant that is added, a share that begins without the frames
+//! before it. Tested by whole reports: that the calls succeed where there is memory, once over several shares. Trusted:
 //! the port of `rayon`, which starts the threads; that several work at once is not proved.
 #![tactic(auto)]
 
 mod connections;
 mod counts;
 mod frame_faults;
-mod pieces;
+mod shares;
 mod previous;
 mod spots;
 mod streams;
@@ -36,6 +36,6 @@ mod windows;
 
 pub use connections::say_connection;
 pub use frame_faults::say_local;
-pub use pieces::local_faults;
+pub use shares::local_faults;
 pub use previous::keep_last;
 pub use streams::say_stream;

@@ -3,7 +3,7 @@
 ghost use Rattle.std.specs.Prelude.{◌≡◌};
 ghost use Rattle.audit_terms.specs.Side.{is_side};
 ghost use Rattle.audit_terms.specs.LocalFault.{previous_after};
-ghost use Rattle.fault_rules.specs.code.Pieces.{last_from, previous_after_all};
+ghost use Rattle.fault_rules.specs.code.Shares.{last_from, previous_after_all};
 
 use audit_terms::{Frame, Side, Sides};
 

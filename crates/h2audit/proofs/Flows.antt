@@ -1,4 +1,4 @@
--- The jobs of the first round, and what their parts keep of flows.
+-- The jobs of the round over connections, and what their parts keep of flows.
 use Rattle.std.proofs.Common.{◌≡◌, ℕ, suc, ◌+◌, ◌<◌, ◌≤◌, Bool, List, [], ◌∷◌, ◌++◌, length, get_or, slice_get}
 use Rattle.std.proofs.Common.{All, IfOk, Ok, Err, Result, Option, Some, None, Bor, map, refl, sym, subst, ap, ◌∙◌}
 use Rattle.std.proofs.Common.{arith}

@@ -56,7 +56,7 @@ pub(crate) fn flows_each<R: Threads + Sync, G: Gate>(
     Ok(settled.parts)
 }
 
-/// The number of the first round.
+/// The number of the round over connections.
 const FLOWS: u8 = 0;
 
 /// What is told of each connection, in order, from what its flows hold.

@@ -1,4 +1,4 @@
-//! The first round: both flows of each connection, and what they hold.
+//! The round over connections: both flows of each, and what they hold.
 
 ghost use Rattle.std.specs.Prelude.{◌≡◌, ◌+◌, ◌<◌, ◌^◌, IfOk, length};
 ghost use Rattle.audit_report.specs.code.Reported.{HasGapAtEnd};

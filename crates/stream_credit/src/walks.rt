@@ -1,10 +1,9 @@
-ghost use Rattle.std.specs.Prelude.{◌≡◌, ℕ, ◌+◌, ◌-◌, ◌*◌, ◌^◌, ◌<◌, ◌≤◌, [], ◌∷◌, ◌++◌, drop, true, List, OnOk, IfOk};
+ghost use Rattle.std.specs.Prelude.{◌≡◌, ℕ, ◌+◌, ◌-◌, ◌^◌, ◌<◌, ◌≤◌, [], ◌∷◌, ◌++◌, drop, true, List, OnOk, IfOk};
 ghost use Rattle.std.specs.Bool.{MatchBool, OnTrue, OnFalse};
 ghost use Rattle.audit_terms.specs.declared.frames.Frame.{Frame as FrameTerm};
 ghost use Rattle.audit_terms.specs.declared.findings.Finding.{Finding as FindingTerm};
-ghost use Rattle.audit_terms.specs.code.runs.Look.{found_before, steps_between};
 ghost use Rattle.audit_terms.specs.code.runs.Streams.{IsAcknowledged};
-ghost use Rattle.audit_terms.specs.code.Watch.{Watches, IsStopped};
+ghost use Rattle.audit_terms.specs.code.Watch.{GoesOn, HasMetBefore};
 ghost use Rattle.stream_credit.specs.code.Looks.{is_live};
 ghost use Rattle.stream_credit.specs.code.Merged.{frame_with};
 ghost use Rattle.stream_credit.specs.code.Changes.{AreFrom};
@@ -132,16 +131,10 @@ impl Walk {
     /// Whether the walk goes on to a step of this number, before which it looks if that is due. The look is handed all
     /// that the steps before show.
     fn goes_on<L: Look>(&mut self, look: &mut L, number: u32) -> bool
-        requires { (met : ℕ) × (met ≤ number) × (met + self.old.watch.left ≡ steps_between * self.old.watch.looks) }
+        requires { HasMetBefore number self.old.watch }
         ensures kept { self.new ≡ record self.old { watch = self.new.watch } }
-        ensures goes_on { OnTrue result ((start : L) (whole : List FindingTerm) (met left : List ℕ)
-            → self.old.found.items ≡ found_before number whole
-            → Watches L.answers start look.old whole met (number ∷ left) self.old.watch
-            → Watches L.answers start look.new whole (met ++ number ∷ []) left self.new.watch) }
-        ensures stops { OnFalse result ((start : L) (whole : List FindingTerm) (met left : List ℕ)
-            → self.old.found.items ≡ found_before number whole
-            → Watches L.answers start look.old whole met (number ∷ left) self.old.watch
-            → IsStopped L.answers start look.new whole (met ++ number ∷ left) number self.new.watch) }
+        ensures goes_on { GoesOn L.answers look.old look.new self.old.found.items number self.old.watch self.new.watch
+            result }
     {
         let found = self.found.as_slice();
         self.watch.goes_on(look, found, number)

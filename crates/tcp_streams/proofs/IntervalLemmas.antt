@@ -6,7 +6,7 @@ use Rattle.tcp_streams.proofs.Words.{Spans, at, size_of, source_in, width, clipp
 use Rattle.tcp_streams.proofs.Words.{if◌then◌else◌, nat_lt, ◌&&◌, IsSome, false≢true}
 use Rattle.std.specs.Prelude.{nat_le}
 use Rattle.std.proofs.Common.{min, max}
-use Rattle.tcp_streams.specs.code.Interval.{IsSettled}
+use Rattle.tcp_streams.specs.code.Interval.{AreSetApart}
 use Rattle.tcp_streams.proofs.Lists.{by_lt}
 
 -- an offset is held, or it lies before, or past
@@ -152,16 +152,16 @@ Spans-apart low (x ∷ xs) le apart h =
     let order : (low ≤ x.from) × (lie_apart x.upto xs ≡ true) = grind (arith, nat_tests) in
     (order.0, is, Spans-apart x.upto xs is.counts order.1 (All-tail IsInterval x xs h))
 
--- so they are settled
-pub settled-apart : (pieces : List Interval) → lie_apart 0 pieces ≡ true → All IsInterval pieces
-    → IsSettled pieces pieces
-settled-apart pieces apart all =
+-- so they are apart
+pub apart-already : (pieces : List Interval) → lie_apart 0 pieces ≡ true → All IsInterval pieces
+    → AreSetApart pieces pieces
+apart-already pieces apart all =
     record { spans = Spans-apart 0 pieces (omega arith) apart all; same = λ o lt. refl }
 
--- and the settled halves of a list, one laid over the other, settle the list
-pub settled-halves : (kept later pieces : List Interval) (n : ℕ) → IsSettled (take n pieces) kept
-    → IsSettled (drop n pieces) later → IsSettled pieces (overlay kept later 0)
-settled-halves kept later pieces n h k = record {
+-- and the halves of a list, each set apart, one laid over the other, are the list set apart
+pub halves-apart : (kept later pieces : List Interval) (n : ℕ) → AreSetApart (take n pieces) kept
+    → AreSetApart (drop n pieces) later → AreSetApart pieces (overlay kept later 0)
+halves-apart kept later pieces n h k = record {
   spans = Spans-overlay 0 kept later h.spans k.spans;
   same = λ o lt.
       at-overlay 0 kept later o h.spans (omega arith) lt

@@ -10,7 +10,7 @@ ghost use Rattle.tcp_streams.specs.code.Assembled.{IsAssembled, IsOfCapture};
 use crate::in_order::flow_in_order;
 use crate::layout::lay_out;
 use crate::members::Connection;
-use crate::overlay::settle;
+use crate::overlay::set_apart;
 use crate::pieces::pieces_of;
 use crate::streams::Flow;
 use audit_terms::Side;
@@ -89,6 +89,6 @@ fn flow_in_any_order<'a>(
     ensures { IfOk result (IsAssembled capture.now packets.now connection.now side initial_number) }
 {
     let pieces = pieces_of(alloc, initial_number, packets, connection, side)?;
-    let intervals = settle(alloc, pieces)?;
+    let intervals = set_apart(alloc, pieces)?;
     lay_out(alloc, capture, &intervals)
 }

@@ -16,7 +16,7 @@
 //!   gives it; all flows together fit in the capture.
 //!
 //! Segments that come in order are laid out as they come. For any others the code lays disjoint intervals over one
-//! another: the first half of the segments is settled, then the second, which gives only the offsets that the first
+//! another: the first half of the segments is set apart, then the second, which gives only the offsets that the first
 //! leaves free; so it takes n log n steps in whichever order segments come. Pairs are looked up by a hash whose key no
 //! capture can foresee (`TableHash`); the contract of [`connections`] holds for every key, so no answer depends on it.
 //!

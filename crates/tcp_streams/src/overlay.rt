@@ -1,19 +1,19 @@
 ghost use Rattle.std.specs.Prelude.{◌≡◌, ◌+◌, ◌-◌, ◌<◌, ◌≤◌, ◌^◌, [], ◌∷◌, ◌++◌, false, All, length, drop, IfOk, OnOk};
-ghost use Rattle.tcp_streams.specs.code.Interval.{HasPassed, IsInterval, IsSettled, Spans, clipped, lie_apart, overlay};
+ghost use Rattle.tcp_streams.specs.code.Interval.{HasPassed, IsInterval, AreSetApart, Spans, clipped, lie_apart, overlay};
 
 use crate::interval::{END_OF_OFFSETS, Interval};
 use std::alloc::{AllocError, Global};
 
 /// Makes intervals that lie apart of pieces in order of record: where pieces share an offset, the first
 /// of them brings it.
-pub fn settle(alloc: Global, pieces: Vec<Interval>) -> Result<Vec<Interval>, AllocError>
+pub fn set_apart(alloc: Global, pieces: Vec<Interval>) -> Result<Vec<Interval>, AllocError>
     requires { All IsInterval pieces.items }
-    ensures { IfOk result (λ v. IsSettled pieces.items v.items) }
+    ensures { IfOk result (λ v. AreSetApart pieces.items v.items) }
 {
     if lie_apart(&pieces) {
         Ok(pieces)
     } else {
-        settle_halves(alloc, &pieces)
+        set_apart_halves(alloc, &pieces)
     }
 }
 
@@ -32,17 +32,17 @@ fn lie_apart(pieces: &[Interval]) -> bool
     true
 }
 
-/// Settles the pieces by halves, of which the second fills what the first leaves free.
-fn settle_halves(alloc: Global, pieces: &[Interval]) -> Result<Vec<Interval>, AllocError>
+/// Sets the pieces apart by halves, of which the second fills what the first leaves free.
+fn set_apart_halves(alloc: Global, pieces: &[Interval]) -> Result<Vec<Interval>, AllocError>
     requires { All IsInterval pieces.now }
-    ensures { IfOk result (λ v. IsSettled pieces.now v.items) }
+    ensures { IfOk result (λ v. AreSetApart pieces.now v.items) }
 {
     if lie_apart(pieces) {
         return pieces.to_vec(alloc);
     }
     let middle = pieces.len() / 2;
-    let kept = settle_halves(alloc, &pieces[..middle])?;
-    let later = settle_halves(alloc, &pieces[middle..])?;
+    let kept = set_apart_halves(alloc, &pieces[..middle])?;
+    let later = set_apart_halves(alloc, &pieces[middle..])?;
     overlay(alloc, &kept, &later)
 }
 

@@ -1,4 +1,4 @@
--- The jobs of the first round: one for each connection, which finds nothing.
+-- The jobs of the round over connections: one for each, which finds nothing.
 use Rattle.std.specs.List.{AllZip, range_with_len}
 use Rattle.std.specs.Prelude.{◌≡◌, ℕ, ◌^◌, ◌<◌, ◌≤◌, Bool, false, List, [], length, map, All, IsTrue}
 use Rattle.audit_report.specs.FlowLine.{extents_of}

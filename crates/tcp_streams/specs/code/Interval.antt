@@ -58,7 +58,7 @@ abbrev pub size_of : List Interval → ℕ
 size_of xs = sum_by width xs
 
 -- they lie apart, and bring what the pieces bring
-pub record IsSettled (pieces intervals : List Interval) : Type 0 where
+pub record AreSetApart (pieces intervals : List Interval) : Type 0 where
   pub spans : Spans 0 intervals (2 ^ 31)
   pub same : IsSame (at intervals) (at pieces)
 

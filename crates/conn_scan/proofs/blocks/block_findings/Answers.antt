@@ -19,7 +19,7 @@ pub returns-then-not-goes_on-clause-run : goal.returns-then-not-goes_on-clause-r
 returns-then-not-goes_on-clause-run g c =
     stops (rw c.in-Some.ensures.steps at c.loop-item.invariant.halfway)
     c.goes_on.new.look c.keep_up_to.new.found.items c.goes_on.new.watch
-    (rw c.as_slice.ensures.value at c.if-not-goes_on.ensures.stops) c.keep_up_to.ensures
+    (rw c.as_slice.ensures.value at c.if-not-goes_on.ensures) c.keep_up_to.ensures
 
 pub returns-then-not-goes_on-clause-numbered : goal.returns-then-not-goes_on-clause-numbered
 returns-then-not-goes_on-clause-numbered g c =
@@ -39,7 +39,7 @@ loop-item-preserved g c =
       fits = fits_next _ _ _ _ (rw c.in-Some.ensures.steps at c.loop-item.invariant.fits) meets.client meets.server;
       halfway = goes (rw c.in-Some.ensures.steps at c.loop-item.invariant.halfway)
           c.goes_on.new.look c.say_item.new.state c.say_item.new.said.items c.extend_from_slice.new.self.items
-          c.goes_on.new.watch (rw c.as_slice.ensures.value at c.if-not-goes_on.ensures.goes_on) meets.after meets.said
+          c.goes_on.new.watch (rw c.as_slice.ensures.value at c.if-not-goes_on.ensures) meets.after meets.said
           (rw c.as_slice-in-loop-item.ensures.value at c.in_ok-extend_from_slice.ensures.items);
     }
 

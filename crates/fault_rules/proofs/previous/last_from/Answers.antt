@@ -1,5 +1,5 @@
 use Rattle.std.proofs.Common.{sym, ◌∙◌}
-use Rattle.fault_rules.proofs.PieceLemmas.{last_from-back}
+use Rattle.fault_rules.proofs.ShareLemmas.{last_from-back}
 use Rattle.fault_rules.proofs.previous.last_from.Goals as goal
 
 pub returns-then-is_of : goal.returns-then-is_of

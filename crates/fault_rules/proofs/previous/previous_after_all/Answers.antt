@@ -1,5 +1,5 @@
 use Rattle.std.proofs.Common.{sym}
-use Rattle.fault_rules.proofs.PieceLemmas.{previous-last}
+use Rattle.fault_rules.proofs.ShareLemmas.{previous-last}
 use Rattle.fault_rules.proofs.previous.previous_after_all.Goals as goal
 
 pub returns : goal.returns

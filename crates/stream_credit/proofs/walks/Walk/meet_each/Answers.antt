@@ -17,7 +17,7 @@ pub returns-then-not-goes_on : goal.returns-then-not-goes_on
 returns-then-not-goes_on g c = λ run rest starts h.
     let due = c.before-in-loop-change.ensures.change _ c.in-Some.is in
     step-stops (change-at (c.loop-change.invariant.meets rest starts run h) starts due) c.loop-change.invariant.live
-    c.if-not-goes_on.ensures.kept c.if-not-goes_on.ensures.stops
+    c.if-not-goes_on.ensures.kept c.if-not-goes_on.ensures.goes_on
 
 pub count-requires : goal.count-requires
 count-requires g c =

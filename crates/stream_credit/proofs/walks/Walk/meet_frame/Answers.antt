@@ -21,7 +21,7 @@ pub returns-then-not-goes_on : goal.returns-then-not-goes_on
 returns-then-not-goes_on g c = λ run frames h.
     let (sound, from) = when_true _ _ c.if-not-branch.false (c.in_ok-meet_changes.ensures run _ refl h) in
     step-stops (frame-at sound c.at-change.ensures from) refl c.if-not-goes_on.ensures.kept
-    c.if-not-goes_on.ensures.stops
+    c.if-not-goes_on.ensures.goes_on
 
 pub count_frame-requires : goal.count_frame-requires
 count_frame-requires g c =

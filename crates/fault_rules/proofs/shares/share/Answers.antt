@@ -1,6 +1,6 @@
 use Rattle.std.proofs.Common.{◌≡◌, ◌*◌, ◌-◌, ◌∙◌, ap, drop, take, length, min, arith, length-drop}
 use Rattle.std.proofs.lemmas.List.{take_min, take_all}
-use Rattle.fault_rules.proofs.pieces.piece.Goals as goal
+use Rattle.fault_rules.proofs.shares.share.Goals as goal
 
 pub returns : goal.returns
 returns c =

@@ -3,8 +3,8 @@ use Rattle.std.proofs.Common.{◌≤◌, min, arith}
 use Rattle.std.proofs.lemmas.Slice.{pushed}
 use Rattle.std.proofs.Math.Nat.{mul-le-mul_right}
 use Rattle.std.proofs.lemmas.Grind.{div_ceil_times}
-use Rattle.fault_rules.proofs.PieceLemmas.{before_piece-first, before_piece-next, befores-push}
-use Rattle.fault_rules.proofs.pieces.befores.Goals as goal
+use Rattle.fault_rules.proofs.ShareLemmas.{before_share-first, before_share-next, befores-push}
+use Rattle.fault_rules.proofs.shares.befores.Goals as goal
 
 pub loop-n-preserved : goal.loop-n-preserved
 loop-n-preserved c =
@@ -16,8 +16,8 @@ loop-n-preserved c =
     pushed (before ∷ []) refl c.in_ok-push.was c.push.ensures.items in
     let longer = length-append old (before ∷ []) in
     record {
-      previous = rw (c.previous_after_all-previous.ensures, c.piece.ensures, i.previous)
-          (sym (before_piece-next c.args.size frames c.loop-n.n));
+      previous = rw (c.previous_after_all-previous.ensures, c.share.ensures, i.previous)
+          (sym (before_share-next c.args.size frames c.loop-n.n));
       count = ap length grown ∙ longer ∙ ap (λ k. k + 1) i.count;
       each = rw grown (befores-push c.args.size frames old before c.loop-n.n i.count i.previous i.each);
     }
@@ -26,7 +26,7 @@ pub loop-n-init : goal.loop-n-init
 loop-n-init c =
     let start : c.new-befores.result.items ≡ [] = c.new-befores.ensures.items in
     record {
-      previous = c.none_before-previous.ensures ∙ sym (before_piece-first c.args.size c.args.frames.now);
+      previous = c.none_before-previous.ensures ∙ sym (before_share-first c.args.size c.args.frames.now);
       count = ap length start;
       each = λ k d l. absurd (omega (arith, l, ap length start));
     }

@@ -1,4 +1,4 @@
-//! Pieces of a connection's frames.
+//! Shares of a connection's frames.
 
 ghost use Rattle.std.specs.Prelude.{◌≡◌, ◌*◌, ◌<◌, ◌++◌, length, All, IfOk, OnOk, flat_map};
 ghost use Rattle.std.specs.Fork.{slice_chunk};
@@ -6,7 +6,7 @@ ghost use Rattle.audit_terms.specs.code.runs.Orderly.{IsInRange, IsOrderly};
 ghost use Rattle.audit_terms.specs.Finding.{in_order};
 ghost use Rattle.audit_terms.specs.LocalFault.{local_said, no_previous};
 ghost use Rattle.audit_terms.specs.code.runs.LocalFaults.{local_run_from, local_run};
-ghost use Rattle.fault_rules.specs.code.Pieces.{piece_run, AreBefores};
+ghost use Rattle.fault_rules.specs.code.Shares.{share_run, AreBefores};
 
 use crate::frame_faults::say_local;
 use crate::previous::{keep_last, previous_after_all};
@@ -15,12 +15,12 @@ use rayon::prelude::*;
 use std::alloc::{AllocError, Global};
 use std::thread::Threads;
 
-/// How many frames make a piece at least.
-const PIECE: usize = 4096;
+/// How many frames make a share at least.
+const SHARE: usize = 4096;
 
 /// The local faults of a connection's frames, in order, each frame's in order of rank: a side that does not begin with
 /// SETTINGS, broken field blocks, frames on wrong streams, payloads that cannot be read, settings out of range and
-/// promises of the client (RFC 9113, 3.4, 4.3, 6). There are no more pieces than workers.
+/// promises of the client (RFC 9113, 3.4, 4.3, 6). There are no more shares than workers.
 pub fn local_faults(
     rt: &(impl Threads + Sync),
     alloc: Global,
@@ -31,24 +31,24 @@ pub fn local_faults(
     requires frames { IsOrderly frames.now }
     ensures { IfOk result (λ found. found.items ≡ local_run frames.now) }
 {
-    let size = frames.len().div_ceil(workers).max(PIECE);
+    let size = frames.len().div_ceil(workers).max(SHARE);
     if frames.len() <= size {
         return faults_after(alloc, none_before(), frames);
     }
     let befores = befores(alloc, size, frames)?;
     let befores = befores.as_slice();
-    let pieces = (0..befores.len())
+    let shares = (0..befores.len())
         .into_par_iter()
         .map(
             |n: usize| -> Result<Vec<Finding>, AllocError>
                 requires { (n < length befores.now) × All IsInRange frames.now
                     × AreBefores size frames.now befores.now }
-                ensures { IfOk result (λ said. said.items ≡ piece_run size frames.entry.now n) }
-            { faults_of_piece(alloc, size, frames, befores, n) },
+                ensures { IfOk result (λ said. said.items ≡ share_run size frames.entry.now n) }
+            { faults_of_share(alloc, size, frames, befores, n) },
         )
         .with_min_len(1)
         .collect::<Result<Vec<_>, AllocError>>(rt, alloc)??;
-    joined(alloc, pieces.as_slice())
+    joined(alloc, shares.as_slice())
 }
 
 /// No frame of either side.
@@ -61,7 +61,7 @@ fn none_before() -> Sides<Option<Frame>>
     }
 }
 
-/// The last frame of each side before each piece.
+/// The last frame of each side before each share.
 fn befores(
     alloc: Global,
     size: usize,
@@ -74,13 +74,13 @@ fn befores(
     let mut previous = none_before();
     for n in 0..frames.len().div_ceil(size) {
         befores.push(previous)?;
-        previous = previous_after_all(&previous, piece(size, frames, n));
+        previous = previous_after_all(&previous, share(size, frames, n));
     }
     Ok(befores)
 }
 
-/// A piece of so many frames at most, by its number from 0.
-fn piece(size: usize, frames: &[Frame], n: usize) -> &[Frame]
+/// A share of so many frames at most, by its number from 0.
+fn share(size: usize, frames: &[Frame], n: usize) -> &[Frame]
     requires { n * size < length frames.now }
     ensures { result.now ≡ slice_chunk frames.now size n }
 {
@@ -88,8 +88,8 @@ fn piece(size: usize, frames: &[Frame], n: usize) -> &[Frame]
     &rest[..size.min(rest.len())]
 }
 
-/// The local faults of a piece, by its number from 0.
-fn faults_of_piece(
+/// The local faults of a share, by its number from 0.
+fn faults_of_share(
     alloc: Global,
     size: usize,
     frames: &[Frame],
@@ -99,9 +99,9 @@ fn faults_of_piece(
     requires inside { n < length befores.now }
     requires in_range { All IsInRange frames.now }
     requires befores { AreBefores size frames.now befores.now }
-    ensures { IfOk result (λ said. said.items ≡ piece_run size frames.now n) }
+    ensures { IfOk result (λ said. said.items ≡ share_run size frames.now n) }
 {
-    faults_after(alloc, befores[n], piece(size, frames, n))
+    faults_after(alloc, befores[n], share(size, frames, n))
 }
 
 /// The local faults of some frames, from the last frame of each side before them.
@@ -142,13 +142,13 @@ fn add_faults(
     found.extend_from_slice(said.as_slice())
 }
 
-/// What the pieces show, one after the other.
-fn joined(alloc: Global, pieces: &[Vec<Finding>]) -> Result<Vec<Finding>, AllocError>
-    ensures { IfOk result (λ found. found.items ≡ flat_map (λ piece. piece.items) pieces.now) }
+/// What the shares show, one after the other.
+fn joined(alloc: Global, shares: &[Vec<Finding>]) -> Result<Vec<Finding>, AllocError>
+    ensures { IfOk result (λ found. found.items ≡ flat_map (λ share. share.items) shares.now) }
 {
     let mut found = Vec::new(alloc);
-    for piece in pieces {
-        found.extend_from_slice(piece.as_slice())?;
+    for share in shares {
+        found.extend_from_slice(share.as_slice())?;
     }
     Ok(found)
 }

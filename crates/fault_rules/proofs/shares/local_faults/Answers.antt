@@ -4,9 +4,9 @@ use Rattle.rayon.specs.Numbers.{nat_range}
 use Rattle.rayon.proofs.ListFacts.{IfOk-then}
 use Rattle.rayon.proofs.ToStd.{nat_range-All}
 use Rattle.audit_terms.specs.code.runs.Orderly.{IsInRange}
-use Rattle.fault_rules.specs.code.Pieces.{AreBefores}
-use Rattle.fault_rules.proofs.PieceLemmas.{orderly-All, pieces-all}
-use Rattle.fault_rules.proofs.pieces.local_faults.Goals as goal
+use Rattle.fault_rules.specs.code.Shares.{AreBefores}
+use Rattle.fault_rules.proofs.ShareLemmas.{orderly-All, shares-all}
+use Rattle.fault_rules.proofs.shares.local_faults.Goals as goal
 
 pub collect-requires-clause-ready : goal.collect-requires-clause-ready
 collect-requires-clause-ready g c κs within =
@@ -33,12 +33,12 @@ returns g c =
     let whole : n - 0 ≡ n = omega arith in
     let h = c.in_ok-collect.ensures in
     let chain = rw (c.with_min_len.ensures.base, c.map.ensures.base, c.map.ensures.f) at h.1 in
-    let got = rw c.in_ok-pieces.was at h.2 in
+    let got = rw c.in_ok-shares.was at h.2 in
     let places = chain.1 ∙ (λ i. nat_range (ends.0 i) (ends.1 i)) ∙ ap (range_with_len 0) whole in
     let zipped = rw (places, got.1) at chain.2 in
     IfOk-then c.joined.result _ _ c.joined.ensures (λ v joined.
-    joined ∙ ap (flat_map (λ piece. piece.items)) (c.as_slice.ensures.value ∙ got.2)
-    ∙ pieces-all _ (λ piece. piece.items) size frames n got.0 are.whole zipped)
+    joined ∙ ap (flat_map (λ share. share.items)) (c.as_slice.ensures.value ∙ got.2)
+    ∙ shares-all _ (λ share. share.items) size frames n got.0 are.whole zipped)
 
 pub faults_after-requires : goal.faults_after-requires
 faults_after-requires g c = orderly-All 0 c.args.frames.now c.requires.frames

@@ -1,6 +1,6 @@
 use Rattle.std.proofs.Common.{append_assoc}
 use Rattle.std.proofs.lemmas.List.{drop_more}
-use Rattle.fault_rules.proofs.pieces.faults_after.Goals as goal
+use Rattle.fault_rules.proofs.shares.faults_after.Goals as goal
 
 pub loop-frame-preserved : goal.loop-frame-preserved
 loop-frame-preserved c =

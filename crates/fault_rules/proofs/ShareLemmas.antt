@@ -1,4 +1,4 @@
--- Frames in pieces.
+-- Frames in shares.
 use Rattle.std.proofs.Common.{◌≡◌, ℕ, zero, suc, ◌+◌, ◌-◌, ◌*◌, ◌<◌, ◌≤◌, if◌then◌else◌, List, [], ◌∷◌}
 use Rattle.std.proofs.Common.{◌++◌, All, Option, Some, length, get_or, take, drop, map, flat_map, refl, sym, ap, ◌∙◌}
 use Rattle.std.proofs.Common.{append_assoc, arith}
@@ -21,7 +21,7 @@ use Rattle.audit_terms.specs.code.runs.Orderly.{IsInRange, IsOrderlyFrom}
 use Rattle.audit_terms.specs.Finding.{in_order}
 use Rattle.audit_terms.specs.LocalFault.{local_said, previous_after, no_previous}
 use Rattle.audit_terms.specs.code.runs.LocalFaults.{local_run_from, local_run}
-use Rattle.fault_rules.specs.code.Pieces.{previous_after_all, last_from, before_piece, piece_run}
+use Rattle.fault_rules.specs.code.Shares.{previous_after_all, last_from, before_share, share_run}
 
 -- the local faults of two lists of frames, one after the other
 pub local_run_from-append : (previous : Sides (Option Frame)) (xs ys : List Frame) →
@@ -60,13 +60,13 @@ last_from-back side before frames back d l =
     rw (next, take_more frames k d (omega arith), place)
     (last_from-append side before (take k frames) (get_or frames k d ∷ []))
 
--- one more of those before the pieces
+-- one more of those before the shares
 pub befores-push : (size : ℕ) (frames : List Frame) (befores : List (Sides (Option Frame)))
     (next : Sides (Option Frame)) (n : ℕ)
-    → length befores ≡ n → next ≡ before_piece size frames n
-    → ((k : ℕ) (d : Sides (Option Frame)) → k < length befores → get_or befores k d ≡ before_piece size frames k)
+    → length befores ≡ n → next ≡ before_share size frames n
+    → ((k : ℕ) (d : Sides (Option Frame)) → k < length befores → get_or befores k d ≡ before_share size frames k)
     → (k : ℕ) (d : Sides (Option Frame)) → k < length (befores ++ next ∷ [])
-    → get_or (befores ++ next ∷ []) k d ≡ before_piece size frames k
+    → get_or (befores ++ next ∷ []) k d ≡ before_share size frames k
 befores-push size frames befores next n e h each k d l = grind (arith, common_steps, each k d, e, h)
 
 -- each frame of an orderly list is in range
@@ -77,53 +77,53 @@ orderly-in_range low (frame ∷ frames) h = (h.1, orderly-in_range (frame.number
 pub orderly-All : (low : ℕ) (frames : List Frame) → IsOrderlyFrom low frames → All IsInRange frames
 orderly-All low frames h = All-from_recursion IsInRange frames (orderly-in_range low frames h)
 
--- nothing comes before the first piece
-pub before_piece-first : (size : ℕ) (frames : List Frame) → before_piece size frames 0 ≡ no_previous
-before_piece-first size frames =
+-- nothing comes before the first share
+pub before_share-first : (size : ℕ) (frames : List Frame) → before_share size frames 0 ≡ no_previous
+before_share-first size frames =
     let first : 0 * size ≡ 0 = omega arith in
     ap (λ k. previous_after_all no_previous (take k frames)) first
 
--- what comes before the next piece
-pub before_piece-next : (size : ℕ) (frames : List Frame) (n : ℕ) →
-    before_piece size frames (n + 1) ≡ previous_after_all (before_piece size frames n) (slice_chunk frames size n)
-before_piece-next size frames n =
+-- what comes before the next share
+pub before_share-next : (size : ℕ) (frames : List Frame) (n : ℕ) →
+    before_share size frames (n + 1) ≡ previous_after_all (before_share size frames n) (slice_chunk frames size n)
+before_share-next size frames n =
     let e : (n + 1) * size ≡ n * size + size = omega arith in
     rw (e, take-add (n * size) size frames)
     (fold-append previous_after no_previous (take (n * size) frames) (take size (drop (n * size) frames)))
 
--- a piece and what follows it
-pub piece_run-rest : (size : ℕ) (frames : List Frame) (n : ℕ) →
-    piece_run size frames n ++ local_run_from (before_piece size frames (n + 1)) (drop ((n + 1) * size) frames)
-    ≡ local_run_from (before_piece size frames n) (drop (n * size) frames)
-piece_run-rest size frames n =
+-- a share and what follows it
+pub share_run-rest : (size : ℕ) (frames : List Frame) (n : ℕ) →
+    share_run size frames n ++ local_run_from (before_share size frames (n + 1)) (drop ((n + 1) * size) frames)
+    ≡ local_run_from (before_share size frames n) (drop (n * size) frames)
+share_run-rest size frames n =
     let rest = drop (n * size) frames in
     let e : (n + 1) * size ≡ n * size + size = omega arith in
     let behind : drop ((n + 1) * size) frames ≡ drop size rest = rw e (sym (drop-drop size (n * size) frames)) in
-    rw (before_piece-next size frames n, behind)
-    (sym (local_run_from-append (before_piece size frames n) (take size rest) (drop size rest))
-    ∙ ap (local_run_from (before_piece size frames n)) (take-append-drop size rest))
+    rw (before_share-next size frames n, behind)
+    (sym (local_run_from-append (before_share size frames n) (take size rest) (drop size rest))
+    ∙ ap (local_run_from (before_share size frames n)) (take-append-drop size rest))
 
 module _ {X : Type 0} (E : Type 0) (items : X → List Finding) (size : ℕ) (frames : List Frame) where
-  -- what the pieces from number n on show
-  pub pieces-from : (n count : ℕ) (pieces : List X) → length frames ≤ (n + count) * size
-      → AllZip (λ k (r : Result X E). IfOk r (λ piece. items piece ≡ piece_run size frames k))
-      (range_with_len n count) (map Ok pieces)
-      → flat_map items pieces ≡ local_run_from (before_piece size frames n) (drop (n * size) frames)
-  pieces-from n zero [] l h =
-      ap (local_run_from (before_piece size frames n)) (sym (drop_all (n * size) frames (omega arith)))
-  pieces-from n zero (piece ∷ pieces) l h = absurd h
-  pieces-from n (suc count) [] l h = absurd h
-  pieces-from n (suc count) (piece ∷ pieces) l h =
-      ap (λ said. said ++ flat_map items pieces) h.0
-      ∙ ap (λ rest. piece_run size frames n ++ rest) (pieces-from (n + 1) count pieces (omega arith) h.1)
-      ∙ piece_run-rest size frames n
+  -- what the shares from number n on show
+  pub shares-from : (n count : ℕ) (shares : List X) → length frames ≤ (n + count) * size
+      → AllZip (λ k (r : Result X E). IfOk r (λ share. items share ≡ share_run size frames k))
+      (range_with_len n count) (map Ok shares)
+      → flat_map items shares ≡ local_run_from (before_share size frames n) (drop (n * size) frames)
+  shares-from n zero [] l h =
+      ap (local_run_from (before_share size frames n)) (sym (drop_all (n * size) frames (omega arith)))
+  shares-from n zero (share ∷ shares) l h = absurd h
+  shares-from n (suc count) [] l h = absurd h
+  shares-from n (suc count) (share ∷ shares) l h =
+      ap (λ said. said ++ flat_map items shares) h.0
+      ∙ ap (λ rest. share_run size frames n ++ rest) (shares-from (n + 1) count shares (omega arith) h.1)
+      ∙ share_run-rest size frames n
 
-  -- what all pieces show
-  pub pieces-all : (count : ℕ) (pieces : List X) → length frames ≤ count * size
-      → AllZip (λ k (r : Result X E). IfOk r (λ piece. items piece ≡ piece_run size frames k))
-      (range_with_len 0 count) (map Ok pieces)
-      → flat_map items pieces ≡ local_run frames
-  pieces-all count pieces l h =
+  -- what all shares show
+  pub shares-all : (count : ℕ) (shares : List X) → length frames ≤ count * size
+      → AllZip (λ k (r : Result X E). IfOk r (λ share. items share ≡ share_run size frames k))
+      (range_with_len 0 count) (map Ok shares)
+      → flat_map items shares ≡ local_run frames
+  shares-all count shares l h =
       let first : 0 * size ≡ 0 = omega arith in
-      pieces-from 0 count pieces (omega arith) h
+      shares-from 0 count shares (omega arith) h
       ∙ ap (λ k. local_run_from (previous_after_all no_previous (take k frames)) (drop k frames)) first

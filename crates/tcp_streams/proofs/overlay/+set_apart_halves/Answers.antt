@@ -2,14 +2,14 @@ use Rattle.tcp_streams.proofs.Words.{length}
 use Rattle.std.proofs.Common.{◌/◌}
 use Rattle.std.proofs.lemmas.List.{take_rest}
 use Rattle.std.proofs.lemmas.Result.{MatchResult-weaker}
-use Rattle.tcp_streams.proofs.IntervalLemmas.{settled-apart, settled-halves}
-use Rattle.tcp_streams.proofs.overlay.+settle_halves.Goals as goal
+use Rattle.tcp_streams.proofs.IntervalLemmas.{apart-already, halves-apart}
+use Rattle.tcp_streams.proofs.overlay.+set_apart_halves.Goals as goal
 
 pub returns-then-lie_apart : goal.returns-then-lie_apart
 returns-then-lie_apart t c =
     MatchResult-weaker c.to_vec.result c.to_vec.ensures.items_if_clones_equal
     (λ v same. rw (same (λ x y e. e))
-    (settled-apart c.args.pieces.now (rw c.lie_apart.ensures.apart at c.if-lie_apart.true) c.requires))
+    (apart-already c.args.pieces.now (rw c.lie_apart.ensures.apart at c.if-lie_apart.true) c.requires))
     (λ _ u. u)
 
 pub returns : goal.returns
@@ -17,6 +17,6 @@ returns t c =
     let pieces = c.args.pieces.now in
     MatchResult-weaker c.overlay.result c.overlay.ensures
     (λ v same. rw (same, c.deref.ensures.value, c.deref-2.ensures.value)
-    (settled-halves _ _ pieces (length pieces / 2) c.in_ok-kept.ensures
+    (halves-apart _ _ pieces (length pieces / 2) c.in_ok-kept.ensures
     (rw (take_rest pieces (length pieces / 2)) at c.in_ok-later.ensures)))
     (λ _ u. u)

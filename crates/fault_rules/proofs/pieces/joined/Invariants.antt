@@ -1,8 +1,0 @@
-use Rattle.std.proofs.Common.{◌≡◌, ◌++◌, drop, flat_map}
-use Rattle.fault_rules.proofs.pieces.joined.Given as goal
-
--- what was joined so far, and the pieces that are left, are all of them
-abbrev pub invariant-loop-piece : goal.invariant-loop-piece
-invariant-loop-piece l =
-    l.found.items ++ flat_map (λ piece. piece.items) (drop l.piece-index l.pieces)
-    ≡ flat_map (λ piece. piece.items) l.pieces
