@@ -1,13 +1,13 @@
 //! Where the rows of streams stand.
 
 ghost use Rattle.std.specs.Prelude.{◌≡◌, ◌≢◌, ◌+◌, ◌^◌, ◌<◌, [], IfOk, MatchOption, Some, length, slice_get};
-ghost use Rattle.std.specs.Bool.{Decides, OnTrue};
+ghost use Rattle.std.specs.Bool.{OnTrue};
 ghost use Rattle.split_merge.specs.code.Visits.{AreBelow, IsIndex, IsRowOf, NotAmong, NotBefore, streams_in};
 
 use crate::visits::Visited;
 use indexmap::IndexSet;
-use input_output::TableHash;
 use std::alloc::{AllocError, Global};
+use table_hash::TableHash;
 
 /// Tells the row of a stream. Streams are numbered upwards (RFC 9113, 5.1.1): as long as they are met in that order,
 /// their rows are found by halving, and nothing is kept beside them. From the first stream on that is met out of order,
@@ -95,7 +95,7 @@ impl RowIndex {
 
 /// Is the stream of a row below this one?
 fn is_below(row: &Visited, stream: u32) -> bool
-    ensures { Decides result (row.now.stream < stream) }
+    ensures { OnTrue result (row.now.stream < stream) }
 {
     row.stream < stream
 }
