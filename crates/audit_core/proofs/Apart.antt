@@ -1,23 +1,23 @@
 -- No two findings of a connection share place and side: at one frame they stand in different rows of the table or are
 -- of different streams, and different frames have different places.
-use Rattle.std.proofs.Common.{◌≢◌, ℕ, ◌+◌, ◌*◌, ◌^◌, ◌<◌, not, ◌==◌, List, [], ◌∷◌, sym}
-use Rattle.std.proofs.Common.{◌∙◌, arith, filter, true≢false, ap}
+use Rattle.std.proofs.Common.{◌≡◌, ◌≢◌, ℕ, ◌+◌, ◌*◌, ◌^◌, ◌<◌, not, ◌==◌, List, [], ◌∷◌, sym, ◌∙◌, arith, filter, true}
+use Rattle.std.proofs.Common.{true≢false, ap}
 use Rattle.audit_core.proofs.Words.{AllByRecursion, eq-eqb, Frame, Finding, comes_after, promised_by, IsInRange}
 use Rattle.audit_core.proofs.Words.{IsOrderlyFrom, IsOrderly, PassState, pass_start, said, full_from, full, next}
-use Rattle.audit_core.proofs.Words.{first_of, streams_of, EachPair, AreApart, StandApart, AreWithin, AreFrom, other}
-use Rattle.audit_core.proofs.Words.{place_rank, Side, AreApartAsErrors, cond_both}
-use Rattle.audit_core.proofs.Pairs.{Across, pairs-append, pairs-ordered, all-ordered, pairs-filter, pairs-refine}
+use Rattle.audit_core.proofs.Words.{first_of, streams_of, EachPair, AreApart, StandApart, AreWithin, AreFrom}
+use Rattle.audit_core.proofs.Words.{place_rank, Side, AreApartAsErrors, cond_both, each-ordered, each-weaker}
+use Rattle.std.proofs.lemmas.List.Elements.{filter_passes, recursion_from_All}
+use Rattle.audit_core.proofs.Pairs.{Across, pairs-append, pairs-ordered, pairs-filter, pairs-refine}
 use Rattle.audit_core.proofs.PassOrder.{AreStreams, at-said, from-full_from, streams-streams_of}
 use Rattle.audit_core.proofs.FrameRows.{Any, rows-at}
 use Rattle.audit_core.proofs.TableRows.{error_side, IsRow}
 
 not_among-others : (stream : ℕ) (streams : List ℕ)
     → AllByRecursion (λ other. stream ≢ other) (filter (λ other. not (other == stream)) streams)
-not_among-others stream [] = tt
-not_among-others stream (other ∷ others) =
-    let rest = not_among-others stream others in
-    cond_both (not (other == stream)) _ _ (AllByRecursion (λ x. stream ≢ x))
-    (λ e. (λ p. true≢false (sym (rw (eq-eqb other stream (sym p)) at e)), rest)) (λ e. rest)
+not_among-others stream streams =
+    each-weaker (λ other. not (other == stream) ≡ true) (λ other. stream ≢ other)
+    (λ other e p. true≢false (sym (rw (eq-eqb other stream (sym p)) at e))) _
+    (recursion_from_All _ _ (filter_passes (λ other. not (other == stream)) streams))
 
 distinct-first_of : (stream : ℕ) (streams : List ℕ) → EachPair ◌≢◌ streams → EachPair ◌≢◌ (first_of stream streams)
 distinct-first_of stream streams h =
@@ -59,16 +59,14 @@ module _ (R : Finding → Finding → Type 0) (elsewhere : (x y : Finding) → x
   -- so it is with all findings, where it is with two rows of a frame that are apart
   pairs-full : ((sender : Side) (x y : Finding) → IsRow sender Any 0 36 x → IsRow sender Any 0 36 y → AreApart x y →
       R x y) → (frames : List Frame) → IsOrderly frames → EachPair R (full frames)
-  pairs-full refine frames h = pairs-full_from (streams_of frames) small at pass_start 0 frames h where
-    small : AreStreams (streams_of frames)
-    small = streams-streams_of 0 frames h
-
-    at : (state : PassState) (frame : Frame) → IsInRange frame → EachPair R (said (streams_of frames) state frame)
-    at state frame k =
-        let rows = rows-at (streams_of frames) state frame small (distinct-streams_of frames) k in
-        pairs-refine AreApart R (IsRow frame.side Any 0 36) (refine frame.side) _
-        (all-ordered (IsRow frame.side Any 0 36) comes_after _ rows.within)
-        (pairs-ordered AreApart comes_after (λ x y f p s. f (sym p) (sym s)) _ rows.apart)
+  pairs-full refine frames h =
+      let small = streams-streams_of 0 frames h in
+      pairs-full_from (streams_of frames) small
+      (λ state frame k.
+      let rows = rows-at (streams_of frames) state frame small (distinct-streams_of frames) k in
+      pairs-refine AreApart R (IsRow frame.side Any 0 36) (refine frame.side) _
+      (each-ordered (IsRow frame.side Any 0 36) comes_after _ rows.within)
+      (pairs-ordered AreApart comes_after (λ x y f p s. f (sym p) (sym s)) _ rows.apart)) pass_start 0 frames h
 
 pub findings_stand_apart : (frames : List Frame) → IsOrderly frames → StandApart (full frames)
 findings_stand_apart = pairs-full AreApart (λ x y n p. absurd (n p)) (λ sender x y p q apart. apart)

@@ -1,21 +1,36 @@
 -- What is said at one frame stands in different rows of the table, or is of different streams.
 use Rattle.std.proofs.Common.{◌≡◌, ◌≢◌, ℕ, ℤ, pos, ◌+◌, ◌^◌, ◌<◌, ◌≤◌, Bool, true, false, ◌&&◌, List, [], ◌∷◌, ◌++◌}
 use Rattle.std.proofs.Common.{append_assoc, refl, sym, subst, ◌∙◌, ap, arith, Option, Some, None, nat_lt, nat_le}
-use Rattle.std.proofs.Common.{if◌then◌else◌, true≢false}
+use Rattle.std.proofs.Common.{if◌then◌else◌, is_some}
 use Rattle.audit_terms.specs.declared.kinds.Kind.TheVariants as K
-use Rattle.audit_core.proofs.Words.{AllByRecursion, Side, Client, Server, Sides, Kind, Body, Headers, SettingsBody}
-use Rattle.audit_core.proofs.Words.{Unreadable, Frame, ConnectionState, Stream, Finding, is_side, other, side_of}
-use Rattle.audit_core.proofs.Words.{place_stream, finding_at, say, say_of, is_headers, is_promise, promised_in, meets}
-use Rattle.audit_core.proofs.Words.{IsInRange, local_said, fault, body_said, reading_fault, InForce, connection_said}
-use Rattle.audit_core.proofs.Words.{length_said, opening_order_said, promise_order_said, connection_window_said, opens}
-use Rattle.audit_core.proofs.Words.{window_at_opening, window_step, stream_said, frame_said, stream_window_said}
-use Rattle.audit_core.proofs.Words.{live_window_said, PassState, streams_said, step_of, EachPair, AreApart, change_of}
-use Rattle.audit_core.proofs.Words.{rank_of, opens_stream, Change, Step, push_said, new_limit, and_parts}
-use Rattle.audit_core.proofs.Pairs.{all-append, all-map, across-by, pairs-append}
+use Rattle.audit_core.proofs.Words.{AllByRecursion, cond_both, Side, Client, Server, Sides, Kind, Body, SettingsBody}
+use Rattle.audit_core.proofs.Words.{Unreadable, Frame, ConnectionState, Stream, Finding, other, side_of, place_stream}
+use Rattle.audit_core.proofs.Words.{finding_at, say, say_of, promised_in, meets, IsInRange, local_said, fault}
+use Rattle.audit_core.proofs.Words.{body_said, reading_fault, InForce, connection_said, length_said, opening_order_said}
+use Rattle.audit_core.proofs.Words.{promise_order_said, connection_window_said, opens, window_at_opening, window_step}
+use Rattle.audit_core.proofs.Words.{stream_said, frame_said, stream_window_said, live_window_said, PassState}
+use Rattle.audit_core.proofs.Words.{streams_said, step_of, EachPair, AreApart, change_of, rank_of, opens_stream, Change}
+use Rattle.audit_core.proofs.Words.{Step, push_said, new_limit, each-append, each-weaker, ints, overflows, credit_after}
+use Rattle.audit_core.proofs.Words.{counted}
+use Rattle.audit_core.proofs.Pairs.{across-by, pairs-append}
 use Rattle.audit_core.proofs.PassOrder.{AreStreams, rows_of}
-use Rattle.audit_core.proofs.TableRows.{IsRow, AreRows, ◌⊕◌, is_row, same_side, rows-nil, rows-say_of, rows-choice}
-use Rattle.audit_core.proofs.TableRows.{row-say, told, quiet}
-use Rattle.audit_core.proofs.ErrorSides.{granted-side, moved-side}
+use Rattle.audit_core.proofs.TableRows.{IsRow, AreRows, ◌⊕◌, is_row, rows-nil, rows-say_of, row-say, told, quiet}
+use Rattle.audit_core.proofs.Meetings.{change-ack}
+
+-- ---- why some errors are said of one endpoint
+
+-- a connection window rises only by a grant of the sender to the other endpoint
+granted-side : (d : Side) (before : ℤ) (frame : Frame) → overflows before (credit_after d before frame) ≡ true
+    → d ≡ other frame.side
+granted-side d before frame o = grind (arith, ints)
+
+-- a change moves only the windows of the side that acknowledges
+module _ (d : Side) (stream : ℕ) (now : InForce) (initial : Sides ℕ) (frame : Frame) (before : ℤ) where
+  moved-side : (is_some (change_of now frame) && overflows before
+      (counted d stream initial (step_of now frame stream) before)) ≡ true → d ≡ frame.side
+  moved-side o = let ack = change-ack now frame in grind (arith, ints)
+
+-- ---- the rows
 
 -- any stream
 abbrev pub Any : ℕ → Type 0
@@ -57,19 +72,12 @@ module _ (frame : Frame) (h : IsInRange frame) where
       (λ identifier. said K.BadSetting 3 4 (pos identifier) true refl refl)
   rows-body _ = rows-nil _ _ 3 4 (omega arith)
 
-  -- a promise of the client, and one of the server
-  rows-push : (d : Side) (low high : ℕ) (holds : Bool) → low ≤ high → is_row d d 7 low high ≡ true →
-      (holds ≡ true → is_side d frame.side ≡ true) →
-      Rows low high (say holds (finding_at K.Push frame.number frame.stream frame.side (pos 0)))
-  rows-push d low high holds p e f =
-      row-say frame.side Any frame.number frame.stream h.stream tt K.Push frame.side low high _ holds p
-      (λ k. rw (sym (same_side d frame.side (f k))) e)
-
   rows-local : (previous : Option Frame) → Rows 0 5 (local_said previous frame)
   rows-local previous =
       said K.BadPreface 0 1 _ _ refl refl ⊕ said K.BrokenBlock 1 2 _ _ refl refl
       ⊕ said K.WrongStream 2 3 _ _ refl refl ⊕ rows-body frame.body
-      ⊕ rows-push Client 4 5 _ (omega arith) refl (λ e. (and_parts _ _ e).1)
+      ⊕ row-say frame.side Any frame.number frame.stream h.stream tt K.Push frame.side 4 5 _ _ (omega arith)
+      (λ e. grind arith)
 
   rows-length : (limit : ℕ) → Rows 6 7 (length_said limit frame)
   rows-length limit = by_kind _ where
@@ -91,12 +99,8 @@ module _ (frame : Frame) (h : IsInRange frame) where
       ++ promise_order_said promised frame)
   rows-order opened promised opens change =
       rows-one_of 8 9 _ _ _ _
-      (λ p q. neither frame.body (and_parts _ _ (and_parts _ _ p).0).1 (and_parts _ _ (and_parts _ _ q).0).1)
-      (said K.IdNotGreater 8 9 _ _ refl refl)
-      (told frame.side Any frame.number (promised_in frame.body) h.promised tt K.IdNotGreater 8 9 _ _ refl refl) where
-        neither : (body : Body) → is_headers body ≡ true → is_promise body ≡ true → ⊥
-        neither Headers p q = absurd (true≢false (sym q))
-        neither _ p q = absurd (true≢false (sym p))
+      (λ p q. grind arith) (said K.IdNotGreater 8 9 _ _ refl refl)
+      (told frame.side Any frame.number (promised_in frame.body) h.promised tt K.IdNotGreater 8 9 _ _ refl refl)
 
   rows-connection_window : (d : Side) (before : ℤ) →
       Rows (connection_row d 0) (connection_row d 6) (connection_window_said d before frame)
@@ -104,28 +108,11 @@ module _ (frame : Frame) (h : IsInRange frame) where
       let zero : 0 < 2 ^ 31 = omega arith in
       let still = quiet frame.side Any frame.number 0 zero tt connection_row d in
       row-say frame.side Any frame.number 0 zero tt K.ZeroConnectionGrant (other d) (connection_row d 0)
-      (connection_row d 1) _ _ (up d 0) (λ e. granted d (and_parts _ _ (and_parts _ _ e).0).0)
+      (connection_row d 1) _ _ (grind arith) (λ e. grind arith)
       ⊕ row-say frame.side Any frame.number 0 zero tt K.ConnectionOverflow d (connection_row d 1)
-      (connection_row d 2) _ _ (up d 1) (λ e. risen d (granted-side d before frame e))
+      (connection_row d 2) _ _ (grind arith) (λ e. let of = granted-side d before frame e in grind arith)
       ⊕ still K.ConnectionOverrun 2 3 _ _ refl refl ⊕ still K.ConnectionStallEnd 3 4 _ _ refl refl
-      ⊕ still K.ConnectionStallBegin 4 5 _ _ refl refl ⊕ still K.ConnectionCredit 5 6 _ _ refl refl where
-        up : (side : Side) (k : ℕ) → connection_row side k ≤ connection_row side (k + 1)
-        up Client k = omega arith
-        up Server k = omega arith
-
-        granted : (side : Side) → is_side (other side) frame.side ≡ true →
-            is_row frame.side (other side) 10 (connection_row side 0) (connection_row side 1) ≡ true
-        granted Client e = e
-        granted Server e = e
-
-        risen : (side : Side) → side ≡ other frame.side →
-            is_row frame.side side 11 (connection_row side 1) (connection_row side 2) ≡ true
-        risen Client e = rw (sym e) refl
-        risen Server e = rw (sym e) refl
-
-  rows-server_push : (push : ℕ) → Rows 7 8 (push_said push frame)
-  rows-server_push push =
-      rows-push Server 7 8 _ (omega arith) refl (λ e. (and_parts _ _ (and_parts _ _ e).0).0)
+      ⊕ still K.ConnectionStallBegin 4 5 _ _ refl refl ⊕ still K.ConnectionCredit 5 6 _ _ refl refl
 
   rows-connection : (now : ConnectionState) (opens : Bool) (change : Option Change) →
       Rows 6 21 (connection_said now (record { frame = frame; opens = opens; change = change }))
@@ -135,7 +122,10 @@ module _ (frame : Frame) (h : IsInRange frame) where
       (sym (append_assoc (length_said limit frame ++ push_said now.push frame)
       (opening_order_said now.opened (record { frame = frame; opens = opens; change = change }))
       (promise_order_said now.promised frame)))
-      (rows-length limit ⊕ rows-server_push now.push ⊕ rows-order now.opened now.promised opens change)
+      (rows-length limit
+      ⊕ row-say frame.side Any frame.number frame.stream h.stream tt K.Push frame.side 7 8 _ _ (omega arith)
+      (λ e. grind arith)
+      ⊕ rows-order now.opened now.promised opens change)
       ⊕ (rows-connection_window Client now.credit.client ⊕ rows-connection_window Server now.credit.server)
 
 -- what is said of a stream
@@ -154,37 +144,24 @@ module _ (frame : Frame) (now : InForce) (on : ℕ → Type 0) (stream : ℕ) (s
       ⊕ sent K.ZeroStreamGrant 23 24 _ _ refl refl
   rows-frame false = rows-nil _ _ 21 24 (omega arith)
 
-  up : (side : Side) → (stream_row side 0 ≤ stream_row side 1) × (stream_row side 0 ≤ stream_row side 6)
-  up Client = (omega arith, omega arith)
-  up Server = (omega arith, omega arith)
-
-  still : (d : Side) (kind : Kind) (low high : ℕ) (value : ℤ) (holds : Bool) →
-      (nat_le (stream_row Client low) (stream_row Client high)
-      && nat_le (stream_row Server low) (stream_row Server high)) ≡ true →
-      (is_row frame.side Client (rank_of kind) (stream_row Client low) (stream_row Client high)
-      && is_row frame.side Server (rank_of kind) (stream_row Server low) (stream_row Server high)) ≡ true →
-      Told (stream_row d low) (stream_row d high) (say holds (finding_at kind frame.number stream d value))
-  still = quiet frame.side on frame.number stream small here stream_row
-
   rows-live_window : (d : Side) (before : ℤ) →
       Told (stream_row d 0) (stream_row d 6) (live_window_said d stream step (window_step d stream initial step before))
   rows-live_window d before =
+      let still = quiet frame.side on frame.number stream small here stream_row d in
       row-say frame.side on frame.number stream small here K.SettingOverflow d (stream_row d 0) (stream_row d 1) _ _
-      (up d).0 (λ e. moved d (moved-side d stream now initial frame before e))
-      ⊕ still d K.StreamOverrun 1 2 _ _ refl refl ⊕ still d K.StreamOverflow 2 3 _ _ refl refl
-      ⊕ still d K.StreamStallEnd 3 4 _ _ refl refl ⊕ still d K.StreamStallBegin 4 5 _ _ refl refl
-      ⊕ still d K.StreamCredit 5 6 _ _ refl refl where
-        moved : (side : Side) → side ≡ frame.side →
-            is_row frame.side side 12 (stream_row side 0) (stream_row side 1) ≡ true
-        moved Client e = rw (sym e) refl
-        moved Server e = rw (sym e) refl
+      (grind arith) (λ e. let of = moved-side d stream now initial frame before e in grind arith)
+      ⊕ still K.StreamOverrun 1 2 _ _ refl refl ⊕ still K.StreamOverflow 2 3 _ _ refl refl
+      ⊕ still K.StreamStallEnd 3 4 _ _ refl refl ⊕ still K.StreamStallBegin 4 5 _ _ refl refl
+      ⊕ still K.StreamCredit 5 6 _ _ refl refl
 
   rows-window : (d : Side) → Told (stream_row d 0) (stream_row d 6) (stream_window_said d stream initial entry step)
   rows-window d =
-      rows-choice _ _ _ _ (opens stream entry step) _ _
-      (rows-say_of _ _ _ _ _ (window_at_opening d stream initial step) (up d).1
-      (λ credit. still d K.StreamStallBegin 0 5 _ _ refl refl ⊕ still d K.StreamCredit 5 6 _ true refl refl))
-      (rows-say_of _ _ _ _ _ (side_of d entry.window) (up d).1 (rows-live_window d))
+      let still = quiet frame.side on frame.number stream small here stream_row d in
+      let up : stream_row d 0 ≤ stream_row d 6 = grind arith in
+      cond_both (opens stream entry step) _ _ (Told (stream_row d 0) (stream_row d 6))
+      (λ _. rows-say_of _ _ _ _ _ (window_at_opening d stream initial step) up
+      (λ credit. still K.StreamStallBegin 0 5 _ _ refl refl ⊕ still K.StreamCredit 5 6 _ true refl refl))
+      (λ _. rows-say_of _ _ _ _ _ (side_of d entry.window) up (rows-live_window d))
 
   rows-stream : Told 21 36 (stream_said stream initial entry step)
   rows-stream = rows-frame (meets stream frame) ⊕ rows-window Client ⊕ rows-window Server
@@ -199,7 +176,7 @@ module _ (state : PassState) (frame : Frame) where
       let others = rows-streams on streams h.1 d.1 all.1 in
       record {
         rising = omega arith;
-        within = all-append (IsRow frame.side on 21 36) _ _ one.within others.within;
+        within = each-append (IsRow frame.side on 21 36) _ _ one.within others.within;
         apart = pairs-append AreApart _ _ one.apart others.apart
             (across-by AreApart (IsRow frame.side (Only stream) 21 36)
             (IsRow frame.side (λ other. stream ≢ other) 21 36)
@@ -218,4 +195,4 @@ rows-at streams state frame small distinct h =
     rows-local frame h (side_of frame.side state.previous)
     ⊕ said frame h K.UnmatchedAck 5 6 _ _ refl refl
     ⊕ rows-connection frame h state.connection (opens_stream state frame) (change_of state.in_force frame)
-    ⊕ rows-streams state frame Any streams small distinct (all-map _ Any (λ s k. tt) streams small)
+    ⊕ rows-streams state frame Any streams small distinct (each-weaker _ Any (λ s k. tt) streams small)

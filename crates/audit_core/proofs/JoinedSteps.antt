@@ -1,12 +1,12 @@
 -- The steps of some frames and some changes are these frames and these changes, joined.
 use Rattle.std.proofs.Common.{◌≡◌, List, None, Option, Some, [], ap, arith, is_some, map, refl, sym, true, ℕ, ◌++◌, ◌+◌}
-use Rattle.std.proofs.Common.{◌<◌, ◌∙◌, ◌∷◌, ◌≤◌}
+use Rattle.std.proofs.Common.{◌<◌, ◌∙◌, ◌∷◌}
 use Rattle.audit_core.proofs.Words.{flat_map, option_to_list, AllByRecursion, map-map, meets, InForce, taken}
 use Rattle.audit_core.proofs.Words.{change_taking, in_force_after, initial_in_force, changes_from, changes_of}
 use Rattle.audit_core.proofs.Words.{IsOrderlyFrom, frame_step, with_change, steps_of, frames_of, Frame, Change, Step}
 use Rattle.audit_core.proofs.Words.{Settings, EachPair, StreamsHaveSteps, AreRising, IsFilled}
-use Rattle.audit_core.proofs.Words.{StepsJoinFramesAndChanges, or-true, nat_tests}
-use Rattle.audit_core.proofs.Pairs.{all-before_map, all-map, pairs-mapped, pairs-filter, all-mapped}
+use Rattle.audit_core.proofs.Words.{StepsJoinFramesAndChanges, or-true, nat_tests, each-weaker}
+use Rattle.audit_core.proofs.Pairs.{all-before_map, pairs-mapped, pairs-filter, all-mapped}
 use Rattle.audit_core.proofs.StreamSteps.{with_change-cases, all-with, all-steps, all-numbers, all-change_numbers}
 
 abbrev step_numbers : List Step → List ℕ
@@ -22,9 +22,6 @@ changes_in steps = flat_map (λ (step : Step). option_to_list step.change) steps
 abbrev IsChangedAbove : (number : ℕ) → Step → Type 0
 IsChangedAbove number step = is_some step.change ≡ true → number < step.number
 
-no-change : (o : Option Change) → (is_some o ≡ true → ⊥) → option_to_list o ≡ []
-no-change o h = grind arith
-
 -- ---- one more change among some steps
 
 module _ (change : Change) where
@@ -34,7 +31,7 @@ module _ (change : Change) where
   rising-with (step ∷ steps) h =
       with_change-cases (λ l. AreRising (step_numbers l)) change step steps (λ e. h)
       (λ e. (
-        (e, all-map (λ n. step.number < n) (λ n. change.number < n) (λ n q. omega arith) (step_numbers steps) h.0),
+        (e, each-weaker (λ n. step.number < n) (λ n. change.number < n) (λ n q. omega arith) (step_numbers steps) h.0),
         h,
       ))
       (λ e. (above e, rising-with steps h.1)) where
@@ -53,11 +50,8 @@ module _ (change : Change) where
       → changes_in (with_change steps change) ≡ change ∷ changes_in steps
   changes-with [] h = refl
   changes-with (step ∷ steps) h =
-      with_change-cases (λ l. changes_in l ≡ change ∷ changes_in (step ∷ steps)) change step steps
-      (λ e. rw (free (omega arith)) refl) (λ e. refl) (λ e. rw (free (omega arith)) (changes-with steps h.1)) where
-        -- the step has no change yet, unless it stands after this one
-        free : step.number ≤ change.number → option_to_list step.change ≡ []
-        free n = no-change step.change (λ e. absurd (omega (arith, h.0 e)))
+      let rest = changes-with steps h.1 in
+      grind (arith, nat_tests, h.0)
 
 -- ---- the steps of frames alone
 
@@ -69,20 +63,20 @@ frame_steps-changes : (frames : List Frame) → changes_in (map frame_step frame
 frame_steps-changes [] = refl
 frame_steps-changes (frame ∷ frames) = frame_steps-changes frames
 
-unchanged : (n : ℕ) (frames : List Frame) → AllByRecursion (λ frame. IsChangedAbove n (frame_step frame)) frames
-unchanged n [] = tt
-unchanged n (frame ∷ frames) = (λ e. cc, unchanged n frames)
+of_frames : (P : Step → Type 0) → ((frame : Frame) → P (frame_step frame)) → (frames : List Frame)
+    → AllByRecursion (λ frame. P (frame_step frame)) frames
+of_frames P p [] = tt
+of_frames P p (frame ∷ frames) = (p frame, of_frames P p frames)
 
-filled : (frames : List Frame) → AllByRecursion (λ frame. IsFilled (frame_step frame)) frames
-filled [] = tt
-filled (frame ∷ frames) = (record { has_one = refl; frame = refl; change = tt }, filled frames)
+filled : (frame : Frame) → IsFilled (frame_step frame)
+filled frame = record { has_one = refl; frame = refl; change = tt }
 
 -- ---- all changes
 
 pub steps_join_lem : StepsJoinFramesAndChanges
 steps_join_lem frames [] rising changing = record {
   rising = rw (map-map (λ (step : Step). step.number) frame_step frames) rising;
-  filled = all-mapped IsFilled frame_step frames (filled frames);
+  filled = all-mapped IsFilled frame_step frames (of_frames IsFilled filled frames);
   its_frames = frame_steps-frames frames;
   its_changes = frame_steps-changes frames;
 }
@@ -91,8 +85,8 @@ steps_join_lem frames (change ∷ changes) rising changing =
     let joined = steps_join_lem frames changes rising changing.1 in
     let above =
     all-steps (IsChangedAbove change.number) (λ c step e new old f. rw e (new refl)) frames changes
-    (unchanged change.number frames)
-    (all-map (λ (c : Change). change.number < c.number) _ (λ c p e. p) changes
+    (of_frames (IsChangedAbove change.number) (λ frame e. cc) frames)
+    (each-weaker (λ (c : Change). change.number < c.number) _ (λ c p e. p) changes
     (all-before_map (λ n. change.number < n) (λ (c : Change). c.number) changes changing.0)) in
     record {
       rising = rising-with change steps joined.rising;

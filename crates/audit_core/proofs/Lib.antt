@@ -6,7 +6,6 @@ pub mod Meetings
 pub mod CreditLemmas
 pub mod LiveWindows
 pub mod StreamSteps
-pub mod StreamAlone
 pub mod PartsLemmas
 pub mod QuietSteps
 pub mod StopLemmas
@@ -16,4 +15,3 @@ pub mod FrameRows
 pub mod Apart
 pub mod JoinedSteps
 pub mod StreamsMet
-pub mod ErrorSides

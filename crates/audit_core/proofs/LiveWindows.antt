@@ -1,100 +1,79 @@
 -- A window of a stream is live only while the stream is opened and the window's endpoint has not ended it.
-use Rattle.std.proofs.Common.{◌≡◌, Bool, List, None, Option, Some, [], false, if◌then◌else◌, is_none, is_some, refl}
-use Rattle.std.proofs.Common.{true, true≢false, ℕ, ℤ, ◌%◌, ◌&&◌, ◌==◌, ◌||◌, ◌∷◌, arith}
+use Rattle.std.proofs.Common.{◌≡◌, Bool, List, None, Option, Some, [], false, if◌then◌else◌, is_some, refl, true, ℕ, ℤ}
+use Rattle.std.proofs.Common.{◌%◌, ◌&&◌, ◌==◌, ◌||◌, ◌∷◌, ◌∙◌, arith}
 use Rattle.std.specs.Prelude.{OnSome}
-use Rattle.audit_core.proofs.Words.{eqb-true, and-false, and_parts, or_parts, is_client_headers, meets, promises}
-use Rattle.audit_core.proofs.Words.{change_of, is_last_of, is_opening, ends_window, next, PassState, pass_start}
-use Rattle.audit_core.proofs.Words.{is_side, side_of, window_at_opening, window_after, step_test, stream_after}
-use Rattle.audit_core.proofs.Words.{state_from, Frame, Change, Step, Side, Client, Server, Sides, Stream}
-use Rattle.audit_core.proofs.Words.{LiveWindowsAreUnended, LiveWindowsAreOpened, nat_tests}
+use Rattle.audit_core.proofs.Words.{and_parts, is_client_headers, meets, promises, change_of, is_last_of, is_opening}
+use Rattle.audit_core.proofs.Words.{ends_window, next, PassState, pass_start, is_side, side_of, window_at_opening}
+use Rattle.audit_core.proofs.Words.{window_after, step_test, stream_after, state_from, Frame, Change, Step, Side}
+use Rattle.audit_core.proofs.Words.{Client, Server, Sides, Stream, LiveWindowsAreUnended, LiveWindowsAreOpened}
+use Rattle.audit_core.proofs.Words.{nat_tests}
 
 -- what is known of the endpoint of a window: it ends only an opened stream, and while its window is live it has not
 -- ended it, nor is it the client of a promised stream
-pub record IsSending (d : Side) (stream : ℕ) (ended opened : Bool) (window : Option ℤ) : Type 0 where
-  pub idle : opened ≡ false → ended ≡ false
-  pub live : is_some window ≡ true →
-      (opened ≡ true) × (ended ≡ false) × ((is_side Client d && (stream % 2 == 0)) ≡ false)
+record IsSending (d : Side) (stream : ℕ) (ended : Bool) (opened : Option ℕ) (window : Option ℤ) : Type 0 where
+  idle : is_some opened ≡ false → ended ≡ false
+  live : is_some window ≡ true →
+      (is_some opened ≡ true) × (ended ≡ false) × ((is_side Client d && (stream % 2 == 0)) ≡ false)
 
-odd-even : (stream : ℕ) → (stream % 2 == 1) ≡ true → (stream % 2 == 0) ≡ false
-odd-even stream e = rw (eqb-true (stream % 2) 1 e) refl
-
-not-opened : (o : Option ℕ) (b : Bool) → (is_none o && b) ≡ true → is_some o ≡ false
-not-opened o b e = grind arith
-
-live-unless : (b : Bool) (credit : ℤ) → is_some (if b then None else Some credit) ≡ true → b ≡ false
-live-unless b credit e = grind arith
-
-module _ (d : Side) (stream : ℕ) (initial : Sides ℕ) (number : ℕ) (change : Option Change) where
-  abbrev at-frame : Option Frame → Step
-  at-frame frame = record { number = number; frame = frame; change = change }
-
+module _ (d : Side) (stream : ℕ) (initial : Sides ℕ) (step : Step) where
   -- a window that lives on was live, and is not ended
-  lives-on : (frame : Option Frame) (window : Option ℤ) →
-      is_some (window_after d stream initial (at-frame frame) window) ≡ true →
-      (is_some window ≡ true) × (step_test (ends_window d) (at-frame frame) ≡ false)
-  lives-on frame None e = cc
-  lives-on frame (Some before) e = (refl, (or_parts _ _ (live-unless _ _ e)).0)
+  lives-on : (window : Option ℤ) → is_some (window_after d stream initial step window) ≡ true
+      → (is_some window ≡ true) × (step_test (ends_window d) step ≡ false)
+  lives-on window e = grind arith
 
-  -- with no frame the stream stays as it is
-  sending-quiet : (ended opened : Bool) (window : Option ℤ) → IsSending d stream ended opened window
-      → IsSending d stream ended opened (window_after d stream initial (at-frame None) window)
-  sending-quiet ended opened window h =
-      record { idle = h.idle; live = λ e. h.live (lives-on None window e).0 }
+  -- a window that begins to live is of an endpoint that still sends
+  begins : is_some (window_at_opening d stream initial step) ≡ true → step_test (is_last_of d stream) step ≡ false
+  begins e = grind arith
 
-  -- a frame that opens the stream
-  sending-opening : (frame : Frame) (ended : Bool) → ended ≡ false
-      → ((stream % 2 == 1) && is_client_headers frame || promises stream frame) ≡ true
-      → IsSending d stream (ended || is_last_of d stream frame) true
-      (window_at_opening d stream initial (at-frame (Some frame)))
-  sending-opening frame ended idle opening = record {
-    idle = λ e. absurd (true≢false e);
-    live = λ e.
-        let last = live-unless _ _ e in (
-          refl,
-          rw (idle, last) refl,
-          grind (arith, nat_tests, odd-even stream),
-        );
-  }
+module _ (d : Side) (stream : ℕ) (frame : Frame) where
+  -- an endpoint that may send on the stream and does not end its window sends its last by nothing else
+  not-last : ends_window d frame ≡ false → (is_side Client d && (stream % 2 == 0)) ≡ false
+      → is_last_of d stream frame ≡ false
+  not-last ends never = grind arith
 
-  -- a frame at a stream that it does not open
-  sending-frame : (frame : Frame) (ended opened : Bool) (window : Option ℤ) → IsSending d stream ended opened window
-      → IsSending d stream (ended || (opened && is_last_of d stream frame)) opened
-      (window_after d stream initial (at-frame (Some frame)) window)
-  sending-frame frame ended opened window h = record {
-    idle = λ e. rw (h.idle e, e) refl;
-    live = λ e.
-        let goes = lives-on (Some frame) window e in
-        let (opens_it, unended, sends) = h.live goes.0 in
-        let goes_on = goes.1 in
-        let last : is_last_of d stream frame ≡ false = grind arith in
-        (opens_it, rw (unended, last, and-false) refl, sends);
-  }
+  -- the client sends nothing on a stream that is promised
+  not-never : ((stream % 2 == 1) && is_client_headers frame || promises stream frame) ≡ true
+      → is_last_of d stream frame ≡ false → (is_side Client d && (stream % 2 == 0)) ≡ false
+  not-never opening last = grind (arith, nat_tests)
 
 abbrev Sending : Side → (stream : ℕ) → Stream → Type 0
-Sending d stream entry =
-    IsSending d stream (side_of d entry.life.ended) (is_some entry.life.opened) (side_of d entry.window)
+Sending d stream entry = IsSending d stream (side_of d entry.life.ended) entry.life.opened (side_of d entry.window)
+
+-- what is left of that after a frame, which opens the stream or does not
+still-sending : (opening last ended never : Bool) (number : ℕ) (opened : Option ℕ) (begun on : Option ℤ)
+    → (opening ≡ true → is_some begun ≡ true → (last ≡ false) × (never ≡ false))
+    → (is_some on ≡ true → (is_some opened ≡ true) × (ended ≡ false) × (never ≡ false) × (last ≡ false))
+    → (opening ≡ true → ended ≡ false) → is_some (if opening then begun else on) ≡ true
+    → (is_some (if opening then Some number else opened) ≡ true)
+    × ((ended || ((opening || is_some opened) && last)) ≡ false) × (never ≡ false)
+still-sending opening last ended never number opened begun on p q r e = grind arith
 
 module _ (stream : ℕ) (initial : Sides ℕ) (number : ℕ) (change : Option Change) (entry : Stream) where
-  sending-met : (d : Side) (frame : Frame) → Sending d stream entry → (b : Bool)
-      → is_opening stream entry.life frame ≡ b
+  abbrev at_frame : Option Frame → Step
+  at_frame frame = record { number = number; frame = frame; change = change }
+
+  sending-met : (d : Side) (frame : Frame) → Sending d stream entry → (opening : Bool)
+      → is_opening stream entry.life frame ≡ opening
       → IsSending d stream
-      (side_of d entry.life.ended || ((b || is_some entry.life.opened) && is_last_of d stream frame))
-      (is_some (if b then Some frame.number else entry.life.opened))
-      (if b then window_at_opening d stream initial (at-frame d stream initial number change (Some frame))
-      else window_after d stream initial (at-frame d stream initial number change (Some frame))
-      (side_of d entry.window))
-  sending-met d frame h true e =
-      sending-opening d stream initial number change frame (side_of d entry.life.ended)
-      (h.idle (not-opened entry.life.opened _ e)) (and_parts _ _ e).1
-  sending-met d frame h false e =
-      sending-frame d stream initial number change frame (side_of d entry.life.ended) (is_some entry.life.opened)
-      (side_of d entry.window) h
+      (side_of d entry.life.ended || ((opening || is_some entry.life.opened) && is_last_of d stream frame))
+      (if opening then Some frame.number else entry.life.opened)
+      (if opening then window_at_opening d stream initial (at_frame (Some frame))
+      else window_after d stream initial (at_frame (Some frame)) (side_of d entry.window))
+  sending-met d frame h opening is = record {
+    idle = grind (arith, h.idle);
+    live = still-sending opening _ _ _ frame.number _ _ _
+        (λ b e. let last = begins d stream initial (at_frame (Some frame)) e in
+        (last, not-never d stream frame (and_parts _ _ (is ∙ b)).1 last))
+        (λ e. let (was, goes) = lives-on d stream initial (at_frame (Some frame)) (side_of d entry.window) e in
+        let (opened, unended, never) = h.live was in
+        (opened, unended, never, not-last d stream frame goes never))
+        (λ b. h.idle (grind arith));
+  }
 
   sending-after : (d : Side) (frame : Option Frame) → Sending d stream entry
-      → Sending d stream (stream_after stream initial entry
-      (record { number = number; frame = frame; change = change }))
-  sending-after Client None h = sending-quiet Client stream initial number change _ _ entry.window.client h
-  sending-after Server None h = sending-quiet Server stream initial number change _ _ entry.window.server h
+      → Sending d stream (stream_after stream initial entry (at_frame frame))
+  sending-after d None h =
+      record { idle = grind (arith, h.idle); live = grind (arith, h.live, lives-on d stream initial) }
   sending-after Client (Some frame) h = sending-met Client frame h _ refl
   sending-after Server (Some frame) h = sending-met Server frame h _ refl
 
@@ -108,8 +87,7 @@ sending-from d stream state (frame ∷ frames) h =
     (if meets stream frame then Some frame else None) h)
 
 sending-start : (d : Side) (stream : ℕ) → Sending d stream (pass_start.streams stream)
-sending-start Client stream = record { idle = λ _. refl; live = λ e. cc }
-sending-start Server stream = record { idle = λ _. refl; live = λ e. cc }
+sending-start d stream = record { idle = grind arith; live = grind arith }
 
 on_some : {A : Type 0} (o : Option A) (P : Type 0) → (is_some o ≡ true → P) → OnSome o P
 on_some None P p = tt

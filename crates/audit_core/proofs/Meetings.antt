@@ -1,11 +1,9 @@
 -- How a stream meets a frame: it is on the stream, or promises it, or does neither; and what the frame that opens a
 -- stream is.
-use Rattle.std.proofs.Common.{◌≡◌, ℕ, Bool, true, false, ◌&&◌, ◌||◌, ◌==◌, if◌then◌else◌, ◌%◌, Some, None, refl, sym}
-use Rattle.std.proofs.Common.{true≢false, arith}
-use Rattle.audit_core.proofs.Words.{option_map_or, Side, Body, Headers, PushPromise, Frame, StreamLife, Stream, is_ack}
-use Rattle.audit_core.proofs.Words.{is_content, is_headers, is_promise, is_client_headers, increment, content_by}
-use Rattle.audit_core.proofs.Words.{grant_to, promises, meets, content_on, InForce, is_opening, step_amount, opens}
-use Rattle.audit_core.proofs.Words.{life_at, step_of, and_parts, nat_tests}
+use Rattle.std.proofs.Common.{is_some, ◌≡◌, ℕ, Bool, true, false, if◌then◌else◌, Some, None, arith}
+use Rattle.audit_core.proofs.Words.{change_of, option_map_or, Side, Body, Frame, StreamLife, Stream, is_ack, is_content}
+use Rattle.audit_core.proofs.Words.{increment, content_by, grant_to, promises, meets, content_on, InForce, is_opening}
+use Rattle.audit_core.proofs.Words.{step_amount, opens, life_at, step_of, nat_tests}
 
 -- a body that no window counts and that settings do not come into force by
 pub record CountsNothing (body : Body) : Type 0 where
@@ -13,32 +11,18 @@ pub record CountsNothing (body : Body) : Type 0 where
   pub content : is_content body ≡ false
   pub ack : is_ack body ≡ false
 
-headers-count : (body : Body) → is_headers body ≡ true → CountsNothing body
-headers-count Headers e = record { grants = refl; content = refl; ack = refl }
-headers-count _ e = absurd (true≢false (sym e))
-
-promise-count : (body : Body) → is_promise body ≡ true → CountsNothing body
-promise-count (PushPromise stream) e = record { grants = refl; content = refl; ack = refl }
-promise-count _ e = absurd (true≢false (sym e))
-
 -- a frame that promises a stream
 pub promised-counts : (stream : ℕ) (frame : Frame) → promises stream frame ≡ true → CountsNothing frame.body
-promised-counts stream frame e =
-    promise-count frame.body (and_parts _ _ (and_parts _ _ (and_parts _ _ (and_parts _ _ e).0).0).0).1
+promised-counts stream frame e = record { grants = grind arith; content = grind arith; ack = grind arith }
 
 -- a frame that opens a stream
-opening-by : (odd headers promised : Bool) → ((odd && headers) || promised) ≡ true → (headers ≡ false → promised ≡ true)
-opening-by odd headers promised e n = grind arith
-
 pub opening-counts : (stream : ℕ) (life : StreamLife) (frame : Frame) → is_opening stream life frame ≡ true
     → CountsNothing frame.body
-opening-counts stream life frame e = by_headers (is_client_headers frame) refl where
-  by_headers : (b : Bool) → is_client_headers frame ≡ b → CountsNothing frame.body
-  by_headers true h = headers-count frame.body (and_parts _ _ h).1
-  by_headers false h =
-      promised-counts stream frame
-      (opening-by (stream % 2 == 1) (is_client_headers frame) (promises stream frame)
-      (and_parts _ _ e).1 h)
+opening-counts stream life frame e = record { grants = grind arith; content = grind arith; ack = grind arith }
+
+-- a frame that brings a change is an acknowledgement
+pub change-ack : (now : InForce) (frame : Frame) → is_some (change_of now frame) ≡ true → is_ack frame.body ≡ true
+change-ack now frame c = grind arith
 
 -- ---- the step of a stream at a frame
 

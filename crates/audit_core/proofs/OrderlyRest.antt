@@ -8,8 +8,7 @@ pub length-orderly : (low : ℕ) (frames : List Frame) → low < 2 ^ 28 → IsOr
     low + length frames < 2 ^ 28
 length-orderly low [] p h = omega arith
 length-orderly low (frame ∷ frames) p h =
-    let r = h.1.number in
-    let k = length-orderly (frame.number + 1) frames (omega arith) h.2 in omega arith
+    let r = h.1.number in omega (arith, length-orderly (frame.number + 1) frames (omega arith) h.2)
 
 -- the next of what is left
 pub drop-next : {X : Type 0} (xs : List X) (i : ℕ) (d : X) → i < length xs → drop i xs ≡ get_or xs i d ∷ drop (i + 1) xs

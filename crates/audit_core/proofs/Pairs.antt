@@ -1,22 +1,9 @@
 -- What holds of each two elements of a list holds of them in any order.
 use Rattle.std.proofs.Common.{Bool, List, [], ◌∷◌, ◌++◌, filter, map}
-use Rattle.audit_core.proofs.Words.{AllByRecursion, put_by, ordered_by, EachPair, cond_both}
+use Rattle.audit_core.proofs.Words.{AllByRecursion, put_by, ordered_by, EachPair, cond_both, each-append, each-put}
+use Rattle.audit_core.proofs.Words.{each-ordered, each-filter, each-weaker}
 
 module _ {X : Type 0} (P : X → Type 0) where
-  pub all-append : (xs ys : List X) → AllByRecursion P xs → AllByRecursion P ys → AllByRecursion P (xs ++ ys)
-  all-append [] ys p q = q
-  all-append (x ∷ xs) ys p q = (p.0, all-append xs ys p.1 q)
-
-  pub all-put : (after : X → X → Bool) (x : X) (ys : List X) → P x → AllByRecursion P ys →
-      AllByRecursion P (put_by after x ys)
-  all-put after x [] p q = (p, tt)
-  all-put after x (y ∷ ys) p q =
-      cond_both (after x y) _ _ (AllByRecursion P) (λ e. (q.0, all-put after x ys p q.1)) (λ e. (p, q))
-
-  pub all-ordered : (after : X → X → Bool) (xs : List X) → AllByRecursion P xs → AllByRecursion P (ordered_by after xs)
-  all-ordered after [] p = tt
-  all-ordered after (x ∷ xs) p = all-put after x (ordered_by after xs) p.0 (all-ordered after xs p.1)
-
   pub all-mapped : {Y : Type 0} (f : Y → X) (ys : List Y) → AllByRecursion (λ y. P (f y)) ys →
       AllByRecursion P (map f ys)
   all-mapped f [] p = tt
@@ -27,16 +14,6 @@ module _ {X : Type 0} (P : X → Type 0) where
   all-before_map f [] p = tt
   all-before_map f (y ∷ ys) p = (p.0, all-before_map f ys p.1)
 
-  pub all-filter : (test : X → Bool) (xs : List X) → AllByRecursion P xs → AllByRecursion P (filter test xs)
-  all-filter test [] p = tt
-  all-filter test (x ∷ xs) p =
-      cond_both (test x) _ _ (AllByRecursion P) (λ e. (p.0, all-filter test xs p.1)) (λ e. all-filter test xs p.1)
-
-pub all-map : {X : Type 0} (P Q : X → Type 0) → ((x : X) → P x → Q x) → (xs : List X) → AllByRecursion P xs →
-    AllByRecursion Q xs
-all-map P Q f [] h = tt
-all-map P Q f (x ∷ xs) h = (f x h.0, all-map P Q f xs h.1)
-
 module _ {X : Type 0} (R : X → X → Type 0) where
   -- each of the first list stands so to each of the second
   abbrev pub Across : List X → List X → Type 0
@@ -46,11 +23,11 @@ module _ {X : Type 0} (R : X → X → Type 0) where
   pub across-by : (P Q : X → Type 0) → ((x y : X) → P x → Q y → R x y) → (xs ys : List X) →
       AllByRecursion P xs → AllByRecursion Q ys → Across xs ys
   across-by P Q f xs ys p q =
-      all-map P (λ x. AllByRecursion (R x) ys) (λ x px. all-map Q (R x) (λ y qy. f x y px qy) ys q) xs p
+      each-weaker P (λ x. AllByRecursion (R x) ys) (λ x px. each-weaker Q (R x) (λ y qy. f x y px qy) ys q) xs p
 
   pub pairs-append : (xs ys : List X) → EachPair R xs → EachPair R ys → Across xs ys → EachPair R (xs ++ ys)
   pairs-append [] ys p q r = q
-  pairs-append (x ∷ xs) ys p q r = (all-append (R x) xs ys p.0 r.0, pairs-append xs ys p.1 q r.1)
+  pairs-append (x ∷ xs) ys p q r = (each-append (R x) xs ys p.0 r.0, pairs-append xs ys p.1 q r.1)
 
   pub pairs-mapped : {Y : Type 0} (f : Y → X) (ys : List Y) → EachPair (λ x y. R (f x) (f y)) ys → EachPair R (map f ys)
   pairs-mapped f [] p = tt
@@ -60,18 +37,19 @@ module _ {X : Type 0} (R : X → X → Type 0) where
   pairs-filter test [] p = tt
   pairs-filter test (x ∷ xs) p =
       let rest = pairs-filter test xs p.1 in
-      cond_both (test x) _ _ (EachPair R) (λ e. (all-filter (R x) test xs p.0, rest)) (λ e. rest)
+      cond_both (test x) _ _ (EachPair R) (λ e. (each-filter (R x) test xs p.0, rest)) (λ e. rest)
 
   module _ (after : X → X → Bool) (turned : (x y : X) → R x y → R y x) where
     pairs-put : (x : X) (ys : List X) → AllByRecursion (R x) ys → EachPair R ys → EachPair R (put_by after x ys)
     pairs-put x [] p q = (tt, tt)
     pairs-put x (y ∷ ys) p q =
         cond_both (after x y) _ _ (EachPair R)
-        (λ e. (all-put (R y) after x ys (turned x y p.0) q.0, pairs-put x ys p.1 q.1)) (λ e. (p, q))
+        (λ e. (each-put (R y) after x ys (turned x y p.0) q.0, pairs-put x ys p.1 q.1)) (λ e. (p, q))
 
     pub pairs-ordered : (xs : List X) → EachPair R xs → EachPair R (ordered_by after xs)
     pairs-ordered [] p = tt
-    pairs-ordered (x ∷ xs) p = pairs-put x (ordered_by after xs) (all-ordered (R x) after xs p.0) (pairs-ordered xs p.1)
+    pairs-ordered (x ∷ xs) p =
+        pairs-put x (ordered_by after xs) (each-ordered (R x) after xs p.0) (pairs-ordered xs p.1)
 
 -- two elements that stand so, and each of which is of a sort, stand so too
 module _ {X : Type 0} (R S : X → X → Type 0) (P : X → Type 0) (f : (x y : X) → P x → P y → R x y → S x y) where

@@ -1,69 +1,109 @@
 -- The pass, put together from its parts.
-use Rattle.std.proofs.Common.{◌≡◌, ℕ, List, [], ◌∷◌, ◌++◌, refl, sym, ap, ap₂, ◌∙◌, append_assoc, append-nil}
+use Rattle.std.proofs.Common.{◌≡◌, ℕ, List, [], ◌∷◌, ◌++◌, refl, sym, ap, ap₂, ◌∙◌, append_assoc, append-nil, Option}
+use Rattle.std.proofs.Common.{None}
 use Rattle.std.proofs.lemmas.Grind.{flat_map-append}
 use Rattle.audit_core.proofs.Words.{flat_map, Frame, Item, ConnectionState, Finding, side_of, IsOrderly, in_order}
 use Rattle.audit_core.proofs.Words.{local_said, local_run_from, settings_said, settings_run_from, changes_of}
 use Rattle.audit_core.proofs.Words.{connection_start, connection_said, connection_after, connection_after_all}
 use Rattle.audit_core.proofs.Words.{block_run, PassState, pass_start, next, item_of, streams_of, streams_said}
 use Rattle.audit_core.proofs.Words.{full_from, items_from, frames_of, stream_run, group_run, block_runs, joined}
-use Rattle.audit_core.proofs.Words.{PartsMakeFull, in_order-append_comm, in_order-alike, in_order-in_order}
+use Rattle.audit_core.proofs.Words.{PartsMakeFull, in_order-append_comm, in_order-alike, in_order-in_order, Sides}
+use Rattle.audit_core.proofs.Words.{Change, Step, Stream, initial_in_force, in_force_after, change_of, idle_stream}
+use Rattle.audit_core.proofs.Words.{stream_said, stream_after, stream_run_from, initial_after, step_of}
+use Rattle.audit_terms.specs.code.{runs.LocalFaults.local_run, runs.Changes.settings_run}
 use Rattle.audit_core.proofs.PassOrder.{findings_stand_in_order}
-use Rattle.audit_core.proofs.StreamAlone.{alone, run-alone}
+use Rattle.audit_core.proofs.QuietSteps.{stream_said-quiet, stream_after-quiet}
+use Rattle.audit_core.proofs.StreamSteps.{step_if_any, steps_from, steps_of-steps_from}
 
--- the same findings, in any order
-record Same (xs ys : List Finding) : Type 0 where
-  same : in_order xs ≡ in_order ys
+-- ---- a stream by itself
 
-whole : (xs : List Finding) → Same xs xs
-whole xs = record { same = refl }
+-- what the pass says of one stream
+abbrev alone : (stream : ℕ) → PassState → List Frame → List Finding
+alone stream state [] = []
+alone stream state (frame ∷ frames) =
+    in_order (stream_said stream state.in_force.initial (state.streams stream) (step_of state.in_force frame stream))
+    ++ alone stream (next state frame) frames
 
-equal : {xs ys : List Finding} → xs ≡ ys → Same xs ys
-equal e = record { same = ap in_order e }
+-- one step of the run, whether it counts as a step or not
+one_step : (stream number : ℕ) (initial : Sides ℕ) (entry : Stream) (o : Option Frame) (c : Option Change)
+    (rest : List Step) (later : List Finding)
+    → stream_run_from stream (initial_after c initial)
+    (stream_after stream initial entry (record { number = number; frame = o; change = c })) rest ≡ later
+    → stream_run_from stream initial entry (step_if_any (record { number = number; frame = o; change = c }) ++ rest)
+    ≡ in_order (stream_said stream initial entry (record { number = number; frame = o; change = c })) ++ later
+one_step stream number initial entry None None rest later h =
+    ap (λ now. stream_run_from stream initial now rest) (sym (stream_after-quiet stream initial number None entry refl))
+    ∙ h
+    ∙ ap (λ said. in_order said ++ later) (sym (stream_said-quiet stream initial number None entry refl))
+one_step stream number initial entry _ _ rest later h = rw h refl
 
-turned : {xs ys : List Finding} → Same xs ys → Same ys xs
-turned p = record { same = sym p.same }
+-- the run over the steps at which something is there
+run_from-alone : (stream : ℕ) (state : PassState) (frames : List Frame)
+    → stream_run_from stream state.in_force.initial (state.streams stream) (steps_from stream state.in_force frames)
+    ≡ alone stream state frames
+run_from-alone stream state [] = refl
+run_from-alone stream state (frame ∷ frames) =
+    one_step stream frame.number state.in_force.initial (state.streams stream)
+    (step_of state.in_force frame stream).frame (change_of state.in_force frame)
+    (steps_from stream (in_force_after state.in_force frame) frames) (alone stream (next state frame) frames)
+    (run_from-alone stream (next state frame) frames)
 
-infixl 15 ◌▸◌
-◌▸◌ : {xs ys zs : List Finding} → Same xs ys → Same ys zs → Same xs zs
-p ▸ q = record { same = p.same ∙ q.same }
+-- the run of a stream
+run-alone : (stream : ℕ) (frames : List Frame) → IsOrderly frames
+    → stream_run stream (frames_of stream frames) (changes_of frames) ≡ alone stream pass_start frames
+run-alone stream frames h =
+    ap (stream_run_from stream initial_in_force.initial idle_stream)
+    (steps_of-steps_from 0 stream initial_in_force frames h)
+    ∙ run_from-alone stream pass_start frames
 
-both : (xs ys us vs : List Finding) → Same xs ys → Same us vs → Same (xs ++ us) (ys ++ vs)
-both xs ys us vs p q = record { same = in_order-alike xs ys us vs p.same q.same }
+-- ---- parts, put in order
 
-infixl 20 ◌⊕◌
-◌⊕◌ : {xs ys us vs : List Finding} → Same xs ys → Same us vs → Same (xs ++ us) (ys ++ vs)
-p ⊕ q = both _ _ _ _ p q
+-- the findings of two parts, put in order
+merged : List Finding → List Finding → List Finding
+merged a b = in_order (a ++ b)
 
-ordered : (xs : List Finding) → Same xs (in_order xs)
-ordered xs = record { same = sym (in_order-in_order xs) }
+merged-is : (a b : List Finding) → in_order (a ++ b) ≡ merged (in_order a) (in_order b)
+unfolding merged
+merged-is a b =
+    in_order-alike a (in_order a) b (in_order b) (sym (in_order-in_order a)) (sym (in_order-in_order b))
 
-grouped : (a b c : List Finding) → Same ((a ++ b) ++ c) (a ++ (b ++ c))
-grouped a b c = equal (append_assoc a b c)
+merged-in_order : (a b : List Finding) → in_order (merged a b) ≡ merged a b
+unfolding merged
+merged-in_order a b = in_order-in_order (a ++ b)
 
--- the last two of three lists change places
-last_two : (a b c : List Finding) → Same ((a ++ b) ++ c) ((a ++ c) ++ b)
-last_two a b c =
-    grouped a b c ▸ (whole a ⊕ record { same = in_order-append_comm b c }) ▸ turned (grouped a c b)
+merged-comm : (a b : List Finding) → merged a b ≡ merged b a
+unfolding merged
+merged-comm = in_order-append_comm
 
--- two pairs of lists, joined crosswise
-crosswise : (a b c d : List Finding) → Same ((a ++ b) ++ (c ++ d)) ((a ++ c) ++ (b ++ d))
-crosswise a b c d = turned (grouped (a ++ b) c d) ▸ (last_two a b c ⊕ whole d) ▸ grouped (a ++ c) b d
+merged-assoc : (a b c : List Finding) → merged (merged a b) c ≡ merged a (merged b c)
+unfolding merged
+merged-assoc a b c =
+    in_order-alike (in_order (a ++ b)) (a ++ b) c c (in_order-in_order (a ++ b)) refl
+    ∙ ap in_order (append_assoc a b c)
+    ∙ in_order-alike a a (b ++ c) (in_order (b ++ c)) refl (sym (in_order-in_order (b ++ c)))
+
+merged-left_comm : (a b c : List Finding) → merged a (merged b c) ≡ merged b (merged a c)
+merged-left_comm a b c = sym (merged-assoc a b c) ∙ ap (λ l. merged l c) (merged-comm a b) ∙ merged-assoc b a c
+
+-- in which order parts are joined makes no difference
+ruleset merging = (merged-is, in_order-in_order, merged-in_order, merged-assoc, merged-comm, merged-left_comm)
 
 -- what some streams show together, and each after the other
 streams-apart : (f g : ℕ → List Finding) (streams : List ℕ)
-    → Same (flat_map f streams ++ flat_map g streams) (flat_map (λ s. in_order (f s) ++ g s) streams)
-streams-apart f g [] = whole []
+    → in_order (flat_map (λ s. in_order (f s) ++ g s) streams) ≡ in_order (flat_map f streams ++ flat_map g streams)
+streams-apart f g [] = refl
 streams-apart f g (s ∷ streams) =
-    crosswise (f s) (flat_map f streams) (g s) (flat_map g streams)
-    ▸ ((ordered (f s) ⊕ whole (g s)) ⊕ streams-apart f g streams)
+    one_more (f s) (flat_map f streams) (g s) (flat_map g streams) _ (streams-apart f g streams) where
+      one_more : (a b c d both : List Finding) → in_order both ≡ in_order (b ++ d)
+          → in_order ((in_order a ++ c) ++ both) ≡ in_order ((a ++ b) ++ (c ++ d))
+      one_more a b c d both h = simp (h, merging)
 
 -- a frame's findings of four sorts, before the findings of the frames after it
-four_sorts : (l s t c lr sr tr cr : List Finding)
-    → Same ((((l ++ s) ++ c) ++ t) ++ (((lr ++ sr) ++ tr) ++ cr)) ((((l ++ lr) ++ (s ++ sr)) ++ (t ++ tr)) ++ (c ++ cr))
-four_sorts l s t c lr sr tr cr =
-    (last_two (l ++ s) c t ⊕ whole (((lr ++ sr) ++ tr) ++ cr))
-    ▸ crosswise ((l ++ s) ++ t) c ((lr ++ sr) ++ tr) cr
-    ▸ ((crosswise (l ++ s) t (lr ++ sr) tr ▸ (crosswise l s lr sr ⊕ whole (t ++ tr))) ⊕ whole (c ++ cr))
+four_sorts : (l s c t lr sr tr cr rest streams : List Finding)
+    → in_order rest ≡ in_order (((lr ++ sr) ++ tr) ++ cr) → in_order streams ≡ in_order (t ++ tr)
+    → in_order (in_order (((l ++ s) ++ c) ++ t) ++ rest)
+    ≡ in_order ((((in_order l ++ lr) ++ (s ++ sr)) ++ streams) ++ (in_order c ++ cr))
+four_sorts l s c t lr sr tr cr rest streams p q = simp (p, q, merging)
 
 -- the findings from a state on, by their sorts
 abbrev sorts_from : List ℕ → PassState → List Frame → List Finding
@@ -77,44 +117,35 @@ nothing_of [] = refl
 nothing_of (s ∷ streams) = nothing_of streams
 
 full-sorts : (streams : List ℕ) (state : PassState) (frames : List Frame)
-    → Same (full_from streams state frames) (sorts_from streams state frames)
-full-sorts streams state [] = equal (sym (append-nil _ ∙ nothing_of streams))
+    → in_order (full_from streams state frames) ≡ in_order (sorts_from streams state frames)
+full-sorts streams state [] = ap in_order (sym (append-nil _ ∙ nothing_of streams))
 full-sorts streams state (frame ∷ frames) =
-    let l = local_said (side_of frame.side state.previous) frame in
-    let s = settings_said state.in_force frame in
-    let c = connection_said state.connection (item_of state frame) in
     let rest = next state frame in
-    let lr = local_run_from rest.previous frames in
-    let sr = settings_run_from rest.in_force frames in
-    let cr = block_run rest.connection (items_from rest frames) in
-    (turned (ordered _) ⊕ full-sorts streams rest frames)
-    ▸ four_sorts l s (streams_said streams state frame) c lr sr
-    (flat_map (λ stream. alone stream rest frames) streams) cr
-    ▸ (((ordered l ⊕ whole lr) ⊕ whole (s ++ sr)) ⊕ streams-apart _ _ streams ⊕ (ordered c ⊕ whole cr))
+    four_sorts (local_said (side_of frame.side state.previous) frame) (settings_said state.in_force frame)
+    (connection_said state.connection (item_of state frame)) (streams_said streams state frame)
+    (local_run_from rest.previous frames) (settings_run_from rest.in_force frames)
+    (flat_map (λ stream. alone stream rest frames) streams) (block_run rest.connection (items_from rest frames))
+    _ _ (full-sorts streams rest frames) (streams-apart _ (λ stream. alone stream rest frames) streams)
 
 -- blocks, one after the other, are one block
 block_run-append : (now : ConnectionState) (xs ys : List Item)
     → block_run now (xs ++ ys) ≡ block_run now xs ++ block_run (connection_after_all now xs) ys
 block_run-append now [] ys = refl
 block_run-append now (x ∷ xs) ys =
-    ap (λ l. in_order (connection_said now x) ++ l) (block_run-append (connection_after now x) xs ys)
-    ∙ sym (append_assoc (in_order (connection_said now x)) _ _)
+    rw (block_run-append (connection_after now x) xs ys) (sym (append_assoc (in_order (connection_said now x)) _ _))
 
 block_runs-joined : (now : ConnectionState) (blocks : List (List Item))
     → block_runs now blocks ≡ block_run now (joined blocks)
 block_runs-joined now [] = refl
 block_runs-joined now (block ∷ blocks) =
-    ap (λ l. block_run now block ++ l) (block_runs-joined (connection_after_all now block) blocks)
-    ∙ sym (block_run-append now block (joined blocks))
+    rw (block_runs-joined (connection_after_all now block) blocks) (sym (block_run-append now block (joined blocks)))
 
 -- groups, one after the other, are one group
 groups-joined : (frames : List Frame) (groups : List (List ℕ))
     → flat_map (group_run frames) groups ≡ group_run frames (joined groups)
 groups-joined frames [] = refl
 groups-joined frames (group ∷ groups) =
-    ap (λ l. group_run frames group ++ l) (groups-joined frames groups)
-    ∙ sym (flat_map-append (λ stream. stream_run stream (frames_of stream frames) (changes_of frames)) group
-    (joined groups))
+    rw (groups-joined frames groups) (sym (flat_map-append _ group (joined groups)))
 
 group-alone : (frames : List Frame) (streams : List ℕ) → IsOrderly frames → group_run frames streams
     ≡ flat_map (λ stream. alone stream pass_start frames) streams
@@ -129,7 +160,6 @@ parts_make_full_lem frames groups blocks h same_streams same_items =
     groups-joined frames groups ∙ ap (group_run frames) same_streams ∙ group-alone frames (streams_of frames) h in
     let by_block : block_runs connection_start blocks ≡ block_run connection_start (items_from pass_start frames) =
     block_runs-joined connection_start blocks ∙ ap (block_run connection_start) same_items in
-    sym (findings_stand_in_order frames h)
-    ∙ (full-sorts (streams_of frames) pass_start frames
-    ▸ turned (whole (local_run_from pass_start.previous frames ++ settings_run_from pass_start.in_force frames)
-    ⊕ equal by_stream ⊕ equal by_block)).same
+    sym (findings_stand_in_order frames h) ∙ full-sorts (streams_of frames) pass_start frames
+    ∙ ap₂ (λ streams blocks. in_order (((local_run frames ++ settings_run frames) ++ streams) ++ blocks))
+    (sym by_stream) (sym by_block)

@@ -1,13 +1,12 @@
 -- The pass stands in order: what is said at a frame has the frame's number, and the numbers rise.
 use Rattle.std.proofs.Common.{◌≡◌, ℕ, ◌+◌, ◌^◌, ◌<◌, ◌==◌, List, [], ◌∷◌, ◌++◌, arith}
-use Rattle.audit_core.proofs.Words.{Frame, Finding, side_of, comes_after, in_order, promised_in, promised_by, IsInRange}
+use Rattle.audit_core.proofs.Words.{Frame, Finding, side_of, comes_after, in_order, promised_by, IsInRange}
 use Rattle.audit_core.proofs.Words.{IsOrderlyFrom, IsOrderly, local_said, settings_said, connection_said, PassState}
 use Rattle.audit_core.proofs.Words.{pass_start, said, full_from, full, next, first_of, streams_of, streams_said}
 use Rattle.audit_core.proofs.Words.{step_of, item_of, IsInOrder, in_order-ordered, in_order-append, ordered-in_order}
 use Rattle.audit_core.proofs.Words.{comes_after_is, AreAt, AreFrom, at-append, at-in_order, at-nil, at-local}
 use Rattle.audit_core.proofs.Words.{at-settings, at-connection, at-stream, from-at, from-from, from-append, precedes-at}
-use Rattle.audit_core.proofs.Words.{AllByRecursion, cond_both}
-use Rattle.audit_core.proofs.Pairs.{all-filter}
+use Rattle.audit_core.proofs.Words.{AllByRecursion, cond_both, each-filter}
 
 -- all streams have 31 bits
 abbrev pub AreStreams : List ℕ → Type 0
@@ -66,17 +65,14 @@ in_order-full_from streams state low (frame ∷ frames) small h =
 streams-first_of : (stream : ℕ) (streams : List ℕ) → stream < 2 ^ 31 → AreStreams streams →
     AreStreams (first_of stream streams)
 streams-first_of stream streams p h =
-    cond_both (stream == 0) _ _ AreStreams (λ e. h) (λ e. (p, all-filter (λ other. other < 2 ^ 31) _ streams h))
-
-promised_by-small : (frame : Frame) → promised_in frame.body < 2 ^ 31 → promised_by frame < 2 ^ 31
-promised_by-small frame h = grind arith
+    cond_both (stream == 0) _ _ AreStreams (λ e. h) (λ e. (p, each-filter (λ other. other < 2 ^ 31) _ streams h))
 
 -- the streams that orderly frames name
 pub streams-streams_of : (low : ℕ) (frames : List Frame) → IsOrderlyFrom low frames → AreStreams (streams_of frames)
 streams-streams_of low [] h = tt
 streams-streams_of low (frame ∷ frames) h =
     streams-first_of frame.stream _ h.1.stream
-    (streams-first_of (promised_by frame) _ (promised_by-small frame h.1.promised)
+    (streams-first_of (promised_by frame) _ (grind (arith, h.1.promised))
     (streams-streams_of (frame.number + 1) frames h.2))
 
 pub findings_stand_in_order : (frames : List Frame) → IsOrderly frames → in_order (full frames) ≡ full frames

@@ -11,12 +11,11 @@ use Rattle.audit_core.proofs.Words.{streams_of, streams_said, item_of, opens_str
 use Rattle.audit_core.proofs.Words.{rows_in, idle_rows, row_opens, row_said, row_after, RowFits, option_to_list}
 use Rattle.audit_core.proofs.Words.{Settings, changes_from, IsOrderlyFrom, IsAcknowledged, initial_after}
 use Rattle.audit_core.proofs.Words.{AllByRecursion, HasRoom, nat_tests, cond_both, previous_after, ne_eqb, pass_start}
-use Rattle.audit_core.proofs.Words.{full, connection_start, initial_in_force, changes_of, ints, IsOrderly}
-use Rattle.audit_core.proofs.Pairs.{all-map}
+use Rattle.audit_core.proofs.Words.{full, connection_start, initial_in_force, changes_of, ints, IsOrderly, each-weaker}
 use Rattle.audit_core.proofs.PassOrder.{rows_of, AreStreams, streams-streams_of}
 use Rattle.audit_core.proofs.StreamsMet.{streams_met_lem}
 use Rattle.audit_core.proofs.StreamSteps.{all-change_numbers}
-use Rattle.audit_core.proofs.ErrorSides.{change-ack}
+use Rattle.audit_core.proofs.Meetings.{change-ack}
 
 -- is it the change of this number?
 abbrev pub is_at : ℕ → Change → Bool
@@ -77,7 +76,7 @@ fits-wider : {bound more : ℕ} {now : ConnectionState} {entries : List StreamRo
 fits-wider {bound} {more} l h = record {
   client = room-wider bound more _ l h.client;
   server = room-wider bound more _ l h.server;
-  rows = all-map (RowFits bound) (RowFits more) (λ row k. record {
+  rows = each-weaker (RowFits bound) (RowFits more) (λ row k. record {
     stream = k.stream;
     client = λ credit e. room-wider bound more credit l (k.client credit e);
     server = λ credit e. room-wider bound more credit l (k.server credit e);

@@ -1,65 +1,39 @@
 -- A step without a frame and without a new initial window shows and changes nothing.
-use Rattle.std.proofs.Common.{◌≡◌, ℕ, ℤ, Bool, false, not, ◌&&◌, [], ◌++◌, refl, ap, ◌∙◌, arith, Option, Some}
-use Rattle.std.proofs.Common.{None, is_some, int_lt, ap₂}
+use Rattle.std.proofs.Common.{◌≡◌, ℕ, ℤ, [], ◌++◌, ap, ◌∙◌, arith, Option, None, ap₂}
 use Rattle.audit_core.proofs.Words.{ints, Side, Client, Server, Sides, Change, Step, Stream, say_of, side_of}
-use Rattle.audit_core.proofs.Words.{new_initial, is_used_up, window_step, live_window_said, window_after}
-use Rattle.audit_core.proofs.Words.{stream_window_said, stream_said, stream_after, counted, initial_after, and-false}
+use Rattle.audit_core.proofs.Words.{new_initial, window_step, live_window_said, window_after, stream_window_said}
+use Rattle.audit_core.proofs.Words.{stream_said, stream_after, counted, initial_after}
 
 -- a step of a change alone, or of nothing
 abbrev pub bare_step : ℕ → Option Change → Step
 bare_step number change = record { number = number; frame = None; change = change }
 
-not_both : (a : Bool) → (a && not a) ≡ false
-not_both a = grind arith
-
-not_either : (a : Bool) → (not a && a) ≡ false
-not_either a = grind arith
-
--- no credit is below itself
-not_less : (x : ℤ) → int_lt x x ≡ false
-not_less x = grind (arith, ints)
-
-module _ (stream : ℕ) (initial : Sides ℕ) (number : ℕ) (change : Option Change) where
+module _ (stream : ℕ) (initial : Sides ℕ) (number : ℕ) (change : Option Change) (entry : Stream)
+    (unmoved : initial_after change initial ≡ initial) where
   -- one window, whose initial window stays
-  module _ (d : Side) (unmoved : new_initial change d (side_of d initial) ≡ side_of d initial) where
-    counted-quiet : (before : ℤ) → counted d stream initial (bare_step number change) before ≡ before
-    counted-quiet before = omega (arith, ints)
+  still : (d : Side) → new_initial change d (side_of d initial) ≡ side_of d initial
+  still Client = ap (λ (both : Sides ℕ). both.client) unmoved
+  still Server = ap (λ (both : Sides ℕ). both.server) unmoved
 
-    live_said-quiet : (before : ℤ) →
-        live_window_said d stream (bare_step number change)
-        (window_step d stream initial (bare_step number change) before) ≡ []
-    live_said-quiet before =
-        let e = counted-quiet before in
-        let setting = and-false (is_some change) in
-        let stall = not_both (is_used_up before) in
-        let begin = not_either (is_used_up before) in
-        simp (e, not_less, setting, stall, begin)
+  counted-quiet : (d : Side) (before : ℤ) → counted d stream initial (bare_step number change) before ≡ before
+  counted-quiet d before = omega (arith, ints, still d)
 
-    window_said-quiet : (window : Option ℤ) →
-        say_of (λ before. live_window_said d stream (bare_step number change)
-        (window_step d stream initial (bare_step number change) before)) window ≡ []
-    window_said-quiet None = refl
-    window_said-quiet (Some before) = live_said-quiet before
+  window_said-quiet : (d : Side) (window : Option ℤ) →
+      say_of (λ before. live_window_said d stream (bare_step number change)
+      (window_step d stream initial (bare_step number change) before)) window ≡ []
+  window_said-quiet d window = grind (arith, ints, counted-quiet d)
 
-    window_after-quiet : (window : Option ℤ) → window_after d stream initial (bare_step number change) window ≡ window
-    window_after-quiet None = refl
-    window_after-quiet (Some before) = ap Some (counted-quiet before)
+  window_after-quiet : (d : Side) (window : Option ℤ)
+      → window_after d stream initial (bare_step number change) window ≡ window
+  window_after-quiet d window = grind (arith, ints, counted-quiet d)
 
-  -- the stream, whose initial windows stay
-  module _ (entry : Stream) (unmoved : initial_after change initial ≡ initial) where
-    client : new_initial change Client initial.client ≡ initial.client
-    client = ap (λ (both : Sides ℕ). both.client) unmoved
+  -- the stream
+  pub stream_said-quiet : stream_said stream initial entry (bare_step number change) ≡ []
+  stream_said-quiet =
+      ap (λ said. said ++ stream_window_said Server stream initial entry (bare_step number change))
+      (window_said-quiet Client entry.window.client) ∙ window_said-quiet Server entry.window.server
 
-    server : new_initial change Server initial.server ≡ initial.server
-    server = ap (λ (both : Sides ℕ). both.server) unmoved
-
-    pub stream_said-quiet : stream_said stream initial entry (bare_step number change) ≡ []
-    stream_said-quiet =
-        ap (λ said. said ++ stream_window_said Server stream initial entry (bare_step number change))
-        (window_said-quiet Client client entry.window.client)
-        ∙ window_said-quiet Server server entry.window.server
-
-    pub stream_after-quiet : stream_after stream initial entry (bare_step number change) ≡ entry
-    stream_after-quiet =
-        ap₂ {C = Stream} (λ (a b : Option ℤ). record { life = entry.life; window = record { client = a; server = b } })
-        (window_after-quiet Client client entry.window.client) (window_after-quiet Server server entry.window.server)
+  pub stream_after-quiet : stream_after stream initial entry (bare_step number change) ≡ entry
+  stream_after-quiet =
+      ap₂ {C = Stream} (λ (a b : Option ℤ). record { life = entry.life; window = record { client = a; server = b } })
+      (window_after-quiet Client entry.window.client) (window_after-quiet Server entry.window.server)

@@ -1,11 +1,11 @@
 -- The steps of one stream are those frames of the connection at which it has a frame or a change is brought.
-use Rattle.std.proofs.Common.{◌≡◌, Bool, List, None, Option, Some, [], ap, arith, false, if◌then◌else◌, ltb-true}
-use Rattle.std.proofs.Common.{nat_lt, refl, true, ℕ, ◌++◌, ◌+◌, ◌<◌, ◌==◌, ◌∙◌, ◌∷◌, ◌≤◌}
-use Rattle.audit_core.proofs.Words.{eqb-true, option_to_list, nat_tests, cond_both, change_by, meets, change_of}
-use Rattle.audit_core.proofs.Words.{InForce, taken, change_taking, in_force_after, step_of, changes_from, IsOrderlyFrom}
-use Rattle.audit_core.proofs.Words.{frame_step, with_change, steps_of, change_step, frames_of, Frame, Change, Step}
-use Rattle.audit_core.proofs.Words.{Settings, AllByRecursion, eq-eqb}
-use Rattle.audit_core.proofs.Pairs.{all-mapped, all-filter, all-append}
+use Rattle.std.proofs.Common.{◌≡◌, Bool, List, None, Option, Some, [], arith, if◌then◌else◌, ltb-true, nat_lt, refl, ℕ}
+use Rattle.std.proofs.Common.{◌++◌, ◌+◌, ◌<◌, ◌==◌, ◌∷◌, ◌≤◌}
+use Rattle.audit_core.proofs.Words.{eqb-true, option_to_list, nat_tests, cond_both, meets, change_of, InForce, taken}
+use Rattle.audit_core.proofs.Words.{change_taking, in_force_after, step_of, changes_from, IsOrderlyFrom, frame_step}
+use Rattle.audit_core.proofs.Words.{with_change, steps_of, change_step, frames_of, Frame, Change, Step, Settings}
+use Rattle.audit_core.proofs.Words.{AllByRecursion, each-filter, each-append}
+use Rattle.audit_core.proofs.Pairs.{all-mapped}
 
 -- ---- one more change among some steps
 
@@ -18,9 +18,7 @@ pub with_change-cases : (P : List Step → Type 0) (change : Change) (step : Ste
 with_change-cases P change step steps same before after =
     cond_both (step.number == change.number) _ _ P (λ e. same (eqb-true _ _ e))
     (λ e. cond_both (nat_lt change.number step.number) _ _ P (λ f. before (ltb-true _ _ f))
-    (λ f. after (above step.number change.number e f))) where
-      above : (m n : ℕ) → (m == n) ≡ false → nat_lt n m ≡ false → m < n
-      above m n e f = grind (arith, nat_tests)
+    (λ f. after (grind (arith, nat_tests))))
 
 -- what holds of steps of frames alone and of changes alone, and of both together, holds of all steps
 module _ (P : Step → Type 0) (joined : (change : Change) (step : Step) → step.number ≡ change.number →
@@ -51,7 +49,7 @@ module _ (P : ℕ → Type 0) where
       → IsOrderlyFrom low frames → AllByRecursion (λ (change : Change). P change.number) (changes_from now frames)
   all-change_numbers low now [] p h = tt
   all-change_numbers low now (frame ∷ frames) p h =
-      all-append (λ (change : Change). P change.number) (option_to_list (change_of now frame)) _
+      each-append (λ (change : Change). P change.number) (option_to_list (change_of now frame)) _
       (by_taken (taken now frame))
       (all-change_numbers (frame.number + 1) (in_force_after now frame) frames (λ m l. p m (omega (arith, h.0))) h.2)
     where
@@ -95,7 +93,7 @@ pub steps_of-steps_from : (low stream : ℕ) (now : InForce) (frames : List Fram
 steps_of-steps_from low stream now [] h = refl
 steps_of-steps_from low stream now (frame ∷ frames) h =
     by_cases (meets stream frame) (taken now frame) (frames_of stream frames) (changes_from after frames)
-    (all-filter (λ (other : Frame). frame.number + 1 ≤ other.number) (meets stream) frames
+    (each-filter (λ (other : Frame). frame.number + 1 ≤ other.number) (meets stream) frames
     (all-numbers (λ n. frame.number + 1 ≤ n) (frame.number + 1) frames (λ m l. l) h.2))
     (all-change_numbers (λ n. frame.number + 1 ≤ n) (frame.number + 1) after frames (λ m l. l) h.2)
     (steps_from stream after frames) (steps_of-steps_from (frame.number + 1) stream after frames h.2) where
@@ -112,13 +110,11 @@ steps_of-steps_from low stream now (frame ∷ frames) h =
             frame = (if met then Some frame else None);
             change = change_taking frame o;
           }) ++ later
-      by_cases true None own changes p q later ih =
-          steps_of-first frame own changes q ∙ ap (λ steps. frame_step frame ∷ steps) ih
-      by_cases true (Some settings) own changes p q later ih =
-          ap (λ steps. with_change steps (change_by frame settings)) (steps_of-first frame own changes q)
-          ∙ rw (eq-eqb frame.number frame.number refl, ih) refl
-      by_cases false None own changes p q later ih = ih
-      by_cases false (Some settings) own changes p q later ih =
-          with_change-first (steps_of own changes) (change_by frame settings)
-          (all-steps (λ step. frame.number + 1 ≤ step.number) (λ change step e n m. m) own changes p q)
-          ∙ ap (λ steps. change_step (change_by frame settings) ∷ steps) ih
+      by_cases met o own changes p q later ih =
+          let first = steps_of-first frame own changes q in
+          let alone : (change : Change) → change.number ≡ frame.number
+          → with_change (steps_of own changes) change ≡ change_step change ∷ steps_of own changes =
+          λ change e. with_change-first (steps_of own changes) change
+          (all-steps (λ step. change.number + 1 ≤ step.number) (λ change step e n m. m) own changes
+          (rw e p) (rw e q)) in
+          grind (arith, nat_tests)

@@ -1,8 +1,8 @@
 -- The streams that frames name are those that meet one of them.
-use Rattle.std.proofs.Common.{◌≡◌, Bool, List, [], false, filter, not, refl, sym, true, ℕ, ◌&&◌, ◌==◌, ◌||◌, ◌∷◌, arith}
+use Rattle.std.proofs.Common.{◌≡◌, Bool, List, [], false, filter, not, sym, true, ℕ, ◌&&◌, ◌==◌, ◌||◌, ◌∷◌, arith}
 use Rattle.std.proofs.lemmas.Map.Views.{any-filter_same}
-use Rattle.audit_core.proofs.Words.{and-false, list_any, promised_in, promises, promised_by, first_of, Frame}
-use Rattle.audit_core.proofs.Words.{StreamsAreNamedOnce, StreamsAreThoseMet, nat_tests, streams_of}
+use Rattle.audit_core.proofs.Words.{and-false, list_any, promises, promised_by, first_of, Frame, StreamsAreNamedOnce}
+use Rattle.audit_core.proofs.Words.{StreamsAreThoseMet, nat_tests, streams_of}
 use Rattle.audit_core.proofs.Apart.{distinct-streams_of}
 
 module _ (stream : ℕ) where
@@ -10,30 +10,17 @@ module _ (stream : ℕ) where
   is_named streams = list_any (λ other. other == stream) streams
 
   -- how one more stream counts, which is left out where it is 0
-  abbrev NamesFirst : (first : ℕ) → List ℕ → Type 0
-  NamesFirst first streams =
-      is_named (first_of first streams) ≡ ((not (stream == 0) && (first == stream)) || is_named streams)
-
-  names-first : (first : ℕ) (streams : List ℕ) → NamesFirst first streams
-  names-first first streams = by_tests _ _ refl refl where
-    still-named : (first == stream) ≡ false →
-        is_named (filter (λ other. not (other == first)) streams) ≡ is_named streams
-    still-named e = any-filter_same (λ other. other == stream) (λ other. not (other == first)) true
-        (λ other q. grind (arith, nat_tests)) streams
-
-    by_tests : (zero same : Bool) → (first == 0) ≡ zero → (first == stream) ≡ same → NamesFirst first streams
-    by_tests true same z e = grind (arith, nat_tests)
-    by_tests false true z e = grind (arith, nat_tests)
-    by_tests false false z e = rw (z, e, and-false) (still-named e)
-
-  -- a frame promises the stream that it carries
-  promises-own : (frame : Frame) →
-      promises stream frame ≡ (promises (promised_in frame.body) frame && (promised_in frame.body == stream))
-  promises-own frame = grind (arith, nat_tests)
+  names-first : (first : ℕ) (streams : List ℕ)
+      → is_named (first_of first streams) ≡ ((not (stream == 0) && (first == stream)) || is_named streams)
+  names-first first streams =
+      let named : (first == stream) ≡ false → is_named (filter (λ other. not (other == first)) streams)
+      ≡ is_named streams = λ e. any-filter_same (λ other. other == stream) (λ other. not (other == first)) true
+      (λ other q. grind (arith, nat_tests)) streams in
+      grind (arith, nat_tests)
 
   -- the stream, other than 0, is the one that the frame promises
   promised-is : (frame : Frame) → (stream == 0) ≡ false → (promised_by frame == stream) ≡ promises stream frame
-  promised-is frame e = let own = promises-own frame in grind (arith, nat_tests)
+  promised-is frame e = grind (arith, nat_tests)
 
 pub streams_met_lem : StreamsAreThoseMet
 streams_met_lem stream [] = sym (and-false (not (stream == 0)))

@@ -2,11 +2,11 @@
 -- numbers, and an error of the connection is said of one endpoint only.
 use Rattle.std.proofs.Common.{◌≡◌, ℕ, ℤ, ◌^◌, ◌<◌, ◌≤◌, ◌==◌, Bool, true, false, ◌&&◌, ◌||◌, nat_le, nat_lt, List, []}
 use Rattle.std.proofs.Common.{◌∷◌, ◌++◌, get_or, refl, sym, ap, ◌∙◌, subst, arith, Option, Some, None, if◌then◌else◌}
-use borrow.Author.Tests.{leb-true, ltb-true, le-ltb}
-use Rattle.audit_core.proofs.Words.{AllByRecursion, Side, Client, Server, Kind, Finding, other, is_side, rank_of}
-use Rattle.audit_core.proofs.Words.{place_of, place_stream, place_rank, finding_at, say, say_of, stops, AreApart}
-use Rattle.audit_core.proofs.Words.{StandApart, rank-small, and_parts}
-use Rattle.audit_core.proofs.Pairs.{all-append, all-map, across-by, pairs-append}
+use borrow.Author.Tests.{leb-true, ltb-true}
+use Rattle.audit_core.proofs.Words.{nat_tests, AllByRecursion, Side, Client, Server, Kind, Finding, other, is_side}
+use Rattle.audit_core.proofs.Words.{rank_of, place_of, place_stream, place_rank, finding_at, say, say_of, stops}
+use Rattle.audit_core.proofs.Words.{AreApart, StandApart, rank-small, and_parts, each-append, each-weaker}
+use Rattle.audit_core.proofs.Pairs.{across-by, pairs-append}
 
 -- the row in which a rank is said of an endpoint, by rank: 0 to 4 local faults, 5 settings, 6 length, 7 the server's
 -- push, 8 order of openings, 9 to 14 and 15 to 20 the connection windows of client and server, 21 to 23 what a frame
@@ -54,10 +54,7 @@ same-row x y p s = cc
 pub rows-apart : (by : Side) (on other : ℕ → Type 0) (low mid high : ℕ) (x y : Finding) →
     IsRow by on low mid x → IsRow by other mid high y → AreApart x y
 rows-apart by on other low mid high x y p q e s =
-    let a = p.below in
-    let b = q.from in
-    let k : row_of x ≡ row_of y = same-row x y e s in
-    absurd (omega arith)
+    absurd (omega (arith, p.below, q.from, same-row x y e s))
 
 -- ---- findings one after the other
 
@@ -65,10 +62,8 @@ module _ (sender : Side) (on : ℕ → Type 0) where
   pub rows-wider : (low high bottom top : ℕ) → bottom ≤ low → high ≤ top → (xs : List Finding) →
       AllByRecursion (IsRow sender on low high) xs → AllByRecursion (IsRow sender on bottom top) xs
   rows-wider low high bottom top p q =
-      all-map (IsRow sender on low high) (IsRow sender on bottom top)
-      (λ x h. let a = h.from in
-      let b = h.below in
-      record { stream = h.stream; from = omega arith; below = omega arith; error = h.error })
+      each-weaker (IsRow sender on low high) (IsRow sender on bottom top) (λ x h.
+      record { stream = h.stream; from = omega (arith, h.from); below = omega (arith, h.below); error = h.error })
 
   pub rows-nil : (low high : ℕ) → low ≤ high → AreRows sender on low high []
   rows-nil low high p = record { rising = p; within = tt; apart = tt }
@@ -80,7 +75,7 @@ module _ (sender : Side) (on : ℕ → Type 0) where
       let q = b.rising in
       record {
         rising = omega arith;
-        within = all-append (IsRow sender on low high) xs ys
+        within = each-append (IsRow sender on low high) xs ys
             (rows-wider low mid low high (omega arith) q xs a.within)
             (rows-wider mid high low high p (omega arith) ys b.within);
         apart = pairs-append AreApart xs ys a.apart b.apart
@@ -92,11 +87,6 @@ module _ (sender : Side) (on : ℕ → Type 0) where
       ((a : A) → AreRows sender on low high (f a)) → AreRows sender on low high (say_of f o)
   rows-say_of low high f None p h = rows-nil low high p
   rows-say_of low high f (Some a) p h = h a
-
-  pub rows-choice : (low high : ℕ) (b : Bool) (xs ys : List Finding) → AreRows sender on low high xs →
-      AreRows sender on low high ys → AreRows sender on low high (if b then xs else ys)
-  rows-choice low high true xs ys p q = p
-  rows-choice low high false xs ys p q = q
 
 infixl 20 ◌⊕◌
 pub ◌⊕◌ : {sender : Side} {on : ℕ → Type 0} {low mid high : ℕ} {xs ys : List Finding} →
@@ -111,19 +101,9 @@ is_row sender side rank low high =
     (nat_le low (row_at side rank) && nat_lt (row_at side rank) high)
     && (nat_lt 12 rank || is_side side (error_side sender rank))
 
-pub same_side : (d e : Side) → is_side d e ≡ true → d ≡ e
-same_side Client Client h = refl
-same_side Server Server h = refl
-same_side _ _ h = cc
-
 error-fits : (side right : Side) (rank : ℕ) → (nat_lt 12 rank || is_side side right) ≡ true → nat_le rank 12 ≡ true
     → side ≡ right
-error-fits side right rank h e =
-    same_side side right (rw (le-ltb 12 rank (leb-true rank 12 e)) at h)
-
-each-side : (P : Side → Bool) → (P Client && P Server) ≡ true → (d : Side) → P d ≡ true
-each-side P e Client = (and_parts _ _ e).0
-each-side P e Server = (and_parts _ _ e).1
+error-fits side right rank h e = grind (arith, nat_tests)
 
 module _ (sender : Side) (on : ℕ → Type 0) (number stream : ℕ) (small : stream < 2 ^ 31) (here : on stream) where
   -- a finding that stands in these rows, if it is said
@@ -136,18 +116,16 @@ module _ (sender : Side) (on : ℕ → Type 0) (number stream : ℕ) (small : st
       let few = rank-small kind in
       let rank : place_rank (place_of number (rank_of kind) stream) ≡ rank_of kind = omega arith in
       let its : place_stream (place_of number (rank_of kind) stream) ≡ stream = omega arith in
-      let test = and_parts _ _ (h refl) in
-      let rows = and_parts _ _ test.0 in
-      let from = leb-true low (row_at side (rank_of kind)) rows.0 in
-      let below = ltb-true (row_at side (rank_of kind)) high rows.1 in
+      let (rows, error) = and_parts _ _ (h refl) in
+      let (from, below) = and_parts _ _ rows in
       record {
         rising = p;
         within = (
           record {
             stream = subst on (sym its) here;
-            from = subst (λ r. low ≤ row_at side r) (sym rank) from;
-            below = subst (λ r. row_at side r < high) (sym rank) below;
-            error = λ e. error-fits side _ (rank_of kind) test.1 e ∙ ap (error_side sender) (sym rank);
+            from = subst (λ r. low ≤ row_at side r) (sym rank) (leb-true low _ from);
+            below = subst (λ r. row_at side r < high) (sym rank) (ltb-true _ high below);
+            error = λ e. error-fits side _ (rank_of kind) error e ∙ ap (error_side sender) (sym rank);
           },
           tt,
         );
@@ -158,9 +136,7 @@ module _ (sender : Side) (on : ℕ → Type 0) (number stream : ℕ) (small : st
   pub told : (kind : Kind) (low high : ℕ) (value : ℤ) (holds : Bool) → nat_le low high ≡ true →
       (is_row Client Client (rank_of kind) low high && is_row Server Server (rank_of kind) low high) ≡ true →
       AreRows sender on low high (say holds (finding_at kind number stream sender value))
-  told kind low high value holds p e =
-      row-say kind sender low high value holds (leb-true low high p)
-      (λ _. each-side (λ d. is_row d d (rank_of kind) low high) e sender)
+  told kind low high value holds p e = row-say kind sender low high value holds (leb-true low high p) (λ _. grind arith)
 
   -- one of an endpoint's window that is no error
   pub quiet : (row : Side → ℕ → ℕ) (d : Side) (kind : Kind) (low high : ℕ) (value : ℤ) (holds : Bool) →
@@ -168,7 +144,7 @@ module _ (sender : Side) (on : ℕ → Type 0) (number stream : ℕ) (small : st
       (is_row sender Client (rank_of kind) (row Client low) (row Client high)
       && is_row sender Server (rank_of kind) (row Server low) (row Server high)) ≡ true →
       AreRows sender on (row d low) (row d high) (say holds (finding_at kind number stream d value))
-  quiet row d kind low high value holds p e =
-      row-say kind d (row d low) (row d high) value holds
-      (leb-true (row d low) (row d high) (each-side (λ s. nat_le (row s low) (row s high)) p d))
-      (λ _. each-side (λ s. is_row sender s (rank_of kind) (row s low) (row s high)) e d)
+  quiet row Client kind low high value holds p e =
+      row-say kind Client _ _ value holds (leb-true _ _ (and_parts _ _ p).0) (λ _. (and_parts _ _ e).0)
+  quiet row Server kind low high value holds p e =
+      row-say kind Server _ _ value holds (leb-true _ _ (and_parts _ _ p).1) (λ _. (and_parts _ _ e).1)

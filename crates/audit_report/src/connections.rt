@@ -1,47 +1,22 @@
-ghost use Rattle.std.specs.Prelude.{◌≡◌, ◌++◌, OnOk, IfOk};
+ghost use Rattle.std.specs.Prelude.{◌≡◌, ◌++◌, OnOk};
 ghost use Rattle.std.specs.String.{string_bytes};
 ghost use Rattle.packet_heads.specs.declared.packets.Endpoint.{Endpoint};
 ghost use Rattle.audit_terms.specs.declared.sides.Side.{Side};
-ghost use Rattle.audit_report.specs.FlowLine.{extents_of, gap_text, flow_line};
-ghost use Rattle.audit_report.specs.Section.{connection_text};
+ghost use Rattle.audit_report.specs.FlowLine.{gap_text, flow_line};
 ghost use Rattle.audit_report.specs.code.Contents.{contents_words, opening_line, opening_text};
 ghost use Rattle.audit_report.specs.code.Heading.{headed_text};
 ghost use Rattle.audit_report.specs.code.Roles.{roles_text};
-ghost use Rattle.tcp_streams.specs.code.Orderly.{IsOrderly};
 
-use crate::contents::{Contents, contents_of, tail_in};
+use crate::contents::{Contents, tail_in};
 use crate::endpoints::push_endpoint;
 use crate::extents::Extent;
 use crate::headings::Heading;
 use crate::words::{push_field, push_number, push_word};
 use audit_terms::{Side, Sides};
-use h2_frames::Cut;
 use packet_heads::Endpoint;
-use std::alloc::{AllocError, Global};
-use tcp_streams::{Connection, Flow};
+use std::alloc::AllocError;
 
-/// The line of the `k`-th connection, counted from 1, and the lines of its client's and its server's flow.
-pub fn connection_lines(
-    alloc: Global,
-    k: u32,
-    connection: &Connection,
-    client: &Flow,
-    server: &Flow,
-    cut: &Cut,
-) -> Result<Vec<u8>, AllocError>
-    requires client { IsOrderly client.now }
-    requires server { IsOrderly server.now }
-    ensures { IfOk result (λ text. text.items ≡ connection_text k connection.now
-        (extents_of client.now server.now) cut.now) }
-{
-    let mut out = String::new(alloc);
-    let extents = Extent::of_both(client, server);
-    let heading = Heading::of(connection);
-    push_opening_text(&mut out, k as u64, heading, &extents, contents_of(cut))?;
-    Ok(out.into_bytes())
-}
-
-/// Adds the same to a text.
+/// Adds the line of the `k`-th connection, counted from 1, and the lines of its client's and its server's flow.
 #[tactic(auto, using(crate::proofs::Joins::joins))]
 pub fn push_opening_text(
     out: &mut String,

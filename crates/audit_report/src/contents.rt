@@ -1,9 +1,8 @@
 ghost use Rattle.std.specs.Prelude.{◌≡◌};
-ghost use Rattle.audit_report.specs.code.Contents.{contents_in, contents_of, tail_in};
+ghost use Rattle.audit_report.specs.code.Contents.{contents_in, tail_in};
 
 use crate::told::Outcome;
 use audit_terms::{Side, Sides};
-use h2_frames::Cut;
 
 /// What the lines of a connection and of its flows say that these hold.
 #[derive(Clone, Copy)]
@@ -12,21 +11,6 @@ pub enum Contents {
     NotHttp2,
     NoPreface,
     NoHandshake,
-}
-
-/// The contents of a cut.
-pub fn contents_of(cut: &Cut) -> Contents
-    ensures { result ≡ contents_of cut.now }
-{
-    match cut {
-        Cut::Http2 { frames, tails } => Contents::Http2 {
-            frames: frames.len() as u64,
-            tails: *tails,
-        },
-        Cut::NotHttp2 => Contents::NotHttp2,
-        Cut::NoPreface => Contents::NoPreface,
-        Cut::NoHandshake => Contents::NoHandshake,
-    }
 }
 
 /// The contents of an outcome.

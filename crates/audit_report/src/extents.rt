@@ -12,34 +12,6 @@ pub struct Extent {
     pub gap: Option<u64>,
 }
 
-impl Extent {
-    ghost use Rattle.audit_report.specs.FlowLine.{extent_of, extents_of};
-    ghost use Rattle.tcp_streams.specs.code.Orderly.{IsOrderly};
-
-    /// The extent of one flow.
-    fn of(flow: &Flow) -> Extent
-        requires { IsOrderly flow.now }
-        ensures { result ≡ extent_of flow.now }
-    {
-        Extent {
-            size: flow.length(),
-            gap: flow.gap,
-        }
-    }
-
-    /// The extents of a connection's flows, which need no longer be kept for the report.
-    pub fn of_both(client: &Flow, server: &Flow) -> Sides<Extent>
-        requires client { IsOrderly client.now }
-        requires server { IsOrderly server.now }
-        ensures { result ≡ extents_of client.now server.now }
-    {
-        Sides {
-            client: Extent::of(client),
-            server: Extent::of(server),
-        }
-    }
-}
-
 /// The extent of a flow of a capture in 8 bytes: where bytes are missing, the offset at which they are is its length.
 #[derive(Clone, Copy)]
 pub struct Reach {

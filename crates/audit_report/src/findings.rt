@@ -1,4 +1,4 @@
-ghost use Rattle.std.specs.Prelude.{◌≡◌, ◌++◌, OnOk, IfOk};
+ghost use Rattle.std.specs.Prelude.{◌≡◌, ◌++◌, OnOk};
 ghost use Rattle.std.specs.String.{string_bytes};
 ghost use Rattle.audit_terms.specs.code.runs.Orderly.{IsOrderly};
 ghost use Rattle.audit_report.specs.FrameLookup.{frame_numbered};
@@ -8,22 +8,7 @@ ghost use Rattle.audit_report.specs.code.Findings.{moment_text, said_text};
 use crate::lookup::frame_at;
 use crate::words::{push_field, push_signed, push_word};
 use audit_terms::{Finding, Frame};
-use std::alloc::{AllocError, Global};
-
-/// The line of a finding, with the record and the time of its frame, which is found among the frames by its number. For
-/// a frame that is not there both are 0.
-pub fn finding_line(
-    alloc: Global,
-    finding: &Finding,
-    frames: &[Frame],
-) -> Result<Vec<u8>, AllocError>
-    requires { IsOrderly frames.now }
-    ensures { IfOk result (λ text. text.items ≡ finding_line frames.now finding.now) }
-{
-    let mut out = String::new(alloc);
-    push_finding_line(&mut out, finding, frames)?;
-    Ok(out.into_bytes())
-}
+use std::alloc::AllocError;
 
 /// Adds a line for each finding that is shown, in order.
 pub fn push_finding_lines(
@@ -58,6 +43,8 @@ fn push_shown_line(
     Ok(())
 }
 
+/// Adds the line of a finding, with the record and the time of its frame, which is found among the frames by its
+/// number. For a frame that is not there both are 0.
 #[tactic(auto, using(crate::proofs::Joins::joins))]
 fn push_finding_line(
     out: &mut String,

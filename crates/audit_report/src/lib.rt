@@ -2,11 +2,11 @@
 //!
 //! - [`report`] is the whole text, `report_text` of `specs/ReportText.antt`: the lines on the capture, then a section
 //!   for each connection, with its findings, the stalls that they tell of, and how its audit ended.
-//! - [`capture_lines`], [`connection_lines`] and [`finding_line`] are parts of it, each by a definition of its own in
+//! - [`capture_lines`] begins it, from the packets and the strays. Each kind of line has a definition of its own in
 //!   `specs/`; `specs/Line.antt` and `specs/Endpoint.antt` say how a line is spelled.
-//! - [`stall_pairs`] and [`frame_at`] say which stalls findings tell of, and which frame each of them is about. The
-//!   definition (`specs/Stalls.antt`) looks forward from each beginning for the first end of the same side and stream;
-//!   the code goes over the list once, from the back, with the nearest end of each window in a table.
+//! - Which stalls findings tell of, the definition (`specs/Stalls.antt`) says by looking forward from each beginning
+//!   for the first end of the same side and stream; the code goes over the list once, from the back, with the nearest
+//!   end of each window in a table.
 //! - [`Told`] is what is kept of a connection from its flows on. Of a flow that is its [`Reach`], length and gap. Of
 //!   frames it is their number where nothing is shown of them ([`QuietConnection`]), and else the frames and what was
 //!   found in them ([`AuditedFrames`]). It stands for an [`Audited`], which the definitions are over, and of which it
@@ -23,9 +23,9 @@
 //! [`worked_examples`] shows stalls: of both sides, of several windows, without an end, by a clock that went back.
 //!
 //! Wrong bodies that the prover refuses: the cut record left out, tails exchanged, frames not counted, a sign left out,
-//! no connections, a frame looked up by its record, an end of a stall that was withdrawn. Tested, in `crate_tests`:
-//! that each call of the text succeeds where there is memory, on a snapped capture with a gap, a negative window, and
-//! one packet of each kind. Trusted: std's statement of what `write!` of a number writes.
+//! no connections, a frame looked up by its record, an end of a stall that was withdrawn. Tested: in `crate_tests` the
+//! lines on one packet of each kind, and by whole reports that the calls succeed where there is memory. Trusted: std's
+//! statement of what `write!` of a number writes.
 #![tactic(auto)]
 
 mod audited;
@@ -50,11 +50,7 @@ pub mod worked_examples;
 
 pub use audited::Audited;
 pub use capture::capture_lines;
-pub use connections::connection_lines;
 pub use extents::{Extent, Reach};
-pub use findings::finding_line;
 pub use headings::{Heading, headings_of};
-pub use lookup::frame_at;
 pub use reports::report;
-pub use stalls::{Stall, stall_pairs};
 pub use told::{AuditedFrames, Outcome, QuietConnection, Told};

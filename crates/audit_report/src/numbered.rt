@@ -17,6 +17,7 @@ pub fn push_record_lines(out: &mut String, packets: &Packets<'_>) -> Result<(), 
     Ok(())
 }
 
+#[inline(always)]
 fn push_record_line(out: &mut String, number: u64, packet: &Packet) -> Result<(), AllocError>
     ensures { OnOk result (string_bytes out.new ≡ string_bytes out.old ++ record_line number packet.now) }
 {

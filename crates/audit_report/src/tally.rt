@@ -38,6 +38,7 @@ impl Tally {
         tally
     }
 
+    #[inline(always)]
     fn add(&mut self, packet: &Packet)
         requires segments { self.old.segments + 1 < 2 ^ 64 }
         requires snapped { self.old.snapped + 1 < 2 ^ 64 }

@@ -3,10 +3,11 @@ use Rattle.audit_rounds.proofs.Words.{◌≡◌, ℕ, ◌+◌, ◌<◌, ◌≤�
 use Rattle.audit_rounds.proofs.Words.{None, refl, sym, ap, ◌∙◌, arith, append_assoc, option_to_list, IsPermutation}
 use Rattle.audit_rounds.proofs.Words.{list_any-IsPermutation, eq-eqb, Frame, Change, Item, is_headers, IsOrderlyFrom}
 use Rattle.audit_rounds.proofs.Words.{InForce, in_force_after, change_of, taken, changes_of, PassState, pass_start}
-use Rattle.audit_rounds.proofs.Words.{next, items_from, is_marked, change_at}
+use Rattle.audit_rounds.proofs.Words.{AllByRecursion, next, items_from, is_marked, change_at}
 use Rattle.audit_terms.specs.declared.settings.Settings.{Settings}
-use Rattle.audit_rounds.proofs.Alike.{differ, differ_back, head_same, tail_same}
+use Rattle.audit_rounds.proofs.Lists.{differ, differ_back}
 use Rattle.audit_terms.specs.InForce.{change_taking}
+use Rattle.conn_scan.specs.code.Each.{all-append}
 use Rattle.audit_terms.specs.code.runs.Changes.{changes_from}
 use Rattle.audit_terms.specs.code.runs.States.{items_of}
 use Rattle.audit_rounds.specs.laws.Items.{ItemsAreFound}
@@ -16,12 +17,10 @@ use Rattle.audit_rounds.proofs.Openings.{openings_are_found_lem}
 
 -- all numbers below one, and all at or above one
 abbrev Below : (high : ℕ) → List Change → Type 0
-Below high [] = Unit {0}
-Below high (change ∷ changes) = (change.number < high) × Below high changes
+Below high changes = AllByRecursion (λ (change : Change). change.number < high) changes
 
 abbrev From : (low : ℕ) → List Change → Type 0
-From low [] = Unit {0}
-From low (change ∷ changes) = (low ≤ change.number) × From low changes
+From low changes = AllByRecursion (λ (change : Change). low ≤ change.number) changes
 
 -- earlier changes are passed over
 find-later : (frame : Frame) (earlier changes : List Change) → Below frame.number earlier
@@ -60,10 +59,6 @@ below-more : (low high : ℕ) (changes : List Change) → low ≤ high → Below
 below-more low high [] l h = tt
 below-more low high (change ∷ changes) l h = (omega (arith, h.0), below-more low high changes l h.1)
 
-below-append : (high : ℕ) (xs ys : List Change) → Below high xs → Below high ys → Below high (xs ++ ys)
-below-append high [] ys h p = p
-below-append high (x ∷ xs) ys h p = (h.0, below-append high xs ys h.1 p)
-
 own-below : (now : InForce) (frame : Frame) → Below (frame.number + 1) (option_to_list (change_of now frame))
 own-below now frame = by_taken (taken now frame) where
   by_taken : (o : Option Settings) → Below (frame.number + 1) (option_to_list (change_taking frame o))
@@ -87,7 +82,7 @@ changes-found low earlier state (frame ∷ frames) h p =
     ap (λ c. c ∷ map (λ (item : Item). item.change) (items_from (next state frame) frames)) (sym here)
     ∙ ap (λ l. change_at (earlier ++ (own ++ rest)) frame ∷ l)
     (changes-found (frame.number + 1) (earlier ++ own) (next state frame) frames h.2
-    (below-append (frame.number + 1) earlier own
+    (all-append (λ (change : Change). change.number < frame.number + 1) earlier own
     (below-more frame.number (frame.number + 1) earlier (omega arith) before) (own-below state.in_force frame))
     ∙ ap (λ l. map (change_at l) frames) (append_assoc earlier own rest))
 
@@ -107,22 +102,18 @@ by_parts opens change [] [] f o c = refl
 by_parts opens change [] (frame ∷ frames) f o c = cc
 by_parts opens change (item ∷ items) [] f o c = cc
 by_parts opens change (item ∷ items) (frame ∷ frames) f o c =
-    let f0 : item.frame ≡ frame = head_same _ _ _ _ f in
-    let o0 : item.opens ≡ opens frame = head_same _ _ _ _ o in
-    let c0 : item.change ≡ change frame = head_same _ _ _ _ c in
+    let f0 : item.frame ≡ frame = cc in
+    let o0 : item.opens ≡ opens frame = cc in
+    let c0 : item.change ≡ change frame = cc in
     let whole : item ≡ record { frame = frame; opens = opens frame; change = change frame } =
     λ i. record { frame = f0 i; opens = o0 i; change = c0 i } in
-    ap (λ x. x ∷ items) whole
-    ∙ ap (λ l. record { frame = frame; opens = opens frame; change = change frame } ∷ l)
-    (by_parts opens change items frames (tail_same _ _ _ _ f) (tail_same _ _ _ _ o) (tail_same _ _ _ _ c))
+    let rest = by_parts opens change items frames (cc) (cc) (cc) in
+    cc
 
 marks-permuted : (xs ys : List ℕ) (frames : List Frame) → IsPermutation xs ys
     → map (is_marked xs) frames ≡ map (is_marked ys) frames
-marks-permuted xs ys [] h = refl
-marks-permuted xs ys (frame ∷ frames) h =
-    ap (λ b. (is_headers frame.body && b) ∷ map (is_marked xs) frames)
-    (list_any-IsPermutation (λ number. number == frame.number) xs ys h)
-    ∙ ap (λ l. is_marked ys frame ∷ l) (marks-permuted xs ys frames h)
+marks-permuted xs ys frames h = ap (λ f. map f frames)
+    (λ i frame. is_headers frame.body && list_any-IsPermutation (λ number. number == frame.number) xs ys h i)
 
 pub items_are_found_lem : ItemsAreFound
 items_are_found_lem frames opened h p =

@@ -1,8 +1,8 @@
 -- The jobs of the rounds over blocks.
-use Rattle.audit_rounds.proofs.Words.{◌≡◌, ℕ, suc, ◌+◌, Bool, true, false, if◌then◌else◌, List, [], ◌∷◌, map, length}
-use Rattle.audit_rounds.proofs.Words.{get_or, All, Contains, Option, Some, None, slice_get, ◌⊎◌, inl, inr, ⊎_elim, refl}
-use Rattle.audit_rounds.proofs.Words.{sym, ap, ◌∙◌, subst, arith, length-map, get_or-map, slice_get_within}
-use Rattle.audit_rounds.proofs.Words.{get_or_from_slice_get, All-map, list_any, ConnectionState, Finding, Frame, Change}
+use Rattle.audit_rounds.proofs.Words.{◌≡◌, ℕ, suc, ◌+◌, ◌≤◌, Bool, true, false, if◌then◌else◌, List, [], ◌∷◌, ◌++◌, map}
+use Rattle.audit_rounds.proofs.Words.{length, get_or, Contains, Option, Some, None, slice_get, ◌⊎◌, inl, inr, ⊎_elim}
+use Rattle.audit_rounds.proofs.Words.{refl, sym, ap, ◌∙◌, arith, length-map, get_or-map, slice_get_within}
+use Rattle.audit_rounds.proofs.Words.{get_or_from_slice_get, list_any, ConnectionState, Finding, Frame, Change}
 use Rattle.audit_rounds.proofs.Words.{connection_said, connection_after, block_run, in_order, shown, comes_after}
 use Rattle.audit_rounds.proofs.Words.{IsOrderlyFrom, Asked, is_past, IsRun, comes_after_is, ordered-in_order}
 use Rattle.audit_rounds.proofs.Words.{in_order-append, in_order-ordered, AreFrom, at-in_order, from-at, from-from}
@@ -11,8 +11,9 @@ use Rattle.audit_rounds.proofs.Words.{IsCut, whole_is_cut_lem, in_order-shown, H
 use Rattle.audit_rounds.proofs.Words.{sum_job}
 use Rattle.audit_terms.specs.code.runs.Look.{last_answer, upto_of, up_to}
 use Rattle.audit_terms.proofs.OrderedLists.{IsInOrder}
-use Rattle.audit_terms.proofs.SaidPlaces.{at-connection}
+use Rattle.audit_terms.proofs.SaidPlaces.{AreAt, at-connection}
 use Rattle.stop_desk.proofs.RoundCuts.{front_is_cut_lem}
+use Rattle.audit_rounds.proofs.Lists.{some_of}
 
 -- the job of a number
 pub job-is : {X : Type 0} (f : X → Job) (xs : List X) (k : ℕ) (one : Job) (d : X) → slice_get (map f xs) k ≡ Some one
@@ -22,63 +23,58 @@ job-is f xs k one d e =
     let within = slice_get_within (map f xs) k one e in
     sym (get_or_from_slice_get (map f xs) k one one e) ∙ get_or-map f xs k d one (omega arith)
 
-none-found : (blocks : List ConnectionBlock) → All (λ (job : Job). job.findings ≡ []) (map sum_job blocks)
-none-found blocks = All-map (λ (job : Job). job.findings ≡ []) sum_job blocks (λ n d l. refl)
-
 -- a sum finds all that its job has to find, which is nothing
 pub sum-cut : (blocks : List ConnectionBlock) (k : ℕ) (one : Job) → slice_get (map sum_job blocks) k ≡ Some one
     → IsCut one.findings None []
 sum-cut blocks k one e =
     let within = slice_get_within (map sum_job blocks) k one e in
-    let none : one.findings ≡ [] = subst (λ (job : Job). job.findings ≡ [])
-    (get_or_from_slice_get (map sum_job blocks) k one one e) (none-found blocks k one within) in
-    subst (λ l. IsCut l None []) (sym none) (whole_is_cut_lem [] None refl)
+    let long = length-map blocks sum_job in
+    rw (job-is sum_job blocks k one (some_of blocks k (omega arith)) e) (whole_is_cut_lem [] None refl)
 
--- ---- what a block shows stands in order
+-- ---- what a run shows stands in order
 
--- findings stand at their frames
-pub run-from : (now : ConnectionState) (low : ℕ) (opened : List ℕ) (changes : List Change) (frames : List Frame)
-    → IsOrderlyFrom low frames → AreFrom low (block_run now (items_with opened changes frames))
-run-from now low opened changes [] h = tt
-run-from now low opened changes (frame ∷ frames) h =
+-- findings from a number on, in order
+abbrev pub StandFrom : (low : ℕ) → List Finding → Type 0
+StandFrom low xs = AreFrom low xs × IsInOrder comes_after comes_after_is xs
+
+-- what is said at one number, and later
+pub step-ordered : (low number : ℕ) (said later : List Finding) → low ≤ number → AreAt number said
+    → StandFrom (number + 1) later → StandFrom low (in_order said ++ later)
+step-ordered low number said later l at (from, ordered) =
+    let here = (at-in_order number said at).within in (
+      from-append low (in_order said) later (from-at low number _ l here)
+          (from-from low (number + 1) _ (omega arith) from),
+      in_order-append comes_after comes_after_is (in_order said) later
+          (in_order-ordered comes_after comes_after_is said) ordered
+          (precedes-at number (in_order said) later here from),
+    )
+
+-- what is shown of it stands in order too
+pub ordered-shown : (c : Bool) (run : List Finding) → IsInOrder comes_after comes_after_is run
+    → in_order (shown c run) ≡ shown c run
+ordered-shown c run h = in_order-shown c run ∙ ap (shown c) (ordered-in_order comes_after comes_after_is run h)
+
+-- the findings of a block stand at their frames
+pub run-ordered : (now : ConnectionState) (low : ℕ) (opened : List ℕ) (changes : List Change) (frames : List Frame)
+    → IsOrderlyFrom low frames → StandFrom low (block_run now (items_with opened changes frames))
+run-ordered now low opened changes [] h = (tt, tt)
+run-ordered now low opened changes (frame ∷ frames) h =
     let item = item_with opened changes frame in
-    from-append low (in_order (connection_said now item)) _
-    (from-at low frame.number _ h.0
-    (at-in_order frame.number (connection_said now item) (at-connection now item h.1)).within)
-    (from-from low (frame.number + 1) _ (omega (arith, h.0))
-    (run-from (connection_after now item) (frame.number + 1) opened changes frames h.2))
-
-run-in_order : (now : ConnectionState) (low : ℕ) (opened : List ℕ) (changes : List Change) (frames : List Frame)
-    → IsOrderlyFrom low frames
-    → IsInOrder comes_after comes_after_is (block_run now (items_with opened changes frames))
-run-in_order now low opened changes [] h = tt
-run-in_order now low opened changes (frame ∷ frames) h =
-    let item = item_with opened changes frame in
-    in_order-append comes_after comes_after_is (in_order (connection_said now item)) _
-    (in_order-ordered comes_after comes_after_is (connection_said now item))
-    (run-in_order (connection_after now item) (frame.number + 1) opened changes frames h.2)
-    (precedes-at frame.number _ _
-    (at-in_order frame.number (connection_said now item) (at-connection now item h.1)).within
-    (run-from (connection_after now item) (frame.number + 1) opened changes frames h.2))
-
-shown-in_order : (c : Bool) (now : ConnectionState) (block : Block) → IsBlock block
-    → in_order (shown c (block_run now (items_in block))) ≡ shown c (block_run now (items_in block))
-shown-in_order c now block h =
-    in_order-shown c (block_run now (items_in block))
-    ∙ ap (shown c) (ordered-in_order comes_after comes_after_is (block_run now (items_in block))
-    (run-in_order now 0 block.opened.now block.changes.now block.frames.now h.frames))
+    step-ordered low frame.number (connection_said now item) _ h.0 (at-connection now item h.1)
+    (run-ordered (connection_after now item) (frame.number + 1) opened changes frames h.2)
 
 -- what is up to a place is a cut
 pub upto-cut : (whole kept : List Finding) (upto : Option ℕ) → in_order whole ≡ whole → kept ≡ up_to upto whole
     → IsCut whole upto kept
-upto-cut whole kept None o e = subst (IsCut whole None) (sym e) (whole_is_cut_lem whole None o)
-upto-cut whole kept (Some place) o e = subst (IsCut whole (Some place)) (sym e) (front_is_cut_lem whole place o)
+upto-cut whole kept None o e = rw e (whole_is_cut_lem whole None o)
+upto-cut whole kept (Some place) o e = rw e (front_is_cut_lem whole place o)
 
 -- what was found of a block up to a place is a cut of what it shows
 pub block-cut-is : (c : Bool) (now : ConnectionState) (block : Block) (upto : Option ℕ) (kept : List Finding)
     → IsBlock block → kept ≡ up_to upto (shown c (block_run now (items_in block)))
     → IsCut (shown c (block_run now (items_in block))) upto kept
-block-cut-is c now block upto kept h = upto-cut _ kept upto (shown-in_order c now block h)
+block-cut-is c now block upto kept h = upto-cut _ kept upto
+    (ordered-shown c _ (run-ordered now 0 block.opened.now block.changes.now block.frames.now h.frames).1)
 
 -- ---- what was answered
 

@@ -1,19 +1,10 @@
 -- What the round over streams begins from, connection after connection and finding after finding.
-use Rattle.audit_rounds.proofs.Words.{◌≡◌, ℕ, ◌+◌, ◌<◌, ◌⊎◌, inl, inr, min, ⊎_elim, true, if◌then◌else◌, List, []}
-use Rattle.audit_rounds.proofs.Words.{◌∷◌, ◌++◌, length, get_or, take, Option, Some, None, refl, ap, ◌∙◌, arith, AllZip}
-use Rattle.audit_rounds.proofs.Words.{take_more, Contains-append_left, Finding, stops, StopsAt, IsLeast, contains-none}
-use Rattle.audit_rounds.proofs.Words.{lesser, IsFirstStop}
+use Rattle.audit_rounds.proofs.Words.{◌≡◌, ℕ, ◌+◌, ◌⊎◌, inl, inr, min, ⊎_elim, true, if◌then◌else◌, List, [], ◌∷◌, ◌++◌}
+use Rattle.audit_rounds.proofs.Words.{Option, Some, None, refl, ap, ◌∙◌, arith, Contains-append_left, Finding, stops}
+use Rattle.audit_rounds.proofs.Words.{StopsAt, IsLeast, contains-none, lesser, IsFirstStop}
 use Rattle.std.proofs.lemmas.Bool.{cases_lt, cond_both}
-use Rattle.std.proofs.lemmas.Slice.Zip.{all_zipped_more}
 use Rattle.std.proofs.lemmas.List.Elements.{Contains-push_cases, Contains-push}
 use Rattle.stop_desk.proofs.RoundSteps.{least-moves}
-
--- one more of two lists that go side by side
-pub zip-more : {X Y : Type 0} (R : X → Y → Type 0) (xs : List X) (n : ℕ) (d : X) (ys after : List Y) (y : Y)
-    → n < length xs → AllZip R (take n xs) ys → R (get_or xs n d) y → after ≡ ys ++ y ∷ []
-    → AllZip R (take (n + 1) xs) after
-zip-more R xs n d ys after y l h r e =
-    rw (take_more xs n d l, e) (all_zipped_more R (take n xs) ys (get_or xs n d) y h r)
 
 -- the least place, where one more comes in
 least-more : (P Q : ℕ → Type 0) (new : ℕ) (least : Option ℕ) → ((place : ℕ) → P place → Q place) → Q new

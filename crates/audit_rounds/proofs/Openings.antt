@@ -1,12 +1,14 @@
--- The openings that streams by themselves tell are those of the pass.
-use Rattle.audit_rounds.proofs.Words.{◌≡◌, ℕ, ◌+◌, ◌<◌, ◌≤◌, ◌==◌, Bool, true, false, ◌&&◌, List, [], ◌∷◌, ◌++◌}
-use Rattle.audit_rounds.proofs.Words.{map, flat_map, Option, Some, None, is_none, refl, sym, ap, ◌∙◌, arith}
-use Rattle.audit_rounds.proofs.Words.{if◌then◌else◌, option_to_list, list_any, nat_tests, Sides, Body}
-use Rattle.audit_rounds.proofs.Words.{Frame, Change, Item, Step, Stream, meets, is_headers, IsOrderly, IsOrderlyFrom}
-use Rattle.audit_rounds.proofs.Words.{initial_in_force, in_force_after, change_of, changes_of, idle_stream}
-use Rattle.audit_rounds.proofs.Words.{stream_after, initial_after, PassState, pass_start, next, step_of, streams_of}
-use Rattle.audit_rounds.proofs.Words.{items_from, state_from, frames_of, stream_at_end, streams_met_lem, is_marked}
-use Rattle.audit_rounds.proofs.Words.{openings_of}
+-- The openings that streams by themselves tell, as runs tell them that went up to some place, and those of the pass.
+use Rattle.audit_rounds.proofs.Words.{◌≡◌, ℕ, suc, ◌==◌, Bool, false, All, List, [], ◌∷◌, ◌++◌, not, map, filter, refl}
+use Rattle.audit_rounds.proofs.Words.{sym, ap, ◌∙◌, arith, Option, Some, None, nat_tests, option_to_list, list_any}
+use Rattle.audit_rounds.proofs.Words.{IsPermutation, flat_map, flat_map-append, list_any-append, list_any-IsPermutation}
+use Rattle.audit_rounds.proofs.Words.{Frame, changes_of, is_past, streams_of, frames_of, stream_at_end, opened_up_to}
+use Rattle.audit_rounds.proofs.Words.{openings_of, Reaches, AgreeWithin, ◌+◌, ◌<◌, ◌≤◌, true, ◌&&◌, is_none}
+use Rattle.audit_rounds.proofs.Words.{if◌then◌else◌, Sides, Body, Change, Item, Step, Stream, meets, is_headers}
+use Rattle.audit_rounds.proofs.Words.{IsOrderly, IsOrderlyFrom, initial_in_force, in_force_after, change_of}
+use Rattle.audit_rounds.proofs.Words.{idle_stream, stream_after, initial_after, PassState, pass_start, next, step_of}
+use Rattle.audit_rounds.proofs.Words.{items_from, state_from, streams_met_lem, is_marked}
+use Rattle.std.proofs.lemmas.List.Sorted.{IsPermutation-filter_both}
 use Rattle.audit_terms.specs.declared.frames.Body.TheVariants.{Headers}
 use Rattle.audit_terms.specs.Frame.{is_promise}
 use Rattle.audit_terms.specs.Life.{is_opening}
@@ -15,8 +17,81 @@ use Rattle.audit_terms.specs.code.runs.States.{state_after}
 use Rattle.audit_terms.specs.code.runs.Streams.{stream_after_all}
 use Rattle.audit_core.proofs.QuietSteps.{stream_after-quiet}
 use Rattle.audit_core.proofs.StreamSteps.{step_if_any, steps_from, steps_of-steps_from}
+use Rattle.audit_rounds.specs.code.Openings.{opening_of}
+use Rattle.audit_rounds.specs.laws.Settling.{RunUpto, openings_told, OpeningsAreTold}
 use Rattle.audit_rounds.specs.laws.Openings.{OpeningsAreFound}
-use Rattle.audit_rounds.proofs.Told.{any-joined}
+
+-- ---- lists that agree
+
+pub agree-append : (stop : Option ℕ) (xs ys us vs : List ℕ) → AgreeWithin stop xs ys → AgreeWithin stop us vs →
+    AgreeWithin stop (xs ++ us) (ys ++ vs)
+agree-append stop xs ys us vs h k number e =
+    let left = h number e in
+    let right = k number e in
+    simp (list_any-append, left, right)
+
+-- what is not past the stop is not past what reached it
+reached : (upto stop : Option ℕ) (number : ℕ) → Reaches upto stop → is_past stop number ≡ false →
+    is_past upto number ≡ false
+reached None stop number r e = refl
+reached (Some place) None number r e = absurd r
+reached (Some place) (Some stop) number r e = grind (arith, nat_tests)
+
+pub agree-reached : (upto stop : Option ℕ) (xs ys : List ℕ) → Reaches upto stop → AgreeWithin upto xs ys →
+    AgreeWithin stop xs ys
+agree-reached upto stop xs ys r h number e = h number (reached upto stop number r e)
+
+-- ---- the opening of one run
+
+pub agree-opened : (upto opened : Option ℕ) →
+    AgreeWithin upto (option_to_list (opened_up_to upto opened)) (option_to_list opened)
+agree-opened upto None number e = refl
+agree-opened upto (Some n) number e = grind (arith, nat_tests)
+
+-- ---- of all runs
+
+agree-told : (frames : List Frame) (stop : Option ℕ) (runs : List RunUpto) →
+    All (λ (run : RunUpto). Reaches run.upto stop) runs →
+    AgreeWithin stop (openings_told frames runs) (openings_of frames (map (λ (run : RunUpto). run.stream) runs))
+agree-told frames stop [] h = λ number e. refl
+agree-told frames stop (run ∷ runs) h =
+    agree-append stop _ _ (openings_told frames runs) _
+    (agree-reached run.upto stop _ _ (h 0 run (omega arith)) (agree-opened run.upto
+    (stream_at_end run.stream (frames_of run.stream frames) (changes_of frames)).life.opened))
+    (agree-told frames stop runs (λ k d l. h (suc k) d (omega arith)))
+
+-- a number among joined lists is in one of them
+pub any-joined : {X : Type 0} (number : ℕ) (f : X → List ℕ) (xs : List X)
+    → list_any (λ one. one == number) (flat_map f xs) ≡ list_any (λ x. list_any (λ one. one == number) (f x)) xs
+any-joined number f [] = refl
+any-joined number f (x ∷ xs) = rw (list_any-append (λ one. one == number) (f x) (flat_map f xs), any-joined number f xs)
+
+-- so their order does not count
+agree-joined : {X : Type 0} (stop : Option ℕ) (f : X → List ℕ) (xs ys : List X) → IsPermutation xs ys
+    → AgreeWithin stop (flat_map f xs) (flat_map f ys)
+agree-joined stop f xs ys p number e =
+    any-joined number f xs ∙ list_any-IsPermutation _ xs ys p ∙ sym (any-joined number f ys)
+
+-- the openings of some streams and of the others are those of all
+pub agree-parted : (frames : List Frame) (stop : Option ℕ) (test : ℕ → Bool) (streams : List ℕ) →
+    AgreeWithin stop
+    (openings_of frames (filter (λ stream. not (test stream)) streams) ++ openings_of frames (filter test streams))
+    (openings_of frames streams)
+agree-parted frames stop test streams number e =
+    let others = filter (λ stream. not (test stream)) streams in
+    ap (list_any (λ one. one == number)) (sym (flat_map-append (opening_of frames) others (filter test streams)))
+    ∙ sym (agree-joined stop (opening_of frames) streams (others ++ filter test streams)
+    (IsPermutation-filter_both (λ stream. not (test stream)) test (λ stream. twice (test stream)) streams) number e)
+  where
+    twice : (b : Bool) → b ≡ not (not b)
+    twice b = grind arith
+
+pub openings_are_told_lem : OpeningsAreTold
+openings_are_told_lem frames runs stop opened s h p number e =
+    sym (list_any-IsPermutation _ (openings_told frames runs) opened p) ∙ agree-told frames stop runs h number e
+    ∙ agree-joined stop (opening_of frames) (map (λ (run : RunUpto). run.stream) runs) (streams_of frames) s number e
+
+-- ---- a stream at its end is the stream in the pass
 
 -- ---- a stream at its end is the stream in the pass
 
@@ -109,11 +184,6 @@ headers-promise _ e = cc
 abbrev among : ℕ → List ℕ → Bool
 among stream streams = list_any (λ other. other == stream) streams
 
-any-alike : (f g : ℕ → Bool) (streams : List ℕ) → ((stream : ℕ) → f stream ≡ g stream)
-    → list_any f streams ≡ list_any g streams
-any-alike f g [] h = refl
-any-alike f g (stream ∷ streams) h = rw (h stream, any-alike f g streams h)
-
 -- the openings at the end of the pass
 abbrev openings_at : PassState → List ℕ → List ℕ
 openings_at state streams = flat_map (λ stream. option_to_list (opened state stream)) streams
@@ -137,7 +207,7 @@ module _ (state : PassState) (frame : Frame) where
   opens-here frames streams below h named =
       let found = any-joined frame.number
       (λ stream. option_to_list (opened (state_from (next state frame) frames) stream)) streams
-      ∙ any-alike _ (opens_it state frame) streams (λ s. opened-here state frame frames s below h) in
+      ∙ ap (λ test. list_any test streams) (λ i s. opened-here state frame frames s below h i) in
       let any = any-opens streams in
       grind (arith, nat_tests, opens-pass)
 
@@ -158,8 +228,8 @@ opens-all low state (frame ∷ frames) streams below h named =
 
 openings-end : (frames : List Frame) (streams : List ℕ) → IsOrderly frames
     → openings_of frames streams ≡ openings_at (state_after frames) streams
-openings-end frames [] h = refl
-openings-end frames (stream ∷ streams) h = rw (at_end-pass stream frames h, openings-end frames streams h)
+openings-end frames streams h =
+    ap (λ f. flat_map f streams) (λ i stream. option_to_list (at_end-pass stream frames h i).life.opened)
 
 pub openings_are_found_lem : OpeningsAreFound
 openings_are_found_lem frames h =

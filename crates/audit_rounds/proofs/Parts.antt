@@ -1,5 +1,5 @@
--- The part of one stream.
-use Rattle.audit_rounds.proofs.Words.{◌≡◌, ℕ, ◌+◌, ◌≤◌, Bool, true, false, if◌then◌else◌, List, [], ◌∷◌, filter, All}
+-- Parts of orderly frames.
+use Rattle.audit_rounds.proofs.Words.{zero, suc, take, drop, ◌≡◌, ℕ, ◌+◌, ◌≤◌, Bool, true, List, [], ◌∷◌, filter, All}
 use Rattle.audit_rounds.proofs.Words.{arith, All-filter, Frame, Change, meets, is_ack, IsOrderly, IsOrderlyFrom}
 use Rattle.audit_rounds.proofs.Words.{frames_of, AreAcknowledged}
 
@@ -13,11 +13,19 @@ pub orderly-filter : (test : Frame → Bool) (low : ℕ) (frames : List Frame) �
     → IsOrderlyFrom low (filter test frames)
 orderly-filter test low [] h = tt
 orderly-filter test low (frame ∷ frames) h =
-    by_test (test frame) (orderly-filter test (frame.number + 1) frames h.2) where
-      by_test : (b : Bool) → IsOrderlyFrom (frame.number + 1) (filter test frames)
-          → IsOrderlyFrom low (if b then frame ∷ filter test frames else filter test frames)
-      by_test true rest = (h.0, h.1, rest)
-      by_test false rest = orderly-earlier low (frame.number + 1) _ (omega (arith, h.0)) rest
+    let rest = orderly-filter test (frame.number + 1) frames h.2 in
+    grind (arith, orderly-earlier low (frame.number + 1))
+
+pub orderly-take : (low n : ℕ) (frames : List Frame) → IsOrderlyFrom low frames → IsOrderlyFrom low (take n frames)
+orderly-take low zero frames h = tt
+orderly-take low (suc n) [] h = tt
+orderly-take low (suc n) (frame ∷ frames) h = (h.0, h.1, orderly-take (frame.number + 1) n frames h.2)
+
+pub orderly-drop : (low n : ℕ) (frames : List Frame) → IsOrderlyFrom low frames → IsOrderlyFrom low (drop n frames)
+orderly-drop low zero frames h = h
+orderly-drop low (suc n) [] h = tt
+orderly-drop low (suc n) (frame ∷ frames) h =
+    orderly-earlier low (frame.number + 1) _ (omega (arith, h.0)) (orderly-drop (frame.number + 1) n frames h.2)
 
 -- the frames of a stream are orderly
 pub orderly-frames_of : (stream : ℕ) (frames : List Frame) → IsOrderly frames → IsOrderly (frames_of stream frames)

@@ -1,22 +1,131 @@
--- What the jobs of a plan find.
-use Rattle.audit_rounds.proofs.Words.{◌≡◌, ℕ, zero, suc, ◌+◌, ◌<◌, ◌≤◌, ◌==◌, Bool, if◌then◌else◌, List, [], ◌∷◌}
-use Rattle.audit_rounds.proofs.Words.{◌++◌, append_assoc, append-nil, map, length, get_or, All, All-head, All-tail, sym}
-use Rattle.audit_rounds.proofs.Words.{ap, ◌∙◌, arith, map-append, All-append, flat_map-append, ne_eqb, AllByRecursion}
-use Rattle.audit_rounds.proofs.Words.{ConnectionState, Finding, Item, in_order, connection_said, connection_start}
-use Rattle.audit_rounds.proofs.Words.{connection_after, connection_after_all, block_run, shown, items_of, Job, Block}
-use Rattle.audit_rounds.proofs.Words.{items_in, BlockFits, ConnSum, IsSum, AreSums, AreShort, findings_of_jobs}
-use Rattle.audit_rounds.proofs.Words.{ReadyBlock, block_job, where_of, whole_shown, shown_at, IsPlan, ConnectionBlock}
-use Rattle.audit_rounds.proofs.Words.{blocks_of_connection, shown-append, refl, drop, drop-at, length-append, IsBlock}
+-- Blocks that connections' frames are cut into, and what the jobs of a plan find.
+use Rattle.audit_rounds.proofs.Words.{◌≡◌, ℕ, zero, suc, ◌+◌, ◌<◌, ◌≤◌, List, [], ◌∷◌, ◌++◌, append_assoc, append-nil}
+use Rattle.audit_rounds.proofs.Words.{map, take, drop, length, get_or, All, refl, sym, ap, ◌∙◌, arith, length-map}
+use Rattle.audit_rounds.proofs.Words.{length-take-le, take-append-drop, map-append, All-append, AllByRecursion, Frame}
+use Rattle.audit_rounds.proofs.Words.{Item, IsOrderly, IsOrderlyFrom, items_of, Block, item_with, items_in, IsBlock}
+use Rattle.audit_rounds.proofs.Words.{length-orderly, ConnSum, ConnectionBlock, IsShort, AreSums, blocks_of_connection}
+use Rattle.audit_rounds.proofs.Words.{wholes, AddsBlocks, ◌==◌, Bool, if◌then◌else◌, All-head, All-tail}
+use Rattle.audit_rounds.proofs.Words.{flat_map-append, ne_eqb, ConnectionState, Finding, in_order, connection_said}
+use Rattle.audit_rounds.proofs.Words.{connection_start, connection_after, connection_after_all, block_run, shown, Job}
+use Rattle.audit_rounds.proofs.Words.{BlockFits, IsSum, findings_of_jobs, ReadyBlock, block_job, where_of, whole_shown}
+use Rattle.audit_rounds.proofs.Words.{shown_at, IsPlan, shown-append, drop-at, length-append}
+use Rattle.std.proofs.lemmas.List.{map_more}
 use Rattle.std.proofs.lemmas.Bool.{eq-eqb}
-use Rattle.conn_scan.specs.code.Block.{ItemsFit, MovesLittle}
+use Rattle.conn_scan.specs.code.Block.{MovesLittle, ItemsFit}
+use Rattle.conn_scan.specs.code.Walk.{numbers_from, changes_from}
+use Rattle.conn_scan.proofs.WalkLemmas.{numbers_from-rise, changes_from-orderly, items_with-from}
 use Rattle.conn_scan.specs.code.ConnSum.{conn_advance}
 use Rattle.conn_scan.specs.code.ConnSumLaws.{moved}
 use Rattle.conn_scan.specs.code.FitLaws.{first_fit, rest_fit}
 use Rattle.conn_scan.specs.code.Each.{all-append}
-use Rattle.audit_rounds.specs.code.Blocks.{AreBlocksOf, AreFit, IsReady, after_of, before_of, laid_out}
+use Rattle.audit_rounds.specs.code.Blocks.{AreBlocksOf, laid_out, AreFit, IsReady, after_of, before_of}
 use Rattle.audit_rounds.specs.code.Plans.{AreReady, shown_from}
-use Rattle.audit_rounds.proofs.Alike.{differ_back}
-use Rattle.audit_rounds.proofs.Cuts.{Little}
+use Rattle.audit_rounds.proofs.Lists.{some_of, differ_back}
+use Rattle.audit_rounds.proofs.Parts.{orderly-take, orderly-drop}
+
+-- ---- one block more
+
+-- a block of some frames of another, with the numbers and the changes from a frame on
+pub record IsPart (whole : Block) (first : Frame) (own : List Frame) (part : Block) : Type 0 where
+  pub opened : part.opened.now ≡ numbers_from first.number whole.opened.now
+  pub changes : part.changes.now ≡ changes_from first.number whole.changes.now
+  pub frames : part.frames.now ≡ own
+
+module _ (whole : Block) (first : Frame) (later : List Frame) (h : IsBlock whole)
+    (is : whole.frames.now ≡ first ∷ later) where
+  part-is : (frames : List Frame) (part : Block) → IsPart whole first frames part → IsOrderly frames → IsBlock part
+  part-is frames part p orderly = record {
+    frames = rw p.frames orderly;
+    opened = rw p.opened (numbers_from-rise 0 0 first.number whole.opened.now (omega arith) h.opened);
+    changes = rw p.changes (changes_from-orderly 0 0 first.number whole.changes.now (omega arith) h.changes);
+  }
+
+  -- a block of the first frames, and one of the others
+  pub block-cut : (n : ℕ) (front back : Block) → IsPart whole first (take n whole.frames.now) front
+      → IsPart whole first (drop n whole.frames.now) back
+      → IsShort front × IsBlock back × (items_in front ++ items_in back ≡ items_in whole)
+  block-cut n front back f b =
+      let frames = whole.frames.now in
+      let item = item_with (numbers_from first.number whole.opened.now)
+      (changes_from first.number whole.changes.now) in
+      let block = part-is _ front f (orderly-take 0 n frames h.frames) in
+      let few = length-orderly 0 front.frames.now (omega arith) block.frames in
+      let all = rw is at h.frames in
+      let orderly : IsOrderlyFrom first.number frames = rw is (omega arith, all.1, all.2) in (
+        record { is_block = block; number = omega arith },
+        part-is _ back b (orderly-drop 0 n frames h.frames),
+        rw (f.opened, f.changes, f.frames, b.opened, b.changes, b.frames) (
+            sym (map-append item (take n frames) (drop n frames)) ∙ ap (map item) (take-append-drop n frames)
+            ∙ sym (items_with-from first.number first.number whole.opened.now whole.changes.now frames (omega arith)
+            orderly)),
+      )
+
+-- the items of one block more
+pub items-push : (blocks : List Block) (block : Block)
+    → items_of (map items_in (blocks ++ block ∷ [])) ≡ items_of (map items_in blocks) ++ items_in block
+items-push [] block = append-nil (items_in block)
+items-push (b ∷ blocks) block = rw (items-push blocks block, append_assoc) refl
+
+-- ---- one connection more
+
+laid-push : (connection : ℕ) (cuts : List (List Block)) (cut : List Block)
+    → laid_out connection (cuts ++ cut ∷ [])
+    ≡ laid_out connection cuts ++ blocks_of_connection (connection + length cuts) cut
+laid-push connection [] cut =
+    let e : connection + 0 ≡ connection = omega arith in rw (e, append-nil) refl
+laid-push connection (blocks ∷ cuts) cut =
+    let e : (connection + 1) + length cuts ≡ connection + length (blocks ∷ cuts) = omega arith in
+    rw (laid-push (connection + 1) cuts cut, e, append_assoc) refl
+
+pub cut-next : (all : List Block) (at : ℕ) (whole : Block) (blocks new : List ConnectionBlock) → at < length all
+    → whole ≡ get_or all at whole → AreBlocksOf (wholes (take at all)) blocks → AddsBlocks at whole blocks new
+    → AreBlocksOf (wholes (take (at + 1) all)) new
+cut-next all at whole blocks new l is h adds =
+    let joined = λ (cut : List Block). items_of (map items_in cut) in
+    let same = sym (length-map h.cuts joined) ∙ sym (ap length h.items) ∙ length-map (take at all) items_in in
+    let front = length-take-le at all (omega arith) in
+    let number : 0 + length h.cuts ≡ at = omega arith in
+    record {
+      cuts = h.cuts ++ adds.cut ∷ [];
+      laid = adds.added ∙ ap (λ l. l ++ blocks_of_connection at adds.cut) h.laid
+          ∙ ap (λ k. laid_out 0 h.cuts ++ blocks_of_connection k adds.cut) (sym number)
+          ∙ sym (laid-push 0 h.cuts adds.cut);
+      items = map_more items_in all at whole l ∙ ap (λ one. wholes (take at all) ++ items_in one ∷ []) (sym is)
+          ∙ ap (λ l. l ++ items_in whole ∷ []) h.items ∙ ap (λ l. map joined h.cuts ++ l ∷ []) (sym adds.items)
+          ∙ sym (map-append joined h.cuts (adds.cut ∷ []));
+    }
+
+-- ---- what is known of each block
+
+own-blocks : (P : ConnectionBlock → Type 0) (connection : ℕ) (cut : List Block)
+    → ((block : Block) → P (record { connection = connection; block = block }))
+    → All P (blocks_of_connection connection cut)
+own-blocks P connection [] h n d l = absurd (omega arith)
+own-blocks P connection (block ∷ cut) h zero d l = h block
+own-blocks P connection (block ∷ cut) h (suc n) d l = own-blocks P connection cut h n d (omega arith)
+
+laid-within : (connection bound : ℕ) (cuts : List (List Block)) → connection + length cuts ≤ bound
+    → All (λ (one : ConnectionBlock). one.connection < bound) (laid_out connection cuts)
+laid-within connection bound [] l n d within = absurd (omega arith)
+laid-within connection bound (cut ∷ cuts) l n d within =
+    let P = λ (one : ConnectionBlock). one.connection < bound in
+    All-append P (blocks_of_connection connection cut) _ (own-blocks P connection cut (λ block. omega arith))
+    (laid-within (connection + 1) bound cuts (omega arith)) n d within
+
+-- each is of one of the connections
+pub cut-within : (connections : List Block) (blocks : List ConnectionBlock) (bound : ℕ) → length connections ≡ bound
+    → AreBlocksOf (wholes connections) blocks → All (λ (one : ConnectionBlock). one.connection < bound) blocks
+cut-within connections blocks bound e h =
+    let number = sym (length-map connections items_in) ∙ ap length h.items ∙ length-map h.cuts _ in
+    rw h.laid (laid-within 0 bound h.cuts (omega arith))
+
+-- its items move credits by little
+abbrev pub Little : ConnectionBlock → Type 0
+Little one = AllByRecursion MovesLittle (items_in one.block)
+
+pub little-each : (blocks : List ConnectionBlock) (sums : List ConnSum) → AreSums blocks sums → All Little blocks
+little-each blocks sums h n one l =
+    let number = h.number in (h.each n one (some_of sums 0 (omega arith)) l).little
 
 where-append : (connection n : ℕ) (xs ys : List Finding)
     → where_of connection n xs ++ where_of connection n ys ≡ where_of connection n (xs ++ ys)
@@ -83,23 +192,20 @@ own-job c one before h = record {
 }
 
 -- one of the blocks, and the connection before it
-module _ (c : Bool) (blocks : List ConnectionBlock) (at : ℕ) (one : ConnectionBlock) (l : at < length blocks)
-    (is : one ≡ get_or blocks at one) (last : ℕ) (now before : ConnectionState) (e : before ≡ before_of last now one)
-  where
+module _ (blocks : List ConnectionBlock) (at : ℕ) (one : ConnectionBlock) (l : at < length blocks)
+    (is : one ≡ get_or blocks at one) where
+  pub here-sum : (sums : List ConnSum) (sum : ConnSum) → AreSums blocks sums → IsSum one.block (get_or sums at sum)
+  here-sum sums sum h = rw (← is) at (h.each at one sum l)
+
+  module _ (last : ℕ) (now before : ConnectionState) (e : before ≡ before_of last now one) where
     pub here-fits : AreFit last now (drop at blocks) → BlockFits before (items_in one.block)
     here-fits h = rw e (rw (drop-at blocks at one is l) at h).0
 
-    pub here-sum : (sums : List ConnSum) (sum : ConnSum) → AreSums blocks sums → IsSum one.block (get_or sums at sum)
-    here-sum sums sum h = rw (← is) at (h.each at one sum l)
-
-    pub here-short : AreShort blocks → IsBlock one.block
-    here-short h = (rw (← is) at (h at one l)).is_block
-
-    pub plan-next : (sum : ConnSum) (next : ConnectionState) (plan new jobs : List ReadyBlock) → IsSum one.block sum
-        → next ≡ conn_advance before sum → new ≡ plan ++ jobs → AreJobs c one before jobs
+    pub plan-next : (c : Bool) (sum : ConnSum) (next : ConnectionState) (plan new jobs : List ReadyBlock)
+        → IsSum one.block sum → next ≡ conn_advance before sum → new ≡ plan ++ jobs → AreJobs c one before jobs
         → ArePlanned c blocks (drop at blocks) last now plan
         → ArePlanned c blocks (drop (at + 1) blocks) one.connection next new
-    plan-next sum next plan new jobs summed moves more own so_far =
+    plan-next c sum next plan new jobs summed moves more own so_far =
         let left = drop-at blocks at one is l in
         let fits = rw left at so_far.fits in
         let after : next ≡ after_of last now one = moves ∙ rw (summed.is, e)

@@ -1,16 +1,68 @@
--- What settled rounds over blocks give.
-use Rattle.audit_rounds.proofs.Words.{◌≡◌, ℕ, ◌+◌, ◌<◌, Bool, List, ◌++◌, map, length, get_or, All, Option, None}
-use Rattle.audit_rounds.proofs.Words.{sym, ap, ◌∙◌, subst, arith, Vec, Global, length-map, get_or-map}
-use Rattle.audit_rounds.proofs.Words.{slice_get_within, get_or_from_slice_get, slice_get-get_or, Finding, in_order}
-use Rattle.audit_rounds.proofs.Words.{upto_stop, connection_start, Block, items_in, IsBlock, BlockFits, ConnSum, IsStop}
-use Rattle.audit_rounds.proofs.Words.{Job, IsLeast, StopsAt, findings_of_parts, board_merges_lem, Part, Settled}
-use Rattle.audit_rounds.proofs.Words.{part_of, ConnectionBlock, ReadyBlock, IsSum, AreSums, wholes, sum_job, block_job}
-use Rattle.audit_rounds.proofs.Words.{whole_shown, shown_at, IsPlan, AreParts, IsRemaining, All-map}
-use Rattle.stop_desk.specs.code.Settling.{HasSettled}
-use Rattle.audit_rounds.proofs.Alike.{some_of}
+-- What settled rounds give, and what is merged of it.
+use Rattle.audit_rounds.proofs.Words.{◌≡◌, ℕ, ◌+◌, ◌<◌, ◌⊎◌, Bool, not, List, [], ◌∷◌, ◌++◌, map, length, get_or, All}
+use Rattle.audit_rounds.proofs.Words.{Option, None, refl, sym, ap, ◌∙◌, arith, Vec, Global, zip, length-map, get_or-map}
+use Rattle.audit_rounds.proofs.Words.{get_or-zip, length-zip, slice_get_within, get_or_from_slice_get, slice_get-get_or}
+use Rattle.audit_rounds.proofs.Words.{All-map, Finding, comes_after, in_order, upto_stop, in_order-ordered}
+use Rattle.audit_rounds.proofs.Words.{comes_after_is, in_order-append_left, connection_start, Block, items_in, IsBlock}
+use Rattle.audit_rounds.proofs.Words.{BlockFits, ConnSum, IsStop, Job, findings_of_parts, HasSettled, board_merges_lem}
+use Rattle.audit_rounds.proofs.Words.{Part, Settled, part_of, ConnectionBlock, ReadyBlock, IsSum, AreSums, wholes}
+use Rattle.audit_rounds.proofs.Words.{sum_job, block_job, whole_shown, shown_at, IsPlan, IsRemaining, AreRemaining}
+use Rattle.audit_rounds.proofs.Words.{AreGoneThrough}
+use Rattle.itertools.specs.List.{merge_by}
+use Rattle.audit_terms.specs.Order.{put_by}
+use Rattle.audit_terms.proofs.FindingOrder.{in_order-in_order}
+use Rattle.audit_terms.proofs.OrderedLists.{IsAfter, NoneBefore, IsInOrder, ordered-append, put_all}
+use Rattle.audit_rounds.proofs.Lists.{items_in as list_items, as-many, some_of}
 use Rattle.audit_rounds.proofs.Plans.{shown-at}
 
--- the parts of a settled round hold the sum of each block
+-- ---- two runs in order, merged, are all their elements in order
+
+module _ {X : Type 0} (after : X → X → Bool) (o : IsAfter after) where
+  -- does x go first of the two?
+  abbrev is_first : X → X → Bool
+  is_first x y = not (after x y)
+
+  -- an element that stands before all of its run is put in
+  merge-put : (x : X) (xs : List X) → NoneBefore after o x xs → (ys : List X)
+      → merge_by is_first (x ∷ xs) ys ≡ put_by after x (merge_by is_first xs ys)
+  merge-put x [] h [] = refl
+  merge-put x [] h (y ∷ ys) = grind (arith, merge-put x [] tt ys)
+  merge-put x (z ∷ xs) h [] = rw h.0 refl
+  merge-put x (z ∷ xs) h (y ∷ ys) = grind (arith, merge-put x (z ∷ xs) h ys, h.0, o.above x z y)
+
+  -- so all of a run in order are put in
+  merge-all : (xs ys : List X) → IsInOrder after o xs → merge_by is_first xs ys ≡ put_all after o xs ys
+  merge-all [] ys h = refl
+  merge-all (x ∷ xs) ys h = merge-put x xs h.0 ys ∙ ap (put_by after x) (merge-all xs ys h.1)
+
+-- of two lists of findings that are put in order
+pub merge-in_order : (xs ys : List Finding)
+    → merge_by (λ x y. not (comes_after x y)) (in_order xs) (in_order ys) ≡ in_order (xs ++ ys)
+merge-in_order xs ys =
+    merge-all comes_after comes_after_is (in_order xs) (in_order ys) (in_order-ordered comes_after comes_after_is xs)
+    ∙ sym (ordered-append comes_after comes_after_is (in_order xs) ys) ∙ in_order-append_left xs ys
+
+-- where the second is empty the first is all
+pub merge-nil : {X : Type 0} (first : X → X → Bool) (xs : List X) → merge_by first xs [] ≡ xs
+merge-nil first [] = refl
+merge-nil first (x ∷ xs) = refl
+
+-- what two lists of a connection are merged to
+abbrev pub both_in : Vec Finding Global × Vec Finding Global → List Finding
+both_in pair = in_order (pair.0.items ++ pair.1.items)
+
+-- lists that were gone through side by side, until one of them was over, are those pairs
+pub zip-over : {X Y : Type 0} (pairs : List (X × Y)) (one : List X) (other : List Y)
+    → (length one ≡ 0) ⊎ (length other ≡ 0)
+    → zip (map (λ (pair : X × Y). pair.0) pairs ++ one) (map (λ (pair : X × Y). pair.1) pairs ++ other) ≡ pairs
+zip-over [] [] other h = refl
+zip-over [] (x ∷ one) [] h = refl
+zip-over [] (x ∷ one) (y ∷ other) h = absurd (omega (arith, h))
+zip-over (pair ∷ pairs) one other h = ap (λ l. pair ∷ l) (zip-over pairs one other h)
+
+-- ---- the parts of settled rounds
+
+-- they hold the sum of each block
 pub sums-settled : (blocks : List ConnectionBlock) (stops : List (Option ℕ)) (settled : Settled ConnSum)
     → HasSettled (λ (job : ℕ) (upto : Option ℕ) (made : ConnSum). (one : ConnectionBlock)
     → IsSum (get_or blocks job one).block made) (map sum_job blocks) stops settled
@@ -25,14 +77,16 @@ sums-settled blocks stops settled h =
           let inside : n < length parts = omega arith in
           let d = some_of parts n inside in
           let own = h.in_order n (get_or parts n d) (slice_get-get_or parts n d inside) in
-          subst (IsSum (get_or blocks n one).block) (sym (get_or-map made parts n d sum inside)) (own.1 one);
+          rw (get_or-map made parts n d sum inside) (own.1 one);
     }
 
--- each part is of one of the connections
-pub parts-within : {M : Type 0} (jobs : List Job) (stops : List (Option ℕ)) (parts : List (Part M)) (bound : ℕ)
-    → AreParts jobs stops parts → All (λ (job : Job). job.connection < bound) jobs
-    → All (λ (part : Part M). part.connection < bound) parts
-parts-within jobs stops parts bound h all k d l =
+-- each is of one of the connections
+pub parts-within : {M : Type 0} {makes : ℕ → Option ℕ → M → Type 0} (jobs : List Job) (stops : List (Option ℕ))
+    (settled : Settled M) (bound : ℕ) → HasSettled makes jobs stops settled
+    → All (λ (job : Job). job.connection < bound) jobs
+    → All (λ (part : Part M). part.connection < bound) settled.parts.items
+parts-within jobs stops settled bound h all k d l =
+    let parts = settled.parts.items in
     let number = length-map parts part_of in
     let part = part_of (get_or parts k d) in
     let (job, at, is) = h.board.parts_of_jobs part (k, omega arith, get_or-map part_of parts k d part l) in
@@ -47,42 +101,56 @@ jobs-inside c connections bound finds plan same planned =
     All-map (λ (job : Job). job.connection < bound) (block_job c) plan
     (λ n d l. let one = planned.within n d l in omega (arith, same, one))
 
--- what was found of a connection, and what the parts keep of it, is up to its stop what was found and what is shown of
--- all its blocks
-pub merged : {M : Type 0} (c : Bool) (connections : List Block) (bound : ℕ) (plan : List ReadyBlock)
-    (stops : List (Option ℕ)) (parts : List (Part M)) (found last : List Finding) (n : ℕ) (whole : Block)
-    → IsPlan c bound (shown_at c 0 (wholes connections)) plan → AreParts (map (block_job c) plan) stops parts
-    → IsLeast (StopsAt found) (get_or stops n None) → n < length connections
-    → last ≡ found ++ findings_of_parts n (map part_of parts)
-    → upto_stop (in_order last)
-    ≡ upto_stop (in_order (found ++ whole_shown c (items_in (get_or connections n whole))))
-merged c connections bound plan stops parts found last n whole planned h least l is =
-    let number : length (wholes connections) ≡ length connections = length-map connections items_in in
-    let at : n ≡ 0 + n = omega arith in
-    rw is ((board_merges_lem (record { jobs = map (block_job c) plan; opening_stops = stops }) _ h.board n found
-    least).findings
-    ∙ ap (λ l. upto_stop (in_order (found ++ l)))
-    (planned.of_each n ∙ ap (shown_at c 0 (wholes connections)) at
-    ∙ shown-at c 0 (wholes connections) n (items_in whole) (omega arith)
-    ∙ ap (whole_shown c) (get_or-map items_in connections n whole (items_in whole) l)))
-
 -- ---- what is left to do of each connection
 
 module _ (connections : List Block) (stops : List (Option ℕ)) (found : List (Vec Finding Global))
-    (as_many : length stops ≡ length connections) (number : length connections ≡ length found)
-    (each : (n : ℕ) (whole : Block) (stop : Option ℕ) (list : Vec Finding Global) → n < length connections
-    → IsRemaining (get_or connections n whole) (get_or stops n stop) (get_or found n list).items) where
-  is-remaining : (n : ℕ) (d : Block) (stop : Option ℕ) (l : n < length connections) (m : n < length found)
-      → IsRemaining (get_or connections n d) (get_or stops n stop) (get_or found n (some_of found n m)).items
-  is-remaining n d stop l m = each n d stop (some_of found n m) l
+    (h : AreRemaining connections stops found) where
+  one-remains : (n : ℕ) (whole : Block) (stop : Option ℕ) (l : n < length connections) (m : n < length found)
+      → IsRemaining (get_or connections n whole) (get_or stops n stop) (get_or found n (some_of found n m)).items
+  one-remains n whole stop l m = h.each n whole stop (some_of found n m) l
 
   pub each-block : All IsBlock connections
-  each-block n d l = (is-remaining n d None l (omega arith)).is_block
+  each-block n d l = let e = h.founds in (one-remains n d None l (omega arith)).is_block
 
   pub each-fits : All (BlockFits connection_start) (wholes connections)
   each-fits = All-map (BlockFits connection_start) items_in connections
-      (λ n d l. (is-remaining n d None l (omega arith)).fits)
+      (λ n d l. let e = h.founds in (one-remains n d None l (omega arith)).fits)
 
   pub each-place : All IsStop stops
   each-place n stop l =
-      (is-remaining n (some_of connections n (omega arith)) stop (omega arith) (omega arith)).place
+      let e = h.founds in
+      let f = h.number in
+      (one-remains n (some_of connections n (omega arith)) stop (omega arith) (omega arith)).place
+
+  -- and what is found of it, when its blocks are gone through
+  pub gone-through : {M : Type 0} {makes : ℕ → Option ℕ → M → Type 0} (c : Bool) (plan : List ReadyBlock)
+      (settled : Settled M) (own last : List (Vec Finding Global))
+      → IsPlan c (length connections) (shown_at c 0 (wholes connections)) plan
+      → HasSettled makes (map (block_job c) plan) stops settled → length own ≡ length found
+      → ((n : ℕ) (list : Vec Finding Global) → n < length own
+      → (get_or own n list).items ≡ findings_of_parts n (map part_of settled.parts.items))
+      → map list_items last ≡ map both_in (zip found own) → AreGoneThrough c connections found last
+  gone-through c plan settled own last planned done owns keeps is =
+      let as_many = h.founds in
+      let zipped = length-zip found own in
+      let long = as-many list_items both_in last (zip found own) is in
+      record {
+        number = omega arith;
+        each = λ n whole list list' l.
+            let before = (get_or found n list').items in
+            let shows = findings_of_parts n (map part_of settled.parts.items) in
+            let merged : (get_or last n list).items ≡ in_order (before ++ shows) =
+            sym (get_or-map list_items last n list [] (omega arith)) ∙ ap (λ l. get_or l n []) is
+            ∙ get_or-map both_in (zip found own) n (list', list') [] (omega arith)
+            ∙ ap both_in (get_or-zip found own n (list', list') (omega arith) (omega arith))
+            ∙ ap (λ l. in_order (before ++ l)) (keeps n list' (omega arith)) in
+            let number : length (wholes connections) ≡ length connections = length-map connections items_in in
+            let at : n ≡ 0 + n = omega arith in
+            ap (λ l. upto_stop (in_order l)) merged ∙ ap upto_stop (in_order-in_order (before ++ shows))
+            ∙ (board_merges_lem (record { jobs = map (block_job c) plan; opening_stops = stops }) _ done.board n before
+            (h.each n whole None list' l).least).findings
+            ∙ ap (λ l. upto_stop (in_order (before ++ l)))
+            (planned.of_each n ∙ ap (shown_at c 0 (wholes connections)) at
+            ∙ shown-at c 0 (wholes connections) n (items_in whole) (omega arith)
+            ∙ ap (whole_shown c) (get_or-map items_in connections n whole (items_in whole) l));
+      }

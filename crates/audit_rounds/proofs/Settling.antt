@@ -1,24 +1,33 @@
--- The round over blocks need not go past the stop.
-use Rattle.audit_rounds.proofs.Words.{◌≡◌, ℕ, ◌+◌, ◌*◌, ◌^◌, ◌<◌, ◌≤◌, Bool, true, nat_lt, List, [], ◌∷◌, ◌++◌}
-use Rattle.audit_rounds.proofs.Words.{filter, refl, sym, ap, ◌∙◌, arith, nat_tests, append_assoc, append-nil, Contains}
-use Rattle.audit_rounds.proofs.Words.{Option, Some, None, map-append, ConnectionState, Finding, Frame, Change, Item}
+-- The round over blocks need not go past the stop: what is left to do of connections makes their passes.
+use Rattle.audit_rounds.proofs.Words.{◌≡◌, ℕ, ◌+◌, ◌*◌, ◌^◌, ◌<◌, ◌≤◌, Bool, true, nat_lt, List, [], ◌∷◌, ◌++◌, filter}
+use Rattle.audit_rounds.proofs.Words.{refl, sym, ap, ◌∙◌, arith, nat_tests, append_assoc, append-nil, Contains, Option}
+use Rattle.audit_rounds.proofs.Words.{Some, None, map-append, ConnectionState, Finding, Frame, Change, Item}
 use Rattle.audit_rounds.proofs.Words.{connection_start, connection_after_all, block_run, in_order, upto_stop, is_shown}
 use Rattle.audit_rounds.proofs.Words.{shown, IsOrderly, IsOrderlyFrom, settings_run, changes_of, local_run, is_past}
 use Rattle.audit_rounds.proofs.Words.{pass, streams_of, place_number, joined, AreFrom, item_with, items_with, StopsAt}
 use Rattle.audit_rounds.proofs.Words.{IsLeast, IsPast, contains-none, shown-append, openings_of, streams_shown}
-use Rattle.audit_rounds.proofs.Words.{blocks_shown, AgreeWithin, IsAfterStreams, frames_within, ltb-true}
+use Rattle.audit_rounds.proofs.Words.{blocks_shown, AgreeWithin, IsAfterStreams, frames_within, ltb-true, zero, suc}
+use Rattle.audit_rounds.proofs.Words.{pos, ◌-◌, false, not, leb, map, take, length, get_or, All, Vec, Global}
+use Rattle.audit_rounds.proofs.Words.{length-map, get_or-map, length-orderly, IsStop, Block, BlockFits, items_in}
+use Rattle.audit_rounds.proofs.Words.{Prepared, AreAfterStreams, IsRest, AreRests, IsPrepared, IsRemaining}
+use Rattle.audit_rounds.proofs.Words.{AreRemaining, AreGoneThrough}
 use Rattle.std.proofs.lemmas.Bool.{cond_both}
-use Rattle.std.proofs.lemmas.List.Sorted.{IsPermutation-refl}
+use Rattle.std.proofs.lemmas.List.Sorted.{IsPermutation-refl, IsPartitionedBy-leb}
+use Rattle.std.specs.List.Sorted.{IsPartitionPoint, IsPartitionedBy}
+use Rattle.std.proofs.lemmas.Int.{ints}
+use Rattle.std.proofs.lemmas.List.{ext_get_or}
 use Rattle.audit_terms.specs.code.runs.States.{items_of}
 use Rattle.audit_terms.proofs.FindingOrder.{in_order-append_comm, in_order-alike}
 use Rattle.stop_desk.proofs.RoundCuts.{stops_join_lem}
 use Rattle.stop_desk.proofs.RoundMembers.{contains-each, filter-contains}
 use Rattle.stop_desk.proofs.RoundMerge.{cut-all}
+use Rattle.audit_terms.specs.code.Room.{HasRoom}
 use Rattle.audit_rounds.specs.laws.Settling.{blocks_within, RoundsSettle}
-use Rattle.audit_rounds.proofs.Jobs.{run-from}
+use Rattle.audit_rounds.proofs.Jobs.{run-ordered}
 use Rattle.audit_rounds.proofs.Items.{items_are_found_lem}
 use Rattle.audit_rounds.proofs.Parts.{orderly-filter}
 use Rattle.audit_rounds.proofs.Rounds.{rounds_make_pass_lem}
+use Rattle.audit_rounds.proofs.Lists.{some_of}
 
 -- ---- what lies past a stop does not count
 
@@ -86,7 +95,7 @@ past-shown c (Some place) now opened changes frames h found k =
     let past = frames_past (Some place) frames in
     let run = block_run now (items_with opened changes past) in
     let from = from-contains (place_number place + 1) run found
-    (run-from now (place_number place + 1) opened changes past (past-orderly place 0 frames h))
+    (run-ordered now (place_number place + 1) opened changes past (past-orderly place 0 frames h)).0
     (filter-contains (is_shown c) run found k).0 in
     omega arith
 
@@ -129,10 +138,8 @@ module _ (c : Bool) (frames : List Frame) (found : List Finding) (stop : Option 
   shown_back = shown c (block_run (connection_after_all connection_start front) back)
 
   both : blocks_shown c (front ∷ back ∷ []) ≡ shown_front ++ shown_back
-  both =
-      ap (λ l. shown c (block_run connection_start front ++ l))
-      (append-nil (block_run (connection_after_all connection_start front) back))
-      ∙ shown-append c (block_run connection_start front) _
+  both = rw (append-nil (block_run (connection_after_all connection_start front) back))
+      (shown-append c (block_run connection_start front) _)
 
   back-left : upto_stop (in_order (streams ++ shown_front))
       ≡ upto_stop (in_order (streams ++ (shown_front ++ shown_back)))
@@ -152,3 +159,159 @@ module _ (c : Bool) (frames : List Frame) (found : List Finding) (stop : Option 
 
 pub rounds_settle_lem : RoundsSettle
 rounds_settle_lem c frames found last stop opened h after e = e ∙ settles c frames found stop opened h after
+
+-- ---- the frames up to a number
+
+number-above : (low k : ℕ) (frames : List Frame) (d : Frame) → IsOrderlyFrom low frames → k < length frames
+    → low ≤ (get_or frames k d).number
+number-above low k [] d h l = absurd (omega arith)
+number-above low zero (frame ∷ frames) d h l = h.0
+number-above low (suc k) (frame ∷ frames) d h l =
+    let above = number-above (frame.number + 1) k frames d h.2 (omega arith) in omega (arith, h.0, above)
+
+numbers-rise : (low i j : ℕ) (frames : List Frame) (d : Frame) → IsOrderlyFrom low frames → i ≤ j → j < length frames
+    → (get_or frames i d).number ≤ (get_or frames j d).number
+numbers-rise low i j [] d h order l = absurd (omega arith)
+numbers-rise low zero j (frame ∷ frames) d h order l =
+    number-above frame.number j (frame ∷ frames) d (omega arith, h.1, h.2) l
+numbers-rise low (suc i) zero (frame ∷ frames) d h order l = absurd (omega arith)
+numbers-rise low (suc i) (suc j) (frame ∷ frames) d h order l =
+    numbers-rise (frame.number + 1) i j frames d h.2 (omega arith) (omega arith)
+
+pub frames-parted : (last : ℕ) (frames : List Frame) → IsOrderly frames
+    → IsPartitionedBy (λ (frame : Frame). leb frame.number last) frames
+frames-parted last frames h = IsPartitionedBy-leb (λ (frame : Frame). frame.number) frames last
+    (λ i j d order l. numbers-rise 0 i j frames d h order l)
+
+-- the elements before the point
+take-point : (test : Frame → Bool) (i : ℕ) (frames : List Frame) → i ≤ length frames
+    → IsPartitionPoint (λ frame. test frame ≡ true) (λ frame. test frame ≡ false) frames i
+    → take i frames ≡ filter test frames
+take-point test zero [] l point = refl
+take-point test zero (frame ∷ frames) l point =
+    rw (point.1 0 frame (omega arith) (omega arith)) (take-point test zero frames (omega arith)
+    (λ k d low below. absurd (omega arith), λ k d low below. point.1 (suc k) d (omega arith) (omega arith)))
+take-point test (suc i) [] l point = absurd (omega arith)
+take-point test (suc i) (frame ∷ frames) l point =
+    rw (
+      point.0 0 frame (omega arith) (omega arith),
+      take-point test i frames (omega arith) (
+        λ k d low below. point.0 (suc k) d (omega arith) (omega arith),
+        λ k d low below. point.1 (suc k) d (omega arith) (omega arith),
+      ),
+    ) refl
+
+not-above : (last number : ℕ) → leb number last ≡ not (nat_lt last number)
+not-above last number = grind (arith, nat_tests)
+
+-- the frames up to a number stand before the point
+pub within-point : (last i : ℕ) (frames : List Frame) → i ≤ length frames
+    → IsPartitionPoint (λ (frame : Frame). leb frame.number last ≡ true)
+    (λ (frame : Frame). leb frame.number last ≡ false)
+    frames i
+    → take i frames ≡ filter (λ (frame : Frame). not (nat_lt last frame.number)) frames
+within-point last i frames l point =
+    take-point (λ (frame : Frame). leb frame.number last) i frames l point
+    ∙ ap (λ test. filter test frames) (λ i (frame : Frame). not-above last frame.number i)
+
+-- where nothing stops, these are all frames
+pub all-within : (frames : List Frame) → frames ≡ frames_within None frames
+all-within [] = refl
+all-within (frame ∷ frames) = ap (λ fs. frame ∷ fs) (all-within frames)
+
+-- ---- one connection
+
+start-room : (n : ℕ) → n < 2 ^ 28 → HasRoom (2 ^ 60 - 2 ^ 32 * n) (pos 65535)
+start-room n l = (omega (arith, ints), omega (arith, ints))
+
+-- all frames of a connection fit its start
+pub start-fits : (frames : List Frame) (items : List Item) → IsOrderly frames → length items ≡ length frames
+    → BlockFits connection_start items
+start-fits frames items h e =
+    let l = length-orderly 0 frames (omega arith) h in
+    let n : length items < 2 ^ 28 = omega arith in
+    record { number = omega arith; client = start-room (length items) n; server = start-room (length items) n }
+
+module _ (credits_shown : Bool) (connection : Prepared) (stop : Option ℕ) (opened : List ℕ) (rest : Block)
+    (found : List Finding) (prepared : IsPrepared credits_shown connection) (is : IsRest connection stop opened rest)
+    (after : IsAfterStreams credits_shown connection.frames.now found stop opened) where
+  within-orderly : IsOrderly rest.frames.now
+  within-orderly = rw is.frames
+      (orderly-filter (λ (frame : Frame). not (is_past stop frame.number)) 0 connection.frames.now prepared.orderly)
+
+  one-remains : IsStop stop → IsRemaining rest stop found
+  one-remains place = record {
+    is_block = record {
+      frames = within-orderly;
+      opened = rw is.opened after.rising;
+      changes = rw is.changes prepared.changes_orderly;
+    };
+    fits = start-fits rest.frames.now (items_in rest) within-orderly
+        (length-map rest.frames.now (item_with rest.opened.now rest.changes.now));
+    place = place;
+    least = after.kept;
+  }
+
+  items-are : items_in rest
+      ≡ items_with opened (changes_of connection.frames.now) (frames_within stop connection.frames.now)
+  items-are = rw (is.opened, is.changes, prepared.changes, is.frames) refl
+
+  one-settles : (last : List Finding)
+      → upto_stop (in_order last)
+      ≡ upto_stop (in_order (found ++ shown credits_shown (block_run connection_start (items_in rest))))
+      → upto_stop (in_order last) ≡ shown credits_shown (pass connection.frames.now)
+  one-settles last e =
+      rounds_settle_lem credits_shown connection.frames.now found last stop opened prepared.orderly after
+      (rw items-are at e)
+
+-- ---- all connections of a batch
+
+module _ (credits_shown : Bool) (connections : List Prepared) (found : List (Vec Finding Global))
+    (stops : List (Option ℕ)) (opened : List (Vec ℕ Global)) (rests : List Block)
+    (prepared : All (IsPrepared credits_shown) connections)
+    (after : AreAfterStreams credits_shown connections found stops opened)
+    (are : AreRests connections stops opened rests) where
+  pub all-remain : AreRemaining rests stops found
+  all-remain =
+      let number = are.number in
+      let as_many = after.number in
+      let founds = after.founds in
+      let opens = after.opens in
+      record {
+        number = omega arith;
+        founds = omega arith;
+        each = λ n rest stop list l.
+            let inside : n < length connections = omega arith in
+            let connection = some_of connections 0 (omega arith) in
+            let numbers = some_of opened 0 (omega arith) in
+            one-remains credits_shown (get_or connections n connection) (get_or stops n stop)
+            (get_or opened n numbers).items (get_or rests n rest) (get_or found n list).items
+            (prepared n connection inside) (are.each n connection stop numbers rest inside)
+            (after.each n connection list stop numbers inside) (after.places n stop (omega arith));
+      }
+
+  pub all-settle : (last : List (Vec Finding Global)) → AreGoneThrough credits_shown rests found last
+      → map (λ (list : Vec Finding Global). upto_stop (in_order list.items)) last
+      ≡ map (λ (connection : Prepared). shown credits_shown (pass connection.frames.now)) connections
+  all-settle last gone =
+      let number = are.number in
+      let founds = after.founds in
+      let opens = after.opens in
+      let lasts = gone.number in
+      let settled = λ (list : Vec Finding Global). upto_stop (in_order list.items) in
+      let passed = λ (connection : Prepared). shown credits_shown (pass connection.frames.now) in
+      let long = length-map last settled in
+      let many = length-map connections passed in
+      ext_get_or [] (map settled last) (map passed connections) (omega arith) (λ n l.
+      let inside : n < length connections = omega arith in
+      let connection = some_of connections 0 (omega arith) in
+      let rest = some_of rests 0 (omega arith) in
+      let list = some_of last 0 (omega arith) in
+      let numbers = some_of opened 0 (omega arith) in
+      get_or-map settled last n list [] (omega arith)
+      ∙ one-settles credits_shown (get_or connections n connection) (get_or stops n None)
+      (get_or opened n numbers).items (get_or rests n rest) (get_or found n list).items
+      (prepared n connection inside) (are.each n connection None numbers rest inside)
+      (after.each n connection list None numbers inside) (get_or last n list).items
+      (gone.each n rest list list (omega arith))
+      ∙ sym (get_or-map passed connections n connection [] inside))

@@ -1,15 +1,11 @@
 -- What a stream shows by itself stands in order.
-use Rattle.audit_rounds.proofs.Words.{◌≡◌, ℕ, ◌+◌, ◌^◌, ◌<◌, ◌≤◌, Bool, List, [], ◌∷◌, map, ap, ◌∙◌, arith, Sides}
-use Rattle.audit_rounds.proofs.Words.{Frame, Change, Step, Stream, comes_after, in_order, shown, IsOrderly}
-use Rattle.audit_rounds.proofs.Words.{IsOrderlyFrom, initial_in_force, stream_run, idle_stream, stream_after}
-use Rattle.audit_rounds.proofs.Words.{stream_said, initial_after, in_order-ordered, in_order-append, ordered-in_order}
-use Rattle.audit_rounds.proofs.Words.{comes_after_is, AreFrom, at-in_order, from-append, from-at, from-from}
-use Rattle.audit_rounds.proofs.Words.{precedes-at}
-use Rattle.audit_rounds.proofs.Words.{in_order-shown}
+use Rattle.audit_rounds.proofs.Words.{◌≡◌, ℕ, ◌+◌, ◌^◌, ◌<◌, ◌≤◌, Bool, List, [], ◌∷◌, map, arith, Sides, Frame, Change}
+use Rattle.audit_rounds.proofs.Words.{Step, Stream, in_order, shown, IsOrderly, IsOrderlyFrom, initial_in_force}
+use Rattle.audit_rounds.proofs.Words.{stream_run, idle_stream, stream_after, stream_said, initial_after}
 use Rattle.audit_terms.specs.code.runs.Streams.{frame_step, with_change, steps_of, stream_run_from}
-use Rattle.audit_terms.proofs.OrderedLists.{IsInOrder}
 use Rattle.audit_terms.proofs.SaidPlaces.{at-stream}
 use Rattle.audit_core.proofs.StreamSteps.{with_change-cases}
+use Rattle.audit_rounds.proofs.Jobs.{StandFrom, ordered-shown, step-ordered}
 
 -- each number above the one before it, the first `low` or above
 abbrev RiseFrom : (low : ℕ) → List Step → Type 0
@@ -35,26 +31,18 @@ steps-rise frames (change ∷ changes) h =
 module _ (stream : ℕ) (small : stream < 2 ^ 31) where
   -- findings stand at their steps, so in order
   run-ordered : (initial : Sides ℕ) (entry : Stream) (low : ℕ) (steps : List Step) → RiseFrom low steps
-      → AreFrom low (stream_run_from stream initial entry steps)
-      × IsInOrder comes_after comes_after_is (stream_run_from stream initial entry steps)
+      → StandFrom low (stream_run_from stream initial entry steps)
   run-ordered initial entry low [] h = (tt, tt)
   run-ordered initial entry low (step ∷ steps) h =
-      let said = stream_said stream initial entry step in
-      let here = (at-in_order step.number said (at-stream stream initial entry step small)).within in
-      let after = stream_after stream initial entry step in
-      let (later, ordered) = run-ordered (initial_after step.change initial) after (step.number + 1) steps h.1 in (
-        from-append low (in_order said) _ (from-at low step.number _ h.0 here)
-            (from-from low (step.number + 1) _ (omega (arith, h.0)) later),
-        in_order-append comes_after comes_after_is (in_order said) _
-            (in_order-ordered comes_after comes_after_is said) ordered
-            (precedes-at step.number (in_order said) _ here later),
-      )
+      step-ordered low step.number (stream_said stream initial entry step) _ h.0
+      (at-stream stream initial entry step small)
+      (run-ordered (initial_after step.change initial) (stream_after stream initial entry step) (step.number + 1) steps
+      h.1)
 
   -- what is shown of a stream stands in order
   pub shown-ordered : (credits_shown : Bool) (frames : List Frame) (changes : List Change) → IsOrderly frames
       → in_order (shown credits_shown (stream_run stream frames changes))
       ≡ shown credits_shown (stream_run stream frames changes)
   shown-ordered credits_shown frames changes h =
-      in_order-shown credits_shown (stream_run stream frames changes)
-      ∙ ap (shown credits_shown) (ordered-in_order comes_after comes_after_is (stream_run stream frames changes)
-      (run-ordered initial_in_force.initial idle_stream 0 (steps_of frames changes) (steps-rise frames changes h)).1)
+      ordered-shown credits_shown (stream_run stream frames changes)
+      (run-ordered initial_in_force.initial idle_stream 0 (steps_of frames changes) (steps-rise frames changes h)).1

@@ -1,13 +1,15 @@
--- What is made of one stream, and of several.
-use Rattle.audit_rounds.proofs.Words.{◌≡◌, ℕ, ◌-◌, ◌^◌, ◌≤◌, ◌⊎◌, inl, inr, min, ⊎_elim, Bool, List, [], ◌∷◌}
-use Rattle.audit_rounds.proofs.Words.{◌++◌, All, get_or, flat_map, append-nil, append_assoc, Option, Some}
-use Rattle.audit_rounds.proofs.Words.{None, refl, sym, ap, ◌∙◌, arith, option_to_list, flat_map-append}
-use Rattle.audit_rounds.proofs.Words.{All-contains, All-append, All-nil, Contains-append_left, Finding, in_order, Asked}
-use Rattle.audit_rounds.proofs.Words.{IsRun, place_number, opened_up_to, IsPast, whole_is_cut_lem}
+-- What is made of one stream, of several, and of a job.
+use Rattle.audit_rounds.proofs.Words.{◌≡◌, ℕ, ◌-◌, ◌^◌, ◌≤◌, ◌⊎◌, inl, inr, min, ⊎_elim, Bool, List, [], ◌∷◌, ◌++◌, All}
+use Rattle.audit_rounds.proofs.Words.{get_or, append-nil, append_assoc, Option, Some, None, refl, sym, ap, arith}
+use Rattle.audit_rounds.proofs.Words.{option_to_list, All-contains, All-append, All-nil, Contains-append_left, Finding}
+use Rattle.audit_rounds.proofs.Words.{in_order, Asked, IsRun, place_number, opened_up_to, IsPast, whole_is_cut_lem}
 use Rattle.audit_rounds.proofs.Words.{RunLooks, Result, Ok, Err, IfOk, Frame, IsOrderly, shown, stream_run, Reaches}
-use Rattle.audit_rounds.proofs.Words.{stream_at_end, StreamRow, frames_at, Streams, lesser, IsWork}
-use Rattle.audit_rounds.proofs.Words.{IsRow, RowsLook, row_shown, row_opened, rows_shown, rows_opened}
+use Rattle.audit_rounds.proofs.Words.{stream_at_end, StreamRow, frames_at, Streams, lesser, IsWork, IsRow, RowsLook}
+use Rattle.audit_rounds.proofs.Words.{row_shown, row_opened, rows_shown, rows_opened, ◌<◌, take, drop, length, map}
+use Rattle.audit_rounds.proofs.Words.{slice_get, slice_get-get_or, get_or_from_slice_get, All-take, All-drop, Job}
+use Rattle.audit_rounds.proofs.Words.{IsCut, StreamJob, AreOpenedUpTo, length-map, IsJobOf, IsReady, job_of}
 use Rattle.std.proofs.lemmas.Bool.{cases_lt}
+use Rattle.std.proofs.lemmas.List.{flat_map_more}
 use Rattle.std.proofs.lemmas.List.Elements.{All-contains_itself, Contains-append_right}
 use Rattle.audit_terms.specs.code.runs.Look.{Looked}
 use Rattle.stop_desk.proofs.RoundMembers.{in_order-contains}
@@ -16,8 +18,10 @@ use Rattle.stream_credit.specs.declared.parts.StreamRun.{StreamRun}
 use Rattle.stream_credit.specs.code.Looks.{step_numbers}
 use Rattle.split_merge.specs.code.Split.{part_of}
 use Rattle.audit_rounds.specs.code.Streams.{RowLooks}
-use Rattle.audit_rounds.proofs.Jobs.{run-heeds, upto-cut}
-use Rattle.audit_rounds.proofs.Told.{agree-append, agree-opened, agree-reached}
+use Rattle.audit_rounds.specs.code.StreamJobs.{JobLooks, Makes}
+use Rattle.audit_rounds.specs.declared.stream_jobs.StreamsRound.{StreamsRound}
+use Rattle.audit_rounds.proofs.Jobs.{run-heeds, upto-cut, job-is}
+use Rattle.audit_rounds.proofs.Openings.{agree-append, agree-opened, agree-reached}
 use Rattle.audit_rounds.proofs.StreamOrder.{shown-ordered}
 
 -- ---- one stream
@@ -74,10 +78,6 @@ lesser-assoc (Some a) (Some b) None = refl
 lesser-assoc (Some a) (Some b) (Some c) = grind arith
 
 -- ---- one row more
-
-flat_map-more : {X Y : Type 0} (f : X → List Y) (xs : List X) (x : X)
-    → flat_map f (xs ++ x ∷ []) ≡ flat_map f xs ++ f x
-flat_map-more f xs x = flat_map-append f xs (x ∷ []) ∙ ap (λ r. flat_map f xs ++ r) (append-nil (f x))
 
 all-in_order : (P : Finding → Type 0) (xs : List Finding) → All P xs → All P (in_order xs)
 all-in_order P xs h k d l =
@@ -144,8 +144,8 @@ module _ {L : Type 0} (answers : L → List Finding → Option ℕ → L → Typ
         let first = reaches-one one other in
         let second = reaches-other one other in
         rw (
-          flat_map-more (row_shown credits_shown streams) rows row,
-          flat_map-more (λ row. option_to_list (row_opened streams row)) rows row,
+          ← flat_map_more (row_shown credits_shown streams) [] rows row,
+          ← flat_map_more (λ row. option_to_list (row_opened streams row)) [] rows row,
         ) (record {
           cut = cuts_join_lem whole own kept kept' (lesser one other) one other h.cut k.cut
               (λ place. past-reached one _ place first) (λ place. past-reached other _ place second);
@@ -191,3 +191,70 @@ module _ {L : Type 0} (answers : L → List Finding → Option ℕ → L → Typ
           rw e at (work-of_run answers before after (step_numbers row.stream frames streams.changes.now) whole
           run.findings.items run.upto run.last_look run.looks opening run.opened_at
           (shown-ordered row.stream is_row.in_range credits_shown frames streams.changes.now orderly) h k n)
+
+-- ---- a job
+
+-- the rows of a job
+abbrev pub rows_in : StreamJob → List StreamRow → List StreamRow
+rows_in job rows = take (job.to - job.from) (drop job.from rows)
+
+abbrev pub no_job : StreamJob
+no_job = record { connection = 0; from = 0; to = 0 }
+
+module _ (round : StreamsRound) (number : ℕ)
+    (inside : number < length (map (job_of round.credits_shown round.connections.now) round.plan.now)) where
+  abbrev connections : List Streams
+  connections = round.connections.now
+
+  abbrev job : StreamJob
+  job = get_or round.plan.now number no_job
+
+  -- the job is in the plan
+  pub job-planned : IsJobOf connections job
+  job-planned =
+      let long = length-map round.plan.now (job_of round.credits_shown connections) in
+      round.planned number no_job (omega arith)
+
+  module _ (streams : Streams) where
+    abbrev mine : Streams
+    mine = get_or connections job.connection streams
+
+    there : slice_get connections job.connection ≡ Some mine
+    there = slice_get-get_or connections job.connection streams job-planned.connection
+
+    -- its streams may be gone through
+    pub job-ready : IsReady mine
+    job-ready = round.ready job.connection streams job-planned.connection
+
+    module _ (rows : List StreamRow) (same : rows ≡ mine.split.now.rows.items) where
+      -- it ends within the rows
+      pub job-ends : job.to ≤ length rows
+      job-ends = rw same (job-planned.within mine there)
+
+      pub job-rows : All (IsRow mine) (rows_in job rows)
+      job-rows = All-take (IsRow mine) (job.to - job.from) (drop job.from rows)
+          (All-drop (IsRow mine) job.from rows (rw same job-ready.rows))
+
+      -- what a run of the rows kept is a cut of the job
+      pub job-cut : (one : Job) (upto : Option ℕ) (kept : List Finding)
+          → slice_get (map (job_of round.credits_shown connections) round.plan.now) number ≡ Some one
+          → IsCut (rows_shown round.credits_shown mine (rows_in job rows)) upto kept → IsCut one.findings upto kept
+      job-cut one upto kept is cut =
+          rw (job-is (job_of round.credits_shown connections) round.plan.now number one no_job is, there, ← same) cut
+
+      -- the openings that it tells are the job's
+      pub job-makes : (upto : Option ℕ) (made : List ℕ) → AreOpenedUpTo upto made (rows_opened mine (rows_in job rows))
+          → Makes connections round.plan.now number upto made
+      job-makes upto made opens own is =
+          rw (← get_or_from_slice_get round.plan.now number own no_job is, there, ← same) opens
+
+      -- the looks of the rows are those of the job
+      pub job-looks : (asked : List Asked) (upto : Option ℕ)
+          → RowsLook round.credits_shown mine (rows_in job rows) asked upto
+          → JobLooks round.credits_shown connections round.plan.now number asked upto
+      job-looks asked upto looks own other is at =
+          let same_job : job ≡ own = get_or_from_slice_get round.plan.now number own no_job is in
+          let at_job : slice_get connections job.connection ≡ Some other = rw same_job at in
+          let got = there in
+          let same_streams : mine ≡ other = cc in
+          rw (← same_job, ← same_streams, ← same) looks

@@ -44,9 +44,9 @@ pub use Rattle.audit_rounds.specs.code.Framed.{has_frames, spread}
 pub use Rattle.audit_rounds.specs.code.MadeReady.{AreMadeReady}
 pub use Rattle.audit_rounds.specs.code.Opened.{numbers_told, IsInOrder}
 pub use Rattle.audit_rounds.specs.code.Openings.{openings_of}
-pub use Rattle.audit_rounds.specs.code.Plans.{sum_job, block_job, whole_shown, shown_at, IsPlan, AreParts, where_of}
+pub use Rattle.audit_rounds.specs.code.Plans.{sum_job, block_job, whole_shown, shown_at, IsPlan, where_of}
 pub use Rattle.audit_rounds.specs.code.Prepared.{IsPrepared, found_before}
-pub use Rattle.audit_rounds.specs.code.Remaining.{IsRemaining}
+pub use Rattle.audit_rounds.specs.code.Remaining.{IsRemaining, AreRemaining, AreGoneThrough}
 pub use Rattle.audit_rounds.specs.code.Shown.{streams_shown, blocks_shown}
 pub use Rattle.audit_rounds.specs.code.StreamJobs.{IsReady, IsJobOf, job_of, job_at, of_rows, plan_from}
 pub use Rattle.audit_rounds.specs.code.StreamRound.{IsFirstStop, IsStreamsOf, changes_in}
@@ -55,6 +55,7 @@ pub use Rattle.audit_rounds.specs.code.Streams.{row_shown, row_opened}
 pub use Rattle.audit_rounds.specs.code.Within.{AgreeWithin, IsAfterStreams, frames_within}
 pub use Rattle.audit_rounds.specs.declared.block_plans.ReadyBlock.{ReadyBlock}
 pub use Rattle.audit_rounds.specs.declared.blocks.ConnectionBlock.{ConnectionBlock}
+pub use Rattle.audit_rounds.specs.declared.connections.MadeReady.{MadeReady}
 pub use Rattle.audit_rounds.specs.declared.prepared.Prepared.{Prepared}
 pub use Rattle.audit_rounds.specs.declared.stream_plan.StreamJob.{StreamJob}
 pub use Rattle.audit_rounds.specs.declared.streams.Streams.{Streams}
@@ -101,6 +102,7 @@ pub use Rattle.stop_desk.proofs.RoundMerge.{board_merges_lem}
 pub use Rattle.stop_desk.specs.code.Board.{Job, IsLeast, StopsAt, findings_of_parts, findings_of_jobs, IsCut, IsPast}
 pub use Rattle.stop_desk.specs.code.Heeding.{Heeds, RunLooks}
 pub use Rattle.stop_desk.specs.code.Laid.{part_of}
+pub use Rattle.stop_desk.specs.code.Settling.{HasSettled}
 pub use Rattle.stop_desk.specs.declared.parts.Part.{Part}
 pub use Rattle.stop_desk.specs.declared.settling.Settled.{Settled}
 pub use Rattle.settings_pair.specs.code.Changes.{AreOrderly, AreAcknowledged}

@@ -1,19 +1,15 @@
 //! The connections' own findings, by blocks of frames: the blocks of all connections are summed in one round, and gone
 //! through in another, each from the state that the sums of the blocks before it lead to.
 
-ghost use Rattle.std.specs.Prelude.{◌≡◌, ℕ, ◌++◌, ◌^◌, ◌<◌, All, IfOk, map, length, slice_index_or};
+ghost use Rattle.std.specs.Prelude.{◌≡◌, ◌^◌, ◌<◌, All, IfOk, length};
 ghost use Rattle.audit_terms.specs.Connection.{connection_start};
-ghost use Rattle.audit_terms.specs.code.runs.Blocks.{block_run};
-ghost use Rattle.audit_terms.specs.Finding.{in_order, upto_stop, shown};
 ghost use Rattle.stop_desk.specs.code.Stop.{IsStop};
-ghost use Rattle.stop_desk.specs.code.Board.{Job};
-ghost use Rattle.conn_scan.specs.code.Items.{items_in, IsBlock};
+ghost use Rattle.conn_scan.specs.code.Items.{IsBlock};
 ghost use Rattle.conn_scan.specs.code.Block.{BlockFits};
-ghost use Rattle.audit_rounds.specs.declared.blocks.ConnectionBlock.{ConnectionBlock as BlockTerm};
 ghost use Rattle.audit_rounds.specs.code.Blocks.{AreShort, AreSums, wholes};
 ghost use Rattle.audit_rounds.specs.code.Few.{RestsAreFew};
-ghost use Rattle.audit_rounds.specs.code.Plans.{AreReady, AreParts, IsPlan, block_job, shown_at};
-ghost use Rattle.audit_rounds.specs.code.Remaining.{IsRemaining};
+ghost use Rattle.audit_rounds.specs.code.Plans.{IsPlan, shown_at};
+ghost use Rattle.audit_rounds.specs.code.Remaining.{AreGoneThrough, AreRemaining};
 
 use crate::block_plans::{ReadyBlock, plan_of};
 use crate::block_round::BlockRound;
@@ -26,7 +22,7 @@ use audit_terms::{Finding, Place};
 use conn_scan::{Block, ConnSum};
 use std::alloc::{AllocError, Global};
 use std::thread::Threads;
-use stop_desk::{Gate, Part, settle};
+use stop_desk::{Gate, settle};
 
 /// The number of the round in which blocks are summed.
 const SUM_ROUND: u8 = 2;
@@ -43,7 +39,7 @@ fn sums_of<R: Threads + Sync, G: Gate>(
     requires places { All IsStop stops.now }
     requires short { AreShort blocks.now }
     requires few { length blocks.now < 2 ^ 32 }
-    requires within { All (λ (one : BlockTerm). one.connection < length stops.now) blocks.now }
+    requires within { All (λ one. one.connection < length stops.now) blocks.now }
     ensures { IfOk result (λ sums. AreSums blocks.now sums.items) }
 {
     let round = SumRound { blocks };
@@ -53,28 +49,6 @@ fn sums_of<R: Threads + Sync, G: Gate>(
         .into_iter()
         .map(|part| part.made)
         .collect(crew.setup.alloc)
-}
-
-/// What the planned blocks show, each as far as its connection's stop has it.
-fn parts_of<R: Threads + Sync, G: Gate>(
-    crew: &Crew<'_, R, G>,
-    stops: &[Option<Place>],
-    plan: &[ReadyBlock<'_>],
-) -> Result<Vec<Part<()>>, AllocError>
-    requires places { All IsStop stops.now }
-    requires ready { AreReady plan.now }
-    requires few { length plan.now < 2 ^ 32 }
-    requires within { All (λ (job : Job). job.connection < length stops.now)
-        (map (block_job crew.now.setup.credits_shown) plan.now) }
-    ensures { IfOk result (λ parts. AreParts (map (block_job crew.now.setup.credits_shown) plan.now) stops.now
-        parts.items) }
-{
-    let round = BlockRound {
-        plan,
-        credits_shown: crew.setup.credits_shown,
-    };
-    let settled = settle(&crew.team(), BLOCK_ROUND, stops, &round)?;
-    Ok(settled.parts)
 }
 
 /// The blocks of all connections of which anything may be shown, each with the connection before it.
@@ -106,22 +80,17 @@ pub(crate) fn rounds_over_blocks<R: Threads + Sync, G: Gate>(
     connections: &[Block<'_>],
     found: Vec<Vec<Finding>>,
 ) -> Result<Vec<Vec<Finding>>, AllocError>
-    requires stops { length stops.now ≡ length connections.now }
-    requires number { length connections.now ≡ length found.items }
     requires few { RestsAreFew connections.now }
-    requires each { (n : ℕ) (whole stop list : _) → n < length connections.now
-        → IsRemaining (slice_index_or connections.now n whole) (slice_index_or stops.now n stop)
-        (slice_index_or found.items n list).items }
-    ensures number { IfOk result (λ last. length last.items ≡ length found.items) }
-    ensures findings { IfOk result (λ last. (n : ℕ) (whole list list' : _) → n < length connections.now
-        → upto_stop (in_order (slice_index_or last.items n list).items)
-        ≡ upto_stop (in_order ((slice_index_or found.items n list').items
-        ++ shown crew.now.setup.credits_shown (block_run connection_start
-        (items_in (slice_index_or connections.now n whole)))))) }
+    requires remaining { AreRemaining connections.now stops.now found.items }
+    ensures { IfOk result (λ last. AreGoneThrough crew.now.setup.credits_shown connections.now found.items last.items) }
 {
     let plan = planned(crew, stops, connections)?;
-    let parts = parts_of(crew, stops, plan.as_slice())?;
+    let round = BlockRound {
+        plan: plan.as_slice(),
+        credits_shown: crew.setup.credits_shown,
+    };
+    let settled = settle(&crew.team(), BLOCK_ROUND, stops, &round)?;
     let none = none_of_each(crew.setup.alloc, connections.len())?;
-    let own = gathered(none, parts)?;
+    let own = gathered(none, settled.parts)?;
     merged_each(crew.setup.alloc, found, own)
 }

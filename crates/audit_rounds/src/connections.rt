@@ -1,14 +1,14 @@
 //! A batch of connections: each is made ready, then the rounds go over all of them, and what they found of each is put
 //! in order.
 
-ghost use Rattle.std.specs.Prelude.{◌≡◌, ◌<◌, ◌≤◌, All, IfOk, length, map};
+ghost use Rattle.std.specs.Prelude.{◌≡◌, ◌<◌, ◌≤◌, ◌++◌, All, IfOk, length, map};
 ghost use Rattle.std.specs.Thread.{IsSync};
 ghost use Rattle.audit_terms.specs.code.runs.Orderly.{IsOrderly};
 ghost use Rattle.audit_terms.specs.Finding.{in_order, upto_stop, shown};
 ghost use Rattle.audit_terms.specs.Pass.{pass};
 ghost use Rattle.audit_rounds.specs.code.Within.{frames_within};
 ghost use Rattle.audit_rounds.specs.code.MadeReady.{AreMadeReady};
-ghost use Rattle.audit_rounds.specs.code.Connections.{IsRest, AreRests};
+ghost use Rattle.audit_rounds.specs.code.Connections.{AreRests};
 ghost use Rattle.audit_rounds.specs.code.Batch.{AreReady, AreShown, IsBatch};
 
 use crate::block_rounds::rounds_over_blocks;
@@ -39,21 +39,10 @@ pub(crate) fn findings_of_batch<R: Threads + Sync, G: Gate>(
     ensures { IfOk result (λ found. AreShown crew.now.setup.credits_shown connections.now found.items) }
 {
     let framed = with_frames(crew.setup.alloc, connections)?;
-    let found = findings_of_framed(crew, framed.as_slice())?;
-    spread(crew.setup.alloc, connections, found)
-}
-
-/// What is shown of each of these connections, by the rounds.
-fn findings_of_framed<R: Threads + Sync, G: Gate>(
-    crew: &Crew<'_, R, G>,
-    connections: &[&[Frame]],
-) -> Result<Vec<Vec<Finding>>, AllocError>
-    requires { IsBatch connections.now }
-    ensures { IfOk result (λ found. AreShown crew.now.setup.credits_shown connections.now found.items) }
-{
-    let made = prepare_each(crew, connections)?;
+    let made = prepare_each(crew, framed.as_slice())?;
     let MadeReady { prepared, found } = made;
-    findings_of_prepared(crew, prepared.as_slice(), found)
+    let found = findings_of_prepared(crew, prepared.as_slice(), found)?;
+    spread(crew.setup.alloc, connections, found)
 }
 
 /// What is shown of each connection, of which this was found before the rounds.
@@ -83,9 +72,8 @@ fn prepare_in_turn<'a, R: Threads + Sync, G: Gate>(
     crew: &Crew<'_, R, G>,
     connections: &[&'a [Frame]],
 ) -> Result<MadeReady<'a>, AllocError>
-    requires { All (λ frames. IsOrderly frames.now) connections.now }
-    ensures { IfOk result (λ made. AreMadeReady crew.now.setup.credits_shown connections.now made.prepared.items
-        made.found.items) }
+    requires { IsBatch connections.now }
+    ensures { IfOk result (AreMadeReady crew.now.setup.credits_shown connections.now) }
 {
     let mut prepared = Vec::with_capacity(crew.setup.alloc, connections.len())?;
     let mut found = Vec::with_capacity(crew.setup.alloc, connections.len())?;
@@ -97,23 +85,33 @@ fn prepare_in_turn<'a, R: Threads + Sync, G: Gate>(
     Ok(MadeReady { prepared, found })
 }
 
-/// Where connections are halved: those before have about half of the frames.
-pub(crate) fn middle(connections: &[&[Frame]]) -> usize
-    requires { 2 ≤ length connections.now }
-    ensures some { 0 < result }
-    ensures fewer { result < length connections.now }
-{
+/// How many frames connections have together.
+pub(crate) fn together(connections: &[&[Frame]]) -> usize {
     let mut together = 0usize;
     for frames in connections {
         together = together.saturating_add(frames.len());
     }
+    together
+}
+
+/// The connections in two halves, with about as many frames each.
+pub(crate) fn in_halves<'a, 'b>(
+    connections: &'b [&'a [Frame]],
+) -> (&'b [&'a [Frame]], &'b [&'a [Frame]])
+    requires number { 2 ≤ length connections.now }
+    requires batch { IsBatch connections.now }
+    ensures whole { result.0.now ++ result.1.now ≡ connections.now }
+    ensures one { IsBatch result.0.now }
+    ensures other { IsBatch result.1.now }
+{
+    let half = together(connections) / 2;
     let mut before = connections[0].len();
     let mut count = 1;
-    while count < connections.len() - 1 && before < together / 2 {
+    while count < connections.len() - 1 && before < half {
         before = before.saturating_add(connections[count].len());
         count += 1;
     }
-    count
+    connections.split_at(count)
 }
 
 /// Makes each connection ready, halves of them side by side where there are workers, and answers what is found of each
@@ -122,28 +120,25 @@ fn prepare_each<'a, R: Threads + Sync, G: Gate>(
     crew: &Crew<'_, R, G>,
     connections: &[&'a [Frame]],
 ) -> Result<MadeReady<'a>, AllocError>
-    requires { All (λ frames. IsOrderly frames.now) connections.now }
-    ensures { IfOk result (λ made. AreMadeReady crew.now.setup.credits_shown connections.now made.prepared.items
-        made.found.items) }
+    requires { IsBatch connections.now }
+    ensures { IfOk result (AreMadeReady crew.now.setup.credits_shown connections.now) }
 {
     if crew.workers == 1 || connections.len() < 2 {
         return prepare_in_turn(crew, connections);
     }
-    let (front, back) = connections.split_at(middle(connections));
+    let (front, back) = in_halves(connections);
     let (rt, gate, setup) = (crew.rt, crew.gate, crew.setup);
     let few = crew.workers / 2;
     let others = crew.workers - few;
     let (one, other) = join(
         rt,
         || -> Result<MadeReady<'_>, AllocError>
-            requires { IsSync R.row × IsSync G.row × (0 < few) × All (λ frames. IsOrderly frames.now) front.now }
-            ensures { IfOk result (λ made. AreMadeReady setup.credits_shown front.entry.now made.prepared.items
-                made.found.items) }
+            requires { IsSync R.row × IsSync G.row × (0 < few) × IsBatch front.now }
+            ensures { IfOk result (AreMadeReady setup.credits_shown front.entry.now) }
         { prepare_each(&Crew::of(rt, gate, setup, few), front) },
         || -> Result<MadeReady<'_>, AllocError>
-            requires { IsSync R.row × IsSync G.row × (0 < others) × All (λ frames. IsOrderly frames.now) back.now }
-            ensures { IfOk result (λ made. AreMadeReady setup.credits_shown back.entry.now made.prepared.items
-                made.found.items) }
+            requires { IsSync R.row × IsSync G.row × (0 < others) × IsBatch back.now }
+            ensures { IfOk result (AreMadeReady setup.credits_shown back.entry.now) }
         { prepare_each(&Crew::of(rt, gate, setup, others), back) },
     );
     let mut made = one?;
@@ -167,18 +162,6 @@ fn frames_within<'a>(stop: &Option<Place>, frames: &'a [Frame]) -> &'a [Frame]
     }
 }
 
-/// What is left to do of a connection, of which this is known.
-fn rest_of<'a>(connection: &'a Prepared<'a>, stop: &Option<Place>, opened: &'a [u32]) -> Block<'a>
-    requires { IsOrderly connection.now.frames.now }
-    ensures { IsRest connection.now stop.now opened.now result }
-{
-    Block {
-        frames: frames_within(stop, connection.frames),
-        opened,
-        changes: connection.changes.as_slice(),
-    }
-}
-
 /// What is left to do of each connection: of its frames, as far as they matter, with what opens streams and what comes
 /// into force.
 fn rest_of_each<'a>(
@@ -194,8 +177,12 @@ fn rest_of_each<'a>(
 {
     let mut rests = Vec::with_capacity(alloc, connections.len())?;
     for n in 0..connections.len() {
-        let rest = rest_of(&connections[n], &stops[n], opened[n].as_slice());
-        rests.extend_from_slice(&[rest])?;
+        let connection = &connections[n];
+        rests.extend_from_slice(&[Block {
+            frames: frames_within(&stops[n], connection.frames),
+            opened: opened[n].as_slice(),
+            changes: connection.changes.as_slice(),
+        }])?;
     }
     Ok(rests)
 }

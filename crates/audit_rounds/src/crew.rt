@@ -2,7 +2,6 @@
 
 ghost use Rattle.std.specs.Prelude.{◌≡◌, ◌<◌};
 
-use crate::divisions::Division;
 use input_output::TableHash;
 use std::alloc::Global;
 use std::thread::Threads;
@@ -18,21 +17,6 @@ pub(crate) struct Setup {
     pub(crate) credits_shown: bool,
     ghost some_groups: { 0 < groups },
     ghost some_block: { 0 < block },
-}
-
-impl Setup {
-    /// This division, with 1 for 0.
-    pub(crate) fn of(alloc: Global, division: &Division, credits_shown: bool) -> Setup
-        ensures { result.credits_shown ≡ credits_shown }
-    {
-        Setup {
-            alloc,
-            groups: division.groups.max(1),
-            block: division.block.max(1),
-            hash: division.hash,
-            credits_shown,
-        }
-    }
 }
 
 /// Who goes over connections: so many workers, on threads of `rt`.

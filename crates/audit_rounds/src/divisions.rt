@@ -61,7 +61,13 @@ pub fn findings_of_each<R: Threads + Sync, G: Gate>(
     ensures { IfOk result (λ found. map (λ one. one.items) found.items
         ≡ map (λ frames. shown credits_shown (pass frames.now)) connections.now) }
 {
-    let setup = Setup::of(alloc, division, credits_shown);
+    let setup = Setup {
+        alloc,
+        groups: division.groups.max(1),
+        block: division.block.max(1),
+        hash: division.hash,
+        credits_shown,
+    };
     let crew = Crew::of(rt, gate, setup, division.workers.max(1));
     let mut all = Vec::with_capacity(alloc, connections.len())?;
     let mut done = 0;

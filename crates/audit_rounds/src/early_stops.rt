@@ -23,12 +23,10 @@ const FRONTS: usize = 32;
 fn front_of<'a>(frames: &'a [Frame]) -> &'a [Frame]
     ensures { result.now ≡ front_of frames.now }
 {
-    let length = if frames.len() < LONG {
-        0
-    } else {
-        frames.len() / FRONTS
-    };
-    &frames[..length]
+    if frames.len() < LONG {
+        return &[];
+    }
+    &frames[..frames.len() / FRONTS]
 }
 
 /// What is gone through first of each connection.
@@ -98,11 +96,6 @@ fn choose_each(
         .collect(alloc)
 }
 
-/// Is a front gone through first of one of these connections?
-fn is_one_long(connections: &[&[Frame]]) -> bool {
-    connections.iter().any(|frames| frames.len() >= LONG)
-}
-
 /// What is shown of each connection of a batch. Where one is long, fronts are gone through first.
 pub(crate) fn findings_by_fronts<R: Threads + Sync, G: Gate>(
     crew: &Crew<'_, R, G>,
@@ -111,7 +104,7 @@ pub(crate) fn findings_by_fronts<R: Threads + Sync, G: Gate>(
     requires { IsBatch connections.now }
     ensures { IfOk result (λ found. AreShown crew.now.setup.credits_shown connections.now found.items) }
 {
-    if !is_one_long(connections) {
+    if connections.iter().all(|frames| frames.len() < LONG) {
         return findings_of_batch(crew, connections);
     }
     let fronts = fronts_of(crew.setup.alloc, connections)?;

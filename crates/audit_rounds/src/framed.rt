@@ -33,10 +33,7 @@ fn next_for(alloc: Global, frames: &[Frame], lists: &mut IntoIter<Vec<Finding>>)
     if frames.is_empty() {
         return Vec::new(alloc);
     }
-    match lists.next() {
-        Some(list) => list,
-        None => Vec::new(alloc),
-    }
+    lists.next().unwrap_or(Vec::new(alloc))
 }
 
 /// A list for each connection: the next of these for one that has frames, an empty one for one that has none.

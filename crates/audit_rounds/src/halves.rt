@@ -1,11 +1,11 @@
 //! Many short connections go through the rounds in halves, side by side: no part of the work is then left to one
 //! thread, and threads start once.
 
-ghost use Rattle.std.specs.Prelude.{◌≡◌, ◌<◌, ◌≤◌, ◌++◌, IfOk, length};
+ghost use Rattle.std.specs.Prelude.{◌<◌, IfOk};
 ghost use Rattle.std.specs.Thread.{IsSync};
 ghost use Rattle.audit_rounds.specs.code.Batch.{AreShown, IsBatch};
 
-use crate::connections::middle;
+use crate::connections::{in_halves, together};
 use crate::crew::Crew;
 use crate::early_stops::findings_by_fronts;
 use audit_terms::{Finding, Frame};
@@ -20,24 +20,8 @@ const MANY: usize = 64;
 fn are_short(workers: u32, connections: &[&[Frame]]) -> bool
     requires { 0 < workers }
 {
-    let mut together = 0usize;
-    let mut longest = 0;
-    for frames in connections {
-        together = together.saturating_add(frames.len());
-        longest = longest.max(frames.len());
-    }
-    longest <= together / workers as usize / 4
-}
-
-/// The connections in two halves, with about as many frames each.
-fn in_halves<'a, 'b>(connections: &'b [&'a [Frame]]) -> (&'b [&'a [Frame]], &'b [&'a [Frame]])
-    requires number { 2 ≤ length connections.now }
-    requires batch { IsBatch connections.now }
-    ensures whole { result.0.now ++ result.1.now ≡ connections.now }
-    ensures one { IsBatch result.0.now }
-    ensures other { IsBatch result.1.now }
-{
-    connections.split_at(middle(connections))
+    let most = together(connections) / workers as usize / 4;
+    connections.iter().all(|frames| frames.len() <= most)
 }
 
 /// What is shown of each connection of a batch.

@@ -18,11 +18,13 @@ pub fn rounds_settle()
 {}
 
 /// The frames that open their streams in the pass are the HEADERS whose numbers the streams by themselves tell.
+#[tactic(auto, using(crate::proofs::Openings::openings_are_found_lem))]
 pub fn openings_are_found()
     ensures { OpeningsAreFound }
 {}
 
 /// So the items of the pass are found from those numbers and the connection's changes.
+#[tactic(auto, using(crate::proofs::Items::items_are_found_lem))]
 pub fn items_are_found()
     ensures { ItemsAreFound }
 {}
@@ -35,6 +37,7 @@ pub fn openings_are_told()
 
 /// Where the pass over a front of the frames shows an error of the connection, the pass over all of them shows the
 /// same.
+#[tactic(auto, using(crate::proofs::EarlyStop::fronts_settle_lem))]
 pub fn fronts_settle()
     ensures { FrontsSettle }
 {}

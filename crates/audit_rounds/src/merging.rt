@@ -9,13 +9,6 @@ use audit_terms::{Finding, put_in_order};
 use itertools::Itertools;
 use std::alloc::{AllocError, Global};
 
-/// Does the first finding stand after the second?
-fn comes_after(x: &Finding, y: &Finding) -> bool
-    ensures { result ≡ comes_after x.now y.now }
-{
-    x.compare(y).is_gt()
-}
-
 /// The findings of two runs that are in order: always the one next that stands first of both.
 fn merged_runs(
     alloc: Global,
@@ -26,7 +19,7 @@ fn merged_runs(
 {
     found
         .into_iter()
-        .merge_by(more, |x, y| !comes_after(x, y))
+        .merge_by(more, |x, y| !x.compare(y).is_gt())
         .collect(alloc)
 }
 

@@ -1,32 +1,12 @@
 //! Which frames open streams, connection by connection, as the parts of the round over streams and the splits tell.
 
-ghost use Rattle.std.specs.Global.{Global as GlobalTerm};
-ghost use Rattle.std.specs.Prelude.{◌≡◌, ℕ, ◌<◌, ◌++◌, All, IfOk, OnOk, Vec as VecTerm, length, slice_index_or};
-ghost use Rattle.stop_desk.specs.declared.parts.Part.{Part as PartTerm};
+ghost use Rattle.std.specs.Prelude.{◌≡◌, ℕ, ◌<◌, ◌++◌, All, IfOk, OnOk, length, slice_index_or};
 ghost use Rattle.audit_rounds.specs.code.Opened.{numbers_told, IsInOrder};
 
 use crate::gathering::none_of_each;
 use crate::prepared::Prepared;
 use std::alloc::{AllocError, Global};
 use stop_desk::Part;
-
-/// The numbers that the parts tell of each connection, one part after the other.
-fn told_of_each(
-    alloc: Global,
-    connections: usize,
-    parts: &[Part<Vec<u32>>],
-) -> Result<Vec<Vec<u32>>, AllocError>
-    requires { All (λ (part : PartTerm (VecTerm ℕ GlobalTerm)). part.connection < connections) parts.now }
-    ensures number { IfOk result (λ all. length all.items ≡ connections) }
-    ensures each { IfOk result (λ all. (n : ℕ) (list : _) → n < connections
-        → (slice_index_or all.items n list).items ≡ numbers_told n parts.now) }
-{
-    let mut all = none_of_each(alloc, connections)?;
-    for part in parts {
-        all[part.connection].extend_from_slice(part.made.as_slice())?;
-    }
-    Ok(all)
-}
 
 /// Adds the numbers that a split tells, of the frames that open quiet streams, and puts all of them in order.
 fn with_quiet(told: &mut Vec<u32>, quiet: &[u32]) -> Result<(), AllocError>
@@ -43,13 +23,16 @@ pub(crate) fn opened_each(
     connections: &[Prepared<'_>],
     parts: &[Part<Vec<u32>>],
 ) -> Result<Vec<Vec<u32>>, AllocError>
-    requires { All (λ (part : PartTerm (VecTerm ℕ GlobalTerm)). part.connection < length connections.now) parts.now }
+    requires { All (λ part. part.connection < length connections.now) parts.now }
     ensures number { IfOk result (λ all. length all.items ≡ length connections.now) }
     ensures each { IfOk result (λ all. (n : ℕ) (list : _) (connection : _) → n < length connections.now
         → IsInOrder (numbers_told n parts.now ++ (slice_index_or connections.now n connection).split.opened.items)
         (slice_index_or all.items n list).items) }
 {
-    let mut all = told_of_each(alloc, connections.len(), parts)?;
+    let mut all = none_of_each(alloc, connections.len())?;
+    for part in parts {
+        all[part.connection].extend_from_slice(part.made.as_slice())?;
+    }
     for (n, connection) in connections.iter().enumerate() {
         with_quiet(&mut all[n], connection.split.opened.as_slice())?;
     }

@@ -46,10 +46,8 @@ fn faults_and_split<R: Threads + Sync, G: Gate>(
     ensures faults { IfOk result.0 (λ found. found.items ≡ local_run frames.now) }
     ensures split { IfOk result.1 (IsSplit crew.now.setup.credits_shown changes.now frames.now) }
 {
-    let alloc = crew.setup.alloc;
-    let hash = crew.setup.hash;
+    let (rt, alloc, hash) = (crew.rt, crew.setup.alloc, crew.setup.hash);
     let credits_shown = crew.setup.credits_shown;
-    let rt = crew.rt;
     if crew.workers == 1 || frames.len() < MANY {
         return (
             local_faults(rt, alloc, 1, frames),
@@ -83,15 +81,13 @@ pub(crate) fn prepare<'a, R: Threads + Sync, G: Gate>(
     ensures found { IfOk result (λ made. made.1.items ≡ found_before made.0) }
 {
     let mut pairs = pair(crew.setup.alloc, frames)?;
-    let changes = pairs.changes.as_slice();
-    let (found, split) = faults_and_split(crew, changes, frames);
+    let (found, split) = faults_and_split(crew, pairs.changes.as_slice(), frames);
     let mut found = found?;
-    let split = split?;
     found.append(&mut pairs.findings)?;
     let prepared = Prepared {
         frames,
         changes: pairs.changes,
-        split,
+        split: split?,
     };
     Ok((prepared, found))
 }

@@ -1,9 +1,8 @@
 //! Which groups of streams the round over streams goes through.
 
-ghost use Rattle.std.specs.Prelude.{◌≡◌, ◌++◌, ◌^◌, ◌<◌, ◌≤◌, All, IfOk, OnOk, length, map};
-ghost use Rattle.split_merge.specs.code.Groups.{groups};
+ghost use Rattle.std.specs.Prelude.{◌≡◌, ◌^◌, ◌<◌, ◌≤◌, All, IfOk, length};
 ghost use Rattle.audit_rounds.specs.code.Few.{RowsAreFew};
-ghost use Rattle.audit_rounds.specs.code.StreamJobs.{IsReady, job_at, plan_from};
+ghost use Rattle.audit_rounds.specs.code.StreamJobs.{IsReady, plan_from};
 
 use crate::streams::Streams;
 use split_merge::groups;
@@ -15,24 +14,6 @@ pub(crate) struct StreamJob {
     pub(crate) connection: usize,
     pub(crate) from: usize,
     pub(crate) to: usize,
-}
-
-/// Adds the jobs of one connection.
-fn add_jobs(
-    plan: &mut Vec<StreamJob>,
-    connection: usize,
-    ranges: &[(usize, usize)],
-) -> Result<(), AllocError>
-    ensures { OnOk result (plan.new.items ≡ plan.old.items ++ map (job_at connection) ranges.now) }
-{
-    for range in ranges {
-        plan.push(StreamJob {
-            connection,
-            from: range.0,
-            to: range.1,
-        })?;
-    }
-    Ok(())
 }
 
 /// So many groups of the streams of each connection at most, one connection after the other.
@@ -50,7 +31,13 @@ pub(crate) fn stream_plan(
     let mut plan = Vec::new(alloc);
     for (connection, streams) in connections.iter().enumerate() {
         let ranges = groups(alloc, streams.split.rows.len(), count)?;
-        add_jobs(&mut plan, connection, ranges.as_slice())?;
+        for range in ranges.as_slice() {
+            plan.push(StreamJob {
+                connection,
+                from: range.0,
+                to: range.1,
+            })?;
+        }
     }
     Ok(plan)
 }

@@ -1,11 +1,8 @@
 //! The round over streams: each job is a group of the streams of one connection.
 
-ghost use Rattle.std.specs.Prelude.{◌≡◌, ◌<◌, All, IfOk, length};
-ghost use Rattle.stop_desk.specs.code.Stop.{IsStop};
-ghost use Rattle.audit_rounds.specs.code.StreamJobs.{IsReady};
+ghost use Rattle.std.specs.Prelude.{IfOk};
 ghost use Rattle.audit_rounds.specs.code.Batch.{AreReady};
-ghost use Rattle.audit_rounds.specs.code.Few.{RowsAreFew};
-ghost use Rattle.audit_rounds.specs.code.AfterStreams.{AreAfterStreams, HaveSettled, HaveSettledOver};
+ghost use Rattle.audit_rounds.specs.code.AfterStreams.{AreAfterStreams, HaveSettledOver};
 
 use crate::beginnings::{changes_each, opening_stops, streams_each};
 use crate::crew::Crew;
@@ -14,7 +11,6 @@ use crate::opened::opened_each;
 use crate::prepared::Prepared;
 use crate::stream_jobs::StreamsRound;
 use crate::stream_plan::stream_plan;
-use crate::streams::Streams;
 use audit_terms::{Finding, Place};
 use std::alloc::AllocError;
 use std::thread::Threads;
@@ -34,28 +30,6 @@ pub(crate) struct AfterStreams {
     pub(crate) opened: Vec<Vec<u32>>,
 }
 
-/// What is found of the streams of these connections, and where each stops.
-fn settled_streams<R: Threads + Sync, G: Gate>(
-    crew: &Crew<'_, R, G>,
-    stops: &[Option<Place>],
-    connections: &[Streams<'_>],
-) -> Result<Settled<Vec<u32>>, AllocError>
-    requires places { All IsStop stops.now }
-    requires number { length stops.now ≡ length connections.now }
-    requires ready { All IsReady connections.now }
-    requires few { RowsAreFew connections.now }
-    ensures { IfOk result (λ settled. HaveSettled crew.now.setup.credits_shown crew.now.setup.groups connections.now
-        stops.now settled) }
-{
-    let plan = stream_plan(crew.setup.alloc, crew.setup.groups as usize, connections)?;
-    let round = StreamsRound {
-        connections,
-        plan: plan.as_slice(),
-        credits_shown: crew.setup.credits_shown,
-    };
-    settle(&crew.team(), STREAM_ROUND, stops, &round)
-}
-
 /// What is found of the streams of connections that are ready, of each of which this was found before.
 fn settled_over<R: Threads + Sync, G: Gate>(
     crew: &Crew<'_, R, G>,
@@ -69,7 +43,14 @@ fn settled_over<R: Threads + Sync, G: Gate>(
     let stops = opening_stops(crew.setup.alloc, found)?;
     let changes = changes_each(crew.setup.alloc, connections)?;
     let streams = streams_each(crew.setup.alloc, connections, changes.as_slice())?;
-    settled_streams(crew, stops.as_slice(), streams.as_slice())
+    let streams = streams.as_slice();
+    let plan = stream_plan(crew.setup.alloc, crew.setup.groups as usize, streams)?;
+    let round = StreamsRound {
+        connections: streams,
+        plan: plan.as_slice(),
+        credits_shown: crew.setup.credits_shown,
+    };
+    settle(&crew.team(), STREAM_ROUND, stops.as_slice(), &round)
 }
 
 /// Goes through the streams of all connections, of each of which this was found before.

@@ -1,5 +1,5 @@
 -- Settings are the same after they were kept in words.
-use Rattle.std.proofs.Common.{◌≡◌, ℕ, suc, ◌+◌, ◌*◌, ◌/◌, ◌%◌, ◌≤◌, Option, None, Some, refl, ap, sym, subst, ◌∙◌}
+use Rattle.std.proofs.Common.{◌≡◌, ℕ, ◌+◌, ◌*◌, ◌/◌, ◌%◌, ◌≤◌, Option, refl, ap, sym, subst, ◌∙◌}
 use Rattle.std.proofs.Common.{arith}
 use Rattle.std.specs.Prelude.{unwrap_or}
 use Rattle.audit_terms.specs.declared.settings.Settings.{Settings}
@@ -7,18 +7,13 @@ use Rattle.audit_terms.specs.declared.settings.PackedSettings.TheInside.{Inside}
 use Rattle.audit_terms.specs.code.Packing.{one_more, one_less, mark, marked, packed, unpacked, IsPacked}
 
 back : (value : Option ℕ) → one_less (one_more value) ≡ value
-back None = refl
-back (Some value) =
-    let next : value + 1 ≡ suc value = omega arith in
-    ap one_less next
+back value = grind arith
 
 kept : (value : Option ℕ) → marked (mark value) (unwrap_or value 0) ≡ value
-kept None = refl
-kept (Some value) = refl
+kept value = grind arith
 
 little : (value : Option ℕ) → mark value ≤ 1
-little None = omega arith
-little (Some value) = omega arith
+little value = grind arith
 
 same : {a b c d a' b' c' d' : Option ℕ} → a ≡ a' → b ≡ b' → c ≡ c' → d ≡ d' →
     (let left : Settings = record { push = a; initial = b; max_frame = c; bad = d } in

@@ -1,7 +1,6 @@
 -- Places stand in the order of their frame numbers, ranks and streams.
 use Rattle.std.proofs.Common.{◌≡◌, ℕ, ◌<◌, refl, sym, arith}
 use Rattle.std.specs.declared.cmp.Ordering.{Ordering}
-use Rattle.std.specs.declared.cmp.Ordering.TheVariants.{Less, Equal, Greater}
 use Rattle.std.specs.Ordering.{nat_cmp, ordering_then, MatchOrdering}
 use Rattle.std.specs.Cmp.{ranked, nat_cmp_is}
 use Rattle.audit_terms.specs.Place.{place_of}
@@ -17,13 +16,7 @@ module _ (number rank stream number' rank' stream' : ℕ) (here : IsPlaceable nu
       (place_of number rank stream < place_of number' rank' stream')
       (place_of number rank stream ≡ place_of number' rank' stream')
       (place_of number' rank' stream' < place_of number rank stream)
-  by_parts Less b c p q r = omega arith
-  by_parts Greater b c p q r = omega arith
-  by_parts Equal Less c p q r = omega arith
-  by_parts Equal Greater c p q r = omega arith
-  by_parts Equal Equal Less p q r = omega arith
-  by_parts Equal Equal Equal p q r = omega arith
-  by_parts Equal Equal Greater p q r = omega arith
+  by_parts a b c p q r = grind arith
 
   pub nat_cmp-place_of : nat_cmp (place_of number rank stream) (place_of number' rank' stream')
       ≡ ordering_then (nat_cmp number number') (ordering_then (nat_cmp rank rank') (nat_cmp stream stream'))

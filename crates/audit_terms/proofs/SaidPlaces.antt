@@ -1,21 +1,16 @@
 -- What is said at a frame has the frame's number, and what has a lower number stands before.
 use Rattle.std.proofs.Common.{◌≡◌, ℕ, ℤ, pos, ◌+◌, ◌*◌, ◌^◌, ◌<◌, ◌≤◌, Bool, true, false, List, [], ◌∷◌, ◌++◌, refl}
-use Rattle.std.proofs.Common.{sym, ap, arith, lt-ltb, le-ltb, Option, Some, None, lit≤, if◌then◌else◌}
+use Rattle.std.proofs.Common.{sym, arith, Option, Some, None, if◌then◌else◌}
 use Rattle.std.specs.declared.cmp.Ordering.TheVariants.{Less}
 use Rattle.std.specs.Cmp.{nat_cmp_is}
 use Rattle.std.specs.List.{AllByRecursion}
+use Rattle.std.proofs.lemmas.Bool.{cond_both}
+use Rattle.std.proofs.lemmas.Bool.Decides.{nat_tests}
 use Rattle.audit_terms.specs.declared.sides.Side.{Side}
 use Rattle.audit_terms.specs.declared.sides.Side.TheVariants.{Client, Server}
 use Rattle.audit_terms.specs.declared.sides.Sides.{Sides}
 use Rattle.audit_terms.specs.declared.kinds.Kind.{Kind}
-use Rattle.audit_terms.specs.declared.kinds.Kind.TheVariants.{BadPreface, BrokenBlock, TooLong, WrongStream, WrongSize}
-use Rattle.audit_terms.specs.declared.kinds.Kind.TheVariants.{BadPadding, BadSetting, Push, NotOpened, IdNotGreater}
-use Rattle.audit_terms.specs.declared.kinds.Kind.TheVariants.{ZeroConnectionGrant, ConnectionOverflow, SettingOverflow}
-use Rattle.audit_terms.specs.declared.kinds.Kind.TheVariants.{LongFrame, AfterEnd, ConnectionOverrun, StreamOverrun}
-use Rattle.audit_terms.specs.declared.kinds.Kind.TheVariants.{ZeroStreamGrant, StreamOverflow, UnmatchedAck}
-use Rattle.audit_terms.specs.declared.kinds.Kind.TheVariants.{BadPriority, ConnectionStallEnd, ConnectionStallBegin}
-use Rattle.audit_terms.specs.declared.kinds.Kind.TheVariants.{StreamStallEnd, StreamStallBegin, ConnectionCredit}
-use Rattle.audit_terms.specs.declared.kinds.Kind.TheVariants.{StreamCredit}
+use Rattle.audit_terms.specs.declared.kinds.Kind.TheVariants as K
 use Rattle.audit_terms.specs.declared.frames.Body.{Body}
 use Rattle.audit_terms.specs.declared.frames.Body.TheVariants.{Settings as SettingsBody, Unreadable}
 use Rattle.audit_terms.specs.declared.frames.Frame.{Frame}
@@ -58,11 +53,9 @@ at-append n xs ys p q = record { within = within-append (n * 2 ^ 36) (n * 2 ^ 36
 within-put : (low high : ℕ) (x : Finding) (xs : List Finding) → low ≤ x.place → x.place < high → AreWithin low high xs →
     AreWithin low high (put_by comes_after x xs)
 within-put low high x [] p q h = (p, q, tt)
-within-put low high x (y ∷ ys) p q h = step _ refl (within-put low high x ys p q h.2) where
-  step : (b : Bool) → comes_after x y ≡ b → AreWithin low high (put_by comes_after x ys) →
-      AreWithin low high (put_by comes_after x (y ∷ ys))
-  step true e ih = rw e (h.0, h.1, ih)
-  step false e ih = rw e (p, q, h)
+within-put low high x (y ∷ ys) p q h =
+    cond_both (comes_after x y) _ _ (AreWithin low high) (λ _. (h.0, h.1, within-put low high x ys p q h.2))
+    (λ _. (p, q, h))
 
 within-in_order : (low high : ℕ) (xs : List Finding) → AreWithin low high xs → AreWithin low high (in_order xs)
 within-in_order low high [] h = tt
@@ -79,33 +72,7 @@ at-cons : (n : ℕ) (x : Finding) (xs : List Finding) → n * 2 ^ 36 ≤ x.place
 at-cons n x xs p q h = record { within = (p, q, h.within) }
 
 pub rank-small : (kind : Kind) → rank_of kind ≤ 26
-rank-small BadPreface = lit≤ tt
-rank-small BrokenBlock = lit≤ tt
-rank-small TooLong = lit≤ tt
-rank-small WrongStream = lit≤ tt
-rank-small WrongSize = lit≤ tt
-rank-small BadPadding = lit≤ tt
-rank-small BadSetting = lit≤ tt
-rank-small Push = lit≤ tt
-rank-small NotOpened = lit≤ tt
-rank-small IdNotGreater = lit≤ tt
-rank-small ZeroConnectionGrant = lit≤ tt
-rank-small ConnectionOverflow = lit≤ tt
-rank-small SettingOverflow = lit≤ tt
-rank-small LongFrame = lit≤ tt
-rank-small AfterEnd = lit≤ tt
-rank-small ConnectionOverrun = lit≤ tt
-rank-small StreamOverrun = lit≤ tt
-rank-small ZeroStreamGrant = lit≤ tt
-rank-small StreamOverflow = lit≤ tt
-rank-small UnmatchedAck = lit≤ tt
-rank-small BadPriority = lit≤ tt
-rank-small ConnectionStallEnd = lit≤ tt
-rank-small ConnectionStallBegin = lit≤ tt
-rank-small StreamStallEnd = lit≤ tt
-rank-small StreamStallBegin = lit≤ tt
-rank-small ConnectionCredit = lit≤ tt
-rank-small StreamCredit = lit≤ tt
+rank-small kind = grind arith
 
 pub at-finding : (kind : Kind) (n stream : ℕ) (side : Side) (value : ℤ) (xs : List Finding) → stream < 2 ^ 31 →
     AreAt n xs →
@@ -133,20 +100,18 @@ zero-small = omega arith
 
 -- what is said of a frame by itself
 module _ (frame : Frame) (h : frame.stream < 2 ^ 31) where
+  at-fault : (kind : Kind) (value : ℕ) → AreAt frame.number (fault kind frame value ∷ [])
+  at-fault kind value = at-finding kind frame.number frame.stream frame.side (pos value) [] h (at-nil _)
+
   at-reading_fault : (kind : Kind) (value : ℕ) → AreAt frame.number (reading_fault kind frame value)
-  at-reading_fault WrongSize value =
-      at-finding WrongSize frame.number frame.stream frame.side (pos value) [] h (at-nil _)
-  at-reading_fault BadPadding value =
-      at-finding BadPadding frame.number frame.stream frame.side (pos value) [] h (at-nil _)
-  at-reading_fault BadPriority value =
-      at-finding BadPriority frame.number frame.stream frame.side (pos value) [] h (at-nil _)
-  at-reading_fault _ value = at-nil _
+  at-reading_fault K.WrongSize = at-fault K.WrongSize
+  at-reading_fault K.BadPadding = at-fault K.BadPadding
+  at-reading_fault K.BadPriority = at-fault K.BadPriority
+  at-reading_fault _ = λ value. at-nil _
 
   at-body : (body : Body) → AreAt frame.number (body_said frame body)
   at-body (Unreadable kind value) = at-reading_fault kind value
-  at-body (SettingsBody words) =
-      at-say_of frame.number (λ identifier. fault BadSetting frame identifier ∷ []) words.bad
-      (λ identifier. at-finding BadSetting frame.number frame.stream frame.side (pos identifier) [] h (at-nil _))
+  at-body (SettingsBody words) = at-say_of frame.number _ words.bad (at-fault K.BadSetting)
   at-body _ = at-nil _
 
   pub at-local : (previous : Option Frame) → AreAt frame.number (local_said previous frame)
@@ -241,12 +206,10 @@ IsFrom number found = number ≤ place_number found.place
 
 none-before : (number : ℕ) (a : List Finding) → AllByRecursion (IsFrom number) a → found_before number a ≡ []
 none-before number [] h = refl
-none-before number (x ∷ a) h = rw (le-ltb (place_number x.place) number h.0) (none-before number a h.1)
+none-before number (x ∷ a) h = grind (arith, nat_tests, h.0, none-before number a h.1)
 
 -- what stands before a frame, of what stands below it and what does not
 pub before-front : (low number : ℕ) (a b : List Finding) → low ≤ number → AllByRecursion (IsBelow low) a
     → AllByRecursion (IsFrom number) b → found_before number (a ++ b) ≡ a
 before-front low number [] b le h k = none-before number b k
-before-front low number (x ∷ a) b le h k =
-    let below = h.0 in
-    rw (lt-ltb (place_number x.place) number (omega arith)) (ap (λ l. x ∷ l) (before-front low number a b le h.1 k))
+before-front low number (x ∷ a) b le h k = grind (arith, nat_tests, h.0, before-front low number a b le h.1 k)

@@ -1,12 +1,14 @@
 -- How a watch goes from step to step.
-use Rattle.std.proofs.Common.{◌≡◌, ℕ, zero, suc, ◌+◌, ◌-◌, ◌*◌, ◌<◌, ◌≤◌, Bool, true, false, ◌||◌, nat_lt, nat_le, List}
-use Rattle.std.proofs.Common.{[], ◌∷◌, ◌++◌, length, filter, slice_get, Option, Some, None, refl, sym, ap, ◌∙◌, subst}
-use Rattle.std.proofs.Common.{arith, lt-ltb, le-ltb, ltb-true, ltb-false, leb-true, length-append, append_assoc}
+use Rattle.std.proofs.Common.{◌≡◌, ℕ, zero, suc, ◌+◌, ◌-◌, ◌*◌, ◌<◌, ◌≤◌, Bool, true, false, List}
+use Rattle.std.proofs.Common.{[], ◌∷◌, ◌++◌, length, slice_get, Option, Some, None, refl, sym, ap, ◌∙◌, subst}
+use Rattle.std.proofs.Common.{arith, length-append, append_assoc, append-nil}
 use Rattle.std.specs.List.{list_any}
+use Rattle.std.proofs.Math.Bool.{or-true}
+use Rattle.std.proofs.lemmas.Bool.Decides.{nat_tests}
 use Rattle.std.proofs.lemmas.List.Folds.{list_any-append}
+use Rattle.std.proofs.lemmas.Option.{slice_get_within}
 use Rattle.audit_terms.specs.declared.findings.Finding.{Finding}
 use Rattle.audit_terms.specs.declared.looks.Watch.{Watch}
-use Rattle.audit_terms.specs.Place.{place_number}
 use Rattle.audit_terms.specs.code.runs.Look.{Asked, Looked, last_answer, is_past, found_before, up_to, steps_between}
 use Rattle.audit_terms.specs.code.runs.Look.{LooksOn, LooksInTime, IsRun}
 use Rattle.audit_terms.specs.code.Watch.{Watches, IsStopped, NeverFallFrom}
@@ -25,44 +27,27 @@ any-on : (test : ℕ → Bool) (met : List ℕ) (number : ℕ) → list_any test
     → test number ≡ false → list_any test (met ++ number ∷ []) ≡ false
 any-on test met number none is = list_any-append test met (number ∷ []) ∙ rw (none, is) refl
 
-or-true : (a : Bool) → (a || true) ≡ true
-or-true true = refl
-or-true false = refl
-
 any-at : (test : ℕ → Bool) (met : List ℕ) (number : ℕ) (left : List ℕ) → test number ≡ true
     → list_any test (met ++ number ∷ left) ≡ true
-any-at test met number left is = list_any-append test met (number ∷ left) ∙ rw (is) (or-true (list_any test met))
+any-at test met number left is = list_any-append test met (number ∷ left) ∙ rw (is, or-true) refl
 
 get-at : (met : List ℕ) (number : ℕ) (left : List ℕ) → slice_get (met ++ number ∷ left) (length met) ≡ Some number
 get-at [] number left = refl
 get-at (x ∷ xs) number left = get-at xs number left
 
-get-past : (met left : List ℕ) (at number : ℕ) → length met ≤ at → slice_get (met ++ left) at ≡ Some number
-    → (more : ℕ) × (slice_get left more ≡ Some number)
-get-past [] left at number order is = (at, is)
-get-past (x ∷ xs) left zero number order is = absurd (omega arith)
-get-past (x ∷ xs) left (suc at) number order is = get-past xs left at number (omega arith) is
-
 fall-at : (low number : ℕ) (numbers : List ℕ) (n : ℕ) → NeverFallFrom low numbers → slice_get numbers n ≡ Some number
     → low ≤ number
 fall-at low number [] n fall is = cc
-fall-at low number (x ∷ xs) zero fall is = let same : x ≡ number = cc in subst (λ m. low ≤ m) same fall.0
-fall-at low number (x ∷ xs) (suc n) fall is = let order = fall-at x number xs n fall.1 is in let first = fall.0 in omega
-    arith
+fall-at low number (x ∷ xs) zero fall is = grind (arith, fall.0)
+fall-at low number (x ∷ xs) (suc n) fall is = omega (arith, fall-at x number xs n fall.1 is, fall.0)
 
 past-lower : (stop : Option ℕ) (lower number : ℕ) → lower ≤ number → is_past stop number ≡ false
     → is_past stop lower ≡ false
-past-lower None lower number order is = refl
-past-lower (Some place) lower number order is =
-    let within : number ≤ place_number place = ltb-false (place_number place) number is in
-    le-ltb (place_number place) lower (omega arith)
+past-lower stop lower number order is = grind (arith, nat_tests)
 
 past-higher : (stop : Option ℕ) (number higher : ℕ) → number ≤ higher → is_past stop number ≡ true
     → is_past stop higher ≡ true
-past-higher None number higher order is = is
-past-higher (Some place) number higher order is =
-    let past : place_number place < number = ltb-true (place_number place) number is in
-    lt-ltb (place_number place) higher (omega arith)
+past-higher stop number higher order is = grind (arith, nat_tests)
 
 none-past : (stop : Option ℕ) (low : ℕ) (met : List ℕ) (number : ℕ) (left : List ℕ)
     → NeverFallFrom low (met ++ number ∷ left) → is_past stop number ≡ false
@@ -73,49 +58,22 @@ none-past stop low (x ∷ xs) number left (order, fall) is =
     let at = past-lower stop x number rest.0 is in
     (omega arith, rw (at) rest.1)
 
-fall-back : (low : ℕ) (met : List ℕ) (number : ℕ) (left : List ℕ) → NeverFallFrom low (met ++ number ∷ left)
-    → NeverFallFrom number left
-fall-back low [] number left fall = fall.1
-fall-back low (x ∷ xs) number left fall = fall-back x xs number left fall.1
-
 -- all steps from one that lies past on lie past
-get-later : (stop : Option ℕ) (met : List ℕ) (number : ℕ) (left : List ℕ) (at later : ℕ)
-    → NeverFallFrom 0 (met ++ number ∷ left) → is_past stop number ≡ true → length met ≤ at
+get-later : (stop : Option ℕ) (low : ℕ) (met : List ℕ) (number : ℕ) (left : List ℕ) (at later : ℕ)
+    → NeverFallFrom low (met ++ number ∷ left) → is_past stop number ≡ true → length met ≤ at
     → slice_get (met ++ number ∷ left) at ≡ Some later → is_past stop later ≡ true
-get-later stop met number left at later fall past order is =
-    let found = get-past met (number ∷ left) at later order is in
-    past-higher stop number later
-    (fall-at number later (number ∷ left) found.0 (omega arith, fall-back 0 met number left fall) found.1) past
-
-append-none : {X : Type 0} (l : List X) → l ++ [] ≡ l
-append-none [] = refl
-append-none (x ∷ xs) = ap (λ l. x ∷ l) (append-none xs)
-
-get-below : (l : List ℕ) (at number : ℕ) → slice_get l at ≡ Some number → at < length l
-get-below [] at number is = cc
-get-below (x ∷ xs) zero number is = omega arith
-get-below (x ∷ xs) (suc at) number is = let below = get-below xs at number is in omega arith
+get-later stop low [] number left at later fall past order is =
+    past-higher stop number later (fall-at number later (number ∷ left) at (omega arith, fall.1) is) past
+get-later stop low (x ∷ xs) number left zero later fall past order is = absurd (omega arith)
+get-later stop low (x ∷ xs) number left (suc at) later fall past order is =
+    get-later stop x xs number left at later fall.1 past (omega arith) is
 
 -- what lies at or before a stop was found before each frame that lies past the stop
 up-to-before : (stop : Option ℕ) (number : ℕ) (whole : List Finding) → is_past stop number ≡ true
     → up_to stop (found_before number whole) ≡ up_to stop whole
 up-to-before None number whole is = cc
 up-to-before (Some place) number [] is = refl
-up-to-before (Some place) number (x ∷ xs) is =
-    by (nat_le x.place place) (nat_lt (place_number x.place) number) refl refl (up-to-before (Some place) number xs is)
-  where
-    by : (within before : Bool) → nat_le x.place place ≡ within → nat_lt (place_number x.place) number ≡ before
-        → filter (λ (found : Finding). nat_le found.place place) (found_before number xs)
-        ≡ filter (λ (found : Finding). nat_le found.place place) xs
-        → up_to (Some place) (found_before number (x ∷ xs)) ≡ up_to (Some place) (x ∷ xs)
-    by true true at early rest = rw (at, early) (rw (at) (ap (λ l. x ∷ l) rest))
-    by true false at early rest =
-        let order : x.place ≤ place = leb-true x.place place at in
-        let late : number ≤ place_number x.place = ltb-false (place_number x.place) number early in
-        let past : place_number place < number = ltb-true (place_number place) number is in
-        absurd (omega arith)
-    by false true at early rest = rw (at, early) (rw (at) rest)
-    by false false at early rest = rw (at, early) rest
+up-to-before (Some place) number (x ∷ xs) is = grind (arith, nat_tests, up-to-before (Some place) number xs is)
 
 module _ {L : Type 0} (answers : L → List Finding → Option ℕ → L → Type 0) (start : L) (whole : List Finding) where
   pub begins : (after : L) (numbers : List ℕ) (stop : Option ℕ) → answers start [] stop after → NeverFallFrom 0 numbers
@@ -161,6 +119,8 @@ module _ {L : Type 0} (answers : L → List Finding → Option ℕ → L → Typ
       let one : Asked = record { handed = found_before number whole; answer = stop } in
       let due = w.due in
       let at : length met ≡ steps_between * watch.looks = omega arith in
+      let there : slice_get (met ++ number ∷ left) (steps_between * watch.looks) ≡ Some number =
+      rw (← at) (get-at met number left) in
       record {
         asked = w.asked ++ one ∷ [];
         looked = looked-on answers start now after w.asked one w.looked answered;
@@ -171,14 +131,7 @@ module _ {L : Type 0} (answers : L → List Finding → Option ℕ → L → Typ
         within = (none-past stop 0 met number left w.rise goes).1;
         in_time = λ rest on. subst (LooksInTime (met ++ number ∷ left) whole)
             (sym (append_assoc w.asked (one ∷ []) rest))
-            (w.in_time (one ∷ rest) (
-              number,
-              subst (λ n. slice_get (met ++ number ∷ left) n ≡ Some number) at
-                  (get-at met number left),
-              within,
-              refl,
-              on,
-            ));
+            (w.in_time (one ∷ rest) (number, there, within, refl, on));
       }
 
   -- the step lies past the last answer
@@ -194,8 +147,8 @@ module _ {L : Type 0} (answers : L → List Finding → Option ℕ → L → Typ
         last = w.last;
         past = past;
         any = any-at (is_past watch.stop) met number left past;
-        in_time = subst (LooksInTime (met ++ number ∷ left) whole) (append-none w.asked)
-            (w.in_time [] (λ later is. get-later watch.stop met number left (steps_between * watch.looks) later
+        in_time = subst (LooksInTime (met ++ number ∷ left) whole) (append-nil w.asked)
+            (w.in_time [] (λ later is. get-later watch.stop 0 met number left (steps_between * watch.looks) later
             w.rise past (omega arith) is));
       }
 
@@ -209,6 +162,8 @@ module _ {L : Type 0} (answers : L → List Finding → Option ℕ → L → Typ
       let one : Asked = record { handed = found_before number whole; answer = stop } in
       let due = w.due in
       let at : length met ≡ steps_between * watch.looks = omega arith in
+      let there : slice_get (met ++ number ∷ left) (steps_between * watch.looks) ≡ Some number =
+      rw (← at) (get-at met number left) in
       record {
         asked = w.asked ++ one ∷ [];
         looked = looked-on answers start now after w.asked one w.looked answered;
@@ -218,12 +173,11 @@ module _ {L : Type 0} (answers : L → List Finding → Option ℕ → L → Typ
         any = any-at (is_past stop) met number left past;
         in_time = w.in_time (one ∷ []) (
           number,
-          subst (λ n. slice_get (met ++ number ∷ left) n ≡ Some number) at
-              (get-at met number left),
+          there,
           within,
           refl,
-          λ later is. get-later stop met number left
-              (steps_between * (watch.looks + 1)) later w.rise past (omega arith) is,
+          λ later is.
+              get-later stop 0 met number left (steps_between * (watch.looks + 1)) later w.rise past (omega arith) is,
         );
       }
 
@@ -235,9 +189,10 @@ module _ {L : Type 0} (answers : L → List Finding → Option ℕ → L → Typ
       record {
         asked = w.asked;
         looked = w.looked;
-        in_time = subst (λ l. LooksInTime l whole w.asked) (append-none met)
-            (subst (LooksInTime (met ++ []) whole) (append-none w.asked)
-            (w.in_time [] (λ number is. let below = get-below (met ++ []) (steps_between * watch.looks) number is in
+        in_time = subst (λ l. LooksInTime l whole w.asked) (append-nil met)
+            (subst (LooksInTime (met ++ []) whole) (append-nil w.asked)
+            (w.in_time [] (λ number is.
+            let below = slice_get_within (met ++ []) (steps_between * watch.looks) number is in
             let size = length-append met [] in absurd (omega arith))));
         count = w.count;
         last = w.last;

@@ -1,4 +1,3 @@
-pub mod Carried
 pub mod Shown
 pub mod BothLaws
 pub mod List

@@ -1,7 +1,7 @@
 -- What the summary of a block tells is what its items do.
 use Rattle.conn_scan.proofs.Terms.{◌≡◌, ℕ, max, ◌%◌, ℤ, pos, neg_ℤ, ◌+ℤ◌, ◌-ℤ◌, Bool, true, false, ◌&&◌, ◌||◌, not}
 use Rattle.conn_scan.proofs.Terms.{◌==◌, nat_le, ◌<ℤ◌, ◌≤ℤ◌, int_lt, int_le, if◌then◌else◌, List, [], ◌∷◌, map, Option}
-use Rattle.conn_scan.proofs.Terms.{Some, None, refl, sym, ap, ◌∙◌, arith, list_all, int_max, int_min, ints, clamps}
+use Rattle.conn_scan.proofs.Terms.{Some, None, refl, arith, list_all, int_max, int_min, ints, clamps}
 use Rattle.conn_scan.proofs.Terms.{by_lt_z, nat_tests, Side, Client, Server, new_limit, ConnectionState, Item}
 use Rattle.conn_scan.proofs.Terms.{largest_window, connection_after, change_of, high, low, credit_of, limit_in, push_in}
 use Rattle.conn_scan.proofs.Terms.{is_zero, lesser, least_limit, longest_by, some_zero_grant, some_odd_promise}
@@ -10,6 +10,8 @@ use Rattle.conn_scan.proofs.Terms.{is_usable, grants_something, openings_rise, p
 use Rattle.conn_scan.proofs.Terms.{is_clear, high-signed, low-signed, credit_clear, ids_clear, push_clear, is_within}
 use Rattle.conn_scan.proofs.Terms.{length_clear, sum_clear, is_server_promise, promised_in}
 use Rattle.std.specs.Prelude.{unwrap_or, is_none}
+use Rattle.std.proofs.Common.{inl, inr}
+use Rattle.std.proofs.lemmas.Bool.{cases_Bool}
 use Rattle.conn_scan.specs.code.Rising.{present, rising_of}
 use Rattle.conn_scan.specs.code.Ids.{opened_in, promised_by}
 use Rattle.conn_scan.specs.code.LatestLaws.{limit_is, push_is}
@@ -18,9 +20,6 @@ use Rattle.conn_scan.specs.code.LatestLaws.{limit_is, push_is}
 
 pub not_most : (a b : ℤ) → b <ℤ a → int_le a b ≡ false
 not_most a b h = grind (arith, ints)
-
-at_most : (a b : ℤ) → a ≤ℤ b → int_le a b ≡ true
-at_most a b h = grind (arith, ints)
 
 pub usable_parts : (c : ℤ) → is_usable c ≡ true → (pos 0 <ℤ c) × (c ≤ℤ largest_window)
 usable_parts c e = (grind (arith, ints), grind (arith, ints))
@@ -32,11 +31,7 @@ low_same c x l p = grind (arith, ints, clamps)
 high_same : (c x h : ℤ) → c ≤ℤ largest_window
     → int_le h (largest_window -ℤ (c +ℤ x)) ≡ int_le (int_max (pos 0) (x +ℤ h)) (largest_window -ℤ c)
 high_same c x h p =
-    by_lt_z (largest_window -ℤ (c +ℤ x)) h
-    (λ q. not_most h (largest_window -ℤ (c +ℤ x)) q
-    ∙ sym (not_most (int_max (pos 0) (x +ℤ h)) (largest_window -ℤ c) (omega (arith, ints, clamps))))
-    (λ q. at_most h (largest_window -ℤ (c +ℤ x)) q
-    ∙ sym (at_most (int_max (pos 0) (x +ℤ h)) (largest_window -ℤ c) (omega (arith, ints, clamps))))
+    by_lt_z (largest_window -ℤ (c +ℤ x)) h (λ q. grind (arith, ints, clamps)) (λ q. grind (arith, ints, clamps))
 
 -- a credit is usable where such extremes are
 usable_within : (c l h : ℤ) → l ≤ℤ pos 0 → pos 0 ≤ℤ h
@@ -50,15 +45,14 @@ no_change_same c = grind (arith, ints)
 change_same : (c x : ℤ) (xs : List ℤ)
     → is_usable c && credit_clear (c +ℤ x) (credit_of xs) ≡ credit_clear c (credit_of (x ∷ xs))
 change_same c x xs =
-    ap (λ b. is_usable c && b) (usable_within (c +ℤ x) (low xs) (high xs) (low-signed xs) (high-signed xs))
-    ∙ by_test (is_usable c) refl where
-      by_test : (b : Bool) → is_usable c ≡ b
-          → b && (int_lt (neg_ℤ (c +ℤ x)) (low xs) && int_le (high xs) (largest_window -ℤ (c +ℤ x)))
-          ≡ b && (int_lt (neg_ℤ c) (int_min (pos 0) (x +ℤ low xs))
-          && int_le (int_max (pos 0) (x +ℤ high xs)) (largest_window -ℤ c))
-      by_test true e =
-          let parts = usable_parts c e in rw (low_same c x (low xs) parts.0, high_same c x (high xs) parts.1) refl
-      by_test false e = refl
+    let within = usable_within (c +ℤ x) (low xs) (high xs) (low-signed xs) (high-signed xs) in
+    let parts = usable_parts c in
+    let low = low_same c x (low xs) in
+    let high = high_same c x (high xs) in
+    rw within (elim (cases_Bool (is_usable c)) [
+      | inl usable ↦ rw (usable, low (parts usable).0, high (parts usable).1) refl
+      | inr not ↦ rw not refl
+    ])
 
 -- of one side
 credit_same : (credit : ConnectionState → ℤ) (change : Item → ℤ)

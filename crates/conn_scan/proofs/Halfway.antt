@@ -3,7 +3,7 @@ use Rattle.conn_scan.proofs.Terms.{◌≡◌, ℕ, ◌+◌, ◌-◌, ◌^◌, �
 use Rattle.conn_scan.proofs.Terms.{All, Option, Some, None, refl, sym, ap, ◌∙◌, subst, arith, length-append}
 use Rattle.conn_scan.proofs.Terms.{AllByRecursion, ConnectionState, Finding, Frame, Change, Item, connection_said}
 use Rattle.conn_scan.proofs.Terms.{connection_after, block_run, in_order, is_shown, shown, IsOrderlyFrom, Watches}
-use Rattle.conn_scan.proofs.Terms.{IsStopped, NeverFallFrom, append_nil, Block, items_with, items_in, IsBlock}
+use Rattle.conn_scan.proofs.Terms.{IsStopped, NeverFallFrom, append-nil, Block, items_with, items_in, IsBlock}
 use Rattle.conn_scan.proofs.Terms.{each-append, each-filter, each-weaker, IsInRange, each-in_order, HasRoom, BlockFits}
 use Rattle.conn_scan.proofs.Terms.{room-wider}
 use Rattle.audit_terms.specs.Place.{place_number}
@@ -15,35 +15,31 @@ use Rattle.audit_terms.proofs.Watching.{ends, is-cut}
 
 -- ---- at which frames the findings of items stand
 
--- what an item shows stands at its frame
-item-at : (now : ConnectionState) (item : Item) → IsInRange item.frame
-    → AllByRecursion (λ (one : Finding). place_number one.place ≡ item.frame.number) (connection_said now item)
-item-at now item range = numbered-at item.frame.number (connection_said now item) (at-connection now item range)
-
 abbrev frames_of : List Item → List Frame
 frames_of items = map (λ (item : Item). item.frame) items
 
--- what an item shows stands from its number on, and below the next
-item-from : (now : ConnectionState) (item : Item) → IsInRange item.frame
-    → AllByRecursion (IsBelow (item.frame.number + 1)) (in_order (connection_said now item))
-item-from now item range =
-    each-in_order (IsBelow (item.frame.number + 1)) (connection_said now item)
-    (each-weaker (λ (one : Finding). place_number one.place ≡ item.frame.number) (IsBelow (item.frame.number + 1))
-    (λ found at. omega arith) (connection_said now item) (item-at now item range))
+-- what holds of all that stands at an item's frame holds of what the item shows
+item-shows : (P : Finding → Type 0) (now : ConnectionState) (item : Item) → IsInRange item.frame
+    → ((one : Finding) → place_number one.place ≡ item.frame.number → P one)
+    → AllByRecursion P (in_order (connection_said now item))
+item-shows P now item range holds =
+    let said = connection_said now item in
+    each-in_order P said (each-weaker (λ (one : Finding). place_number one.place ≡ item.frame.number) P holds said
+    (numbered-at item.frame.number said (at-connection now item range)))
 
--- what items show, whose frames are numbered `low` or above, stands from `low` on
-block-from : (low : ℕ) (now : ConnectionState) (items : List Item) → IsOrderlyFrom low (frames_of items)
-    → AllByRecursion (IsFrom low) (block_run now items)
-block-from low now [] h = tt
-block-from low now (item ∷ items) h =
+-- what items show whose frames are numbered `low` or above stands from `low` on
+block-from : (low base : ℕ) (now : ConnectionState) (items : List Item) → low ≤ base
+    → IsOrderlyFrom base (frames_of items) → AllByRecursion (IsFrom low) (block_run now items)
+block-from low base now [] le h = tt
+block-from low base now (item ∷ items) le h =
     let first = h.0 in
     each-append (IsFrom low) (in_order (connection_said now item)) (block_run (connection_after now item) items)
-    (each-in_order (IsFrom low) (connection_said now item)
-    (each-weaker (λ (one : Finding). place_number one.place ≡ item.frame.number) (IsFrom low) (λ found at. omega arith)
-    (connection_said now item) (item-at now item h.1)))
-    (each-weaker (IsFrom (item.frame.number + 1)) (IsFrom low) (λ found from. omega arith)
-    (block_run (connection_after now item) items)
-    (block-from (item.frame.number + 1) (connection_after now item) items h.2))
+    (item-shows (IsFrom low) now item h.1 (λ one at. omega arith))
+    (block-from low (item.frame.number + 1) (connection_after now item) items (omega arith) h.2)
+
+-- at the number of a frame in range
+abbrev IsNumbered : Finding → Type 0
+IsNumbered one = place_number one.place ≤ 2 ^ 28 - 2
 
 -- ---- between two items
 
@@ -88,13 +84,6 @@ never-fall start low [] le h = tt
 never-fall start low (frame ∷ frames) le h =
     let first = h.0 in (omega arith, never-fall frame.number (frame.number + 1) frames (omega arith) h.2)
 
-numbered : (low : ℕ) (found : List Finding) → low ≤ 2 ^ 28 - 1 → AllByRecursion (IsBelow low) found
-    → All (λ (one : Finding). place_number one.place ≤ 2 ^ 28 - 2) found
-numbered low found narrow below =
-    All-from_recursion (λ (one : Finding). place_number one.place ≤ 2 ^ 28 - 2) found
-    (each-weaker (IsBelow low) (λ (one : Finding). place_number one.place ≤ 2 ^ 28 - 2) (λ one lt. omega arith) found
-    below)
-
 -- the run of a whole block, before its first item
 pub begins : {L : Type 0} (answers : L → List Finding → Option ℕ → L → Type 0) (before : L) (credits : Bool)
     (block : Block) (now : L) (state : ConnectionState) (watch : Watch) → IsBlock block
@@ -118,16 +107,18 @@ begins answers before credits block now state watch h begun =
           (never-fall 0 0 block.frames.now (omega arith) h.frames));
     }
 
-module _ {L : Type 0} (answers : L → List Finding → Option ℕ → L → Type 0) (before : L) (credits : Bool)
-    (numbers : List ℕ) (whole : List Finding) where
-  module _ (now : L) (found : List Finding) (state : ConnectionState) (item : Item) (left : List Item) (watch : Watch)
+module _ {L : Type 0} {answers : L → List Finding → Option ℕ → L → Type 0} {before : L} {credits : Bool}
+    {numbers : List ℕ} {whole : List Finding} {now : L} {found : List Finding} {state : ConnectionState}
+    {watch : Watch} where
+  module _ {item : Item} {left : List Item}
       (h : Halfway answers before now credits numbers whole found state (item ∷ left) watch) where
-    pub is-found : found ≡ found_before item.frame.number whole
+    is-found : found ≡ found_before item.frame.number whole
     is-found =
         sym (ap (found_before item.frame.number) h.said
         ∙ before-front h.low item.frame.number found (shown credits (block_run state (item ∷ left))) h.orderly.0 h.below
         (each-filter _ (is_shown credits) (block_run state (item ∷ left))
-        (block-from item.frame.number state (item ∷ left) (omega arith, h.orderly.1, h.orderly.2))))
+        (block-from item.frame.number item.frame.number state (item ∷ left) (omega arith)
+        (omega arith, h.orderly.1, h.orderly.2))))
 
     pub goes : (after : L) (next : ConnectionState) (said new : List Finding) (then : Watch)
         → ((start : L) (all : List Finding) (met rest : List ℕ) → found ≡ found_before item.frame.number all
@@ -141,6 +132,8 @@ module _ {L : Type 0} (answers : L → List Finding → Option ℕ → L → Typ
         let first = h.orderly.0 in
         let range = h.orderly.1.number in
         let one = length-append h.met (item.frame.number ∷ []) in
+        let own = in_order (connection_said state item) in
+        let rest = block_run (connection_after state item) left in
         record {
           met = h.met ++ item.frame.number ∷ [];
           low = item.frame.number + 1;
@@ -148,17 +141,12 @@ module _ {L : Type 0} (answers : L → List Finding → Option ℕ → L → Typ
           few = omega arith;
           narrow = omega arith;
           orderly = h.orderly.2;
-          said =
-              let own = in_order (connection_said state item) in
-              let rest = block_run (connection_after state item) left in
-              rw (h.said, added, here, later) (ap (λ l. found ++ l) (filter-append (is_shown credits) own rest)
-              ∙ sym (append_assoc found (shown credits own) (shown credits rest)));
-          below = subst (AllByRecursion (IsBelow (item.frame.number + 1)))
-              (sym (added ∙ ap (λ l. found ++ l) here))
-              (each-append _ found (shown credits (in_order (connection_said state item)))
+          said = rw (h.said, added, here, later, filter-append (is_shown credits) own rest)
+              (sym (append_assoc found (shown credits own) (shown credits rest)));
+          below = rw (added, here) (each-append _ found (shown credits own)
               (each-weaker (IsBelow h.low) _ (λ x lt. omega arith) found h.below)
-              (each-filter _ (is_shown credits) (in_order (connection_said state item))
-              (item-from state item h.orderly.1)));
+              (each-filter _ (is_shown credits) own
+              (item-shows (IsBelow (item.frame.number + 1)) state item h.orderly.1 (λ one at. omega arith))));
           watches = on before whole h.met (numbers_of (frames_of left)) is-found h.watches;
         }
 
@@ -169,26 +157,22 @@ module _ {L : Type 0} (answers : L → List Finding → Option ℕ → L → Typ
         → kept ≡ up_to then.stop found
         → IsRun answers before after numbers whole kept then.stop then.stop then.looks
     stops after kept then on cut =
-        subst (λ at. IsRun answers before after at whole kept then.stop then.stop then.looks) h.all
-        (is-cut answers before whole after (h.met ++ item.frame.number ∷ numbers_of (frames_of left))
-        item.frame.number then
-        kept (on before whole h.met (numbers_of (frames_of left)) is-found h.watches)
-        (cut ∙ ap (up_to then.stop) is-found))
+        rw (← h.all) (is-cut answers before whole after _ item.frame.number then kept
+        (on before whole h.met (numbers_of (frames_of left)) is-found h.watches) (cut ∙ ap (up_to then.stop) is-found))
 
-    pub stops-numbered : (kept : List Finding) (stop : Option ℕ) → kept ≡ up_to stop found
-        → All (λ (one : Finding). place_number one.place ≤ 2 ^ 28 - 2) kept
-    stops-numbered kept stop cut = numbered h.low kept h.narrow
-        (subst (AllByRecursion (IsBelow h.low)) (sym cut) (up stop))
+    pub stops-numbered : (kept : List Finding) (stop : Option ℕ) → kept ≡ up_to stop found → All IsNumbered kept
+    stops-numbered kept stop cut =
+        let narrow = h.narrow in
+        rw cut (All-from_recursion IsNumbered (up_to stop found)
+        (each-weaker (IsBelow h.low) IsNumbered (λ one lt. omega arith) (up_to stop found) (up stop)))
       where
         up : (stop : Option ℕ) → AllByRecursion (IsBelow h.low) (up_to stop found)
         up None = h.below
         up (Some place) = each-filter (IsBelow h.low) _ found h.below
 
-  module _ (now : L) (found : List Finding) (state : ConnectionState) (watch : Watch)
-      (h : Halfway answers before now credits numbers whole found state [] watch) where
-    pub is-whole : IsRun answers before now numbers whole found None watch.stop watch.looks
-    is-whole =
-        let all = sym (h.said ∙ append_nil found) in
-        let met = sym (append_nil h.met) ∙ h.all in
-        rw all (subst (λ at. IsRun answers before now at whole whole None watch.stop watch.looks) met
-        (ends answers before whole now h.met watch h.watches))
+  pub is-whole : Halfway answers before now credits numbers whole found state [] watch
+      → IsRun answers before now numbers whole found None watch.stop watch.looks
+  is-whole h =
+      let all : found ≡ whole = sym (h.said ∙ append-nil found) in
+      let met : h.met ≡ numbers = sym (append-nil h.met) ∙ h.all in
+      rw (all, ← met) (ends answers before whole now h.met watch h.watches)

@@ -1,15 +1,15 @@
 -- The items of a connection's frames are those of the pass, and those of consecutive blocks join.
 use Rattle.conn_scan.proofs.Terms.{◌≡◌, ℕ, ◌+◌, ◌<◌, ◌≤◌, ◌==◌, false, List, [], ◌∷◌, ◌++◌, append_assoc, Option, Some}
-use Rattle.conn_scan.proofs.Terms.{None, refl, ap, ◌∙◌, arith, map, AllByRecursion, list_any, nat_tests, map-append}
+use Rattle.conn_scan.proofs.Terms.{None, refl, ◌∙◌, arith, map, AllByRecursion, list_any, nat_tests, map-append}
 use Rattle.conn_scan.proofs.Terms.{all-append, Frame, Change, Item, IsOrderlyFrom, is_marked, change_at, item_with}
 use Rattle.conn_scan.proofs.Terms.{items_with}
 use Rattle.audit_terms.specs.code.runs.Changes.{changes_from}
 use Rattle.std.specs.Option.{option_to_list}
 use Rattle.std.proofs.Math.Bool.{or-false}
-use Rattle.std.proofs.lemmas.List.Folds.{list_any-append}
+use Rattle.std.proofs.lemmas.List.Folds.{find-append, list_any-append}
 use Rattle.audit_terms.specs.declared.settings.Settings.{Settings}
 use Rattle.audit_terms.specs.InForce.{InForce, taken, change_taking, change_of, in_force_after}
-use Rattle.audit_terms.specs.Pass.{PassState, pass_start, item_of, next}
+use Rattle.audit_terms.specs.Pass.{PassState, pass_start, next}
 use Rattle.audit_terms.specs.code.runs.States.{items_from}
 use Rattle.conn_scan.specs.laws.Items.{ItemsAreThePass, ItemsOfBlocksJoin}
 
@@ -31,8 +31,7 @@ find-lacking frame (change ∷ changes) h = grind (arith, nat_tests, find-lackin
 
 find-behind : (frame : Frame) (others changes : List Change) → LacksNumber frame.number others
     → change_at (others ++ changes) frame ≡ change_at changes frame
-find-behind frame [] changes h = refl
-find-behind frame (other ∷ others) changes h = grind (arith, nat_tests, find-behind frame others changes h.1)
+find-behind frame others changes h = rw (find-append, find-lacking frame others h) refl
 
 find-before : (frame : Frame) (changes others : List Change) → LacksNumber frame.number others
     → change_at (changes ++ others) frame ≡ change_at changes frame
@@ -83,17 +82,12 @@ items-from state low opened before (frame ∷ frames) h below marked =
     (all-weaker (λ change lt e. absurd (omega (arith, h.0, lt, e))) before below) in
     let found = taking-found frame (taken state.in_force frame) rest
     (later-lack frame.number (frame.number + 1) (in_force_after state.in_force frame) frames (omega arith) h.2) in
-    let one : item_with opened (before ++ (own ++ rest)) frame ≡ item_of state frame = λ i. record {
-      frame = frame;
-      opens = marked.0 i;
-      change = (behind ∙ found) i;
-    } in
     let later = items-from (next state frame) (frame.number + 1) opened (before ++ own) frames h.2
     (all-append (λ (change : Change). change.number < frame.number + 1) before own
     (all-weaker (λ change lt. omega (arith, h.0, lt)) before below)
     (taking-each (λ n. n < frame.number + 1) frame (taken state.in_force frame) (omega arith))) marked.1 in
-    ap (λ item. item ∷ items_with opened (before ++ (own ++ rest)) frames) one
-    ∙ ap (λ items. item_of state frame ∷ items) (rw append_assoc at later)
+    let rest = rw append_assoc at later in
+    λ i. record { frame = frame; opens = marked.0 i; change = (behind ∙ found) i } ∷ rest i
 
 pub items_are_the_pass : ItemsAreThePass
 items_are_the_pass frames opened orderly marked = items-from pass_start 0 opened [] frames orderly tt marked
@@ -108,30 +102,21 @@ pub items_of_blocks_join : ItemsOfBlocksJoin
 items_of_blocks_join number opened opened' changes changes' frames frames' o c f =
     rw (
       map-append,
-      map-alike _ _ frames (all-weaker item-first frames f.below),
-      map-alike _ _ frames' (all-weaker item-later frames' f.above),
+      map-alike _ _ frames (all-weaker first frames f.below),
+      map-alike _ _ frames' (all-weaker later frames' f.above),
     ) refl where
-      item-first : (frame : Frame) → frame.number < number
+      first : (frame : Frame) → frame.number < number
           → item_with (opened ++ opened') (changes ++ changes') frame ≡ item_with opened changes frame
-      item-first frame lt =
-          let none = any-none frame.number opened' (all-weaker (λ n le e. absurd (omega (arith, lt, le, e))) opened'
-          o.above) in
-          rw (
-            list_any-append,
-            none,
-            or-false,
-            find-before frame changes changes'
-                (all-weaker (λ change le e. absurd (omega (arith, lt, le, e))) changes' c.above),
-          ) refl
+      first frame lt =
+          let other : (n : ℕ) → number ≤ n → n ≡ frame.number → ⊥ = λ n le e. absurd (omega (arith, lt, le, e)) in
+          let none = any-none frame.number opened' (all-weaker (λ n le. other n le) opened' o.above) in
+          let found = find-before frame changes changes' (all-weaker (λ change le. other _ le) changes' c.above) in
+          rw (list_any-append, none, or-false, found) refl
 
-      item-later : (frame : Frame) → number ≤ frame.number
+      later : (frame : Frame) → number ≤ frame.number
           → item_with (opened ++ opened') (changes ++ changes') frame ≡ item_with opened' changes' frame
-      item-later frame le =
-          let none = any-none frame.number opened (all-weaker (λ n lt e. absurd (omega (arith, lt, le, e))) opened
-          o.below) in
-          rw (
-            list_any-append,
-            none,
-            find-behind frame changes changes'
-                (all-weaker (λ change lt e. absurd (omega (arith, lt, le, e))) changes c.below),
-          ) refl
+      later frame le =
+          let other : (n : ℕ) → n < number → n ≡ frame.number → ⊥ = λ n lt e. absurd (omega (arith, lt, le, e)) in
+          let none = any-none frame.number opened (all-weaker (λ n lt. other n lt) opened o.below) in
+          let found = find-behind frame changes changes' (all-weaker (λ change lt. other _ lt) changes c.below) in
+          rw (list_any-append, none, found) refl

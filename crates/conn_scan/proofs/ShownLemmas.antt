@@ -1,6 +1,6 @@
 -- A clear block shows connection credit alone.
 use Rattle.conn_scan.proofs.Terms.{◌||◌, ◌%◌, ◌==◌, is_server_promise, promised_in, is_opened_by_headers, nat_lt, ◌≡◌}
-use Rattle.conn_scan.proofs.Terms.{ℕ, ◌≤◌, ℤ, pos, int_lt, nat_le, Bool, true, false, ◌&&◌, not}
+use Rattle.conn_scan.proofs.Terms.{ℕ, ◌≤◌, ℤ, pos, int_lt, nat_le, Bool, true, false, ◌&&◌}
 use Rattle.conn_scan.proofs.Terms.{List, [], ◌∷◌, refl, arith, AllByRecursion}
 use Rattle.conn_scan.proofs.Terms.{list_all, ints, nat_tests, Side, Client, Server, ConnectionState, Item, Frame}
 use Rattle.conn_scan.proofs.Terms.{Finding, largest_window, is_used_up, overflows, overruns, new_limit, in_order}
@@ -8,7 +8,7 @@ use Rattle.conn_scan.proofs.Terms.{shown, credit_after, connection_window_said, 
 use Rattle.conn_scan.proofs.Terms.{block_run, each-append, each-in_order, each-said, length_by, longest_by, connections}
 use Rattle.conn_scan.proofs.Terms.{is_usable, keeps_credit, grants_something, openings_rise, promises_allowed}
 use Rattle.conn_scan.proofs.Terms.{promises_rise, not_above, content_by, grants_nothing}
-use Rattle.std.proofs.lemmas.Bool.{and_parts, or_parts, not-true, and_left, and_right}
+use Rattle.std.proofs.lemmas.Bool.{and_parts, or_parts, not-true, and_right}
 use Rattle.audit_terms.specs.declared.kinds.Kind.TheVariants.{ConnectionCredit}
 use Rattle.audit_terms.specs.Side.{other, is_side}
 use Rattle.audit_terms.specs.Sides.{side_of}
@@ -47,9 +47,7 @@ window_only d before frame entry left grants =
     grind (arith, ints, nat_tests, kept.0, one_side d frame.side) in
     let full : is_used_up before ≡ false = not_most before (pos 0) some in
     let still : is_used_up after ≡ false = not_most after (pos 0) kept.0 in
-    let ends = and_left (is_used_up before) (not (is_used_up after)) full in
-    let begins = and_right (not (is_used_up before)) (is_used_up after) still in
-    rw (grants, overflow, overrun, ends, begins) (each-said IsCredit _ _ refl)
+    rw (grants, overflow, overrun, full, still) (each-said IsCredit _ _ refl)
 
 -- ---- an item
 

@@ -1,13 +1,13 @@
 -- What the sums of a block's items need.
-use Rattle.conn_scan.proofs.Terms.{◌≡◌, ℤ, ◌-◌, ◌*◌, ◌^◌, ◌≤◌, List, [], ◌∷◌, ◌++◌, length, map, refl, ap, sym, ◌∙◌}
-use Rattle.conn_scan.proofs.Terms.{arith, length-append, AllByRecursion, length-map, Client, Server, ConnectionState}
-use Rattle.conn_scan.proofs.Terms.{Item, connection_after, connection_after_all, HasRoom, summary_of, summary-shown}
-use Rattle.conn_scan.proofs.Terms.{change_of, credit_of, no_change, one_change, credit_join, AreSmall, ChangesFit}
-use Rattle.conn_scan.proofs.Terms.{Block, walked, MovesLittle, ItemsFit, connections_before, conn_sum_of, conn_none}
-use Rattle.conn_scan.proofs.Terms.{conn_one, conn_join, room-wider, IsRoomy, roomy, credit_shows}
-use Rattle.block_scan.specs.code.List.{states_before}
+use Rattle.conn_scan.proofs.Terms.{◌≡◌, ℤ, ◌-◌, ◌*◌, ◌^◌, ◌≤◌, List, [], ◌∷◌, ◌++◌, length, map, ap, sym, ◌∙◌, arith}
+use Rattle.conn_scan.proofs.Terms.{length-append, AllByRecursion, length-map, Side, Client, Server, Item}
+use Rattle.conn_scan.proofs.Terms.{ConnectionState, HasRoom, summary_of, summary-shown, change_of, credit_of, roomy}
+use Rattle.conn_scan.proofs.Terms.{one_change, credit_join, AreSmall, ChangesFit, Block, walked, MovesLittle}
+use Rattle.conn_scan.proofs.Terms.{ItemsFit, conn_sum_of, conn_none, conn_one, conn_join, room-wider, IsRoomy}
+use Rattle.conn_scan.proofs.Terms.{no_change, credit_shows}
+use Rattle.audit_terms.specs.Sides.{side_of}
 use Rattle.conn_scan.specs.declared.sums.ConnSum.{ConnSum}
-use Rattle.conn_scan.specs.code.ConnSumLaws.{all-after, conn_shows}
+use Rattle.conn_scan.specs.code.ConnSumLaws.{conn_shows}
 use Rattle.conn_scan.proofs.WalkLemmas.{length-walked}
 
 -- the credit of one side, which each item changes by little
@@ -31,23 +31,21 @@ module _ (change : Item → ℤ) (small : (item : Item) → MovesLittle item →
         room = room-wider _ _ credit (omega arith) room;
       }
 
-pub client_fit : (now : ConnectionState) (items : List Item) → ItemsFit now items
-    → ChangesFit now.credit.client (map (change_of Client) items)
-client_fit now items f = changes_fit (change_of Client) (λ x h. h.0) now.credit.client items f.0.number f.1 f.0.client
+-- the changes of one side's credit fit it
+pub side_fit : (d : Side) (now : ConnectionState) (items : List Item) → ItemsFit now items
+    → ChangesFit (side_of d now.credit) (map (change_of d) items)
+side_fit Client now items f = changes_fit (change_of Client) (λ x h. h.0) _ items f.0.number f.1 f.0.client
+side_fit Server now items f = changes_fit (change_of Server) (λ x h. h.1) _ items f.0.number f.1 f.0.server
 
-pub server_fit : (now : ConnectionState) (items : List Item) → ItemsFit now items
-    → ChangesFit now.credit.server (map (change_of Server) items)
-server_fit now items f = changes_fit (change_of Server) (λ x h. h.1) now.credit.server items f.0.number f.1 f.0.server
-
--- the summary of a connection's items has those of the changes of both credits
-pub credits_summed : (a : List Item) (sum : ConnSum) → sum ≡ summary_of conn_none conn_one conn_join a
-    → (sum.credit.client ≡ summary_of no_change one_change credit_join (map (change_of Client) a))
-    × (sum.credit.server ≡ summary_of no_change one_change credit_join (map (change_of Server) a))
-credits_summed a sum e =
-    let shown = e ∙ summary-shown conn_shows a in (
-      ap (λ s. s.credit.client) shown ∙ sym (summary-shown credit_shows (map (change_of Client) a)),
-      ap (λ s. s.credit.server) shown ∙ sym (summary-shown credit_shows (map (change_of Server) a)),
-    )
+-- the summary of a connection's items has that of the changes of each side's credit
+pub side_summed : (d : Side) (items : List Item) (sum : ConnSum) → sum ≡ summary_of conn_none conn_one conn_join items
+    → side_of d sum.credit ≡ summary_of no_change one_change credit_join (map (change_of d) items)
+side_summed Client items sum e =
+    ap (λ s. s.credit.client) (e ∙ summary-shown conn_shows items)
+    ∙ sym (summary-shown credit_shows (map (change_of Client) items))
+side_summed Server items sum e =
+    ap (λ s. s.credit.server) (e ∙ summary-shown conn_shows items)
+    ∙ sym (summary-shown credit_shows (map (change_of Server) items))
 
 -- the sum of the first items of a block is far from what a word holds
 pub sum_roomy : (block : Block) (done rest : List Item) (sum : ConnSum)
@@ -61,16 +59,3 @@ sum_roomy block done rest sum split number little is =
       (changes_roomy (change_of Client) (λ x h. h.0) done few little).sum,
       (changes_roomy (change_of Server) (λ x h. h.1) done few little).sum,
     )
-
--- the connection before each block is what a scan carries
-pub states_carried : (now : ConnectionState) (blocks : List (List Item))
-    → states_before connection_after now blocks ≡ connections_before now blocks
-states_carried now [] = refl
-states_carried now (block ∷ blocks) =
-    rw (← all-after now block, states_carried (connection_after_all now block) blocks) refl
-
--- the summaries of blocks
-pub sums-shown : (blocks : List (List Item))
-    → map conn_sum_of blocks ≡ map (summary_of conn_none conn_one conn_join) blocks
-sums-shown [] = refl
-sums-shown (block ∷ blocks) = rw (summary-shown conn_shows block, sums-shown blocks) refl

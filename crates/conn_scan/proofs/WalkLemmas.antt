@@ -19,11 +19,13 @@ any_from : (low number : ℕ) (numbers : List ℕ) → low ≤ number
 any_from low number [] le = refl
 any_from low number (n ∷ numbers) le = grind (arith, nat_tests, any_from low number numbers le)
 
-any_first : (number : ℕ) (numbers : List ℕ) → NeverFallFrom number numbers
-    → list_any (λ n. n == number) numbers ≡ is_first number numbers
-any_first number [] h = refl
-any_first number (n ∷ numbers) h =
-    let later = λ (lt : number < n). any_below n number numbers lt h.1 in grind (arith, nat_tests)
+-- a number is there where it is the first of those that are not below it
+any_first : (low number : ℕ) (numbers : List ℕ) → NeverFallFrom low numbers
+    → list_any (λ n. n == number) numbers ≡ is_first number (numbers_from number numbers)
+any_first low number [] h = refl
+any_first low number (n ∷ numbers) h =
+    let later = λ (lt : number < n). any_below n number numbers lt h.1 in
+    grind (arith, nat_tests, any_first n number numbers h.1)
 
 pub numbers_from-rise : (base start low : ℕ) (numbers : List ℕ) → base ≤ low → NeverFallFrom start numbers
     → NeverFallFrom base (numbers_from low numbers)
@@ -45,11 +47,12 @@ find_from : (low number : ℕ) (changes : List Change) → low ≤ number
 find_from low number [] le = refl
 find_from low number (c ∷ changes) le = grind (arith, nat_tests, find_from low number changes le)
 
-find_first : (number : ℕ) (changes : List Change) → AreOrderlyFrom number changes
-    → find (λ (change : Change). change.number == number) changes ≡ first_change number changes
-find_first number [] h = refl
-find_first number (c ∷ changes) h =
-    let later = find_below (c.number + 1) number changes in grind (arith, nat_tests)
+find_first : (low number : ℕ) (changes : List Change) → AreOrderlyFrom low changes
+    → find (λ (change : Change). change.number == number) changes ≡ first_change number (changes_from number changes)
+find_first low number [] h = refl
+find_first low number (c ∷ changes) h =
+    let later = find_below (c.number + 1) number changes in
+    grind (arith, nat_tests, find_first (c.number + 1) number changes h.2)
 
 pub changes_from-orderly : (base start low : ℕ) (changes : List Change) → base ≤ low → AreOrderlyFrom start changes
     → AreOrderlyFrom base (changes_from low changes)
@@ -68,21 +71,6 @@ items_with-from low base opened changes (frame ∷ frames) le h =
     let mark = any_from low frame.number opened (omega (arith, h.0)) in
     let found = find_from low frame.number changes (omega (arith, h.0)) in
     let later = items_with-from low (frame.number + 1) opened changes frames (omega (arith, h.0)) h.2 in
-    cc
-
-pub walked-items_with : (base start begin : ℕ) (opened : List ℕ) (changes : List Change) (frames : List Frame)
-    → IsOrderlyFrom base frames → NeverFallFrom start opened → AreOrderlyFrom begin changes
-    → walked opened changes frames ≡ items_with opened changes frames
-walked-items_with base start begin opened changes [] h o c = refl
-walked-items_with base start begin opened changes (frame ∷ frames) h o c =
-    let n = frame.number in
-    let rise = numbers_from-rise n start n opened (omega arith) o in
-    let orderly = changes_from-orderly n begin n changes (omega arith) c in
-    let mark = any_first n (numbers_from n opened) rise in
-    let found = find_first n (changes_from n changes) orderly in
-    let later = walked-items_with (n + 1) n n (numbers_from n opened) (changes_from n changes) frames h.2 rise orderly
-    in
-    let all = items_with-from n n opened changes (frame ∷ frames) (omega arith) (omega arith, h.1, h.2) in
     cc
 
 pub length-walked : (opened : List ℕ) (changes : List Change) (frames : List Frame)
@@ -127,19 +115,27 @@ changes-again : (low number : ℕ) (changes : List Change) → low ≤ number
 changes-again low number [] le = refl
 changes-again low number (c ∷ changes) le = grind (arith, nat_tests, changes-again low number changes le)
 
-pub walked-from : (low : ℕ) (opened : List ℕ) (changes : List Change) (frames : List Frame)
-    → IsOrderlyFrom low frames
+pub walked-from : (low base : ℕ) (opened : List ℕ) (changes : List Change) (frames : List Frame) → low ≤ base
+    → IsOrderlyFrom base frames
     → walked opened changes frames ≡ walked (numbers_from low opened) (changes_from low changes) frames
-walked-from low opened changes [] h = refl
-walked-from low opened changes (frame ∷ frames) h =
-    rw (← numbers-again low frame.number opened h.0, ← changes-again low frame.number changes h.0) refl
-
-pub walked-none : (opened : List ℕ) (changes : List Change) (frames : List Frame) → length frames ≡ 0
-    → walked opened changes frames ≡ []
-walked-none opened changes [] e = refl
-walked-none opened changes (frame ∷ frames) e = absurd (omega (arith, e))
+walked-from low base opened changes [] le h = refl
+walked-from low base opened changes (frame ∷ frames) le h =
+    let within : low ≤ frame.number = omega (arith, h.0) in
+    rw (← numbers-again low frame.number opened within, ← changes-again low frame.number changes within) refl
 
 -- ---- the items of a block
+
+pub walked-items_with : (base start begin : ℕ) (opened : List ℕ) (changes : List Change) (frames : List Frame)
+    → IsOrderlyFrom base frames → NeverFallFrom start opened → AreOrderlyFrom begin changes
+    → walked opened changes frames ≡ items_with opened changes frames
+walked-items_with base start begin opened changes [] h o c = refl
+walked-items_with base start begin opened changes (frame ∷ frames) h o c =
+    let n = frame.number in
+    let mark = any_first start n opened o in
+    let found = find_first begin n changes c in
+    let left = walked-from n (n + 1) opened changes frames (omega arith) h.2 in
+    let later = walked-items_with (n + 1) start begin opened changes frames h.2 o c in
+    cc
 
 pub block_walked : (block : Block) → IsBlock block
     → walked block.opened.now block.changes.now block.frames.now ≡ items_in block

@@ -1,13 +1,10 @@
-ghost use Rattle.std.specs.Prelude.{◌≡◌, IfOk};
+ghost use Rattle.std.specs.Prelude.{◌≡◌};
 ghost use Rattle.std.specs.Iterator.{YieldsFirst, item_count};
-ghost use Rattle.conn_scan.specs.code.Items.{items_with, items_in, NeverFallFrom, IsBlock};
-ghost use Rattle.audit_terms.specs.code.runs.Orderly.{IsOrderly};
-ghost use Rattle.settings_pair.specs.code.Changes.{AreOrderly};
+ghost use Rattle.conn_scan.specs.code.Items.{items_in, IsBlock};
 ghost use Rattle.conn_scan.specs.code.Walk.{numbers_from, changes_from, is_first, first_change, item_at, walked};
 ghost use Rattle.conn_scan.specs.code.Walk.{StartFrom, ChangesStartFrom};
 
 use audit_terms::{Change, Frame, Item};
-use std::alloc::{AllocError, Global};
 
 /// A range of a connection's frames, with what the audit of the connection needs beside them.
 #[derive(Clone, Copy)]
@@ -134,29 +131,4 @@ pub(crate) fn item_at(frame: &Frame, opened: &[u32], changes: &[Change]) -> Item
         opens: frame.body.is_headers() && is_first(frame.number, opened),
         change: first_change(frame.number, changes),
     }
-}
-
-/// Each frame with its opening mark and the change that it brings.
-pub fn items(
-    alloc: Global,
-    frames: &[Frame],
-    opened: &[u32],
-    changes: &[Change],
-) -> Result<Vec<Item>, AllocError>
-    requires frames { IsOrderly frames.now }
-    requires opened { NeverFallFrom 0 opened.now }
-    requires changes { AreOrderly changes.now }
-    ensures { IfOk result (λ list. list.items ≡ items_with opened.now changes.now frames.now) }
-{
-    let mut list = Vec::with_capacity(alloc, frames.len())?;
-    for item in (Block {
-        frames,
-        opened,
-        changes,
-    })
-    .items()
-    {
-        list.push(item)?;
-    }
-    Ok(list)
 }

@@ -15,6 +15,7 @@ use audit_terms::{ConnectionState, LARGEST_WINDOW};
 /// Can a block show nothing but connection credit, by what its summary tells? Both credits stay above 0 and at most
 /// 2^31 - 1 on entry and after every item; no increment of 0 stands on stream 0; opened streams rise past those before;
 /// promises are allowed and rise; no frame is longer than the least limit of its side (RFC 9113, 4.2, 5.1.1, 6.9, 8.4).
+#[tactic(auto, using(crate::proofs::ClearLemmas::clear_same))]
 pub fn clear(before: &ConnectionState, sum: &ConnSum) -> bool
     ensures { (items : List Item) → sum.now ≡ conn_sum_of items → result ≡ is_clear before.now items }
 {
@@ -65,9 +66,24 @@ fn extremes_usable(credit: i64, changes: &Credit) -> bool
     requires below { credit ≤ℤ largest_window }
     ensures { result ≡ (int_lt (neg_ℤ credit) changes.now.low && int_le changes.now.high (largest_window -ℤ credit)) }
 {
-    let low = -credit;
-    let high = i64::from(LARGEST_WINDOW) - credit;
-    low < changes.low && changes.high <= high
+    least_usable(credit, changes) && greatest_usable(credit, changes)
+}
+
+#[tactic(auto, using(std::proofs::lemmas::Int::ints))]
+fn least_usable(credit: i64, changes: &Credit) -> bool
+    requires { pos 0 <ℤ credit }
+    ensures { result ≡ int_lt (neg_ℤ credit) changes.now.low }
+{
+    -credit < changes.low
+}
+
+#[tactic(auto, using(std::proofs::lemmas::Int::ints))]
+fn greatest_usable(credit: i64, changes: &Credit) -> bool
+    requires above { pos 0 <ℤ credit }
+    requires below { credit ≤ℤ largest_window }
+    ensures { result ≡ int_le changes.now.high (largest_window -ℤ credit) }
+{
+    changes.high <= i64::from(LARGEST_WINDOW) - credit
 }
 
 /// Do the identifiers rise, and all stand above one?

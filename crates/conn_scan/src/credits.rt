@@ -15,7 +15,9 @@ pub struct Credit {
 }
 
 impl Credit {
+    ghost use Rattle.std.specs.Int.{int_max, int_min};
     ghost use Rattle.conn_scan.specs.code.Credit.{credit_met};
+    ghost use Rattle.conn_scan.specs.code.CreditLaws.{IsRoomy};
 
     /// Takes one change more. Most items change nothing.
     pub(crate) fn meet(&mut self, change: i64)
@@ -32,13 +34,29 @@ impl Credit {
         }
     }
 
-    /// The sum of these changes and of some first ones of a later summary.
+    /// The sum of these changes and of some first ones of a later summary, or of the credit before them.
     fn sum_with(&self, later: i64) -> i64
         requires sum { HasRoom (2 ^ 60) self.now.sum }
-        requires later { HasRoom (2 ^ 60) later }
+        requires later { HasRoom (2 ^ 61) later }
         ensures { result ≡ self.now.sum +ℤ later }
     {
         self.sum + later
+    }
+
+    /// These changes, and then those of a later summary, all of them far from what a word holds.
+    #[tactic(auto, using(std::proofs::lemmas::Int::ints, std::proofs::lemmas::Int::clamps))]
+    fn with(&self, later: &Self) -> Self
+        requires mine { IsRoomy self.now }
+        requires later { IsRoomy later.now }
+        ensures sum { result.sum ≡ self.now.sum +ℤ later.now.sum }
+        ensures high { result.high ≡ int_max self.now.high (self.now.sum +ℤ later.now.high) }
+        ensures low { result.low ≡ int_min self.now.low (self.now.sum +ℤ later.now.low) }
+    {
+        Credit {
+            sum: self.sum_with(later.sum),
+            high: self.high.max(self.sum_with(later.high)),
+            low: self.low.min(self.sum_with(later.low)),
+        }
     }
 }
 
@@ -79,15 +97,12 @@ impl Summary for Credit {
     }
 
     fn join(&self, later: &Self) -> Self {
-        Credit {
-            sum: self.sum_with(later.sum),
-            high: self.high.max(self.sum_with(later.high)),
-            low: self.low.min(self.sum_with(later.low)),
-        }
+        self.with(later)
     }
 
+    #[tactic(auto, using(std::proofs::lemmas::Int::ints))]
     fn advance(credit: &i64, changes: &Self) -> i64 {
-        *credit + changes.sum
+        changes.sum_with(*credit)
     }
 
     ghost laws = { credit_laws };

@@ -5,31 +5,29 @@
 //! - [`Rising`] is what is known of the streams that items open, [`Latest`] are the settings that they bring and the
 //!   lengths of their frames.
 //! - [`Block`] is a range of frames with the numbers of those that open streams and the changes of settings: its items
-//!   are walked one by one, and no list of them is made. [`items`] is that list, for who wants it. A number counts as
-//!   an opening on HEADERS alone, and numbers of no frame are passed over. [`numbers_from`] and [`changes_from`] are
-//!   what a later block needs of both.
+//!   are walked one by one, and no list of them is made. A number counts as an opening on HEADERS alone, and numbers of
+//!   no frame are passed over. [`numbers_from`] and [`changes_from`] are what a later block needs of both.
 //! - [`ConnSum`] is all of these, a lawful summary of `block_scan` whose steps are those of the connection, and
 //!   [`block_sum`] that of a block. It takes each item in place, and none is made of an item alone to be joined: most
 //!   frames move a credit or nothing.
-//! - [`carries_of`] is the connection before each block. [`block_findings`] is what a block shows from there, up to the
-//!   place at which its look has it end, with the looks made in time (`IsRun` of `audit_terms`).
+//! - [`block_findings`] is what a block shows, from the connection before it, up to the place at which its look has it
+//!   end, with the looks made in time (`IsRun` of `audit_terms`).
 //! - [`clear`] tells by a summary that a block shows nothing but connection credit ([`laws::clear_shows_credit`]). It
 //!   is exact for `is_clear` of `specs/code/Clear.antt`, both ways.
 //!
 //! [`laws`] say too that the items of a connection are those of the pass and that those of consecutive blocks join, and
 //! that each block fits where all blocks fit the first connection: `block_findings` asks for credits that its items
 //! cannot bring beyond 2^60, and `block_sum` says that an item moves each by at most 2^32. Two laws are worked
-//! examples: credit used up, granted and used again, in states, sums and carries, and a stall in blocks of one, of two
-//! and at once.
+//! examples: credit used up, granted and used again, in states and sums, and a stall in blocks of one, of two and at
+//! once.
 //!
 //! Wrong bodies that the prover refuses: a block that starts afresh, an item or a join that leaves out what is before,
 //! clear by the total alone, HEADERS that all count as openings, a run that looks once. Tested, in `round_tests`: that
-//! the calls succeed where there is memory, and how often a run over 1,000 frames looks.
+//! the calls succeed where there is memory, within rounds over random frames.
 #![tactic(auto)]
 
 mod block_items;
 mod blocks;
-mod carried;
 mod cleared;
 mod credits;
 mod ids;
@@ -39,9 +37,8 @@ mod rising;
 mod sums;
 
 pub use audit_terms::ConnectionState as ConnState;
-pub use block_items::{Block, changes_from, items, numbers_from};
+pub use block_items::{Block, changes_from, numbers_from};
 pub use blocks::{BlockRun, block_findings};
-pub use carried::carries_of;
 pub use cleared::clear;
 pub use credits::Credit;
 pub use latest::Latest;

@@ -7,7 +7,7 @@ pub use frames::{Frame, data, headers, settings, settings_ack, window_update};
 use std::alloc::{AllocError, Global};
 
 /// The file header: little-endian numbers, microseconds, version 2.4, a snapshot length of 262,144, Ethernet.
-const FILE_HEADER: [u8; 24] = [
+pub const FILE_HEADER: [u8; 24] = [
     0xd4, 0xc3, 0xb2, 0xa1, 2, 0, 4, 0, 0, 0, 0, 0, 0, 0, 0, 0, 0, 0, 4, 0, 1, 0, 0, 0,
 ];
 

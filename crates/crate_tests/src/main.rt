@@ -1,6 +1,6 @@
 //! Tests of the crates from bytes to frames, of the text, and of runs, as a program that prints a line for each: its
-//! name, and `same` where what it compares is the same. Nothing is proved of what they compare, so each line is one
-//! that no contract gives. Those of the calls between frames and findings are a program of their own, `round_tests`.
+//! name, and `Ok(true)` where what it compares is the same. Each line is one that no contract gives. Those of the calls
+//! between frames and findings are a program of their own, `round_tests`.
 //!
 //! What the calls answer is proved in their own crates, and worked out by proof in their `worked_examples`; no test
 //! repeats an equation. [`stream_examples`] and [`frame_examples`] compute the definitions of `tcp_streams` and
@@ -8,40 +8,53 @@
 //! where its answer changes, padding, values of settings at the ends of their ranges, the preface, frame headers,
 //! capture order.
 //!
-//! What is left for tests are calls, of single crates and of runs: calls that take memory once each where there is
-//! memory, and printed text. `assemble` beside a slow program over random segments; that two workers are in one round
-//! of an audit at once, and how many jobs each round has; readers and writers that go in steps or fail; the texts of
-//! faults; and calls that whole reports do not reach, once each. What the program answers to words and to whole
-//! captures is asked of the program, in `tests/` at the root.
+//! What is left for tests are calls, of single crates and of runs: `assemble` beside a slow program over random
+//! segments, and what comes before it; random keys; the words of refused packets, and how faults print; readers and
+//! writers that go in steps or fail; that two workers are in one round of an audit at once, and how many jobs each
+//! round has. What the program answers to words and to whole captures is asked of the program, in `tests/` at the root.
 #![tactic(auto)]
 
 mod captures;
+mod fakes;
 mod flows;
 mod frame_examples;
-mod reports;
-mod runs;
+mod gates;
+mod in_steps;
+mod keys;
 mod stream_examples;
+mod texts;
 
+use std::alloc::AllocError;
 use std::io;
-use std::random::RandomSource;
-use std::thread::Threads;
-use test_answers::print_answers;
 
-/// Prints a line for each test of calls, in groups: a long chain of calls is dear to prove.
-fn print_calls(rt: &(impl AllocGlobal + Print + RandomSource)) -> io::Result<()> {
-    let alloc = rt.alloc();
-    print_answers(rt, &flows::answers(rt, alloc))?;
-    print_answers(rt, &reports::answers(alloc))
-}
-
-/// Those of runs.
-fn print_runs(rt: &(impl AllocGlobal + Print + RandomSource + Sync + Threads)) -> io::Result<()> {
-    let alloc = rt.alloc();
-    print_answers(rt, &runs::stepwise(rt, alloc))?;
-    print_answers(rt, &runs::audits(rt, alloc))
-}
+/// Whether what a test compares is the same; there may be no memory to tell.
+pub type Answer = Result<bool, AllocError>;
 
 fn main(rt: HostRuntime) -> io::Result<()> {
-    print_calls(&rt)?;
-    print_runs(&rt)
+    let alloc = rt.alloc();
+    let answers = [
+        ("random_segments", flows::random_segments(alloc)),
+        ("drawn_keys", keys::drawn_keys(&rt)),
+        ("each_kind_of_packet", texts::each_kind_of_packet(alloc)),
+        ("printed_faults", texts::printed_faults(alloc)),
+        ("slow_steps", in_steps::slow_steps(&rt, alloc)),
+        (
+            "interrupted_reader",
+            in_steps::interrupted_reader(&rt, alloc),
+        ),
+        ("failing_writer", in_steps::failing_writer(&rt, alloc)),
+        ("failing_flush", in_steps::failing_flush(&rt, alloc)),
+        ("refused_capture", in_steps::refused_capture(&rt, alloc)),
+        ("refused_header", in_steps::refused_header(&rt, alloc)),
+        ("jobs_of_blocks", gates::jobs_of_blocks(&rt, alloc)),
+        (
+            "jobs_up_to_the_stop",
+            gates::jobs_up_to_the_stop(&rt, alloc),
+        ),
+        ("two_at_once", gates::two_at_once(&rt, alloc)),
+    ];
+    for (name, answer) in answers {
+        println!(rt; "{name} {answer:?}")?;
+    }
+    Ok(())
 }

@@ -1,5 +1,5 @@
 -- Bounds of credits.
-use Rattle.std.proofs.Common.{◌≡◌, ℕ, ℤ, pos, ◌+◌, ◌^◌, ◌<◌, ◌+ℤ◌, ◌-ℤ◌, ◌⊎◌, inl, inr, arith}
+use Rattle.std.proofs.Common.{◌≡◌, ℕ, ℤ, pos, ◌+◌, ◌^◌, ◌<◌, ◌+ℤ◌, ◌-ℤ◌, ◌⊎◌, arith}
 use Rattle.std.proofs.lemmas.Int.{ints}
 use Rattle.audit_terms.specs.code.Room.{HasRoom}
 
@@ -8,13 +8,7 @@ pub moved-has_room : (bound granted content new old : ℕ) (credit : ℤ)
     → granted < 2 ^ 32 → content < 2 ^ 32 → new < 2 ^ 32 → old < 2 ^ 32
     → (new ≡ old) ⊎ ((granted ≡ 0) × (content ≡ 0)) → HasRoom bound credit
     → HasRoom (bound + 2 ^ 32) (credit +ℤ ((pos granted -ℤ pos content) +ℤ (pos new -ℤ pos old)))
-moved-has_room bound granted content new old credit g c n o (inl same) h =
+moved-has_room bound granted content new old credit g c n o one h =
     let low = h.0 in
     let high = h.1 in
-    (omega (arith, ints), omega (arith, ints))
-moved-has_room bound granted content new old credit g c n o (inr none) h =
-    let low = h.0 in
-    let high = h.1 in
-    let no_grant = none.0 in
-    let no_content = none.1 in
     (omega (arith, ints), omega (arith, ints))

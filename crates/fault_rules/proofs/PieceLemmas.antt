@@ -1,5 +1,5 @@
 -- Frames in pieces.
-use Rattle.std.proofs.Common.{◌≡◌, ℕ, zero, suc, ◌+◌, ◌-◌, ◌*◌, ◌<◌, ◌≤◌, true, false, if◌then◌else◌, List, [], ◌∷◌}
+use Rattle.std.proofs.Common.{◌≡◌, ℕ, zero, suc, ◌+◌, ◌-◌, ◌*◌, ◌<◌, ◌≤◌, if◌then◌else◌, List, [], ◌∷◌}
 use Rattle.std.proofs.Common.{◌++◌, All, Option, Some, length, get_or, take, drop, map, flat_map, refl, sym, ap, ◌∙◌}
 use Rattle.std.proofs.Common.{append_assoc, arith}
 use Rattle.std.specs.Prelude.{Result, Ok, IfOk}
@@ -47,39 +47,18 @@ last_from-append side before [] ys = refl
 last_from-append side before (frame ∷ xs) ys =
     last_from-append side (if is_side side frame.side then Some frame else before) xs ys
 
--- one more frame seen from behind, of the other side
-pub last_from-other : (side : Side) (before : Option Frame) (frames : List Frame) (back : ℕ) (d : Frame)
+-- one more frame seen from behind
+pub last_from-back : (side : Side) (before : Option Frame) (frames : List Frame) (back : ℕ) (d : Frame)
     → back < length frames
-    → is_side side (get_or frames (length frames - 1 - back) d).side ≡ false
-    → last_from side before (take (length frames - back) frames)
-    ≡ last_from side before (take (length frames - (back + 1)) frames)
-last_from-other side before frames back d l e =
+    → (let one = get_or frames (length frames - 1 - back) d in
+    last_from side before (take (length frames - back) frames)
+    ≡ (if is_side side one.side then Some one else last_from side before (take (length frames - (back + 1)) frames)))
+last_from-back side before frames back d l =
     let k = length frames - (back + 1) in
     let next : length frames - back ≡ k + 1 = omega arith in
     let place : length frames - 1 - back ≡ k = omega arith in
-    let other : is_side side (get_or frames k d).side ≡ false =
-    ap (λ i. is_side side (get_or frames i d).side) (sym place) ∙ e in
-    ap (λ i. last_from side before (take i frames)) next
-    ∙ ap (last_from side before) (take_more frames k d (omega arith))
-    ∙ last_from-append side before (take k frames) (get_or frames k d ∷ [])
-    ∙ ap (λ t. if t then Some (get_or frames k d) else last_from side before (take k frames)) other
-
--- and of the side
-pub last_from-own : (side : Side) (before : Option Frame) (frames : List Frame) (back : ℕ) (d : Frame)
-    → back < length frames
-    → is_side side (get_or frames (length frames - 1 - back) d).side ≡ true
-    → last_from side before (take (length frames - back) frames) ≡ Some (get_or frames (length frames - 1 - back) d)
-last_from-own side before frames back d l e =
-    let k = length frames - (back + 1) in
-    let next : length frames - back ≡ k + 1 = omega arith in
-    let place : length frames - 1 - back ≡ k = omega arith in
-    let own : is_side side (get_or frames k d).side ≡ true =
-    ap (λ i. is_side side (get_or frames i d).side) (sym place) ∙ e in
-    ap (λ i. last_from side before (take i frames)) next
-    ∙ ap (last_from side before) (take_more frames k d (omega arith))
-    ∙ last_from-append side before (take k frames) (get_or frames k d ∷ [])
-    ∙ ap (λ t. if t then Some (get_or frames k d) else last_from side before (take k frames)) own
-    ∙ ap (λ i. Some (get_or frames i d)) (sym place)
+    rw (next, take_more frames k d (omega arith), place)
+    (last_from-append side before (take k frames) (get_or frames k d ∷ []))
 
 -- one more of those before the pieces
 pub befores-push : (size : ℕ) (frames : List Frame) (befores : List (Sides (Option Frame)))
@@ -109,24 +88,20 @@ pub before_piece-next : (size : ℕ) (frames : List Frame) (n : ℕ) →
     before_piece size frames (n + 1) ≡ previous_after_all (before_piece size frames n) (slice_chunk frames size n)
 before_piece-next size frames n =
     let e : (n + 1) * size ≡ n * size + size = omega arith in
-    ap (λ k. previous_after_all no_previous (take k frames)) e
-    ∙ ap (previous_after_all no_previous) (take-add (n * size) size frames)
-    ∙ fold-append previous_after no_previous (take (n * size) frames) (take size (drop (n * size) frames))
+    rw (e, take-add (n * size) size frames)
+    (fold-append previous_after no_previous (take (n * size) frames) (take size (drop (n * size) frames)))
 
 -- a piece and what follows it
 pub piece_run-rest : (size : ℕ) (frames : List Frame) (n : ℕ) →
     piece_run size frames n ++ local_run_from (before_piece size frames (n + 1)) (drop ((n + 1) * size) frames)
     ≡ local_run_from (before_piece size frames n) (drop (n * size) frames)
 piece_run-rest size frames n =
-    let e : (n + 1) * size ≡ n * size + size = omega arith in
     let rest = drop (n * size) frames in
-    let behind : drop ((n + 1) * size) frames ≡ drop size rest =
-    ap (λ k. drop k frames) e ∙ sym (drop-drop size (n * size) frames) in
-    let now = piece_run size frames n in
-    ap (λ previous. now ++ local_run_from previous (drop ((n + 1) * size) frames)) (before_piece-next size frames n)
-    ∙ ap (λ l. now ++ local_run_from (previous_after_all (before_piece size frames n) (take size rest)) l) behind
-    ∙ sym (local_run_from-append (before_piece size frames n) (take size rest) (drop size rest))
-    ∙ ap (local_run_from (before_piece size frames n)) (take-append-drop size rest)
+    let e : (n + 1) * size ≡ n * size + size = omega arith in
+    let behind : drop ((n + 1) * size) frames ≡ drop size rest = rw e (sym (drop-drop size (n * size) frames)) in
+    rw (before_piece-next size frames n, behind)
+    (sym (local_run_from-append (before_piece size frames n) (take size rest) (drop size rest))
+    ∙ ap (local_run_from (before_piece size frames n)) (take-append-drop size rest))
 
 module _ {X : Type 0} (E : Type 0) (items : X → List Finding) (size : ℕ) (frames : List Frame) where
   -- what the pieces from number n on show

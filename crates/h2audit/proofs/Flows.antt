@@ -1,8 +1,10 @@
 -- The jobs of the first round, and what their parts keep of flows.
-use Rattle.std.proofs.Common.{◌≡◌, ℕ, zero, suc, ◌+◌, ◌<◌, ◌≤◌, Bool, List, [], ◌∷◌, ◌++◌, length, get_or, slice_get}
+use Rattle.std.proofs.Common.{◌≡◌, ℕ, suc, ◌+◌, ◌<◌, ◌≤◌, Bool, List, [], ◌∷◌, ◌++◌, length, get_or, slice_get}
 use Rattle.std.proofs.Common.{All, IfOk, Ok, Err, Result, Option, Some, None, Bor, map, refl, sym, subst, ap, ◌∙◌}
 use Rattle.std.proofs.Common.{arith}
 use Rattle.std.proofs.lemmas.List.{get_or-map, length-map}
+use Rattle.std.proofs.lemmas.List.FromFn.{get_or-map-range_with_len, length-map-range_with_len}
+use Rattle.std.proofs.lemmas.Option.{get_or_from_slice_get, slice_get_within}
 use Rattle.std.proofs.lemmas.List.Elements.{All-cons, All-head, All-nil, All-tail}
 use Rattle.audit_report.specs.code.Reported.{HasGapAtEnd, HasOrderlyOutcome}
 use Rattle.audit_report.specs.declared.told.Outcome.{Outcome}
@@ -18,7 +20,7 @@ use Rattle.h2_frames.specs.code.Orderly.{HasOrderlyFrames}
 use Rattle.h2_frames.specs.declared.connections.Cut.{Cut}
 use Rattle.h2_frames.specs.declared.connections.Cut.TheVariants.{Http2, NotHttp2, NoPreface, NoHandshake}
 use Rattle.h2audit.specs.Audited.{IsFlowFrom}
-use Rattle.h2audit.specs.code.Flows.{AreToldFlows, IsHeldBy, IsToldFlows, KeepsCut, flow_jobs}
+use Rattle.h2audit.specs.code.Flows.{AreToldFlows, FlowView, IsHeldBy, IsToldFlows, KeepsCut, flow_job, flow_jobs}
 use Rattle.h2audit.specs.code.Found.{frames_of, kept_in}
 use Rattle.stop_desk.specs.code.Board.{Job, IsCut}
 use Rattle.stop_desk.specs.declared.parts.Part.{Part}
@@ -30,38 +32,37 @@ use Rattle.tcp_streams.specs.Sequence.{Source, source}
 use Rattle.tcp_streams.specs.declared.members.Connection.{Connection}
 use Rattle.tcp_streams.specs.declared.streams.Flow.{Flow}
 
-pub flow_jobs-length : (first : ℕ) (connections : List Connection)
-    → length (flow_jobs first connections) ≡ length connections
-flow_jobs-length first [] = refl
-flow_jobs-length first (c ∷ connections) = ap suc (flow_jobs-length (first + 1) connections)
+pub flow_jobs-length : (opened : List Connection) → length (flow_jobs opened) ≡ length opened
+flow_jobs-length opened = length-map-range_with_len flow_job 0 (length opened)
 
-pub flow_jobs-at : (first : ℕ) (connections : List Connection) (n : ℕ) (one : Job)
-    → slice_get (flow_jobs first connections) n ≡ Some one → (one.connection ≡ first + n) × (one.findings ≡ [])
-flow_jobs-at first [] n one is = cc
-flow_jobs-at first (c ∷ connections) zero one is =
-    let same : one ≡ record { connection = first; findings = [] } = cc in
-    (ap (λ (j : Job). j.connection) same ∙ omega arith, ap (λ (j : Job). j.findings) same)
-flow_jobs-at first (c ∷ connections) (suc n) one is =
-    let rest = flow_jobs-at (first + 1) connections n one is in
-    let at = rest.0 in
-    (omega arith, rest.1)
+pub flow_jobs-at : (opened : List Connection) (n : ℕ) (one : Job) → slice_get (flow_jobs opened) n ≡ Some one
+    → one ≡ flow_job n
+flow_jobs-at opened n one is =
+    let within = slice_get_within (flow_jobs opened) n one is in
+    sym (get_or_from_slice_get (flow_jobs opened) n one one is)
+    ∙ get_or-map-range_with_len flow_job 0 (length opened) n n one (omega (arith, within, flow_jobs-length opened))
+    (omega arith)
 
-pub nothing-cut : (one : Job) → one.findings ≡ [] → IsCut one.findings None []
-nothing-cut one is = rw (is)
-    (record {
-      ordered = refl;
-      left_out = [];
-      together = refl;
-      past = λ found among. let below = among.1 in absurd
-          (omega arith);
-    })
+pub flow_jobs-within : (opened : List Connection)
+    → All (λ (job : Job). job.connection < length opened) (flow_jobs opened)
+flow_jobs-within opened = λ k d within.
+    let low : k < length opened = omega (arith, within, flow_jobs-length opened) in
+    subst (λ (job : Job). job.connection < length opened)
+    (sym (get_or-map-range_with_len flow_job 0 (length opened) k k d low (omega arith))) low
 
-pub flow_jobs-within : (first count : ℕ) (connections : List Connection) → first + length connections ≤ count
-    → All (λ (job : Job). job.connection < count) (flow_jobs first connections)
-flow_jobs-within first count [] fit = All-nil (λ (job : Job). job.connection < count)
-flow_jobs-within first count (c ∷ connections) fit =
-    All-cons (λ (job : Job). job.connection < count) (record { connection = first; findings = [] })
-    (flow_jobs (first + 1) connections) (omega arith) (flow_jobs-within (first + 1) count connections (omega arith))
+-- the connection of a job
+pub job-within : (inside view : FlowView) (job : ℕ) → inside ≡ view → job < length (flow_jobs view.opened)
+    → job < length inside.opened
+job-within inside view job is within =
+    omega (arith, within, flow_jobs-length view.opened, ap (λ (v : FlowView). length v.opened) is)
+
+pub nothing-cut : IsCut [] None []
+nothing-cut = record {
+  ordered = refl;
+  left_out = [];
+  together = refl;
+  past = λ found among. let below = among.1 in absurd (omega arith);
+}
 
 module _ (credits : Bool) (capture : List ℕ) (packets : List Packet) where
   pub are-told : (opened : List Connection) (parts : List (Part Told)) → length parts ≡ length opened
@@ -125,10 +126,7 @@ kept-first : (o : Outcome) (rest : List (List Frame)) → HasOrderlyOutcome o �
     → All runs.IsOrderly (frames_of o ++ rest)
 kept-first (outcome.Audited audited) rest orderly all =
     All-cons runs.IsOrderly audited.value.frames.items rest orderly all
-kept-first (outcome.Quiet quiet) rest orderly all = all
-kept-first outcome.NotHttp2 rest orderly all = all
-kept-first outcome.NoPreface rest orderly all = all
-kept-first outcome.NoHandshake rest orderly all = all
+kept-first _ rest orderly all = all
 
 pub kept-orderly : (parts : List (Part Told)) → All (λ (part : Part Told). HasOrderlyOutcome part.made.outcome) parts
     → All runs.IsOrderly (kept_in parts)

@@ -67,12 +67,6 @@ pub record Step
 abbrev items : Vec Finding Global → List Finding
 items one = one.items
 
-same-head : (a b : List Finding) (cs ds : List (List Finding)) → a ∷ cs ≡ b ∷ ds → a ≡ b
-same-head a b cs ds e = cc
-
-same-tail : (a b : List Finding) (cs ds : List (List Finding)) → a ∷ cs ≡ b ∷ ds → cs ≡ ds
-same-tail a b cs ds e = cc
-
 module _ (credits : Bool) (capture : List ℕ) (packets : List Packet) (c : Connection) (flows : Sides Flow)
     (client : IsFlowOf capture packets c Client flows.client) (server : IsFlowOf capture packets c Server flows.server)
     (reach : Sides Reach) (reaches : extents_in reach ≡ extents_of flows.client flows.server)
@@ -122,11 +116,11 @@ module _ (credits : Bool) (capture : List ℕ) (packets : List Packet) (c : Conn
       server = server;
       extents = refl;
       cut = (held.0, held.1);
-      findings = same-head _ _ _ _ same;
+      findings = cc;
     };
     stands = record { extents = reaches; outcome = (refl, refl, refl) };
     orderly = held.2;
-    left = same-tail _ _ _ _ same;
+    left = cc;
   }
   step-of NotHttp2 held found same =
       unkept NotHttp2 cut.NotHttp2 (list-of c.members [] (omega arith)) refl held refl found same refl refl tt

@@ -1,6 +1,6 @@
 -- What a run on the front of a reader's bytes leaves is what a run on all of them leaves.
-use Rattle.std.proofs.Common.{◌≡◌, ◌∙◌, ℕ, Bool, ◌<◌, ◌≤◌, min, List, ◌++◌, length, take, Option, Some, None, Ok, Err}
-use Rattle.std.proofs.Common.{inl, inr, refl, sym, ap, subst, arith}
+use Rattle.std.proofs.Common.{◌≡◌, ◌∙◌, ℕ, Bool, ◌<◌, ◌≤◌, min, List, [], ◌++◌, length, take, Option, Some, None, Ok}
+use Rattle.std.proofs.Common.{Err, Result, inl, inr, refl, sym, ap, subst, arith}
 use Rattle.std.specs.Prelude.{◌≢◌}
 use Rattle.std.proofs.lemmas.List.{append-nil, length-take, take_all}
 use Rattle.std.specs.Io.KnownBytes.{Appends, Keeps}
@@ -10,6 +10,7 @@ use Rattle.pcap_records.proofs.Sizes.{front_decides_lem, allowed_is_short_lem}
 use Rattle.input_output.specs.Account.{HaveGiven, IsReadToEnd, IsUnwritten, OfGiven, kept, written}
 use Rattle.h2audit.specs.Account.{Tells}
 use Rattle.h2audit.specs.code.Reading.{AnswersFor, IsAuditingFault}
+use Rattle.h2audit.specs.code.Writing.{IsWritten}
 use Rattle.h2audit.specs.Report.{IsNoReport, IsReport}
 use Rattle.h2audit.specs.laws.Run.{FaultsAreSilent, RunsLeave}
 use Rattle.h2audit.specs.declared.fault.AuditFault.{AuditFault}
@@ -32,12 +33,10 @@ report_of_front all front shown text verdict is report =
     subst (λ (bytes : List ℕ). IsReport bytes shown text verdict) (front_is_whole all front is report.taken) report
 
 -- nothing was appended
-pub keeps_unwritten : (old new : Option (List ℕ)) (n : ℕ) (text : List ℕ) → n ≡ 0 → Appends old new (take n text)
-    → Keeps old new
-keeps_unwritten None new n text none appends = tt
-keeps_unwritten (Some xs) None n text none appends = absurd appends
-keeps_unwritten (Some xs) (Some ys) n text none appends =
-    (appends ∙ ap (λ (k : ℕ). xs ++ take k text) none) ∙ append-nil xs
+keeps_nothing : (old new : Option (List ℕ)) → Appends old new [] → Keeps old new
+keeps_nothing None new appends = tt
+keeps_nothing (Some xs) None appends = absurd appends
+keeps_nothing (Some xs) (Some ys) appends = appends ∙ append-nil xs
 
 module _ {R : Type 0} where
   -- the report of what is kept is that of the bytes that the reads gave
@@ -76,6 +75,21 @@ module _ {R W : Type 0} where
       subst (λ fault. Tells new writer shown (Err fault)) (sym wanting)
       (inl (ap (λ (reader : CaptureReader R). reader.state) lacked), unwritten)
 
+  -- a report that was written, or a front of it
+  pub tells_written : (reader : CaptureReader R) (writer : ReportWriter W) (shown : Bool) (text : List ℕ)
+      (verdict : Verdict) (answer : Result Verdict AuditFault) → IsReadToEnd reader
+      → OfGiven reader (λ given. IsReport given shown text verdict) → IsWritten text verdict writer answer
+      → Tells reader writer shown answer
+  tells_written reader writer shown text verdict (Ok judged) read report (same, is, flushed) = (
+    read,
+    subst (λ text. OfGiven reader (λ given. IsReport given shown text judged)) (sym is)
+        (subst (λ verdict. OfGiven reader (λ given. IsReport given shown text verdict)) (sym same) report),
+    flushed,
+  )
+  tells_written reader writer shown text verdict (Err fault.Write) read report (failed, (n, is)) =
+      (read, failed, (text, verdict, n, report, is))
+  tells_written reader writer shown text verdict (Err _) read report is = absurd is
+
   -- after a fault other than a failed write nothing was written
   unwritten_after : (reader : CaptureReader R) (writer : ReportWriter W) (shown : Bool) (e : AuditFault)
       → e ≢ fault.Write → Tells reader writer shown (Err e) → IsUnwritten writer
@@ -86,8 +100,7 @@ module _ {R W : Type 0} where
 module _ (R W : Type 0) where
   pub faults_are_silent_lem : FaultsAreSilent R W
   faults_are_silent_lem reader writer shown old new e told appends other =
-      keeps_unwritten old new writer.written writer.text.items
-      (unwritten_after reader writer shown e other told).written appends
+      keeps_nothing old new (rw (unwritten_after reader writer shown e other told).written at appends)
 
   pub runs_leave_lem : RunsLeave R W
   runs_leave_lem all reader writer shown old new (Ok verdict) told given appends = (

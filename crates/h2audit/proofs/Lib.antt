@@ -5,5 +5,4 @@ mod Flows
 mod Found
 mod Opened
 mod Walked
-mod Numbers
 mod OptionReads

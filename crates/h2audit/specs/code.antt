@@ -1,7 +1,7 @@
 pub mod Reading
+pub mod Writing
 pub mod Flows
 pub mod Found
 pub mod Quiet
-pub mod Numbers
 pub mod Options
 pub mod Choices

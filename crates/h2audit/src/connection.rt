@@ -3,9 +3,6 @@
 ghost use Rattle.std.specs.Prelude.{◌≡◌, ◌<◌, ◌^◌, All, IfOk, List, length, map};
 ghost use Rattle.std.specs.List.{list_any};
 ghost use Rattle.std.specs.Vec.Iter.{into_iter_items};
-ghost use Rattle.packet_heads.specs.code.Order.{AreNumberedFrom, PayloadsRise, TimesFit};
-ghost use Rattle.tcp_streams.specs.code.Orderly.{AreMembers};
-ghost use Rattle.tcp_streams.specs.declared.members.Connection.{Connection};
 ghost use Rattle.stop_desk.specs.declared.parts.Part.{Part};
 ghost use Rattle.audit_report.specs.code.Reported.{AreToldOf, HasOrderlyOutcome};
 ghost use Rattle.audit_report.specs.declared.audited.Audited.{Audited};
@@ -13,7 +10,7 @@ ghost use Rattle.audit_report.specs.declared.told.Told.{Told};
 ghost use Rattle.audit_terms.specs.Kind.{is_fault};
 ghost use Rattle.audit_terms.specs.declared.findings.Finding.{Finding};
 ghost use Rattle.h2audit.specs.Audited.{verdict_of};
-ghost use Rattle.h2audit.specs.code.Flows.{AreToldFlows};
+ghost use Rattle.h2audit.specs.code.Flows.{AreSources, AreToldFlows};
 ghost use Rattle.h2audit.specs.code.Found.{AreFound, all_with, found_in, has_fault_in, kept_in, left_after, with_next};
 
 use crate::command_line::Options;
@@ -38,12 +35,8 @@ pub(crate) fn flows_each<R: Threads + Sync, G: Gate>(
     packets: &Packets<'_>,
     opened: &[Connection],
 ) -> Result<Vec<Part<Told>>, AllocError>
-    requires size { length capture.now < 2 ^ 31 }
     requires few { length opened.now < 2 ^ 32 }
-    requires numbered { AreNumberedFrom 1 packets.now }
-    requires payloads { PayloadsRise 0 (length capture.now) packets.now }
-    requires times { TimesFit packets.now }
-    requires members { All (λ (c : Connection). AreMembers 0 packets.now c.members.items) opened.now }
+    requires sources { All (AreSources capture.now packets.now) opened.now }
     ensures { IfOk result (λ parts. AreToldFlows options.now.frames_shown capture.now packets.now opened.now
         parts.items) }
 {

@@ -129,7 +129,7 @@ impl<R: Threads + Sync> Round for FlowRound<'_, R> {
     ghost use Rattle.tcp_streams.specs.declared.members.Connection.{Connection};
     ghost use Rattle.h2audit.specs.code.Flows.{IsToldFlows, flow_jobs};
 
-    ghost jobs = { λ s. flow_jobs 0 s.opened };
+    ghost jobs = { λ s. flow_jobs s.opened };
 
     ghost makes = { λ s job upto made. (connection : Connection) → slice_get s.opened job ≡ Some connection
         → IsToldFlows s.credits_shown s.capture s.packets connection made };

@@ -12,10 +12,10 @@ ghost use Rattle.h2audit.specs.Program.{AreAsked, Does, Ends, IsShown, IsUnopene
 
 use crate::command_line::{Options, Parsed, parse};
 use crate::fault::AuditFault;
-use crate::running::run;
+use crate::running::{run, write_out};
 use crate::status::ending;
 use crate::verdict::Verdict;
-use input_output::{CaptureReader, ReportWriter, write_report};
+use input_output::{CaptureReader, ReportWriter};
 use std::alloc::{AllocError, Global};
 use std::io::{ErrorKind, Read, Write};
 use std::process::ExitCode;
@@ -185,11 +185,7 @@ fn show<W: Write>(text: String, output: &mut ReportWriter<W>) -> Result<Verdict,
     ensures shown { IsShown (string_bytes text) output.new result }
     ensures taken { Appends (W.contents output.old.writer) (W.contents output.new.writer) (written output.new) }
 {
-    output.begin(text.into_bytes());
-    match write_report(output) {
-        Ok(()) => Ok(Verdict::Clean),
-        Err(_) => Err(AuditFault::Write),
-    }
+    write_out(text.into_bytes(), Verdict::Clean, output)
 }
 
 /// Says what `ending` says of the answer, and gives its exit status.

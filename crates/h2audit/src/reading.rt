@@ -1,10 +1,9 @@
-ghost use Rattle.std.specs.Prelude.{◌≡◌, ◌^◌, List, ℕ, IfErr, IfOk, IfSome, OnOk, Some, take};
+ghost use Rattle.std.specs.Prelude.{◌≡◌, List, ℕ, IfErr, IfOk, Some};
 ghost use Rattle.pcap_records.specs.Refusal.{refusal};
 ghost use Rattle.packet_heads.specs.code.Walk.{IsPacketWalkIn};
-ghost use Rattle.input_output.specs.Account.{HaveGiven, IsReadToEnd, IsUnread, OfGiven, kept};
+ghost use Rattle.input_output.specs.Account.{IsUnread};
 ghost use Rattle.input_output.specs.code.Reading as accounted;
-ghost use Rattle.h2audit.specs.Account.{IsBrief};
-ghost use Rattle.h2audit.specs.code.Reading.{AnswersFor, IsHeaderOf, IsReadingFault};
+ghost use Rattle.h2audit.specs.code.Reading.{HasReadCapture, IsHeaderOf, IsReadingFault};
 
 use crate::fault::AuditFault;
 use input_output::{CaptureReader, PartsAhead, ReadFault, keep_and_walk, keep_up_to, pass_over};
@@ -37,12 +36,7 @@ pub(crate) fn read_capture<R: Read>(
     reader: &mut CaptureReader<R>,
 ) -> Result<FileHeader, AuditFault>
     requires { IsUnread reader.old }
-    ensures bytes { OnOk result (IfSome (R.remaining reader.old.reader)
-        (λ all. HaveGiven reader.new (take (2 ^ 31) all))) }
-    ensures ok { OnOk result (IsReadToEnd reader.new) }
-    ensures answers { OnOk result (OfGiven reader.new (AnswersFor (kept reader.new))) }
-    ensures brief { OnOk result (IsBrief reader.new) }
-    ensures header { IfOk result (IsHeaderOf (kept reader.new)) }
+    ensures read { IfOk result (HasReadCapture (R.remaining reader.old.reader) reader.new) }
     ensures err { IfErr result (λ e. IsReadingFault e reader.new) }
 {
     let mut ahead = PartsAhead::new(rt, alloc, workers);
@@ -62,12 +56,7 @@ fn read_in_parts<T: Threads, R: Read>(
     reader: &mut CaptureReader<R>,
 ) -> Result<FileHeader, ReadFault>
     requires { IsUnread reader.old }
-    ensures bytes { OnOk result (IfSome (R.remaining reader.old.reader)
-        (λ all. HaveGiven reader.new (take (2 ^ 31) all))) }
-    ensures ok { OnOk result (IsReadToEnd reader.new) }
-    ensures answers { OnOk result (OfGiven reader.new (AnswersFor (kept reader.new))) }
-    ensures brief { OnOk result (IsBrief reader.new) }
-    ensures header { IfOk result (IsHeaderOf (kept reader.new)) }
+    ensures read { IfOk result (HasReadCapture (R.remaining reader.old.reader) reader.new) }
     ensures err { IfErr result (λ e. accounted.IsReadingFault e reader.new) }
 {
     keep_up_to(ahead, reader, HEADER)?;

@@ -4,6 +4,7 @@ ghost use Rattle.input_output.specs.Account.{IsReadToEnd, IsUnread, IsUnwritten,
 ghost use Rattle.h2audit.specs.Account.{HasGiven, IsBrief, Tells};
 ghost use Rattle.h2audit.specs.Report.{IsReport};
 ghost use Rattle.h2audit.specs.code.Reading.{IsAuditingFault, IsHeaderOf};
+ghost use Rattle.h2audit.specs.code.Writing.{IsWritten};
 
 use crate::auditing::audit_parts;
 use crate::command_line::Options;
@@ -44,6 +45,19 @@ pub fn run<R: Read, W: Write>(
 {
     let header = read_capture(rt, alloc, options.workers(), reader)?;
     let (text, verdict) = audit_kept(rt, alloc, options, reader, header, gate)?;
+    write_out(text, verdict, writer)
+}
+
+/// Writes a text and flushes once, and answers this verdict where that went well.
+pub(crate) fn write_out<W: Write>(
+    text: Vec<u8>,
+    verdict: Verdict,
+    writer: &mut ReportWriter<W>,
+) -> Result<Verdict, AuditFault>
+    requires { IsUnwritten writer.old }
+    ensures written { IsWritten text.items verdict writer.new result }
+    ensures taken { Appends (W.contents writer.old.writer) (W.contents writer.new.writer) (written writer.new) }
+{
     writer.begin(text);
     match write_report(writer) {
         Ok(()) => Ok(verdict),

@@ -1,11 +1,8 @@
 -- What a buffer holds after a read and after a move.
-use Rattle.std.proofs.Common.{◌≡◌, ◌+◌, ◌-◌, ◌≤◌, ◌∙◌, ℕ, List, ◌++◌, length, take, drop, take-append-drop}
-use Rattle.std.proofs.Common.{sym, ap, ap₂, arith}
-use Rattle.std.specs.List.{copy_within}
-use Rattle.std.proofs.Math.Seq.{drop-append_seam, take-add, take-append_seam}
-use Rattle.std.proofs.lemmas.List.{drop-take, length-drop, length-take-le, take-take}
+use Rattle.h2audit_split.proofs.Terms.{List, ap, ap₂, arith, copy_within, drop, drop-append_seam, drop-take, length}
+use Rattle.h2audit_split.proofs.Terms.{length-drop, length-take-le, sym, take, take-add, take-append-drop}
+use Rattle.h2audit_split.proofs.Terms.{take-append_seam, take-put_mid, take-take, ℕ, ◌++◌, ◌+◌, ◌-◌, ◌∙◌, ◌≡◌, ◌≤◌}
 use Rattle.std.proofs.lemmas.List.Edits.{take-paste}
-use Rattle.std.proofs.lemmas.Slice.{take-put_mid}
 use borrow.Rule.Slice.PartMut.{put_mid}
 
 -- n bytes were read behind a

@@ -1,11 +1,9 @@
 -- What parts get of records, one after the other.
-use Rattle.std.proofs.Common.{◌≡◌, ℕ, ◌+◌, ◌<◌, ◌≤◌, ◌==◌, ◌∙◌, Bool, true, false, if◌then◌else◌, min, List, []}
-use Rattle.std.proofs.Common.{◌∷◌, ◌++◌, length, take, drop, refl, sym, ap, arith, append_assoc, append-nil}
-use Rattle.std.proofs.Common.{length-append, length-drop, inl, inr}
-use Rattle.std.proofs.lemmas.Bool.{cases_lt, cond-false, ne_eqb}
-use Rattle.std.proofs.lemmas.List.{drop-append-le, length-take, take-append-le, take-take, take_all}
-use Rattle.h2audit_split.specs.Dealt.{given, given_from, part_at}
-use Rattle.h2audit_split.specs.Pair.{front_of, pair_of, part_of}
+use Rattle.h2audit_split.proofs.Terms.{Bool, List, [], ap, append-nil, append_assoc, arith, cond-false, drop}
+use Rattle.h2audit_split.proofs.Terms.{drop-append-le, false, front_of, given, given_from, if◌then◌else◌}
+use Rattle.h2audit_split.proofs.Terms.{length, length-append, length-drop, length-take, min, ne_eqb, pair_of, part_at}
+use Rattle.h2audit_split.proofs.Terms.{part_of, refl, sym, take, take-append-le, take-take, take_all, true, ℕ, ◌++◌}
+use Rattle.h2audit_split.proofs.Terms.{◌+◌, ◌<◌, ◌==◌, ◌∙◌, ◌∷◌, ◌≡◌, ◌≤◌}
 
 -- the part of a record does not change as more of it comes
 pub part_at-more : (link parts n : ℕ) (front more : List ℕ) → 98 ≤ length front
@@ -32,8 +30,7 @@ module _ (link parts : ℕ) (taken : ℕ → List ℕ → List ℕ) (i : ℕ) wh
   given_from-snoc n [] r = append-nil (one n r) ∙ ap (λ (m : ℕ). one m r) (omega arith)
   given_from-snoc n (x ∷ rs) r =
       let at : n + 1 + length rs ≡ n + length (x ∷ rs) = omega arith in
-      ap (λ (l : List ℕ). one n x ++ l) (given_from-snoc (n + 1) rs r ∙ ap (λ (m : ℕ). all (n + 1) rs ++ one m r) at)
-      ∙ sym (append_assoc (one n x) _ _)
+      rw (given_from-snoc (n + 1) rs r, at) (sym (append_assoc (one n x) _ _))
 
   -- an empty rest adds nothing
   pub given_from-empty : (n : ℕ) (rs : List (List ℕ)) → all n (rs ++ [] ∷ []) ≡ all n rs
@@ -49,12 +46,12 @@ module _ (link parts : ℕ) (taken : ℕ → List ℕ → List ℕ) (i : ℕ) wh
       → taken n (front ++ more) ≡ taken n front ++ extra
       → one n front ++ (if part_at link parts n front == i then extra else []) ≡ one n (front ++ more)
   given-more n front more extra long more_is =
-      let mine : Bool = part_at link parts n front == i in
-      ap (λ (l : List ℕ). l ++ (if mine then extra else [])) (given-some n front (omega (arith, long)))
-      ∙ cond-append mine (taken n front) extra
-      ∙ ap (λ (l : List ℕ). if mine then l else []) (sym more_is)
-      ∙ ap (λ (p : ℕ). if p == i then taken n (front ++ more) else []) (sym (part_at-more link parts n front more long))
-      ∙ sym (given-some n (front ++ more) (omega (arith, long, length-append front more)))
+      rw (
+        given-some n front (omega (arith, long)),
+        given-some n (front ++ more) (omega (arith, long, length-append front more)),
+        part_at-more link parts n front more long,
+        more_is,
+      ) (cond-append (part_at link parts n front == i) (taken n front) extra)
 
   -- and so of all records, the last of which it is
   pub given_from-more : (records : List (List ℕ)) (n : ℕ) (front whole extra : List ℕ) → n ≡ length records + 1
@@ -62,21 +59,8 @@ module _ (link parts : ℕ) (taken : ℕ → List ℕ → List ℕ) (i : ℕ) wh
       → all 1 (records ++ front ∷ []) ++ extra ≡ all 1 (records ++ whole ∷ [])
   given_from-more records n front whole extra is more =
       let at : 1 + length records ≡ n = omega (arith, is) in
-      ap (λ (l : List ℕ). l ++ extra)
-      (given_from-snoc 1 records front ∙ ap (λ (k : ℕ). all 1 records ++ one k front) at)
-      ∙ append_assoc (all 1 records) (one n front) extra
-      ∙ ap (λ (l : List ℕ). all 1 records ++ l) more
-      ∙ ap (λ (k : ℕ). all 1 records ++ one k whole) (sym at)
-      ∙ sym (given_from-snoc 1 records whole)
+      rw (given_from-snoc 1 records front, given_from-snoc 1 records whole, at, append_assoc, more) refl
 
 -- the first a of the first b
 pub take-min : (a b : ℕ) (q : List ℕ) → take a (take b q) ≡ take (min a b) q
-take-min a b q = elim (cases_lt b a) [
-  | inl less ↦
-      let short : length (take b q) ≤ a = omega (arith, length-take b q, less) in
-      let is : b ≡ min a b = omega (arith, less) in
-      take_all a (take b q) short ∙ ap (λ (k : ℕ). take k q) is
-  | inr more ↦
-      let is : a ≡ min a b = omega (arith, more) in
-      take-take a b q more ∙ ap (λ (k : ℕ). take k q) is
-]
+take-min a b q = grind (arith, take-take, take_all, length-take)

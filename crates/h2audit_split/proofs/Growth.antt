@@ -1,17 +1,10 @@
 -- How parts grow, step by step.
-use Rattle.std.proofs.Common.{◌≡◌, ℕ, ◌==◌, ◌∙◌, true, false, if◌then◌else◌, Option, List}
-use Rattle.std.proofs.Common.{[], ◌++◌, get_or, refl, sym, subst, arith, append-nil, length-append, inl, inr, is_some}
-use Rattle.std.proofs.KnownBytes.{Appends-trans, Appends-nil}
-use Rattle.std.proofs.lemmas.Bool.{eq-eqb, ne_eqb, cases_eq, cases_Bool, both_ways}
-use Rattle.h2audit_split.specs.Parts.{AllGrow, Grows}
-use Rattle.h2audit_split.specs.code.Dealing.{OneGrows}
-use Rattle.h2audit_split.specs.declared.part.Part.{Part}
+use Rattle.h2audit_split.proofs.Terms.{AllGrow, Appends-nil, Appends-trans, Grows, List, OneGrows, Option, Part, []}
+use Rattle.h2audit_split.proofs.Terms.{append-nil, arith, both_ways, cases_Bool, cases_eq, eq-eqb, false, get_or}
+use Rattle.h2audit_split.proofs.Terms.{if◌then◌else◌, inl, inr, is_some, length-append, ne_eqb, refl, sym, true}
+use Rattle.h2audit_split.proofs.Terms.{ℕ, ◌++◌, ◌==◌, ◌∙◌, ◌≡◌}
 
 module _ {W : Type 0} (contents : W → Option (List ℕ)) where
-  -- the same by other names of what the part got
-  Grows-named : (a b : Part W) (x y m n : List ℕ) → x ≡ y → m ≡ n → Grows contents a b x m → Grows contents a b y n
-  Grows-named a b x y m n same same_numbers grows = rw (← same, ← same_numbers) grows
-
   -- one step after another
   Grows-trans : (a b c : Part W) (x y m n : List ℕ) → Grows contents a b x m → Grows contents b c y n
       → Grows contents a c (x ++ y) (m ++ n)
@@ -34,8 +27,7 @@ module _ {W : Type 0} (contents : W → Option (List ℕ)) where
       → OneGrows contents old new p bytes numbers
   OneGrows-bytes old mid new p bytes numbers begun more = record {
     count = more.count ∙ begun.count;
-    one = λ d. Grows-named _ _ bytes bytes (numbers ++ []) numbers refl (append-nil numbers)
-        (Grows-trans _ _ _ [] bytes numbers [] (begun.one d) (more.one d));
+    one = λ d. rw append-nil at (Grows-trans _ _ _ [] bytes numbers [] (begun.one d) (more.one d));
     others = λ j d other. more.others j d other ∙ begun.others j d other;
   }
 
@@ -51,26 +43,15 @@ module _ {W : Type 0} (contents : W → Option (List ℕ)) where
     each = λ i d small. elim (cases_eq p i) [
       | inl same ↦
           let at : (p == i) ≡ true = eq-eqb p i same in
-          let step : Grows contents (get_or old i d) (get_or new i d) more more_numbers =
-          subst (λ (k : ℕ). Grows contents (get_or old k d) (get_or new k d) more more_numbers) same (one.one d) in
-          Grows-named _ _ _ _ _ _ (rw at at (is i)) (rw at at (is_numbers i))
+          let step = rw same at (one.one d) in
+          rw (← rw at at (is i), ← rw at at (is_numbers i))
           (Grows-trans _ _ _ (bytes i) more (numbers i) more_numbers (grown.each i d small) step)
       | inr other ↦
           let at : (p == i) ≡ false = ne_eqb p i other in
-          subst (λ (x : Part W). Grows contents (get_or first i d) x (all i) (all_numbers i))
-          (sym (one.others i d (λ e. other (sym e))))
-          (Grows-named _ _ _ _ _ _ (sym (append-nil (bytes i)) ∙ rw at at (is i))
-          (sym (append-nil (numbers i)) ∙ rw at at (is_numbers i)) (grown.each i d small))
+          let got = rw (at, append-nil) at (is i) in
+          let got_numbers = rw (at, append-nil) at (is_numbers i) in
+          rw (one.others i d (λ e. other (sym e)), ← got, ← got_numbers) (grown.each i d small)
     ];
-  }
-
-  -- the same by other names of what the parts got
-  pub AllGrow-named : (first new : List (Part W)) (bytes numbers named named_numbers : ℕ → List ℕ)
-      → ((i : ℕ) → bytes i ≡ named i) → ((i : ℕ) → numbers i ≡ named_numbers i)
-      → AllGrow contents first new bytes numbers → AllGrow contents first new named named_numbers
-  AllGrow-named first new bytes numbers named named_numbers same same_numbers all = record {
-    count = all.count;
-    each = λ i d small. Grows-named _ _ _ _ _ _ (same i) (same_numbers i) (all.each i d small);
   }
 
   pub AllGrow-none : (parts : List (Part W)) → AllGrow contents parts parts (λ i. []) (λ i. [])

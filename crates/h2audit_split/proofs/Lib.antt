@@ -1,3 +1,4 @@
+mod Terms
 pub mod Buffer
 pub mod Given
 pub mod Growth

@@ -1,19 +1,14 @@
 -- The records that are dealt, as the reader of a whole capture finds them.
-use Rattle.std.proofs.Common.{◌≡◌, ◌+◌, ℕ, Bool, List, [], ◌∷◌, ◌++◌, length, drop, refl, arith}
-use Rattle.std.proofs.Common.{append_assoc, length-append}
-use Rattle.std.specs.List.{AllByRecursion, concat}
-use Rattle.std.proofs.Math.Seq.{drop-append_seam}
+use Rattle.h2audit_split.proofs.Terms.{AllByRecursion, BeginsWithRecord, Bool, IsRecord, List, SameRecords, []}
+use Rattle.h2audit_split.proofs.Terms.{append_assoc, arith, captured_length, concat, drop, drop-append_seam, length}
+use Rattle.h2audit_split.proofs.Terms.{length-append, order_of, record_at, refl, ℕ, ◌++◌, ◌+◌, ◌∷◌, ◌≡◌}
 use Rattle.pcap_records.specs.Record as pcap
-use Rattle.pcap_records.specs.Record.{BeginsWithRecord, captured_length, record_at}
 use Rattle.pcap_records.specs.declared.capture.Record.{Record}
-use Rattle.h2audit_split.specs.Dealt.{IsRecord}
-use Rattle.h2audit_split.specs.Files.{order_of}
 use Rattle.h2audit_split.proofs.Standing.{captured-more}
 
 -- as many rows before the same rest
-pub same_rows : (little : Bool) (unit at : ℕ) (records : List (List ℕ)) (rest : List ℕ)
-    → AllByRecursion (IsRecord (order_of little)) records
-    → ¬ BeginsWithRecord (order_of little) rest
+same_rows : (little : Bool) (unit at : ℕ) (records : List (List ℕ)) (rest : List ℕ)
+    → AllByRecursion (IsRecord (order_of little)) records → ¬ BeginsWithRecord (order_of little) rest
     → (rows : List Record) × (length rows ≡ length records)
     × pcap.AreRecords (order_of little) unit at (concat records ++ rest) rows rest
 same_rows little unit at [] rest all none = ([], refl, (refl, none))
@@ -30,3 +25,7 @@ same_rows little unit at (r ∷ rs) rest (((long, _), size), later) none =
       omega (arith, count),
       ((omega (arith, sum, long), omega (arith, sum, captured, size)), refl, rw behind are),
     )
+
+pub same_records : SameRecords
+same_records little unit at bytes records rest reading =
+    rw reading.are (same_rows little unit at records rest reading.whole reading.none_left)

@@ -1,26 +1,17 @@
 -- From one place of a dealer in a capture to the next.
-use Rattle.std.proofs.Common.{◌≡◌, ℕ, ◌+◌, ◌-◌, ◌<◌, ◌≤◌, ◌∙◌, min, Bool, true, false, Option}
-use Rattle.std.proofs.Common.{List, [], ◌∷◌, ◌++◌, length, drop, take, take-append-drop, refl, sym, ap, ap₂, subst}
-use Rattle.std.proofs.Common.{arith, append_assoc, append-nil, length-append, inl, inr}
-use Rattle.std.specs.List.{AllByRecursion, concat}
-use Rattle.std.proofs.lemmas.Bool.{cases_eq}
-use Rattle.std.proofs.lemmas.List.{length-take-le, take_min}
+use Rattle.h2audit_split.proofs.Terms.{AllByRecursion, AllGrow, AreSplit, BeginsWithRecord, Bool, Dealer, HasEntered}
+use Rattle.h2audit_split.proofs.Terms.{IsDealt, IsRecord, List, OneGrows, Option, Part, [], ap, append-nil}
+use Rattle.h2audit_split.proofs.Terms.{append_assoc, arith, big_bytes, big_from-append, captured_length, cases_eq}
+use Rattle.h2audit_split.proofs.Terms.{concat, drop, false, front_of, if◌then◌else◌, inl, inr, length, length-append}
+use Rattle.h2audit_split.proofs.Terms.{length-take-le, little_from-append, min, order_of, part_at, part_bytes}
+use Rattle.h2audit_split.proofs.Terms.{part_numbers, refl, subst, sym, take, take-append-drop, take_min, true, ℕ, ◌++◌}
+use Rattle.h2audit_split.proofs.Terms.{◌+◌, ◌-◌, ◌<◌, ◌==◌, ◌∙◌, ◌∷◌, ◌≡◌, ◌≤◌}
 use Rattle.std.proofs.lemmas.List.Elements.{All-from_recursion, All-push, recursion_from_All}
 use Rattle.std.proofs.lemmas.List.Folds.{concat-append}
-use Rattle.byteorder.specs.Endian.{big_bytes}
-use Rattle.byteorder.specs.Numbers.{big_from-append, little_from-append}
-use Rattle.pcap_records.specs.Record.{BeginsWithRecord, captured_length}
 use Rattle.pcap_records.proofs.Fronts.{ReadsFirst, in_front}
-use Rattle.h2audit_split.specs.Dealt.{IsRecord, part_at, part_bytes, part_numbers}
-use Rattle.h2audit_split.specs.Parts.{AllGrow, AreSplit}
-use Rattle.h2audit_split.specs.Files.{IsDealt, order_of}
-use Rattle.h2audit_split.specs.code.Dealing.{HasEntered, OneGrows}
-use Rattle.h2audit_split.specs.declared.dealer.Dealer.{Dealer}
-use Rattle.h2audit_split.specs.declared.part.Part.{Part}
-use Rattle.h2audit_split.specs.Pair.{front_of}
 use Rattle.h2audit_split.proofs.Given.{given-more, given-some, given_from-empty, given_from-more}
 use Rattle.h2audit_split.proofs.Given.{part_at-more}
-use Rattle.h2audit_split.proofs.Growth.{AllGrow-named, AllGrow-none, AllGrow-one, OneGrows-bytes}
+use Rattle.h2audit_split.proofs.Growth.{AllGrow-none, AllGrow-one, OneGrows-bytes}
 
 -- numbers are read from their own bytes
 reads_first : (little : Bool) → ReadsFirst (order_of little)
@@ -56,36 +47,30 @@ module _ {W : Type 0} (contents : W → Option (List ℕ)) where
       → 0 < length x → HasEntered contents d e old mid (front_of (drop 16 x)) → OneGrows contents mid new e.part x []
       → (was : IsDealt contents d first old bytes)
       → (bytes ++ x ≡ concat was.records ++ x) × (e.number ≡ length was.records + 1)
-      × (e.part ≡ part_at d.link (length first) e.number x) × HaveGot d.link first new was.records x
+      × (e.part ≡ part_at e.link (length first) e.number x) × HaveGot e.link first new was.records x
   begun {d} e {first} {old} {mid} {new} {bytes} {x} none some entered one was =
       let (empty, so_far) = was.stands.between none in
-      let are = was.are ∙ ap (λ (l : List ℕ). concat was.records ++ l) empty ∙ append-nil (concat was.records) in
+      let are = rw (empty, append-nil) at was.are in
       let next : e.number ≡ length was.records + 1 = entered.number ∙ ap (λ (k : ℕ). k + 1) so_far in
       let parts : ℕ = length first in
-      let at : e.part ≡ part_at d.link parts e.number x =
-      rw (← entered.link, ← was.parts.count, ← entered.grows.count) entered.part in (
+      let at : e.part ≡ part_at e.link parts e.number x = rw (← was.parts.count, ← entered.grows.count) entered.part in
+      let more = λ (taken : ℕ → List ℕ → List ℕ) (i : ℕ). given_from-more e.link parts taken i was.records e.number []
+      x (if e.part == i then taken e.number x else []) next
+      (rw at (sym (given-some e.link parts taken i e.number x some))) in (
         ap (λ (l : List ℕ). l ++ x) are,
         next,
         at,
-        AllGrow-one contents first old new e.part _ _ _ _ x (big_bytes 8 e.number)
-            (λ i. given_from-more d.link parts bytes_taken i was.records e.number [] x _ next
-            (rw at (sym (given-some d.link parts bytes_taken i e.number x some))))
-            (λ i. given_from-more d.link parts number_taken i was.records e.number [] x _ next
-            (rw at (sym (given-some d.link parts number_taken i e.number x some))))
-            (subst (HaveGot d.link first old was.records) empty was.parts)
+        AllGrow-one contents first old new e.part _ _ _ _ x (big_bytes 8 e.number) (more bytes_taken)
+            (more number_taken) (rw entered.link (subst (HaveGot d.link first old was.records) empty was.parts))
             (OneGrows-bytes contents old mid new e.part x (big_bytes 8 e.number) entered.grows one),
       )
 
   -- behind the bytes x of a record that was begun behind others
   settled : (d : Dealer) (first new : List (Part W)) (records : List (List ℕ)) (x bytes : List ℕ)
-      → bytes ≡ concat records ++ x
-      → AllByRecursion (IsRecord (order_of d.is_little)) records
-      → d.number ≡ length records + 1
-      → d.part ≡ part_at d.link (length first) d.number x
-      → (0 < d.left → 98 ≤ length x)
-      → 16 ≤ length x
-      → length x + d.left ≡ 16 + captured_length (order_of d.is_little) x
-      → HaveGot d.link first new records x
+      → bytes ≡ concat records ++ x → AllByRecursion (IsRecord (order_of d.is_little)) records
+      → d.number ≡ length records + 1 → d.part ≡ part_at d.link (length first) d.number x
+      → (0 < d.left → 98 ≤ length x) → 16 ≤ length x
+      → length x + d.left ≡ 16 + captured_length (order_of d.is_little) x → HaveGot d.link first new records x
       → IsDealt contents d first new bytes
   settled d first new records x bytes are whole number part enough header left parts = elim (cases_eq d.left 0) [
     | inl done ↦ record {
@@ -98,9 +83,7 @@ module _ {W : Type 0} (contents : W → Option (List ℕ)) where
         between = λ _. (refl, number ∙ sym (length-append records (x ∷ [])));
         within = λ some. absurd (omega (arith, some, done));
       };
-      parts = AllGrow-named contents first new _ _ _ _
-          (λ i. sym (given_from-empty d.link (length first) bytes_taken i 1 (records ++ x ∷ [])))
-          (λ i. sym (given_from-empty d.link (length first) number_taken i 1 (records ++ x ∷ []))) parts;
+      parts = simp given_from-empty parts;
     }
     | inr more ↦
         let some : 0 < d.left = omega (arith, more) in
@@ -149,8 +132,7 @@ module _ {W : Type 0} (contents : W → Option (List ℕ)) where
       (front_of (drop 16 (take (16 + captured_length (order_of d.is_little) unread) unread)))
       → e.left ≡ 16 + captured_length (order_of d.is_little) unread
       → 16 + min 82 (captured_length (order_of d.is_little) unread) ≤ length unread
-      → n ≡ min e.left (length unread)
-      → OneGrows contents mid new e.part (take n unread) []
+      → n ≡ min e.left (length unread) → OneGrows contents mid new e.part (take n unread) []
       → IsDealt contents d first old bytes
       → IsDealt contents (record e { left = e.left - n }) first new (bytes ++ take n unread)
   dealt_first {d} e {first} {old} {mid} {new} {bytes} unread n none little entered left enough count one was =
@@ -163,14 +145,9 @@ module _ {W : Type 0} (contents : W → Option (List ℕ)) where
       ap (captured_length (order_of d.is_little)) (sym (take-append-drop n unread))
       ∙ captured-more d.is_little chunk (drop n unread) long in
       let (are, next, at, parts) = begun e none (omega (arith, long)) (rw whole entered) one was in
-      -- by the order and the link type, which stay
-      let settles : Dealer = record e { is_little = d.is_little; link = d.link; left = e.left - n } in
-      let same : settles ≡ record e { left = e.left - n } =
-      ap₂ (λ (b : Bool) (l : ℕ). record e { is_little = b; link = l; left = e.left - n }) (sym little)
-      (sym entered.link) in
-      subst (λ (x : Dealer). IsDealt contents x first new (bytes ++ chunk)) same
-      (settled settles first new was.records chunk (bytes ++ chunk) are was.stands.whole next at
-      (λ more. omega (arith, more, size, count, left, enough)) long (omega (arith, size, count, left, captured)) parts)
+      settled (record e { left = e.left - n }) first new was.records chunk (bytes ++ chunk) are
+      (rw little was.stands.whole) next at (λ more. omega (arith, more, size, count, left, enough)) long
+      (rw little (omega (arith, size, count, left, captured))) parts
 
   -- the end of a capture, where no bytes are left
   pub dealt_all : {d : Dealer} {first new : List (Part W)} {bytes : List ℕ}
@@ -201,7 +178,7 @@ module _ {W : Type 0} (contents : W → Option (List ℕ)) where
         records = was.records;
         rest = rest;
         reading = record { are = are; whole = was.stands.whole; none_left = cut };
-        parts = parts;
+        parts = rw (← entered.link) parts;
       }
 
   -- before the first byte

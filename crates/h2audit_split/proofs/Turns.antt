@@ -1,18 +1,11 @@
 -- Reads of a file, one after the other, and what was dealt of them.
-use Rattle.std.proofs.Common.{◌≡◌, ◌<◌, ℕ, Option, List, [], ◌++◌, length, subst, arith, append_assoc}
-use Rattle.std.proofs.Common.{append-nil}
-use Rattle.std.specs.Io.KnownBytes.{Consumes}
-use Rattle.std.proofs.KnownBytes.{Consumes-nil, Consumes-trans}
-use Rattle.pcap_records.specs.Record.{BeginsWithRecord}
-use Rattle.h2audit_split.specs.Files.{IsDealt, order_of}
-use Rattle.h2audit_split.specs.code.Dealing.{Deals, HasTurned}
-use Rattle.h2audit_split.specs.declared.dealer.Dealer.{Dealer}
-use Rattle.h2audit_split.specs.declared.part.Part.{Part}
+use Rattle.h2audit_split.proofs.Terms.{BeginsWithRecord, Consumes, Consumes-nil, Consumes-trans, Dealer, Deals}
+use Rattle.h2audit_split.proofs.Terms.{HasTurned, IsDealt, List, Option, Part, [], append-nil, append_assoc, arith}
+use Rattle.h2audit_split.proofs.Terms.{length, order_of, subst, ℕ, ◌++◌, ◌<◌, ◌≡◌}
 
 -- some bytes were dealt, and then more
 pub Deals-trans : {W : Type 0} (contents : W → Option (List ℕ)) (d e f : Dealer) (old mid new : List (Part W))
-    (x y : List ℕ)
-    → Deals contents d e old mid x → Deals contents e f mid new y → Deals contents d f old new (x ++ y)
+    (x y : List ℕ) → Deals contents d e old mid x → Deals contents e f mid new y → Deals contents d f old new (x ++ y)
 Deals-trans contents d e f old mid new x y before after = λ first bytes was.
     subst (IsDealt contents f first new) (append_assoc bytes x y) (after first (bytes ++ x) (before first bytes was))
 
@@ -35,11 +28,9 @@ module _ {W R : Type 0} (contents : W → Option (List ℕ)) (left : R → Optio
   -- one read more, of which some was dealt together with what was unread
   pub next_turn : {d e : Dealer} (f : Dealer) {old mid : List (Part W)} (new : List (Part W)) {before now : R}
       (after : R) {unread : List ℕ} (more dealt rest : List ℕ)
-      → Consumes (left now) (left after) more
-      → unread ++ more ≡ dealt ++ rest
+      → Consumes (left now) (left after) more → unread ++ more ≡ dealt ++ rest
       → (0 < length rest → (f.left ≡ 0) × ¬ BeginsWithRecord (order_of f.is_little) rest)
-      → Deals contents e f mid new dealt
-      → HasTurned contents left d e old mid before now unread
+      → Deals contents e f mid new dealt → HasTurned contents left d e old mid before now unread
       → HasTurned contents left d f old new before after rest
   next_turn {d} {e} f {old} {mid} new {before} {now} after {unread} more dealt rest read same cut step was = record {
     given = was.given ++ dealt;

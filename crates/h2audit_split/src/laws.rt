@@ -19,6 +19,7 @@ pub fn either_order()
 {}
 
 /// The records that are dealt are those that the reader of the whole capture finds: as many, before the same rest.
+#[tactic(auto, using(crate::proofs::Rows::same_records))]
 pub fn same_records()
     ensures { SameRecords }
 {}

@@ -1,14 +1,19 @@
 -- What is kept of a capture, read by read.
 use Rattle.std.proofs.Common.{◌≡◌, ◌∙◌, ℕ, ◌+◌, ◌^◌, ◌<◌, ◌≤◌, List, [], ◌++◌, length, take, drop, length-append}
-use Rattle.std.proofs.Common.{take-append-drop, Option, Some, None, IfSome, sym, ap, subst, arith}
+use Rattle.std.proofs.Common.{take-append-drop, take_at, Option, Some, None, IfSome, inl, inr, refl, sym, ap, subst}
+use Rattle.std.proofs.Common.{arith}
+use Rattle.std.specs.Io.{StartsWith}
 use Rattle.std.specs.Io.KnownBytes.{Consumes, IsAtEnd}
-use Rattle.std.proofs.KnownBytes.{Consumes-trans}
-use Rattle.std.proofs.lemmas.List.{append-nil, append_assoc, length-take-le, nil_from_length, take-take}
+use Rattle.std.proofs.KnownBytes.{Consumes-more, Consumes-nil, Consumes-trans}
+use Rattle.std.proofs.Math.Seq.{drop-length}
+use Rattle.std.proofs.Transfers.{starts_with_of_eq, starts_with_trans}
+use Rattle.std.proofs.lemmas.List.{append-nil, append_assoc, nil_from_length, take_all}
 use Rattle.input_output.specs.code.Front.{Lasts}
-use Rattle.input_output.specs.Account.{HaveGiven, OfGiven, kept}
-use Rattle.input_output.specs.code.Reading.{HasConsumed}
+use Rattle.input_output.specs.Account.{HaveGiven, IsReadToEnd, kept}
+use Rattle.input_output.specs.code.Reading.{HasConsumed, HasPassed, HasReadOnce, IsSound}
+use Rattle.input_output.specs.code.Reads.{HasRead}
 use Rattle.input_output.specs.declared.capture_reader.CaptureReader.{CaptureReader}
-use Rattle.input_output.proofs.Capture.{consumes_nothing, front_read}
+use Rattle.input_output.specs.declared.capture_reader.ReadState.TheVariants.{Open, Ended}
 
 module _ {R : Type 0} where
   -- where nothing was passed over the reads gave what is kept
@@ -25,100 +30,97 @@ module _ {R : Type 0} where
       → length given ≡ length (kept reader) + reader.passed
   given_size reader given gave = omega (arith, ap length gave.1, length-append (kept reader) gave.0, gave.2)
 
-  -- no read was made
-  pub consumed_none : (a : Option (List ℕ)) (reader : CaptureReader R) → kept reader ≡ [] → reader.passed ≡ 0
-      → HasConsumed a a reader
-  consumed_none a reader empty none =
-      ([], ([], sym (ap (λ (front : List ℕ). front ++ []) empty), sym none), consumes_nothing a)
+  -- reads that are kept, of which none found the end
+  pub record HasReadOn (left : R → Option (List ℕ)) (limit : ℕ) (first now : CaptureReader R) : Type 0 where
+    pub sound : IsSound now
+    pub room : now.bytes.room ≤ limit
+    pub passed : now.passed ≡ 0
+    pub state : now.state ≡ Open
+    pub front : StartsWith (kept now) (kept first)
+    pub bytes : HasConsumed left first now
 
-  -- room was made
-  pub consumed_same : (a b : Option (List ℕ)) (old new : CaptureReader R) → kept new ≡ kept old
-      → new.passed ≡ old.passed → HasConsumed a b old → HasConsumed a b new
-  consumed_same a b old new same passed before = (
-    before.0,
-    (before.1.0, before.1.1 ∙ ap (λ front. front ++ before.1.0) (sym same), before.1.2 ∙ sym passed),
-    before.2,
+  pub read_none : (left : R → Option (List ℕ)) (limit : ℕ) (first : CaptureReader R) → IsSound first
+      → first.bytes.room ≤ limit → first.passed ≡ 0 → first.state ≡ Open → HasReadOn left limit first first
+  read_none left limit first sound room passed state = record {
+    sound = sound;
+    room = room;
+    passed = passed;
+    state = state;
+    front = starts_with_of_eq (kept first) (kept first) refl;
+    bytes = rw drop-length (Consumes-nil (left first.reader));
+  }
+
+  -- and one read more
+  pub read_more : (left : R → Option (List ℕ)) (limit : ℕ) (first old new : CaptureReader R) (n : ℕ)
+      → HasReadOn left limit first old → StartsWith (kept new) (kept old) → HasReadOnce left old new n
+      → StartsWith (kept new) (kept first) × HasConsumed left first new
+  read_more left limit first old new n on front once = (
+    starts_with_trans (kept new) (kept old) (kept first) front on.front,
+    Consumes-more _ _ _ (kept first) (kept old) (kept new) on.front front on.bytes once.read.bytes,
   )
 
-  -- one read more that is kept
-  pub consumed_more : (a b c : Option (List ℕ)) (old new : CaptureReader R) → old.passed ≡ 0 → new.passed ≡ 0
-      → take (length (kept old)) (kept new) ≡ kept old → Consumes b c (drop (length (kept old)) (kept new))
-      → HasConsumed a b old → HasConsumed a c new
-  consumed_more a b c old new none none_new front now before =
-      let more : List ℕ = drop (length (kept old)) (kept new) in
-      let all : kept new ≡ kept old ++ more =
-      sym (take-append-drop (length (kept old)) (kept new)) ∙ ap (λ (xs : List ℕ). xs ++ more) front in
-      let was : Consumes a b (kept old) = subst (Consumes a b) (given_is_kept old before.0 none before.1) before.2 in
-      (kept new, gave_kept new none_new, subst (Consumes a c) (sym all) (Consumes-trans a b c (kept old) more was now))
+  pub read_on : (left : R → Option (List ℕ)) (limit : ℕ) (first old new : CaptureReader R) (n : ℕ)
+      → HasReadOn left limit first old → StartsWith (kept new) (kept old) → HasReadOnce left old new n
+      → new.bytes.room ≤ limit → new.passed ≡ old.passed → 0 < n → HasReadOn left limit first new
+  read_on left limit first old new n on front once room passed some =
+      let (whole, bytes) = read_more left limit first old new n on front once in
+      record {
+        sound = once.sound;
+        room = room;
+        passed = passed ∙ on.passed;
+        state = once.state.unended some;
+        front = whole;
+        bytes = bytes;
+      }
 
-  -- room was made, and one read more is kept; `left` says what a reader has left
-  pub consumed_read : (left : R → Option (List ℕ)) (a : Option (List ℕ)) (old roomy new : CaptureReader R)
-      → roomy ≡ record old { bytes = roomy.bytes } → kept roomy ≡ kept old → old.passed ≡ 0 → new.passed ≡ roomy.passed
-      → take (length (kept roomy)) (kept new) ≡ kept roomy
-      → Consumes (left roomy.reader) (left new.reader) (drop (length (kept roomy)) (kept new))
-      → HasConsumed a (left old.reader) old → HasConsumed a (left new.reader) new
-  consumed_read left a old roomy new room same none passed front now before =
-      let none_roomy : roomy.passed ≡ 0 = ap (λ (r : CaptureReader R). r.passed) room ∙ none in
-      let made = consumed_same a (left old.reader) old roomy same (ap (λ (r : CaptureReader R). r.passed) room)
-      before in
-      consumed_more a (left roomy.reader) (left new.reader) roomy new none_roomy (passed ∙ none_roomy) front now
-      (subst (λ (r : R). HasConsumed a (left r) roomy) (sym (ap (λ (r : CaptureReader R). r.reader) room)) made)
+  -- nothing was passed over, and then one read more
+  pub passed_none : (left : R → Option (List ℕ)) (first : CaptureReader R) → HasPassed left first first
+  passed_none left first = ([], omega arith, Consumes-nil (left first.reader))
 
-  -- one read more that is passed over
-  pub consumed_passed : (a b c : Option (List ℕ)) (old new : CaptureReader R) (n : ℕ) (piece : List ℕ)
-      → kept new ≡ kept old → new.passed ≡ old.passed + n → n ≤ length piece → Consumes b c (take n piece)
-      → HasConsumed a b old → HasConsumed a c new
-  consumed_passed a b c old new n piece same grown fits now before =
-      let more : List ℕ = take n piece in
-      let size : length more ≡ n = length-take-le n piece fits in
-      let is : before.0 ++ more ≡ kept new ++ (before.1.0 ++ more) =
-      ap (λ (xs : List ℕ). xs ++ more) (before.1.1 ∙ ap (λ front. front ++ before.1.0) (sym same))
-      ∙ append_assoc (kept new) before.1.0 more in
-      let count : length (before.1.0 ++ more) ≡ new.passed =
-      omega (arith, length-append before.1.0 more, before.1.2, size, grown) in
-      (before.0 ++ more, (before.1.0 ++ more, is, count), Consumes-trans a b c before.0 more before.2 now)
-
-  front_given : (a : Option (List ℕ)) (reader : CaptureReader R) (given : List ℕ)
-      → IfSome a (λ all. given ≡ take (2 ^ 31) all) → HaveGiven reader given
-      → IfSome a (λ all. HaveGiven reader (take (2 ^ 31) all))
-  front_given None reader given is gave = tt
-  front_given (Some all) reader given is gave = subst (HaveGiven reader) is gave
+  pub passed_more : (left : R → Option (List ℕ)) (first old new : CaptureReader R) (given : List ℕ) (n : ℕ)
+      → HasPassed left first old → new.passed ≡ old.passed + n → HasRead (left old.reader) (left new.reader) given n
+      → HasPassed left first new
+  passed_more left first old new given n (before, size, is) grown read = (
+    before ++ given,
+    omega (arith, size, grown, read.count, length-append before given),
+    Consumes-trans _ _ _ before given is read.bytes,
+  )
 
   -- at the end the reads gave all of the reader's bytes, or 2^31 of them
-  pub gave_front : (a b : Option (List ℕ)) (reader : CaptureReader R)
-      → length (kept reader) + reader.passed ≤ 2 ^ 31 → (length (kept reader) + reader.passed < 2 ^ 31 → IsAtEnd b)
-      → HasConsumed a b reader → IfSome a (λ all. HaveGiven reader (take (2 ^ 31) all))
-  gave_front a b reader limit ends read =
-      let long = given_size reader read.0 read.1 in
-      let front = front_read a b read.0 read.2 (omega (arith, long, limit))
-      (λ short. ends (omega (arith, long, short))) in
-      front_given a reader read.0 front read.1
+  pub gave_front : (a b : Option (List ℕ)) (reader : CaptureReader R) (given : List ℕ) → HaveGiven reader given
+      → Consumes a b given → IsSound reader → (reader.state ≡ Open → length (kept reader) + reader.passed ≡ 2 ^ 31)
+      → (reader.state ≡ Ended → IsAtEnd b) → IfSome a (λ all. HaveGiven reader (take (2 ^ 31) all))
+  gave_front None b reader given gave is sound whole ends = tt
+  gave_front (Some all) None reader given gave is sound whole ends = absurd is
+  gave_front (Some all) (Some rest) reader given gave is sound whole ends =
+      let size = given_size reader given gave in
+      let front : take (2 ^ 31) all ≡ given = elim sound.well [
+        | inl unended ↦ ap (take (2 ^ 31)) is ∙ take_at given rest (2 ^ 31) (omega (arith, size, whole unended))
+        | inr ended ↦
+            ap (take (2 ^ 31)) (is ∙ ap (λ r. given ++ r) (ends ended) ∙ append-nil given)
+            ∙ take_all (2 ^ 31) given (omega (arith, size, sound.limit))
+      ] in
+      subst (HaveGiven reader) (sym front) gave
 
-  -- and as many
-  pub gave_all : (reader : CaptureReader R) → length (kept reader) + reader.passed ≡ 2 ^ 31
-      → OfGiven reader (λ given. length given ≡ 2 ^ 31)
-  gave_all reader full given gave = given_size reader given gave ∙ full
-
-  -- a read keeps the front of what is kept
-  pub front_stays : (first old roomy new : CaptureReader R) → length (kept first) ≤ length (kept old)
-      → kept roomy ≡ kept old → take (length (kept roomy)) (kept new) ≡ kept roomy
-      → take (length (kept first)) (kept old) ≡ kept first → take (length (kept first)) (kept new) ≡ kept first
-  front_stays first old roomy new grown made now before =
-      sym (take-take (length (kept first)) (length (kept roomy)) (kept new) (omega (arith, grown, ap length made)))
-      ∙ ap (take (length (kept first))) (now ∙ made)
-      ∙ before
+  pub read_to_end : (reader : CaptureReader R) → IsSound reader
+      → (reader.state ≡ Open → length (kept reader) + reader.passed ≡ 2 ^ 31) → IsReadToEnd reader
+  read_to_end reader sound whole = elim sound.well [
+    | inl unended ↦ inr (unended, λ given gave. given_size reader given gave ∙ whole unended)
+    | inr ended ↦ inl ended
+  ]
 
 -- a walk that stands of some bytes stands of more
-pub walk_lasts : {W : Type 0} (stands : List ℕ → W → Type 0) (first later : List ℕ) (walk : W)
-    → Lasts stands first walk → Lasts stands (first ++ later) walk
-walk_lasts stands first later walk is more =
-    subst (λ bytes. stands bytes walk) (sym (append_assoc first later more)) (is (later ++ more))
+pub walk_lasts : {W : Type 0} (stands : List ℕ → W → Type 0) (whole first later : List ℕ) (walk : W) → whole ≡ first
+    → Lasts stands whole walk → Lasts stands (first ++ later) walk
+walk_lasts stands whole first later walk same is more =
+    subst (λ bytes. stands bytes walk) (ap (λ l. l ++ (later ++ more)) same ∙ sym (append_assoc first later more))
+    (is (later ++ more))
 
 -- a walk that stands of what was kept stands of what is kept, where that has it in front
 pub walk_stays : {W : Type 0} (stands : List ℕ → W → Type 0) (first new : List ℕ) (walk : W)
-    → take (length first) new ≡ first → Lasts stands first walk → Lasts stands new walk
+    → StartsWith new first → Lasts stands first walk → Lasts stands new walk
 walk_stays stands first new walk front is =
     let later : List ℕ = drop (length first) new in
     let whole : first ++ later ≡ new =
-    ap (λ (l : List ℕ). l ++ later) (sym front) ∙ take-append-drop (length first) new in
-    subst (λ bytes. Lasts stands bytes walk) whole (walk_lasts stands first later walk is)
+    ap (λ l. l ++ later) (sym front) ∙ take-append-drop (length first) new in
+    subst (λ bytes. Lasts stands bytes walk) whole (walk_lasts stands first first later walk refl is)

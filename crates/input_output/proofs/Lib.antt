@@ -1,4 +1,3 @@
 pub mod PartLemmas
 mod Bytes
-pub mod Capture
 pub mod Kept

@@ -1,4 +1,5 @@
 pub mod Sizes
 pub mod Front
+pub mod Reads
 pub mod Reading
 pub mod TableHash

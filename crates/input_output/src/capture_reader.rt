@@ -1,9 +1,10 @@
-ghost use Rattle.std.specs.Prelude.{◌≡◌, ◌+◌, ◌^◌, ◌<◌, ◌≤◌, length, take, drop, IfErr, IfOk, OnOk, OnErr};
+ghost use Rattle.std.specs.Prelude.{◌≡◌, ◌+◌, ◌^◌, ◌<◌, ◌≤◌, length, take, IfErr, IfOk, OnOk};
 ghost use Rattle.std.specs.Bool.{Decides};
-ghost use Rattle.std.specs.Io.KnownBytes.{Consumes, IsAtEnd};
-ghost use Rattle.input_output.specs.code.Front.{Lasts};
+ghost use Rattle.std.specs.Io.{StartsWith};
 ghost use Rattle.input_output.specs.Account.{IsUnread, kept};
-ghost use Rattle.input_output.specs.code.Reading.{IsReadingFault, IsSound};
+ghost use Rattle.input_output.specs.code.Front.{Lasts};
+ghost use Rattle.input_output.specs.code.Reading.{HasReadOnce, IsReadingFault};
+ghost use Rattle.input_output.specs.code.Reads.{HasRead, IsStateAfter};
 
 use crate::fault::ReadFault;
 use crate::front::{Capture, FrontWalk};
@@ -34,7 +35,7 @@ pub enum ReadState {
 /// A type of reader tells which bytes it will give, if any, and not whether a read failed; of a file or
 /// a pipe it tells nothing. The account does: `read_once`, `read_and_walk` and `pass_once` enter what a read answered.
 /// `pass_once` calls `read` itself, the others through `read_once`, `read_and_walk`, `read_beside` and `read_into` of
-/// `kept_bytes`, of which `read_into` calls it. `make_room`, `read_and_walk` and `lack_memory` enter want of memory.
+/// `kept_bytes`, of which `read_into` calls it. `read_once`, `read_and_walk` and `lack_memory` enter want of memory.
 /// Nothing else changes an account.
 #[derive(Drop)]
 pub struct CaptureReader<R> {
@@ -117,50 +118,30 @@ impl<R> CaptureReader<R> {
     {
         self.state = ReadState::LackedMemory;
     }
+}
 
-    /// Makes room for at least one byte more, where no more than `limit` are to be kept.
-    pub(crate) fn make_room<T: Threads>(
+impl<R: Read> CaptureReader<R> {
+    /// Makes room, reads once, and keeps what that gives, up to `limit` bytes in all. No read comes after one that
+    /// failed or found the end.
+    pub(crate) fn read_once<T: Threads>(
         &mut self,
         limit: usize,
         ahead: &mut PartsAhead<'_, T>,
-    ) -> Result<(), ReadFault>
+    ) -> Result<usize, ReadFault>
         requires limit { length (kept self.old) < limit }
-        requires most { (self.old.bytes.room ≤ limit) × (limit ≤ 2 ^ 31) }
-        ensures kept { kept self.new ≡ kept self.old }
-        ensures limit { self.new.bytes.room ≤ limit }
-        ensures ok { OnOk result (self.new ≡ record self.old { bytes = self.new.bytes }) }
-        ensures room { OnOk result (length (kept self.new) < self.new.bytes.room) }
-        ensures err { OnErr result
-            (self.new ≡ record self.old { bytes = self.new.bytes; state = ReadState.LackedMemory }) }
-        ensures fault { IfErr result (λ e. e ≡ ReadFault.OutOfMemory) }
+        requires room { (self.old.bytes.room ≤ limit) × (limit ≤ 2 ^ 31) }
+        requires unpassed { self.old.passed ≡ 0 }
+        requires state { self.old.state ≡ ReadState.Open }
+        ensures front { StartsWith (kept self.new) (kept self.old) }
+        ensures room { self.new.bytes.room ≤ limit }
+        ensures passed { self.new.passed ≡ self.old.passed }
+        ensures read { IfOk result (HasReadOnce R.remaining self.old self.new) }
+        ensures err { IfErr result (λ e. IsReadingFault e self.new) }
     {
         if self.bytes.make_room(limit, ahead).is_err() {
             self.state = ReadState::LackedMemory;
             return Err(ReadFault::OutOfMemory);
         }
-        Ok(())
-    }
-}
-
-impl<R: Read> CaptureReader<R> {
-    /// Reads once, and keeps what that gives. No read comes after one that failed or found the end.
-    pub(crate) fn read_once(&mut self) -> Result<usize, ReadFault>
-        requires room { length (kept self.old) < self.old.bytes.room }
-        requires unpassed { self.old.passed ≡ 0 }
-        requires state { self.old.state ≡ ReadState.Open }
-        ensures front { take (length (kept self.old)) (kept self.new) ≡ kept self.old }
-        ensures room { self.new.bytes.room ≡ self.old.bytes.room }
-        ensures grown { length (kept self.old) ≤ length (kept self.new) }
-        ensures within { length (kept self.new) ≤ self.new.bytes.room }
-        ensures count { IfOk result (λ n. length (kept self.new) ≡ length (kept self.old) + n) }
-        ensures bytes { IfOk result (λ n. Consumes (R.remaining self.old.reader) (R.remaining self.new.reader)
-            (drop (length (kept self.old)) (kept self.new))) }
-        ensures end { IfOk result (λ n. n ≡ 0 → IsAtEnd (R.remaining self.new.reader)) }
-        ensures ended { IfOk result (λ n. n ≡ 0 → self.new.state ≡ ReadState.Ended) }
-        ensures unended { IfOk result (λ n. 0 < n → self.new.state ≡ ReadState.Open) }
-        ensures err { IfErr result (λ e. (e ≡ ReadFault.Failed) × (self.new.state ≡ ReadState.Failed)) }
-        ensures passed { self.new.passed ≡ self.old.passed }
-    {
         match self.bytes.read_once(&mut self.reader) {
             Ok(count) => {
                 if count == 0 {
@@ -175,32 +156,28 @@ impl<R: Read> CaptureReader<R> {
         }
     }
 
-    /// The same, while a walk goes on over what is kept, part by part.
+    /// The same, up to [`LIMIT`], while a walk goes on over what is kept, part by part.
     pub(crate) fn read_and_walk<T: Threads, W: FrontWalk + Send>(
         &mut self,
-        ahead: &PartsAhead<'_, T>,
+        ahead: &mut PartsAhead<'_, T>,
         walk: &mut W,
     ) -> Result<usize, ReadFault>
-        requires room { length (kept self.old) < self.old.bytes.room }
+        requires limit { length (kept self.old) < 2 ^ 31 }
+        requires room { self.old.bytes.room ≤ 2 ^ 31 }
         requires unpassed { self.old.passed ≡ 0 }
         requires state { self.old.state ≡ ReadState.Open }
-        requires most { self.old.bytes.room ≤ 2 ^ 31 }
         requires walk { Lasts W.stands (kept self.old) walk.old }
-        ensures front { take (length (kept self.old)) (kept self.new) ≡ kept self.old }
-        ensures room { self.new.bytes.room ≡ self.old.bytes.room }
-        ensures grown { length (kept self.old) ≤ length (kept self.new) }
-        ensures within { length (kept self.new) ≤ self.new.bytes.room }
-        ensures count { IfOk result (λ n. length (kept self.new) ≡ length (kept self.old) + n) }
-        ensures bytes { IfOk result (λ n. Consumes (R.remaining self.old.reader) (R.remaining self.new.reader)
-            (drop (length (kept self.old)) (kept self.new))) }
-        ensures end { IfOk result (λ n. n ≡ 0 → IsAtEnd (R.remaining self.new.reader)) }
-        ensures ended { IfOk result (λ n. n ≡ 0 → self.new.state ≡ ReadState.Ended) }
-        ensures unended { IfOk result (λ n. 0 < n → self.new.state ≡ ReadState.Open) }
-        ensures ok { OnOk result (IsSound self.new) }
-        ensures err { IfErr result (λ e. IsReadingFault e self.new) }
+        ensures front { StartsWith (kept self.new) (kept self.old) }
+        ensures room { self.new.bytes.room ≤ 2 ^ 31 }
         ensures passed { self.new.passed ≡ self.old.passed }
+        ensures read { IfOk result (HasReadOnce R.remaining self.old self.new) }
         ensures walk { OnOk result (Lasts W.stands (kept self.new) walk.new) }
+        ensures err { IfErr result (λ e. IsReadingFault e self.new) }
     {
+        if self.bytes.make_room(LIMIT, ahead).is_err() {
+            self.state = ReadState::LackedMemory;
+            return Err(ReadFault::OutOfMemory);
+        }
         let (read, walked) = self.bytes.read_and_walk(ahead, &mut self.reader, walk);
         let Ok(count) = read else {
             self.state = ReadState::Failed;
@@ -225,12 +202,9 @@ impl<R: Read> CaptureReader<R> {
         ensures kept { self.new.bytes ≡ self.old.bytes }
         ensures limit { length (kept self.new) + self.new.passed ≤ 2 ^ 31 }
         ensures count { IfOk result (λ n. self.new.passed ≡ self.old.passed + n) }
-        ensures fits { IfOk result (λ n. n ≤ length piece.new) }
-        ensures bytes { IfOk result (λ n. Consumes (R.remaining self.old.reader) (R.remaining self.new.reader)
-            (take n piece.new)) }
-        ensures end { IfOk result (λ n. n ≡ 0 → IsAtEnd (R.remaining self.new.reader)) }
-        ensures ended { IfOk result (λ n. n ≡ 0 → self.new.state ≡ ReadState.Ended) }
-        ensures unended { IfOk result (λ n. 0 < n → self.new.state ≡ ReadState.Open) }
+        ensures read { IfOk result (λ n. HasRead (R.remaining self.old.reader) (R.remaining self.new.reader)
+            (take n piece.new) n) }
+        ensures state { IfOk result (λ n. IsStateAfter n self.new.state) }
         ensures err { IfErr result (λ e. (e ≡ ReadFault.Failed) × (self.new.state ≡ ReadState.Failed)) }
     {
         let most = piece.len().min(LIMIT - self.bytes.len() - self.passed);

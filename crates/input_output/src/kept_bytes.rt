@@ -1,10 +1,11 @@
 //! The bytes that are kept of a capture, in parts of one length.
 
-ghost use Rattle.std.specs.Prelude.{◌≡◌, ◌+◌, ◌*◌, ◌^◌, ◌<◌, ◌≤◌, [], length, map, take, drop, vec_len, IfOk, OnOk};
-ghost use Rattle.std.specs.Io.KnownBytes.{Consumes, IsAtEnd};
+ghost use Rattle.std.specs.Prelude.{◌≡◌, ◌*◌, ◌^◌, ◌<◌, ◌≤◌, [], length, map, take, drop, vec_len, IfOk, OnOk};
+ghost use Rattle.std.specs.Io.{appended_bytes};
 ghost use Rattle.std.specs.List.{All};
 ghost use Rattle.input_output.specs.Parts.{joined};
 ghost use Rattle.input_output.specs.code.Front.{Lasts};
+ghost use Rattle.input_output.specs.code.Reads.{HasRead, IsGrown};
 
 use crate::front::{CAPTURE_PART, Capture, FrontWalk};
 use crate::parts_ahead::PartsAhead;
@@ -116,14 +117,9 @@ impl KeptBytes {
     /// Reads once, and keeps what that gives.
     pub(crate) fn read_once<R: Read>(&mut self, reader: &mut R) -> io::Result<usize>
         requires { length self.old.kept < self.old.room }
-        ensures front { take (length self.old.kept) self.new.kept ≡ self.old.kept }
-        ensures grown { length self.old.kept ≤ length self.new.kept }
-        ensures room { self.new.room ≡ self.old.room }
-        ensures within { length self.new.kept ≤ self.new.room }
-        ensures count { IfOk result (λ n. length self.new.kept ≡ length self.old.kept + n) }
-        ensures bytes { IfOk result (λ n. Consumes (R.remaining reader.old) (R.remaining reader.new)
-            (drop (length self.old.kept) self.new.kept)) }
-        ensures end { IfOk result (λ n. n ≡ 0 → IsAtEnd (R.remaining reader.new)) }
+        ensures grown { IsGrown self.old self.new }
+        ensures read { IfOk result (HasRead (R.remaining reader.old) (R.remaining reader.new)
+            (appended_bytes self.old.kept self.new.kept)) }
     {
         let count = read_into(reader, &mut self.last, self.filled)?;
         self.filled += count;
@@ -141,14 +137,9 @@ impl KeptBytes {
         requires room { length self.old.kept < self.old.room }
         requires short { self.old.room ≤ 2 ^ 31 }
         requires walk { Lasts W.stands self.old.kept walk.old }
-        ensures front { take (length self.old.kept) self.new.kept ≡ self.old.kept }
-        ensures grown { length self.old.kept ≤ length self.new.kept }
-        ensures room { self.new.room ≡ self.old.room }
-        ensures within { length self.new.kept ≤ self.new.room }
-        ensures count { IfOk result.0 (λ n. length self.new.kept ≡ length self.old.kept + n) }
-        ensures bytes { IfOk result.0 (λ n. Consumes (R.remaining reader.old) (R.remaining reader.new)
-            (drop (length self.old.kept) self.new.kept)) }
-        ensures end { IfOk result.0 (λ n. n ≡ 0 → IsAtEnd (R.remaining reader.new)) }
+        ensures grown { IsGrown self.old self.new }
+        ensures read { IfOk result.0 (HasRead (R.remaining reader.old) (R.remaining reader.new)
+            (appended_bytes self.old.kept self.new.kept)) }
         ensures walk { OnOk result.1 (Lasts W.stands self.new.kept walk.new) }
     {
         if ahead.is_alone() {
@@ -196,10 +187,8 @@ fn read_beside<T: Threads, R: Read, W: FrontWalk + Send>(
     requires length { length full.now * 1048576 ≤ 2 ^ 31 }
     requires walk { Lasts W.stands (joined (map (λ part. part.items) full.now)) walk.old }
     ensures length { vec_len part.new ≡ vec_len part.old }
-    ensures fits { IfOk result.0 (λ n. n ≤ vec_len part.new) }
-    ensures bytes { IfOk result.0 (λ n. Consumes (R.remaining reader.old) (R.remaining reader.new)
-        (take n part.new.items)) }
-    ensures end { IfOk result.0 (λ n. n ≡ 0 → IsAtEnd (R.remaining reader.new)) }
+    ensures read { IfOk result.0 (λ n. HasRead (R.remaining reader.old) (R.remaining reader.new)
+        (take n part.new.items) n) }
     ensures walk { OnOk result.1 (Lasts W.stands (joined (map (λ part. part.items) full.now)) walk.new) }
 {
     let alloc = ahead.alloc;
@@ -232,10 +221,8 @@ fn read_into<R: Read>(reader: &mut R, part: &mut Vec<u8>, filled: usize) -> io::
     requires { filled < vec_len part.old }
     ensures front { take filled part.new.items ≡ take filled part.old.items }
     ensures length { vec_len part.new ≡ vec_len part.old }
-    ensures fits { IfOk result (λ n. filled + n ≤ vec_len part.new) }
-    ensures bytes { IfOk result (λ n. Consumes (R.remaining reader.old) (R.remaining reader.new)
-        (take n (drop filled part.new.items))) }
-    ensures end { IfOk result (λ n. n ≡ 0 → IsAtEnd (R.remaining reader.new)) }
+    ensures read { IfOk result (λ n. HasRead (R.remaining reader.old) (R.remaining reader.new)
+        (take n (drop filled part.new.items)) n) }
 {
     match reader.read(&mut part[filled..]) {
         Ok(count) => Ok(count),

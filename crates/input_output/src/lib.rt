@@ -21,7 +21,7 @@
 //! `pass_once` of [`CaptureReader`] enter what a read gave, over `read_once`, `read_and_walk`, `read_beside` and
 //! `read_into` of `kept_bytes`; `write_once` and `flush_once` of [`ReportWriter`] enter what a write took; they ask
 //! that none follows one that failed. `read_into`, `pass_once`, `write_once` and `flush_once` alone call `read`,
-//! `write` and `flush`. `make_room`, `read_and_walk` and `lack_memory` enter want of memory. A reader sees this at
+//! `write` and `flush`. `read_once`, `read_and_walk` and `lack_memory` enter want of memory. A reader sees this at
 //! once; no contract says it.
 //!
 //! A [`TableHash`] hashes by SipHash under a key that is drawn anew at each start, so which pairs or streams of a
@@ -29,8 +29,8 @@
 //! so no answer depends on the key: no contract of a table names it.
 //!
 //! Wrong bodies that the prover refuses: a read or a write that is told to have filled or taken all; a reading that
-//! ends at half of 2^31 bytes; a range that ends with its first part. Tested, in `crate_tests`: which calls readers and
-//! writers get. Trusted: that a file or a pipe gives and keeps its bytes.
+//! ends at half of 2^31 bytes; a capture without half of its last part; a range that ends with its first part. Tested,
+//! in `crate_tests`: which calls readers and writers get. Trusted: that a file or a pipe gives and keeps its bytes.
 #![tactic(auto)]
 
 mod capture_reader;

@@ -1,8 +1,9 @@
-ghost use Rattle.std.specs.Prelude.{◌≡◌, ◌+◌, ◌^◌, ◌≤◌, List, Option, length, take, IfErr, OnOk};
+ghost use Rattle.std.specs.Prelude.{◌≡◌, ◌+◌, ◌^◌, ◌≤◌, length, IfErr, OnOk};
+ghost use Rattle.std.specs.Io.{StartsWith};
 ghost use Rattle.std.specs.Io.KnownBytes.{IsAtEnd};
 ghost use Rattle.input_output.specs.code.Front.{Lasts};
 ghost use Rattle.input_output.specs.Account.{kept};
-ghost use Rattle.input_output.specs.code.Reading.{HasConsumed, IsReadingFault, IsSound};
+ghost use Rattle.input_output.specs.code.Reading.{HasConsumed, HasPassed, IsReadingFault, IsSound};
 
 use crate::capture_reader::{CaptureReader, LIMIT, ReadState};
 use crate::fault::ReadFault;
@@ -29,18 +30,14 @@ pub fn keep_up_to<T: Threads, R: Read>(
     ensures sound { OnOk result (IsSound reader.new) }
     ensures room { reader.new.bytes.room ≤ limit }
     ensures unpassed { reader.new.passed ≡ 0 }
-    ensures grown { length (kept reader.old) ≤ length (kept reader.new) }
-    ensures front { take (length (kept reader.old)) (kept reader.new) ≡ kept reader.old }
+    ensures front { StartsWith (kept reader.new) (kept reader.old) }
     ensures whole { OnOk result (reader.new.state ≡ ReadState.Open → length (kept reader.new) ≡ limit) }
     ensures end { OnOk result (reader.new.state ≡ ReadState.Ended → IsAtEnd (R.remaining reader.new.reader)) }
-    ensures bytes { OnOk result ((before : Option (List _))
-        → HasConsumed before (R.remaining reader.old.reader) reader.old
-        → HasConsumed before (R.remaining reader.new.reader) reader.new) }
+    ensures bytes { OnOk result (HasConsumed R.remaining reader.old reader.new) }
     ensures err { IfErr result (λ e. IsReadingFault e reader.new) }
 {
     while !reader.has_kept(limit) {
-        reader.make_room(limit, ahead)?;
-        if reader.read_once()? == 0 {
+        if reader.read_once(limit, ahead)? == 0 {
             return Ok(());
         }
     }
@@ -63,17 +60,14 @@ pub fn keep_and_walk<T: Threads, R: Read, W: FrontWalk + Send>(
     requires walk { Lasts W.stands (kept reader.old) walk.old }
     ensures sound { OnOk result (IsSound reader.new) }
     ensures unpassed { reader.new.passed ≡ 0 }
-    ensures front { take (length (kept reader.old)) (kept reader.new) ≡ kept reader.old }
+    ensures front { StartsWith (kept reader.new) (kept reader.old) }
     ensures whole { OnOk result (reader.new.state ≡ ReadState.Open → length (kept reader.new) ≡ 2 ^ 31) }
     ensures end { OnOk result (reader.new.state ≡ ReadState.Ended → IsAtEnd (R.remaining reader.new.reader)) }
-    ensures bytes { OnOk result ((before : Option (List _))
-        → HasConsumed before (R.remaining reader.old.reader) reader.old
-        → HasConsumed before (R.remaining reader.new.reader) reader.new) }
+    ensures bytes { OnOk result (HasConsumed R.remaining reader.old reader.new) }
     ensures walk { OnOk result (Lasts W.stands (kept reader.new) walk.new) }
     ensures err { IfErr result (λ e. IsReadingFault e reader.new) }
 {
     while !reader.has_kept(LIMIT) {
-        reader.make_room(LIMIT, ahead)?;
         if reader.read_and_walk(ahead, walk)? == 0 {
             return Ok(());
         }
@@ -90,9 +84,7 @@ pub fn pass_over<R: Read>(reader: &mut CaptureReader<R>) -> Result<(), ReadFault
     ensures whole { OnOk result (reader.new.state ≡ ReadState.Open
         → length (kept reader.new) + reader.new.passed ≡ 2 ^ 31) }
     ensures end { OnOk result (reader.new.state ≡ ReadState.Ended → IsAtEnd (R.remaining reader.new.reader)) }
-    ensures bytes { OnOk result ((before : Option (List _))
-        → HasConsumed before (R.remaining reader.old.reader) reader.old
-        → HasConsumed before (R.remaining reader.new.reader) reader.new) }
+    ensures bytes { OnOk result (HasPassed R.remaining reader.old reader.new) }
     ensures err { IfErr result (λ e. IsReadingFault e reader.new) }
 {
     let mut piece = [0; PASSED];

@@ -6,7 +6,7 @@ use Rattle.std.proofs.lemmas.Grind.{common_steps}
 use Rattle.std.proofs.lemmas.List.{get_or-append_right, get_or_append_left, get_or-map, get_or_past, length-map}
 use Rattle.std.proofs.lemmas.List.{append_assoc, map-append}
 use Rattle.std.proofs.lemmas.List.Elements.{All-head, All-tail}
-use Rattle.std.proofs.lemmas.Option.{gets}
+use Rattle.std.proofs.lemmas.Option.{gets, slice_get-map}
 use Rattle.packet_heads.specs.declared.packets.Packet.{Packet}
 use Rattle.packet_heads.specs.declared.packets.Packet.TheVariants.{Segment as Carried, Skipped}
 use Rattle.packet_heads.specs.declared.packets.Segment.{Segment}
@@ -56,6 +56,6 @@ push_segment marks segments s mark is known =
     rw (push marks (segments ++ s ∷ []) mark, all_kept marks segments (s ∷ []) known)
     (ap (λ (p : Packet). packets_of marks segments ++ p ∷ []) (grind (arith, common_steps, high, get_or-map)))
 
-pub ruleset marks = (low, high, get_or-map, get_or_past, length-map, gets)
+pub ruleset marks = (low, high, get_or-map, get_or_past, length-map, gets, slice_get-map)
 
 pub ruleset one_more = (push, low, push_segment)

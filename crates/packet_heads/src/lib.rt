@@ -15,7 +15,8 @@
 //!   bookkeeping (`specs/code/Standing.antt`); the order is proved from it.
 //! - A packet is held as a mark of 4 bytes, and a segment in 44 more ([`MadePackets`]): so records of a capture that
 //!   hold no segment take 4 bytes each. A mark counts through the eleven packets that are passed over, and then through
-//!   the segments (`specs/code/Marks.antt`). [`Packets`] reads both as the one list that contracts speak of.
+//!   the segments (`specs/code/Marks.antt`). [`Packets`] reads both as the one list that contracts speak of, and a
+//!   segment where it lies.
 //! - Marks and segments are made in parts of [`PACKET_PART`], 8,192. The first part grows, and may be moved as it does;
 //!   nothing is copied from one part into another, and no record is kept beside its packet. A record is read where it
 //!   lies in the capture; only one in which parts of the capture meet is gathered first, and freed at once.

@@ -1,7 +1,8 @@
 //! Marks, of which each stands for a packet: one below 11 for one that is passed over, any other for a segment.
 
-ghost use Rattle.std.specs.Prelude.{◌≡◌, ◌<◌, get_or};
+ghost use Rattle.std.specs.Prelude.{◌≡◌, ◌<◌, IfNone, IfSome, get_or};
 ghost use Rattle.packet_heads.specs.code.Marks.{packet_of, passed_over};
+ghost use Rattle.packet_heads.specs.code.Standing.{IsPassedOver};
 ghost use Rattle.packet_heads.specs.declared.packets.Packet.TheVariants.{Skipped, Refused};
 ghost use Rattle.packet_heads.specs.declared.packets.Skip.TheVariants.{NotIpv4};
 
@@ -65,7 +66,26 @@ fn passed_over(mark: Mark) -> Packet
     }
 }
 
+/// The segment that a mark stands for, where it lies.
+#[inline]
+#[tactic(auto, using(crate::proofs::Marking::marks))]
+pub(crate) fn segment_of<'a>(
+    segments: &Parts<'a, Segment, PACKET_PART>,
+    mark: Mark,
+) -> Option<&'a Segment>
+    ensures some { IfSome result (λ s. packet_of segments.now mark ≡ Packet.Segment s.now) }
+    ensures none { IfNone result (IsPassedOver (packet_of segments.now mark)) }
+{
+    if mark < FIRST_SEGMENT {
+        return None;
+    }
+    segments.get((mark - FIRST_SEGMENT) as usize)
+}
+
 /// What a mark stands for among these segments.
+///
+/// In line, so that a caller who looks at a part of a packet copies that part.
+#[inline(always)]
 #[tactic(auto, using(crate::proofs::Marking::marks))]
 pub(crate) fn packet_of(segments: &Parts<'_, Segment, PACKET_PART>, mark: Mark) -> Packet
     ensures { result ≡ packet_of segments.now mark }

@@ -1,5 +1,5 @@
 use crate::made::MadePackets;
-use crate::marks::{Mark, packet_of};
+use crate::marks::{Mark, packet_of, segment_of};
 use input_output::Parts;
 use pcap_records::Nanos;
 use std::alloc::{AllocError, Global};
@@ -119,6 +119,7 @@ impl<'a> Model for Packets<'a> {
 impl<'a> Packets<'a> {
     ghost use Rattle.std.specs.Prelude.{◌≡◌, ◌<◌, ◌≤◌, IfOk, IfSome, IfNone, Some, get_or, length, slice_get};
     ghost use Rattle.packet_heads.specs.code.Marks.{packets_of};
+    ghost use Rattle.packet_heads.specs.code.Standing.{IsPassedOver};
 
     /// The packets that were made, to be read.
     pub fn of(alloc: Global, made: &'a MadePackets) -> Result<Packets<'a>, AllocError>
@@ -137,7 +138,19 @@ impl<'a> Packets<'a> {
         self.marks.len()
     }
 
+    /// The segment of an index, where it lies, if the packet there is one.
+    #[inline]
+    #[tactic(auto, using(crate::proofs::Marking::marks))]
+    pub fn segment(&self, index: usize) -> Option<&'a Segment>
+        ensures some { IfSome result (λ s. slice_get self.now index ≡ Some (Packet.Segment s.now)) }
+        ensures none { IfNone result (IfSome (slice_get self.now index) IsPassedOver) }
+    {
+        let mark = self.marks.get(index)?;
+        segment_of(&self.segments, *mark)
+    }
+
     /// The packet of an index, if there is one.
+    #[inline(always)]
     #[tactic(auto, using(std::proofs::lemmas::Option::gets))]
     pub fn get(&self, index: usize) -> Option<Packet>
         ensures some { IfSome result (λ packet. slice_get self.now index ≡ Some packet) }
@@ -148,6 +161,7 @@ impl<'a> Packets<'a> {
     }
 
     /// The packet of an index.
+    #[inline(always)]
     #[tactic(auto, using(std::proofs::lemmas::Option::gets))]
     pub fn at(&self, index: usize) -> Packet
         requires { index < length self.now }

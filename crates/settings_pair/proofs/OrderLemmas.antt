@@ -1,8 +1,8 @@
 -- The changes of orderly frames are orderly, and each is that of an acknowledgement.
-use Rattle.std.proofs.Common.{◌≡◌, ℕ, ◌+◌, ◌≤◌, Bool, true, false, if◌then◌else◌, List, [], ◌∷◌, ◌++◌, All, Option}
-use Rattle.std.proofs.Common.{Some, None, length, drop, refl, sym, ap, ◌∙◌, arith}
+use Rattle.std.proofs.Common.{◌≡◌, ℕ, ◌+◌, ◌≤◌, true, List, [], ◌∷◌, ◌++◌, All, Option}
+use Rattle.std.proofs.Common.{Some, None, length, drop, refl, sym, ap, ◌∙◌, is_some, arith}
 use Rattle.std.specs.List.{AllByRecursion}
-use Rattle.std.proofs.lemmas.List.Elements.{All-from_recursion}
+use Rattle.std.proofs.lemmas.List.Elements.{All-from_recursion, All-weaker}
 use Rattle.settings_pair.proofs.Words.{option_to_list, append-nil, drop_all, Settings, Frame, Change, is_ack, IsInRange}
 use Rattle.settings_pair.proofs.Words.{IsOrderlyFrom, IsOrderly, InForce, initial_in_force, taken, change_taking}
 use Rattle.settings_pair.proofs.Words.{in_force_after, changes_of, changes_from, AreOrderlyFrom, AreAcknowledged}
@@ -13,8 +13,8 @@ orderly-lower low lower [] below h = h
 orderly-lower low lower (change ∷ changes) below h = (omega arith, h.1, h.2)
 
 orderly-taking : (low : ℕ) (frame : Frame) (t : Option Settings) (changes : List Change) → low ≤ frame.number
-    → IsInRange frame
-    → AreOrderlyFrom (frame.number + 1) changes → AreOrderlyFrom low (option_to_list (change_taking frame t) ++ changes)
+    → IsInRange frame → AreOrderlyFrom (frame.number + 1) changes
+    → AreOrderlyFrom low (option_to_list (change_taking frame t) ++ changes)
 orderly-taking low frame None changes above fits h = orderly-lower (frame.number + 1) low changes (omega arith) h
 orderly-taking low frame (Some settings) changes above fits h = (above, fits.number, h)
 
@@ -49,17 +49,15 @@ below-all frame low (change ∷ changes) below h =
     (λ e. absurd (omega (arith, h.0, e)), below-all frame (change.number + 1) changes (omega (arith, h.0)) h.2)
 
 -- a frame that takes settings is an acknowledgement
-own-change : (frame : Frame) (acks : Bool) (t : Option Settings) (changes : List Change) → is_ack frame.body ≡ acks
-    → AllByRecursion (AcknowledgesAt frame) changes
-    → AllByRecursion (AcknowledgesAt frame) (option_to_list (change_taking frame (if acks then t else None)) ++ changes)
-own-change frame true None changes e h = h
-own-change frame true (Some settings) changes e h = (λ _. e, h)
-own-change frame false t changes e h = h
+own-change : (frame : Frame) (t : Option Settings) (changes : List Change)
+    → (is_some t ≡ true → is_ack frame.body ≡ true) → AllByRecursion (AcknowledgesAt frame) changes
+    → AllByRecursion (AcknowledgesAt frame) (option_to_list (change_taking frame t) ++ changes)
+own-change frame None changes e h = h
+own-change frame (Some settings) changes e h = (λ _. e refl, h)
 
 -- frames above the one that takes settings
 later-frames : (frame : Frame) (t : Option Settings) (low : ℕ) (frames : List Frame) (changes : List Change)
-    → frame.number + 1 ≤ low
-    → IsOrderlyFrom low frames → Acknowledge frames changes
+    → frame.number + 1 ≤ low → IsOrderlyFrom low frames → Acknowledge frames changes
     → Acknowledge frames (option_to_list (change_taking frame t) ++ changes)
 later-frames frame None low frames changes above orderly h = h
 later-frames frame (Some settings) low [] changes above orderly h = tt
@@ -72,8 +70,7 @@ changes_from-acknowledge : (low : ℕ) (now : InForce) (frames : List Frame) →
     → Acknowledge frames (changes_from now frames)
 changes_from-acknowledge low now [] h = tt
 changes_from-acknowledge low now (frame ∷ frames) h = (
-  own-change frame (is_ack frame.body) _ (changes_from (in_force_after now frame) frames) refl
-      (below-all frame (frame.number + 1) _ (omega arith)
+  own-change frame (taken now frame) _ (λ e. grind arith) (below-all frame (frame.number + 1) _ (omega arith)
       (changes_from-orderly (frame.number + 1) (in_force_after now frame) frames h.2)),
   later-frames frame (taken now frame) (frame.number + 1) frames (changes_from (in_force_after now frame) frames)
       (omega arith) h.2
@@ -82,11 +79,9 @@ changes_from-acknowledge low now (frame ∷ frames) h = (
 
 pub changes_of-acknowledged : (frames : List Frame) → IsOrderly frames → AreAcknowledged frames (changes_of frames)
 changes_of-acknowledged frames h =
-    All-from_recursion (λ (frame : Frame). All (AcknowledgesAt frame) (changes_of frames)) frames
-    (by_frame frames (changes_from-acknowledge 0 initial_in_force frames h)) where
-      by_frame : (fs : List Frame) → Acknowledge fs (changes_of frames)
-          → AllByRecursion (λ frame. All (AcknowledgesAt frame) (changes_of frames)) fs
-      by_frame [] k = tt
-      by_frame (f ∷ fs) k = (All-from_recursion (AcknowledgesAt f) (changes_of frames) k.0, by_frame fs k.1)
+    All-weaker (λ (frame : Frame). AllByRecursion (AcknowledgesAt frame) (changes_of frames))
+    (λ (frame : Frame). All (AcknowledgesAt frame) (changes_of frames))
+    (λ frame. All-from_recursion (AcknowledgesAt frame) (changes_of frames)) frames
+    (All-from_recursion _ frames (changes_from-acknowledge 0 initial_in_force frames h))
 
 pub ruleset found_changes = (all-changes, changes_from-orderly, changes_of-acknowledged)

@@ -1,13 +1,14 @@
 -- What an acknowledgement takes from the queues is what it takes by position.
 use Rattle.std.proofs.Common.{◌≡◌, ℕ, suc, zero, ◌+◌, ◌<◌, ◌≤◌, Bool, true, false, ◌&&◌, if◌then◌else◌, List, [], ◌∷◌}
-use Rattle.std.proofs.Common.{◌++◌, length, drop, slice_get, get_or, append_assoc, Option, Some, None, is_some, is_none}
-use Rattle.std.proofs.Common.{pos, refl, sym, ap, ◌∙◌, add-zero, length-append, arith}
+use Rattle.std.proofs.Common.{◌++◌, length, drop, slice_get, get_or, Option, Some, None, is_some, is_none, pos, refl}
+use Rattle.std.proofs.Common.{sym, ap, ◌∙◌, add-zero, length-append, arith}
 use Rattle.std.proofs.lemmas.List.{drop-drop, drop-append-le, at_drop_more}
-use Rattle.std.proofs.lemmas.Option.{slice_get_within}
-use Rattle.settings_pair.proofs.Words.{option_to_list, append-nil, drop_all, Side, Client, Server, Settings, Frame}
-use Rattle.settings_pair.proofs.Words.{other, is_side, side_of, is_ack, settings_in, UnmatchedAck, finding_at, say}
-use Rattle.settings_pair.proofs.Words.{InForce, initial_in_force, taken, change_taking, change_of, in_force_after}
-use Rattle.settings_pair.proofs.Words.{settings_said, Waiting, sent_of, sent_by, waiting_of, IsWaiting}
+use Rattle.std.proofs.lemmas.Grind.{flat_map-append}
+use Rattle.std.proofs.lemmas.Option.{slice_get_within, slice_get_cases}
+use Rattle.settings_pair.proofs.Words.{option_to_list, append-nil, drop_all, Side, Settings, Frame, other, is_side}
+use Rattle.settings_pair.proofs.Words.{side_of, is_ack, settings_in, UnmatchedAck, finding_at, say, InForce}
+use Rattle.settings_pair.proofs.Words.{initial_in_force, taken, change_taking, change_of, in_force_after, settings_said}
+use Rattle.settings_pair.proofs.Words.{Waiting, sent_of, sent_by, waiting_of, IsWaiting}
 
 -- ---- the settings of one side, frame by frame
 
@@ -28,13 +29,8 @@ pub sent-here : (d : Side) (seen : List Frame) (from at : ℕ) (frame : Frame) (
     → sent_by d (drop at seen) ≡ sent_by d (drop from seen)
     → IsSent sent (sent_by d (drop from seen)) (sent_by d (drop (at + 1) seen))
 sent-here d seen from at frame sent within is e left =
-    by_sent sent
-    (ap (λ l. l ++ sent_by d (drop (at + 1) seen)) e ∙ sym (sent-at d seen at frame within is) ∙ left) where
-      by_sent : (one : Option Settings) → option_to_list one ++ sent_by d (drop (at + 1) seen)
-          ≡ sent_by d (drop from seen) → IsSent one (sent_by d (drop from seen)) (sent_by d (drop (at + 1) seen))
-      by_sent None k = record { first = λ h. cc; rest = λ h. cc; none = λ h. k }
-      by_sent (Some settings) k =
-          record { first = λ h. ap (λ l. slice_get l 0) k; rest = λ h. ap (drop 1) k; none = λ h. cc }
+    let at_once = ap (λ l. l ++ sent_by d (drop (at + 1) seen)) e ∙ sym (sent-at d seen at frame within is) ∙ left in
+    record { first = grind arith; rest = grind arith; none = grind arith }
 
 -- nothing is left at the end
 pub none-left_by : (d : Side) (seen : List Frame) (from at : ℕ) → sent_by d (drop at seen) ≡ sent_by d (drop from seen)
@@ -44,41 +40,25 @@ none-left_by d seen from at left past = sym left ∙ ap (sent_by d) (drop_all at
 -- what waits grows by the settings of a frame more
 waiting-on : (d : Side) (from : ℕ) (seen : List Frame) (frame : Frame) → from ≤ length seen
     → sent_by d (drop from (seen ++ frame ∷ [])) ≡ sent_by d (drop from seen) ++ sent_of d frame
-waiting-on d zero [] frame within = append-nil (sent_of d frame)
-waiting-on d (suc from) [] frame within = absurd (omega arith)
-waiting-on d (suc from) (one ∷ seen) frame within = waiting-on d from seen frame (omega arith)
-waiting-on d zero (one ∷ seen) frame within =
-    ap (λ l. sent_of d one ++ l) (waiting-on d zero seen frame (omega arith))
-    ∙ sym (append_assoc (sent_of d one) (sent_by d seen) (sent_of d frame))
+waiting-on d from seen frame within =
+    ap (sent_by d) (drop-append-le from seen (frame ∷ []) within)
+    ∙ flat_map-append (sent_of d) (drop from seen) (frame ∷ [])
+    ∙ ap (λ l. sent_by d (drop from seen) ++ l) (append-nil (sent_of d frame))
 
 -- ---- sides
 
-pub other-other : (d : Side) → other (other d) ≡ d
-other-other Client = refl
-other-other Server = refl
-
-is_side-same : (d e : Side) → is_side d e ≡ true → d ≡ e
-is_side-same Client Client h = refl
-is_side-same Server Server h = refl
-is_side-same _ _ h = cc
-
 is_side-other : (d e : Side) → is_side d (other e) ≡ is_side (other d) e
-is_side-other Client Client = refl
-is_side-other Client Server = refl
-is_side-other Server Client = refl
-is_side-other Server Server = refl
+is_side-other d e = grind arith
 
 sent-after : (now : InForce) (frame : Frame) (d : Side)
     → side_of d (in_force_after now frame).sent ≡ side_of d now.sent
     ++ (if is_side d frame.side then settings_in frame.body else [])
-sent-after now frame Client = refl
-sent-after now frame Server = refl
+sent-after now frame d = grind arith
 
 paired-after : (now : InForce) (frame : Frame) (d : Side)
     → side_of d (in_force_after now frame).paired
     ≡ side_of d now.paired + (if is_side d frame.side && is_some (taken now frame) then 1 else 0)
-paired-after now frame Client = refl
-paired-after now frame Server = refl
+paired-after now frame d = grind arith
 
 -- the element at a place is the first of what is left from there
 slice_get-drop : {A : Type 0} (k : ℕ) (xs : List A) → slice_get (drop k xs) 0 ≡ slice_get xs k
@@ -88,10 +68,10 @@ slice_get-drop (suc k) (x ∷ xs) = slice_get-drop k xs
 
 -- nothing is left from a place with no element
 none-left : (xs : List Settings) (k : ℕ) → slice_get xs k ≡ None → drop 1 (drop k xs) ≡ drop (k + 0) xs
-none-left [] zero e = refl
-none-left [] (suc k) e = rw add-zero refl
-none-left (x ∷ xs) zero e = cc
-none-left (x ∷ xs) (suc k) e = rw add-zero (none-left xs k e ∙ rw add-zero refl)
+none-left xs k e =
+    let cases = slice_get_cases xs k in
+    let all = drop_all k xs in
+    rw add-zero (grind arith)
 
 -- a queue from place k on, after one more of it is taken, or not
 queue-after : (b : Bool) (xs : List Settings) (k : ℕ) (t : Option Settings) → k ≤ length xs
@@ -110,15 +90,10 @@ waiting-step : (now : InForce) (seen : List Frame) (frame : Frame) (new : Waitin
 waiting-step now seen frame new queue inside = record {
   taken = λ d.
       let low = (queue d).0 in
-      let sent : length (side_of d (in_force_after now frame).sent)
-      ≡ length (side_of d now.sent) + length (sent_of d frame) =
-      ap length (sent-after now frame d) ∙ length-append (side_of d now.sent) (sent_of d frame) in
-      omega arith;
+      let sent = length-append (side_of d now.sent) (sent_of d frame) in rw (sent-after now frame d) (omega arith);
   queued = λ d.
-      waiting-on d (side_of d new.taken) seen frame (inside d)
-      ∙ ap (λ l. l ++ sent_of d frame) (queue d).1
-      ∙ sym (drop-append-le _ (side_of d now.sent) (sent_of d frame) (queue d).0)
-      ∙ ap (drop (side_of (other d) (in_force_after now frame).paired)) (sym (sent-after now frame d));
+      rw (waiting-on d (side_of d new.taken) seen frame (inside d), (queue d).1, sent-after now frame d)
+      (sym (drop-append-le _ (side_of d now.sent) (sent_of d frame) (queue d).0));
   within = λ d. let low = inside d in let more = length-append seen (frame ∷ []) in omega arith;
 }
 
@@ -128,9 +103,7 @@ module _ (now : InForce) (seen : List Frame) (frame : Frame) (old : Waiting) (ac
     (h : IsWaiting now seen old) where
   -- what it takes is the first that waits of the other side
   taken-ack : taken now frame ≡ slice_get (waiting_of (other frame.side) seen old) 0
-  taken-ack =
-      rw (ack, h.queued (other frame.side), other-other)
-      (sym (slice_get-drop (side_of frame.side now.paired) (side_of (other frame.side) now.sent)))
+  taken-ack = let queued = h.queued (other frame.side) in grind (arith, slice_get-drop {A = Settings})
 
   module _ (new : Waiting) (of : Side) (s : of ≡ other frame.side)
       (takes : (d : Side) → waiting_of d seen new
@@ -140,12 +113,8 @@ module _ (now : InForce) (seen : List Frame) (frame : Frame) (old : Waiting) (ac
     waiting-after_ack =
         waiting-step now seen frame new
         (λ d.
-        let chosen : is_side (other d) frame.side ≡ true → taken now frame ≡ slice_get (side_of d now.sent)
-        (side_of (other d) now.paired) =
-        λ same. let at : other d ≡ frame.side = is_side-same (other d) frame.side same in
-        rw (ack, ← at, other-other) refl in
         let after = queue-after (is_side (other d) frame.side) (side_of d now.sent) (side_of (other d) now.paired)
-        (taken now frame) (h.taken d) chosen in
+        (taken now frame) (h.taken d) (λ same. grind arith) in
         rw (paired-after now frame (other d))
         (after.0, rw (takes d, s, is_side-other d frame.side, h.queued d) after.1))
         (λ d. fits d (h.within d))
@@ -166,18 +135,10 @@ module _ (now : InForce) (seen : List Frame) (frame : Frame) (old : Waiting) (ac
 pub waiting-at_start : (waiting : Waiting) → ((d : Side) → side_of d waiting.taken ≡ 0)
     → IsWaiting initial_in_force [] waiting
 waiting-at_start waiting none = record {
-  taken = at_start_taken;
-  queued = at_start_queued;
+  taken = λ d. grind arith;
+  queued = λ d. grind (arith, none d);
   within = λ d. let low = none d in omega arith;
-} where
-  at_start_taken : (d : Side) → side_of (other d) initial_in_force.paired ≤ length (side_of d initial_in_force.sent)
-  at_start_taken Client = omega arith
-  at_start_taken Server = omega arith
-
-  at_start_queued : (d : Side) → waiting_of d [] waiting ≡ drop (side_of (other d) initial_in_force.paired)
-      (side_of d initial_in_force.sent)
-  at_start_queued Client = ap (λ n. sent_by Client (drop n [])) (none Client)
-  at_start_queued Server = ap (λ n. sent_by Server (drop n [])) (none Server)
+}
 
 pub ruleset acknowledged = (waiting-after_ack, change_of-ack, settings_said-ack)
 

@@ -1,16 +1,12 @@
 -- The words that the proofs of this crate use, of the crates below and of its own specs.
-pub use Rattle.std.proofs.lemmas.List.{drop_all, append-nil}
-pub use Rattle.std.specs.Option.{option_to_list}
-pub use Rattle.audit_terms.specs.{Finding.say, Finding.finding_at, Frame.settings_in, Frame.is_ack, Side.other}
-pub use Rattle.audit_terms.specs.{Side.is_side, Sides.side_of}
 pub use Rattle.audit_terms.specs.InForce.{change_taking, change_of, InForce, in_force_after, taken, settings_said}
-pub use Rattle.audit_terms.specs.InForce.{initial_in_force}
 pub use Rattle.audit_terms.specs.code.runs.Changes.{changes_of, changes_from, settings_run_from, settings_run}
-pub use Rattle.audit_terms.specs.code.runs.Orderly.{IsOrderly, IsInRange, IsOrderlyFrom}
-pub use Rattle.audit_terms.specs.declared.{frames.Body.Body, frames.Body.TheVariants.SettingsAck, frames.Frame.Frame}
-pub use Rattle.audit_terms.specs.declared.{items.Change.Change, kinds.Kind.TheVariants.UnmatchedAck}
-pub use Rattle.audit_terms.specs.declared.{settings.Settings.Settings, sides.Side.Side, sides.Side.TheVariants.Client}
-pub use Rattle.audit_terms.specs.declared.{sides.Side.TheVariants.Server}
-pub use Rattle.settings_pair.specs.{code.Changes.AreAcknowledged, code.Changes.AreOrderlyFrom}
-pub use Rattle.settings_pair.specs.{declared.waiting.Waiting.Waiting}
-pub use Rattle.settings_pair.specs.code.Waiting.{waiting_of, IsWaiting, sent_by, sent_of}
+pub use Rattle.audit_terms.specs.code.{runs.Orderly.IsOrderly, runs.Orderly.IsInRange, runs.Orderly.IsOrderlyFrom}
+pub use Rattle.audit_terms.specs.declared.{frames.Frame.Frame, items.Change.Change, kinds.Kind.TheVariants.UnmatchedAck}
+pub use Rattle.audit_terms.specs.declared.{settings.Settings.Settings, sides.Side.Side}
+pub use Rattle.audit_terms.specs.{Finding.say, Finding.finding_at, Frame.settings_in, Frame.is_ack, Side.other}
+pub use Rattle.audit_terms.specs.{Side.is_side, Sides.side_of, InForce.initial_in_force}
+pub use Rattle.settings_pair.specs.code.{Changes.AreAcknowledged, Changes.AreOrderlyFrom, Waiting.waiting_of}
+pub use Rattle.settings_pair.specs.code.{Waiting.IsWaiting, Waiting.sent_by, Waiting.sent_of}
+pub use Rattle.settings_pair.specs.declared.{waiting.Waiting.Waiting}
+pub use Rattle.std.{proofs.lemmas.List.drop_all, proofs.lemmas.List.append-nil, specs.Option.option_to_list}

@@ -1,14 +1,14 @@
 -- What is known of quiet streams as rows are added, as streams meet frames, and after the last one.
-use Rattle.split_merge.proofs.Terms.{◌≡◌, ◌≢◌, ℕ, zero, suc, ◌+◌, ◌<◌, ◌≤◌, inl, inr, Bool, true, List, [], ◌∷◌, ◌++◌}
-use Rattle.split_merge.proofs.Terms.{length, get_or, slice_get, set, drop, filter, Some, refl, sym, ◌∙◌, arith, All}
-use Rattle.split_merge.proofs.Terms.{drop_more, length-set, get_or-set_same, get_or-set_other, get_or_append_left}
-use Rattle.split_merge.proofs.Terms.{get_or_at, length_push, slice_get-get_or, get_or_from_slice_get, slice_get_within}
-use Rattle.split_merge.proofs.Terms.{cases_lt, nat_tests, Frame, Change, promised_by, meets, IsInRange, frames_of}
-use Rattle.split_merge.proofs.Terms.{QuietStream, NotAmong, AreDistinct, with_next, AreAhead, ◌^◌, All-filter, cases_eq}
-use Rattle.split_merge.proofs.Terms.{is_ack, IsOrderly, IsOrderlyFrom, IsHushed}
+use Rattle.split_merge.proofs.Terms.{◌≡◌, ◌≢◌, ℕ, zero, suc, ◌+◌, ◌<◌, ◌≤◌, Bool, true, List, [], ◌∷◌, ◌++◌, length}
+use Rattle.split_merge.proofs.Terms.{get_or, slice_get, set, take, drop, filter, Some, refl, sym, ◌∙◌, arith, All}
+use Rattle.split_merge.proofs.Terms.{take_more, drop_more, take_more_set, drop-set-lt, length-set, AllZip}
+use Rattle.split_merge.proofs.Terms.{get_or_from_slice_get, slice_get_within, nat_tests, Frame, Change, promised_by}
+use Rattle.split_merge.proofs.Terms.{meets, IsInRange, frames_of, QuietStream, NotAmong, AreDistinct, with_next}
+use Rattle.split_merge.proofs.Terms.{AreAhead, IsAheadOf, IsHushedOf, ◌^◌, All-filter, is_ack, IsOrderly, IsOrderlyFrom}
 use Rattle.settings_pair.specs.code.Changes.{AreOrderly, AreAcknowledged}
+use Rattle.std.proofs.lemmas.Slice.Zip.{all_zipped_more}
 use Rattle.stream_credit.specs.code.QuietStream.{IsAheadIfQuiet}
-use Rattle.split_merge.proofs.Visited.{above-at, not_among-at, not_among-front, not_among-push, one_index}
+use Rattle.split_merge.proofs.Visited.{among-apart, not_among-front, not_among-push}
 use Rattle.split_merge.proofs.Positions.{promised-is}
 
 -- ---- the frames of one stream
@@ -50,68 +50,77 @@ next-frame frame frames s n = rw (promised-is s n frame) (grind arith)
 pub promised-small : (frame : Frame) → IsInRange frame → promised_by frame < 2 ^ 31
 promised-small frame range = let small = range.promised in grind arith
 
--- ---- lists of which one element is set, or one more is put behind them
+-- ---- facts of streams and what stands beside each
 
-each-set : {X : Type 0} (P : ℕ → X → Type 0) (xs : List X) (i : ℕ) (x : X) → i < length xs → P i x
-    → ((r : ℕ) (d : X) → r ≢ i → P r (get_or xs r d)) → (r : ℕ) (d : X) → P r (get_or (set xs i x) r d)
-each-set P xs i x l here others r d = elim (cases_eq r i) [
-  | inl same ↦ rw (same, get_or-set_same xs i x d l) here
-  | inr apart ↦ rw (get_or-set_other xs i r x d apart) (others r d apart)
-]
+-- at streams that are not this one
+pub zip-apart : {Y : Type 0} (R S : ℕ → Y → Type 0) (q : ℕ) (xs : List ℕ) (ys : List Y) → NotAmong q xs
+    → ((x : ℕ) (y : Y) → q ≢ x → R x y → S x y) → AllZip R xs ys → AllZip S xs ys
+zip-apart R S q [] [] out more h = h
+zip-apart R S q (x ∷ xs) (y ∷ ys) out more h = (more x y out.0 h.0, zip-apart R S q xs ys out.1 more h.1)
+zip-apart R S q xs ys out more h = absurd h
 
-each-push : {X : Type 0} (P : ℕ → X → Type 0) (xs : List X) (x : X) → P (length xs) x
-    → ((r : ℕ) (d : X) → r < length xs → P r (get_or xs r d))
-    → (r : ℕ) (d : X) → r < length xs + 1 → P r (get_or (xs ++ x ∷ []) r d)
-each-push P xs x here others r d l = elim (cases_lt r (length xs)) [
-  | inl w ↦ rw (get_or_append_left xs (x ∷ []) d r w) (others r d w)
-  | inr w ↦ let e : r ≡ length xs = omega (arith, l, w) in rw (e, get_or_at xs x [] d (length xs) refl) here
-]
+zip-at : {Y : Type 0} (R : ℕ → Y → Type 0) (xs : List ℕ) (ys : List Y) (row x : ℕ) (d : Y) → AllZip R xs ys
+    → slice_get xs row ≡ Some x → R x (get_or ys row d)
+zip-at R [] ys row x d h at = cc
+zip-at R (z ∷ xs) [] row x d h at = absurd h
+zip-at R (z ∷ xs) (y ∷ ys) zero x d h at = let same : z ≡ x = cc in rw (← same) h.0
+zip-at R (z ∷ xs) (y ∷ ys) (suc row) x d h at = zip-at R xs ys row x d h.1 at
+
+zip-set : {Y : Type 0} (R S : ℕ → Y → Type 0) (xs : List ℕ) (ys : List Y) (row x : ℕ) (new : Y) → AreDistinct xs
+    → slice_get xs row ≡ Some x → S x new → ((z : ℕ) (y : Y) → x ≢ z → R z y → S z y) → AllZip R xs ys
+    → AllZip S xs (set ys row new)
+zip-set R S [] ys row x new distinct at here others h = cc
+zip-set R S (z ∷ xs) [] row x new distinct at here others h = absurd h
+zip-set R S (z ∷ xs) (y ∷ ys) zero x new distinct at here others h =
+    let same : z ≡ x = cc in
+    (rw same here, zip-apart R S x xs ys (rw same at distinct.0) others h.1)
+zip-set R S (z ∷ xs) (y ∷ ys) (suc row) x new distinct at here others h =
+    (others z y (among-apart z x xs row distinct.0 at) h.0, zip-set R S xs ys row x new distinct.1 at here others h.1)
 
 -- ---- streams and what they have still to meet
 
-module _ (changes : List Change) (all : List Frame) where
-  pub ahead-alike : (f g : ℕ → List Frame) (streams : List ℕ) (quiets : List QuietStream)
+module _ {changes : List Change} {all : List Frame} where
+  pub ahead-alike : (f g : ℕ → List Frame) {streams : List ℕ} {quiets : List QuietStream}
       → ((s : ℕ) → s ≢ 0 → f s ≡ g s) → AreAhead changes all f streams quiets → AreAhead changes all g streams quiets
-  ahead-alike f g streams quiets same h = record {
-    long = h.long;
+  ahead-alike f g {streams} {quiets} same h = record {
     orderly = h.orderly;
     rise = h.rise;
     acknowledged = h.acknowledged;
     above = h.above;
-    ahead = λ r s d at. rw (← same s (above-at streams r s h.above at)) (h.ahead r s d at);
+    ahead = zip-apart (IsAheadOf changes all f) (IsAheadOf changes all g) 0 streams quiets h.above
+        (λ s quiet n was. rw (← same s (λ e. n (sym e))) was) h.ahead;
     unmet = λ s n out. sym (same s n) ∙ h.unmet s n out;
   }
 
   -- stream 0 meets no frame
-  pub ahead-zero : (frame : Frame) (rest : ℕ → List Frame) (stream : ℕ) (streams : List ℕ) (quiets : List QuietStream)
+  pub ahead-zero : (frame : Frame) (rest : ℕ → List Frame) (stream : ℕ) {streams : List ℕ} {quiets : List QuietStream}
       → stream ≡ 0 → AreAhead changes all (with_next stream frame rest) streams quiets
       → AreAhead changes all rest streams quiets
-  ahead-zero frame rest stream streams quiets z h =
-      ahead-alike (with_next stream frame rest) rest streams quiets (λ s n. grind (arith, nat_tests)) h
+  ahead-zero frame rest stream z h =
+      ahead-alike (with_next stream frame rest) rest (λ s n. grind (arith, nat_tests)) h
 
   -- no stream has met a frame
   pub ahead-none : IsOrderly all → AreOrderly changes → AreAcknowledged all changes
       → AreAhead changes all (λ s. frames_of s all) [] []
   ahead-none orderly rise acknowledged = record {
-    long = refl;
     orderly = orderly;
     rise = rise;
     acknowledged = acknowledged;
     above = tt;
-    ahead = λ r s d at. cc;
+    ahead = tt;
     unmet = λ s n out. refl;
   }
 
   -- the streams of a frame meet it next
-  pub ahead-frame : (i : ℕ) (frame : Frame) (streams : List ℕ) (quiets : List QuietStream) → i < length all
+  pub ahead-frame : (i : ℕ) (frame : Frame) {streams : List ℕ} {quiets : List QuietStream} → i < length all
       → frame ≡ get_or all i frame → AreAhead changes all (λ s. frames_of s (drop i all)) streams quiets
       → AreAhead changes all (with_next frame.stream frame
       (with_next (promised_by frame) frame (λ s. frames_of s (drop (i + 1) all)))) streams quiets
-  ahead-frame i frame streams quiets l is h =
-      ahead-alike (λ s. frames_of s (drop i all)) _ streams quiets
+  ahead-frame i frame l is h =
+      ahead-alike (λ s. frames_of s (drop i all)) _
       (λ s n. rw (drop_more all i frame l, ← is) (next-frame frame (drop (i + 1) all) s n)) h
 
-  module _ (rest : ℕ → List Frame) (streams : List ℕ) (quiets : List QuietStream) (stream : ℕ) where
+  module _ (rest : ℕ → List Frame) {streams : List ℕ} {quiets : List QuietStream} (stream : ℕ) where
     -- one more stream, which no frame has met
     pub ahead-new : AreAhead changes all rest streams quiets → stream ≢ 0 → stream < 2 ^ 31 → NotAmong stream streams
         → (quiet : QuietStream)
@@ -119,75 +128,42 @@ module _ (changes : List Change) (all : List Frame) where
         → AreAcknowledged all changes → IsAheadIfQuiet s changes all all quiet)
         → AreAhead changes all rest (streams ++ stream ∷ []) (quiets ++ quiet ∷ [])
     ahead-new h n small new quiet idle = record {
-      long =
-          let a = length_push quiets quiet in
-          let b = length_push streams stream in omega (arith, a, b, h.long);
       orderly = h.orderly;
       rise = h.rise;
       acknowledged = h.acknowledged;
       above = not_among-push 0 stream streams h.above (λ e. n (sym e));
-      ahead = λ r s d at.
-          let w = slice_get_within (streams ++ stream ∷ []) r s at in
-          let b = length_push streams stream in
-          each-push (λ r q. (s : ℕ) → slice_get (streams ++ stream ∷ []) r ≡ Some s
-          → IsAheadIfQuiet s changes (frames_of s all) (rest s) q) quiets quiet
-          (λ s at. rw (← last s at, h.unmet stream n new) (idle stream changes (frames_of stream all) small
-          (orderly-of stream all h.orderly) h.rise (acknowledged-of stream all changes h.acknowledged)))
-          (λ r d l s at. h.ahead r s d (front r s (omega (arith, l, h.long)) at))
-          r d (omega (arith, w, b, h.long)) s at;
+      ahead = all_zipped_more (IsAheadOf changes all rest) streams quiets stream quiet h.ahead
+          (rw (h.unmet stream n new) (idle stream changes (frames_of stream all) small (orderly-of stream all h.orderly)
+          h.rise (acknowledged-of stream all changes h.acknowledged)));
       unmet = λ s m out. h.unmet s m (not_among-front s stream streams out).0;
-    } where
-      last : (s : ℕ) → slice_get (streams ++ stream ∷ []) (length quiets) ≡ Some s → stream ≡ s
-      last s at =
-          let is = get_or_from_slice_get (streams ++ stream ∷ []) (length quiets) s 0 at in
-          let long = h.long in grind (arith, get_or_at)
-
-      front : (r s : ℕ) → r < length streams → slice_get (streams ++ stream ∷ []) r ≡ Some s
-          → slice_get streams r ≡ Some s
-      front r s l at =
-          let is = get_or_from_slice_get (streams ++ stream ∷ []) r s 0 at in
-          grind (arith, slice_get-get_or streams r 0 l, get_or_append_left)
+    }
 
     -- a stream meets its next frame
     module _ (frame : Frame) (row : ℕ) (h : AreAhead changes all (with_next stream frame rest) streams quiets)
         (distinct : AreDistinct streams) (at : slice_get streams row ≡ Some stream) where
+      there : (s : ℕ) → stream ≢ s → with_next stream frame rest s ≡ rest s
+      there s n = grind (arith, nat_tests)
+
       -- what is known of it before
       pub ahead-next : (d : QuietStream)
           → IsAheadIfQuiet stream changes (frames_of stream all) (frame ∷ rest stream) (get_or quiets row d)
       ahead-next d =
           let here : with_next stream frame rest stream ≡ frame ∷ rest stream = grind (arith, nat_tests) in
-          rw (← here) (h.ahead row stream d at)
+          let next = with_next stream frame rest in
+          rw (← here) (zip-at (IsAheadOf changes all next) streams quiets row stream d h.ahead at)
 
       pub ahead-met : (quiet : QuietStream)
           → IsAheadIfQuiet stream changes (frames_of stream all) (rest stream) quiet
           → AreAhead changes all rest streams (set quiets row quiet)
       ahead-met quiet after = record {
-        long = length-set quiets row quiet ∙ h.long;
         orderly = h.orderly;
         rise = h.rise;
         acknowledged = h.acknowledged;
         above = h.above;
-        ahead = λ r s d on.
-            each-set (λ r q. (s : ℕ) → slice_get streams r ≡ Some s
-            → IsAheadIfQuiet s changes (frames_of s all) (rest s) q) quiets row quiet
-            (omega (arith, slice_get_within streams row stream at, h.long))
-            (λ s on. rw (← same s on) after)
-            (λ r d apart s on. rw (← there s (other r s apart on)) (h.ahead r s d on)) r d s on;
-        unmet = λ s m out. sym (there s (λ p. not_among-at s streams row out
-            (slice_get_within streams row stream at) (is ∙ p))) ∙ h.unmet s m out;
-      } where
-        is : get_or streams row 0 ≡ stream
-        is = get_or_from_slice_get streams row stream 0 at
-
-        same : (s : ℕ) → slice_get streams row ≡ Some s → stream ≡ s
-        same s on = sym is ∙ get_or_from_slice_get streams row s 0 on
-
-        there : (s : ℕ) → stream ≢ s → with_next stream frame rest s ≡ rest s
-        there s n = grind (arith, nat_tests)
-
-        other : (r s : ℕ) → r ≢ row → slice_get streams r ≡ Some s → stream ≢ s
-        other r s apart on p = apart (one_index streams r row s distinct (get_or_from_slice_get streams r s 0 on)
-            (is ∙ p) (above-at streams r s h.above on))
+        ahead = zip-set (IsAheadOf changes all (with_next stream frame rest)) (IsAheadOf changes all rest) streams
+            quiets row stream quiet distinct at after (λ s y apart was. rw (← there s apart) was) h.ahead;
+        unmet = λ s m out. sym (there s (among-apart s stream streams row out at)) ∙ h.unmet s m out;
+      }
 
 -- ---- after the last frame
 
@@ -195,24 +171,34 @@ module _ (changes : List Change) (all : List Frame) where
 pub record IsPartEnded (credits_shown : Bool) (changes : List Change) (all : List Frame) (streams : List ℕ)
     (quiets : List QuietStream) (many : ℕ) : Type 0 where
   pub long : length quiets ≡ length streams
-  pub hushed : (r s : ℕ) (d : QuietStream) → r < many → slice_get streams r ≡ Some s →
-      IsHushed credits_shown changes s (frames_of s all) (get_or quiets r d)
-  pub ahead : (r s : ℕ) (d : QuietStream) → many ≤ r → slice_get streams r ≡ Some s →
-      IsAheadIfQuiet s changes (frames_of s all) [] (get_or quiets r d)
+  pub hushed : AllZip (IsHushedOf credits_shown changes all) (take many streams) (take many quiets)
+  pub ahead : AllZip (IsAheadOf changes all (λ _. [])) (drop many streams) (drop many quiets)
 
-pub ended-more : {credits_shown : Bool} {changes : List Change} {all : List Frame} {streams : List ℕ}
-    {quiets : List QuietStream} {many : ℕ} (s : ℕ) (quiet : QuietStream) → slice_get streams many ≡ Some s →
-    IsPartEnded credits_shown changes all streams quiets many → IsHushed credits_shown changes s (frames_of s all) quiet
-    → IsPartEnded credits_shown changes all streams (set quiets many quiet) (many + 1)
-ended-more {credits_shown} {changes} {all} {streams} {quiets} {many} s quiet at h done = record {
-  long = length-set quiets many quiet ∙ h.long;
-  hushed = λ r q d l on.
-      each-set (λ r x. (q : ℕ) → r < many + 1 → slice_get streams r ≡ Some q
-      → IsHushed credits_shown changes q (frames_of q all) x) quiets many quiet
-      (omega (arith, slice_get_within streams many s at, h.long))
-      (λ q l on. rw (← sym (get_or_from_slice_get streams many s 0 at)
-      ∙ get_or_from_slice_get streams many q 0 on) done)
-      (λ r d apart q l on. h.hushed r q d (omega (arith, l, apart)) on) r d q l on;
-  ahead = λ r q d l on.
-      rw (get_or-set_other quiets many r quiet d (omega (arith, l))) (h.ahead r q d (omega (arith, l)) on);
-}
+module _ {credits_shown : Bool} {changes : List Change} {all : List Frame} {streams : List ℕ}
+    {quiets : List QuietStream} {many : ℕ} (s : ℕ) (at : slice_get streams many ≡ Some s)
+    (h : IsPartEnded credits_shown changes all streams quiets many) (d : QuietStream) where
+  within : many < length streams
+  within = slice_get_within streams many s at
+
+  both : IsAheadOf changes all (λ _. []) s (get_or quiets many d)
+      × AllZip (IsAheadOf changes all (λ _. [])) (drop (many + 1) streams) (drop (many + 1) quiets)
+  both = rw (
+    drop_more streams many s within,
+    get_or_from_slice_get streams many s s at,
+    drop_more quiets many d (omega (arith, within, h.long)),
+  ) at h.ahead
+
+  pub ended-next : IsAheadOf changes all (λ _. []) s (get_or quiets many d)
+  ended-next = both.0
+
+  pub ended-more : (quiet : QuietStream) → IsHushedOf credits_shown changes all s quiet
+      → IsPartEnded credits_shown changes all streams (set quiets many quiet) (many + 1)
+  ended-more quiet done = record {
+    long = length-set quiets many quiet ∙ h.long;
+    hushed = rw (
+      take_more streams many s within,
+      get_or_from_slice_get streams many s s at,
+      take_more_set quiets many quiet (omega (arith, within, h.long)),
+    ) (all_zipped_more (IsHushedOf credits_shown changes all) _ _ s quiet h.hushed done);
+    ahead = rw (drop-set-lt (many + 1) quiets many quiet (omega arith)) both.1;
+  }

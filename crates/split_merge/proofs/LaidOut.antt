@@ -1,283 +1,257 @@
--- The ranges of rows, one after the other, and what they hold as the positions of frames come in.
-use Rattle.split_merge.proofs.Terms.{◌≡◌, ◌≢◌, ℕ, zero, suc, ◌+◌, ◌-◌, ◌<◌, ◌≤◌, ◌==◌, ◌⊎◌, inl, inr, List, [], ◌∷◌}
-use Rattle.split_merge.proofs.Terms.{◌++◌, length, get_or, slice_get, set, take, Some, refl, ap, ◌∙◌, arith}
-use Rattle.split_merge.proofs.Terms.{if◌then◌else◌, between, nat_tests, get_or-set_at, length-append, length-set}
-use Rattle.split_merge.proofs.Terms.{get_or-set_same, get_or-set_other, length-map, get_or-map, length_push}
-use Rattle.split_merge.proofs.Terms.{slice_get_within, StreamRow, Visited, streams_in, row_positions, row_streams}
-use Rattle.split_merge.proofs.Terms.{total_of, laid_out, AreDistinct, HasRoomFor, IsFilled, cases_order, drop-set-lt}
-use Rattle.split_merge.proofs.Terms.{take-set-le, take-set, get_or_default, same_lists, longer, grown, drop, Option}
-use Rattle.split_merge.proofs.Terms.{MatchOption, sym, append_assoc, append-nil, take_more, length-take-le}
-use Rattle.split_merge.proofs.Terms.{filter-append, Frame, promised_by, noted, notes_from, NotAmong, heard, None}
-use Rattle.split_merge.proofs.Terms.{take-append-drop, HasPlace, IsPut}
-use Rattle.std.proofs.lemmas.List.Edits.{between_more}
-use Rattle.std.proofs.lemmas.Slice.{between_is}
-use Rattle.split_merge.proofs.Visited.{noted_positions-append, positions-push, above-at}
-use Rattle.split_merge.proofs.Positions.{notes-append, notes-push}
-use Rattle.split_merge.proofs.LoudStreams.{heard-none, heard-one}
+-- The ranges of rows, one after the other, what they hold as the positions of frames come in, and that they are the
+-- split.
+use Rattle.split_merge.proofs.Terms.{◌≡◌, ◌≢◌, ℕ, zero, suc, ◌+◌, ◌-◌, ◌<◌, ◌≤◌, ◌^◌, List, [], ◌∷◌, ◌++◌, length}
+use Rattle.split_merge.proofs.Terms.{get_or, slice_get, set, drop, map, Option, Some, refl, sym, ap, ◌∙◌, arith}
+use Rattle.split_merge.proofs.Terms.{append_assoc, length-append, length-set, length-drop, length_push, drop-set-lt}
+use Rattle.split_merge.proofs.Terms.{drop-set-add, take-set-le, take_more_set, StreamRow, Visited, streams_in, noted}
+use Rattle.split_merge.proofs.Terms.{noted_positions, rows_of, total_of, laid_out, longer, NotAmong, AreDistinct}
+use Rattle.split_merge.proofs.Terms.{IsFilled, AreFilled, IsTableOf, IsPlacing, CanPlace, loud_of, places_from, IsKept}
+use Rattle.split_merge.proofs.Terms.{Bool, true, option_to_list, drop-drop, AllByRecursion, All-from_recursion, Frame}
+use Rattle.split_merge.proofs.Terms.{Change, shown, streams_of, frames_of, QuietStream, SplitFrames, notes_from}
+use Rattle.split_merge.proofs.Terms.{opened_in, quiet_in, stream_run, IsRange, IsPartOf, IsSplit, part_of, opening_of}
+use Rattle.split_merge.proofs.Terms.{AreHushed, IsHushedOf, IsLaid}
+use Rattle.split_merge.specs.declared.visits.Visits.{Visits}
+use Rattle.split_merge.proofs.Visited.{among-apart, length-streams_in, positions-own, positions-other}
+use Rattle.split_merge.proofs.Visited.{noted_positions-append}
+use Rattle.split_merge.proofs.LoudStreams.{loud-map, loud-streams, loud-distinct, loud-total, are-places}
+use Rattle.split_merge.proofs.LoudStreams.{loud-not_among, loud-filter, opened-filter, each-quiet}
+use Rattle.split_merge.proofs.Positions.{noted-positions, frames_at-positions, positions-within}
+use Rattle.split_merge.proofs.Ahead.{zip-apart}
+use Rattle.std.proofs.lemmas.Slice.Zip.{AllZip-long}
+use Rattle.stream_credit.specs.code.QuietStream.{opened_of}
 
-pub length-row_streams : (rows : List StreamRow) → length (row_streams rows) ≡ length rows
-length-row_streams rows = length-map rows (λ (row : StreamRow). row.stream)
+-- ---- the ranges, before any position comes in
 
--- ---- the ranges
+laid-filled : (from : ℕ) (streams : List ℕ) (all : List (ℕ × ℕ)) (positions : List ℕ)
+    → total_of (rows_of streams all) ≤ length positions
+    → AreFilled from streams [] all (laid_out from (rows_of streams all)) positions
+laid-filled from [] all positions room = refl
+laid-filled from (stream ∷ streams) all positions room =
+    let many = length (noted_positions stream all) in
+    let none : from + 0 ≡ from = omega arith in (
+      record { is = rw none refl; front = refl; fits = omega arith; room = omega (arith, room) },
+      laid-filled (from + many) streams all (drop many positions) (omega (arith, room, length-drop many positions)),
+    )
 
-pub laid-length : (at : ℕ) (rows : List Visited) → length (laid_out at rows) ≡ length rows
-laid-length at [] = refl
-laid-length at (row ∷ rows) = ap suc (laid-length (at + row.count) rows)
-
-pub laid-streams : (at : ℕ) (rows : List Visited) → row_streams (laid_out at rows) ≡ streams_in rows
-laid-streams at [] = refl
-laid-streams at (row ∷ rows) = ap (λ l. row.stream ∷ l) (laid-streams (at + row.count) rows)
-
--- each range is empty, and has room before the end and before the next
-laid-at : (at : ℕ) (rows : List Visited) (r : ℕ) (d : StreamRow) (e : Visited) → r < length rows →
-    ((get_or (laid_out at rows) r d).to ≡ (get_or (laid_out at rows) r d).from)
-    × (at ≤ (get_or (laid_out at rows) r d).from)
-    × ((get_or (laid_out at rows) r d).from + (get_or rows r e).count ≤ at + total_of rows)
-laid-at at [] r d e l = absurd (omega arith)
-laid-at at (row ∷ rows) zero d e l = (refl, omega arith, omega arith)
-laid-at at (row ∷ rows) (suc r) d e l =
-    let h = laid-at (at + row.count) rows r d e (omega arith) in (h.0, omega (arith, h.1), omega (arith, h.2))
-
-laid-apart : (at : ℕ) (rows : List Visited) (r s : ℕ) (d : StreamRow) (e : Visited) → r < s → s < length rows →
-    (get_or (laid_out at rows) r d).from + (get_or rows r e).count ≤ (get_or (laid_out at rows) s d).from
-laid-apart at [] r s d e p l = absurd (omega arith)
-laid-apart at (row ∷ rows) r zero d e p l = absurd (omega arith)
-laid-apart at (row ∷ rows) zero (suc s) d e p l = let h = laid-at (at + row.count) rows s d e (omega arith) in h.1
-laid-apart at (row ∷ rows) (suc r) (suc s) d e p l =
-    laid-apart (at + row.count) rows r s d e (omega arith) (omega arith)
-
-pub room-laid : (rows : List Visited) (notes : List (ℕ × ℕ))
-    → ((r : ℕ) (d : Visited) → r < length rows
-    → (get_or rows r d).count ≡ length (row_positions r (streams_in rows) notes))
-    → HasRoomFor (laid_out 0 rows) notes (total_of rows)
-room-laid rows notes counts = record {
-  empty = λ r d l. let m = laid-length 0 rows in (laid-at 0 rows r d none (omega (arith, l, m))).0;
-  apart = λ r s d p l.
-      let m = laid-length 0 rows in
-      let n = laid-apart 0 rows r s d none p (omega (arith, l, m)) in
-      omega (arith, n, many r (omega (arith, p, l, m)));
-  within = λ r d l.
-      let m = laid-length 0 rows in
-      let n = laid-at 0 rows r d none (omega (arith, l, m)) in
-      omega (arith, n.2, many r (omega (arith, l, m)));
-} where
-  none : Visited
-  none = record { stream = 0; count = 0 }
-
-  many : (r : ℕ) → r < length rows
-      → (get_or rows r none).count ≡ length (row_positions r (row_streams (laid_out 0 rows)) notes)
-  many r l = rw (laid-streams 0 rows) (counts r none l)
+pub can-place : {notes : List (ℕ × ℕ)} {table : Visits} {loud : List Visited} {places : List (Option ℕ)}
+    {rows : List StreamRow} {total : ℕ} → IsTableOf notes table → length notes < 2 ^ 30
+    → length table.quiets.items ≡ length table.rows.items → loud ≡ loud_of table.rows.items table.quiets.items
+    → places ≡ places_from 0 table.quiets.items → rows ≡ laid_out 0 loud → total ≡ total_of loud
+    → CanPlace (streams_in loud) notes places table rows total
+can-place {notes} {table} h few long loud_is places_is rows_is total_is positions positions_long =
+    let quiets = table.quiets.items in
+    let streams = streams_in table.rows.items in
+    let row : ℕ → Visited = λ stream. record { stream = stream; count = length (noted_positions stream notes) } in
+    let made = loud_is ∙ ap (λ l. loud_of l quiets) h.rows ∙ sym (loud-map row streams quiets) in
+    let total = loud-total table.rows.items quiets in
+    let same = ap total_of loud_is in
+    rw (loud_is, loud-streams) record {
+      index = h.index;
+      few = omega (arith, h.few, few);
+      short = omega (arith, positions_long, total_is, same, total, h.visits, few);
+      leads = rw places_is (are-places streams quiets (long ∙ sym (length-streams_in table.rows.items)) h.index.distinct
+          h.index.above);
+      distinct = loud-distinct streams quiets h.index.distinct;
+      filled = rw (rows_is, made) (laid-filled 0 (loud_of streams quiets) notes positions
+          (omega (arith, ap total_of made, total_is, positions_long)));
+    }
 
 -- ---- one position more
 
-between-put : (xs : List ℕ) (from at position : ℕ) → from ≤ at → at < length xs →
-    between from (at + 1) (set xs at position) ≡ between from at xs ++ position ∷ []
-between-put xs from at position h l =
-    let n = length-set xs at position in
-    between_more (set xs at position) from at 0 h (omega (arith, n, l))
-    ∙ rw (get_or-set_same xs at position 0 l, between_is, between_is, take-set) refl
+module _ (from stream position : ℕ) (came all : List ℕ) (row : StreamRow) (positions : List ℕ)
+    (h : IsFilled from stream came all row positions) where
+  one-put : length came < length all
+      → IsFilled from stream (came ++ position ∷ []) all (longer row) (set positions (length came) position)
+  one-put more =
+      let next : from + (length came + 1) ≡ from + length came + 1 = omega arith in
+      record {
+        is = rw (h.is, length_push, next) refl;
+        front = rw (length_push, take_more_set positions (length came) position (omega (arith, more, h.room)), h.front)
+            refl;
+        fits = rw length_push (omega (arith, more));
+        room = rw length-set h.room;
+      }
 
-between-below : (xs : List ℕ) (from to at position : ℕ) → to ≤ at
-    → between from to (set xs at position) ≡ between from to xs
-between-below xs from to at position h = rw (between_is, between_is, take-set-le to xs at position h) refl
-
-between-above : (xs : List ℕ) (from to at position : ℕ) → at < from
-    → between from to (set xs at position) ≡ between from to xs
-between-above xs from to at position h = ap (take (to - from)) (drop-set-lt from xs at position h)
-
-module _ (empty : List StreamRow) (all came later : List (ℕ × ℕ)) (total : ℕ) (room : HasRoomFor empty all total)
-    (index stream position : ℕ) (distinct : AreDistinct (row_streams empty))
-    (at : slice_get (row_streams empty) index ≡ Some stream) (above : stream ≢ 0)
-    (parts : (came ++ (stream, position) ∷ []) ++ later ≡ all)
-    (rows : List StreamRow) (positions : List ℕ) (long : length positions ≡ total)
-    (filled : IsFilled empty came rows positions) (e : StreamRow) where
-  -- the positions of a row among some notes
-  abbrev noted_at : ℕ → List (ℕ × ℕ) → List ℕ
-  noted_at r notes = row_positions r (row_streams empty) notes
-
-  abbrev now : List (ℕ × ℕ)
-  now = came ++ (stream, position) ∷ []
-
-  abbrev row : StreamRow
-  row = get_or rows index e
-
-  abbrev from : ℕ → ℕ
-  from r = (get_or empty r e).from
-
-  known : index < length empty
-  known =
-      let n = length-row_streams empty in
-      omega (arith, slice_get_within (row_streams empty) index stream at, n)
-
-  positions-now : (r : ℕ) → noted_at r now ≡ (if index == r then noted_at r came ++ position ∷ [] else noted_at r came)
-  positions-now r = positions-push (row_streams empty) index stream distinct at above came position r
-
-  positions-all : (r : ℕ) → length (noted_at r now) ≤ length (noted_at r all)
-  positions-all r =
-      let split = noted_positions-append (get_or (row_streams empty) r 0) now later in
-      let n = length-append (noted_at r now) (noted_at r later) in
-      let m = ap (λ l. length (noted_at r l)) parts in
-      grind arith
-
-  place-is : row.to ≡ from index + length (noted_at index came)
-  place-is = ap (λ (x : StreamRow). x.to) (filled.ranges index e known)
-
-  pub place-within : row.to < length positions
-  place-within =
-      let end = room.within index e known in
-      grind (arith, nat_tests, positions-now index, positions-all index, place-is, length_push)
-
-  ranges-now : (r : ℕ) (d : StreamRow) → r < length empty →
-      get_or (set rows index (longer row)) r d ≡ grown (get_or empty r d) (length (noted_at r now))
-  ranges-now r d l =
-      let n = filled.long in
-      let same = get_or_default rows index e d (omega (arith, known, n)) in
-      grind (arith, nat_tests, get_or-set_at, get_or-set_other, filled.ranges r d l, positions-now r, length_push)
-
-  filled-now : (r : ℕ) → r < length empty →
-      between (from r) (from r + length (noted_at r now)) (set positions row.to position) ≡ noted_at r now
-  filled-now r l = by_case (cases_order r index) where
-    was : between (from r) (from r + length (noted_at r came)) positions ≡ noted_at r came
-    was = filled.filled r e l
-
-    by_case : (r ≡ index) ⊎ ((r < index) ⊎ (index < r)) →
-        between (from r) (from r + length (noted_at r now)) (set positions row.to position) ≡ noted_at r now
-    by_case (inl same) =
-        let put = between-put positions (from r) row.to position in
-        grind (arith, nat_tests, positions-now r, place-is, place-within, length_push)
-    by_case (inr (inl before)) =
-        let a = room.apart r index e before known in
-        let stay = between-below positions (from r) (from r + length (noted_at r came)) row.to position in
-        grind (arith, nat_tests, positions-now r, positions-all r, place-is)
-    by_case (inr (inr behind)) =
-        let a = room.apart index r e behind l in
-        let stay = between-above positions (from r) (from r + length (noted_at r came)) row.to position in
-        grind (arith, nat_tests, positions-now r, positions-now index, positions-all index, place-is, length_push)
-
-  pub placed-more : IsFilled empty (came ++ (stream, position) ∷ []) (set rows index (longer row))
-      (set positions row.to position)
-  placed-more = record {
-    long = length-set rows index (longer row) ∙ filled.long;
-    ranges = ranges-now;
-    filled = λ r d l. rw (get_or_default empty r d e l) (filled-now r l);
+  one-kept : (at : ℕ) → length all ≤ at → IsFilled from stream came all row (set positions at position)
+  one-kept at behind = record {
+    is = h.is;
+    front = rw (take-set-le (length came) positions at position (omega (arith, behind, h.fits))) h.front;
+    fits = h.fits;
+    room = rw length-set h.room;
   }
 
-pub filled-streams : (empty rows : List StreamRow) (notes : List (ℕ × ℕ)) (positions : List ℕ)
-    → IsFilled empty notes rows positions → row_streams rows ≡ row_streams empty
-filled-streams empty rows notes positions filled =
-    let n = length-row_streams rows in
-    let m = length-row_streams empty in
-    let e : StreamRow = record { stream = 0; from = 0; to = 0 } in
-    let long = filled.long in
-    same_lists (row_streams rows) (row_streams empty) (omega (arith, n, m, long)) (λ k d l.
-    let is = filled.ranges k e (omega (arith, l, n, long)) in
-    let one = get_or-map (λ (row : StreamRow). row.stream) rows k e d (omega (arith, l, n)) in
-    let other = get_or-map (λ (row : StreamRow). row.stream) empty k e d (omega (arith, l, n, long)) in
-    grind arith)
+filled-other : (from : ℕ) (streams : List ℕ) (came all : List (ℕ × ℕ)) (rows : List StreamRow) (positions : List ℕ)
+    (stream position : ℕ) → NotAmong stream streams → AreFilled from streams came all rows positions
+    → AreFilled from streams (came ++ noted stream position) all rows positions
+filled-other from [] came all rows positions stream position out h = h
+filled-other from (q ∷ streams) came all [] positions stream position out h = absurd h
+filled-other from (q ∷ streams) came all (row ∷ rows) positions stream position out h = (
+  rw (positions-other q stream position came out.0) h.0,
+  filled-other (from + length (noted_positions q all)) streams came all rows _ stream position out.1 h.1,
+)
 
--- which row is the stream's, if one is
-abbrev pub IsOf : (stream : ℕ) → List StreamRow → Option ℕ → Type 0
-IsOf stream rows place =
-    MatchOption place (NotAmong stream (row_streams rows)) (λ row. slice_get (row_streams rows) row ≡ Some stream)
+-- a position of the stream whose row is this one
+filled-at : (from : ℕ) (streams : List ℕ) (came all : List (ℕ × ℕ)) (rows : List StreamRow) (positions : List ℕ)
+    (row stream position : ℕ) (d : StreamRow) → stream ≢ 0 → AreDistinct streams → slice_get streams row ≡ Some stream
+    → length (noted_positions stream came) < length (noted_positions stream all)
+    → AreFilled from streams came all rows positions
+    → (row < length rows) × (from ≤ (get_or rows row d).to) × ((get_or rows row d).to < from + length positions)
+    × AreFilled from streams (came ++ noted stream position) all (set rows row (longer (get_or rows row d)))
+    (set positions ((get_or rows row d).to - from) position)
+filled-at from [] came all rows positions row stream position d above distinct at more h = cc
+filled-at from (q ∷ streams) came all [] positions row stream position d above distinct at more h = absurd h
+filled-at from (q ∷ streams) came all (row ∷ rows) positions zero stream position d above distinct at more h =
+    let same : q ≡ stream = cc in
+    let own = noted_positions q came in
+    let many = length (noted_positions q all) in
+    let order : length own < many = rw same more in
+    let end : row.to ≡ from + length own = ap (λ (x : StreamRow). x.to) h.0.is in
+    let place : row.to - from ≡ length own = omega (arith, end) in
+    let behind = drop-set-lt many positions (length own) position order in (
+      omega arith,
+      omega (arith, end),
+      omega (arith, end, order, h.0.room),
+      rw (place, positions-own q stream position came same above, behind) (
+        one-put from q position own (noted_positions q all) row positions h.0 order,
+        filled-other (from + many) streams came all rows _ stream position (rw same at distinct.0) h.1,
+      ),
+    )
+filled-at from (q ∷ streams) came all (row ∷ rows) positions (suc r) stream position d above distinct at more h =
+    let many = length (noted_positions q all) in
+    let (within, least, most, rest) = filled-at (from + many) streams came all rows (drop many positions) r stream
+    position d above distinct.1 at more h.1 in
+    let to = (get_or rows r d).to in
+    let place : to - from ≡ many + (to - (from + many)) = omega (arith, least) in (
+      omega (arith, within),
+      omega (arith, least),
+      omega (arith, most, length-drop many positions, h.0.room),
+      rw (
+        positions-other q stream position came (among-apart q stream streams r distinct.0 at),
+        place,
+        drop-set-add many positions (to - (from + many)) position,
+      ) (
+        one-kept from q position (noted_positions q came) (noted_positions q all) row positions h.0
+            (many + (to - (from + many))) (omega arith),
+        rest,
+      ),
+    )
 
--- ---- one position more, if its stream is loud
+-- what is known of the loud streams' ranges, when one more is noted
+module _ {loud : List ℕ} {came : List (ℕ × ℕ)} {places : List (Option ℕ)} {before : Visits} {rows : List StreamRow}
+    {positions : List ℕ} (left : List (ℕ × ℕ)) (stream position : ℕ)
+    (h : IsPlacing loud came (noted stream position ++ left) places before rows positions) where
+  filled-now : AreFilled 0 loud came ((came ++ noted stream position) ++ left) rows positions
+  filled-now = rw (append_assoc came) h.filled
 
-module _ (empty : List StreamRow) (all came later : List (ℕ × ℕ)) (total : ℕ) (room : HasRoomFor empty all total)
-    (distinct : AreDistinct (row_streams empty)) (zero : NotAmong 0 (row_streams empty)) (stream position : ℕ)
-    (parts : (came ++ heard (row_streams empty) (noted stream position)) ++ later ≡ all)
-    (rows : List StreamRow) (positions : List ℕ) (long : length positions ≡ total)
-    (filled : IsFilled empty came rows positions) where
-  abbrev loud : List ℕ
-  loud = row_streams empty
+  placing-on : {after : Visits} {rows' : List StreamRow} {positions' : List ℕ} → IsKept before after
+      → length positions' ≡ length positions
+      → AreFilled 0 loud (came ++ noted stream position) ((came ++ noted stream position) ++ left) rows' positions'
+      → IsPlacing loud (came ++ noted stream position) left places after rows' positions'
+  placing-on kept long filled = record {
+    index = rw (kept.rows, kept.index) h.index;
+    few = rw kept.rows h.few;
+    short = rw long h.short;
+    leads = rw kept.rows h.leads;
+    distinct = h.distinct;
+    filled = filled;
+  }
 
-  one-part : (r : ℕ) → slice_get (row_streams empty) r ≡ Some stream → (came ++ (stream, position) ∷ []) ++ later ≡ all
-  one-part r at = rw (heard-one loud stream position r (above-at loud r stream zero at) at) at parts
+  -- it is not loud
+  pub placing-none : {after : Visits} → IsKept before after → NotAmong stream loud
+      → IsPlacing loud (came ++ noted stream position) left places after rows positions
+  placing-none kept out =
+      placing-on kept refl (filled-other 0 loud came _ rows positions stream position out filled-now)
 
-  has-place : (o : Option ℕ) → IsOf stream empty o → HasPlace o rows (length positions)
-  has-place None out = tt
-  has-place (Some r) at =
-      let n = length-row_streams empty in (
-        omega (arith, slice_get_within loud r stream at, n, filled.long),
-        place-within empty all came later total room r stream position distinct at (above-at loud r stream zero at)
-            (one-part r at) rows positions long filled,
-      )
+  -- it is, and this is its row
+  module _ (row : ℕ) (d : StreamRow) (at : slice_get loud row ≡ Some stream) where
+    placed : (row < length rows) × (0 ≤ (get_or rows row d).to) × ((get_or rows row d).to < 0 + length positions)
+        × AreFilled 0 loud (came ++ noted stream position) ((came ++ noted stream position) ++ left)
+        (set rows row (longer (get_or rows row d))) (set positions ((get_or rows row d).to - 0) position)
+    placed =
+        let above : stream ≢ 0 = among-apart 0 stream loud row h.leads.above at in
+        let own = positions-own stream stream position came refl above in
+        let all = noted_positions-append stream (came ++ noted stream position) left in
+        let more : length (noted_positions stream came)
+        < length (noted_positions stream ((came ++ noted stream position) ++ left)) =
+        rw (all, own, length-append, length_push) (omega arith) in
+        filled-at 0 loud came _ rows positions row stream position d above h.distinct at more filled-now
 
-  put-filled : (o : Option ℕ) → IsOf stream empty o → (rows' : List StreamRow) (positions' : List ℕ)
-      → IsPut o position rows positions rows' positions'
-      → (length positions' ≡ total)
-      × IsFilled empty (came ++ heard (row_streams empty) (noted stream position)) rows' positions'
-  put-filled None out rows' positions' put =
-      rw (put.0, put.1, heard-none loud stream position out, append-nil) (long, filled)
-  put-filled (Some r) at rows' positions' put =
-      let d : StreamRow = record { stream = 0; from = 0; to = 0 } in
-      let above = above-at loud r stream zero at in
-      let same = put d in
-      rw (same.0, same.1, heard-one loud stream position r above at) (
-        length-set positions (get_or rows r d).to position ∙ long,
-        placed-more empty all came later total room r stream position distinct at above (one-part r at) rows positions
-            long filled d,
-      )
+    pub put-within : (row < length rows) × ((get_or rows row d).to < length positions)
+    put-within = (placed.0, omega (arith, placed.2))
 
--- ---- the positions of one frame
+    pub placing-some : {after : Visits} {rows' : List StreamRow} {positions' : List ℕ} → IsKept before after
+        → rows' ≡ set rows row (longer (get_or rows row d))
+        → positions' ≡ set positions (get_or rows row d).to position
+        → IsPlacing loud (came ++ noted stream position) left places after rows' positions'
+    placing-some kept e f =
+        let place : (get_or rows row d).to - 0 ≡ (get_or rows row d).to = omega arith in
+        rw (e, f) (placing-on kept (length-set positions _ position) (rw place at placed.3))
 
-heard-append : (loud : List ℕ) (xs ys : List (ℕ × ℕ)) → heard loud (xs ++ ys) ≡ heard loud xs ++ heard loud ys
-heard-append _ xs ys = filter-append _ xs ys
+-- ---- all of them
 
-module _ {empty : List StreamRow} (frames : List Frame) {total : ℕ}
-    (room : HasRoomFor empty (heard (row_streams empty) (notes_from 0 frames)) total)
-    (distinct : AreDistinct (row_streams empty)) (zero : NotAmong 0 (row_streams empty)) (i at p : ℕ) (frame : Frame)
-    (is : frame ≡ get_or frames i frame) (within : i < length frames) (at_is : at ≡ i) (p_is : p ≡ promised_by frame)
-    {rows : List StreamRow} {positions : List ℕ} (long : length positions ≡ total)
-    (filled : IsFilled empty (heard (row_streams empty) (notes_from 0 (take i frames))) rows positions)
-    (own : Option ℕ) (own_is : IsOf frame.stream empty own) where
-  abbrev notes : List (ℕ × ℕ)
-  notes = notes_from 0 (take i frames)
+pub filled-streams : (from : ℕ) (streams : List ℕ) (came all : List (ℕ × ℕ)) (rows : List StreamRow)
+    (positions : List ℕ) → AreFilled from streams came all rows positions
+    → map (λ (row : StreamRow). row.stream) rows ≡ streams
+filled-streams from [] came all rows positions h = rw h refl
+filled-streams from (q ∷ streams) came all [] positions h = absurd h
+filled-streams from (q ∷ streams) came all (row ∷ rows) positions h =
+    rw (h.0.is, filled-streams (from + length (noted_positions q all)) streams came all rows _ h.1) refl
 
-  -- what is noted up to the frame, and with the frames behind it
-  noted-now : notes_from 0 (take (i + 1) frames) ≡ (notes ++ noted frame.stream at) ++ noted p at
-  noted-now =
-      let n = length-take-le i frames (omega (arith, within)) in
-      rw (take_more frames i frame within, p_is, ← is) (notes-push 0 at (take i frames) frame (omega (arith, n, at_is)))
+-- ---- the split
 
-  abbrev later : List (ℕ × ℕ)
-  later = heard (row_streams empty) (notes_from (0 + length (take (i + 1) frames)) (drop (i + 1) frames))
+-- each range lies in the list, and has the positions of its stream
+split-rows : (split : SplitFrames) (frames : List Frame) (from : ℕ) (streams : List ℕ) (rows : List StreamRow)
+    → NotAmong 0 streams → from ≤ length split.positions.items
+    → AreFilled from streams (notes_from 0 frames) (notes_from 0 frames) rows (drop from split.positions.items)
+    → AllByRecursion (IsRange split) rows
+    × AllByRecursion (λ (row : StreamRow). IsPartOf frames row.stream (part_of split row)) rows
+split-rows split frames from [] rows above within h = rw h (tt, tt)
+split-rows split frames from (stream ∷ streams) [] rows within h = absurd h
+split-rows split frames from (stream ∷ streams) (row ∷ rows) above within h =
+    let many = length (noted_positions stream (notes_from 0 frames)) in
+    let long = length-drop from split.positions.items in
+    let apart : stream ≢ 0 = λ e. above.0 (sym e) in
+    let (ranges, parts) = split-rows split frames (from + many) streams rows above.1
+    (omega (arith, within, h.0.room, long)) (rw (drop-drop many from split.positions.items) at h.1) in
+    let same : from + many - from ≡ many = omega arith in
+    let part = h.0.front ∙ noted-positions stream apart 0 frames in
+    rw h.0.is (
+      (record { rising = omega arith; within = omega (arith, within, h.0.room, long) }, ranges),
+      (
+        rw (same, part) record {
+          not_connection = omega arith;
+          positions = refl;
+          frames = frames_at-positions stream frames;
+          within = positions-within stream frames;
+        },
+        parts,
+      ),
+    )
 
-  heard-now : heard (row_streams empty) (notes_from 0 (take (i + 1) frames))
-      ≡ (heard (row_streams empty) notes ++ heard (row_streams empty) (noted frame.stream at))
-      ++ heard (row_streams empty) (noted p at)
-  heard-now = rw noted-now (simp (heard-append (row_streams empty)))
-
-  second-parts : ((heard (row_streams empty) notes ++ heard (row_streams empty) (noted frame.stream at))
-      ++ heard (row_streams empty) (noted p at)) ++ later ≡ heard (row_streams empty) (notes_from 0 frames)
-  second-parts =
-      rw (← heard-now, ← heard-append (row_streams empty), ← notes-append, take-append-drop) refl
-
-  first-parts : (heard (row_streams empty) notes ++ heard (row_streams empty) (noted frame.stream at))
-      ++ (heard (row_streams empty) (noted p at) ++ later) ≡ heard (row_streams empty) (notes_from 0 frames)
-  first-parts = sym (append_assoc _ (heard (row_streams empty) (noted p at)) later) ∙ second-parts
-
-  pub first-place : HasPlace own rows (length positions)
-  first-place =
-      has-place empty _ _ _ total room distinct zero frame.stream at first-parts rows positions long filled own own_is
-
-  module _ (rows' : List StreamRow) (positions' : List ℕ) (put : IsPut own at rows positions rows' positions') where
-    once : (length positions' ≡ total) × IsFilled empty
-        (heard (row_streams empty) notes ++ heard (row_streams empty) (noted frame.stream at)) rows' positions'
-    once = put-filled empty _ _ _ total room distinct zero frame.stream at first-parts rows positions long filled own
-        own_is rows' positions' put
-
-    pub first-long : length positions' ≡ total
-    first-long = once.0
-
-    module _ (promised : Option ℕ) (promised_is : IsOf p empty promised) where
-      pub second-place : HasPlace promised rows' (length positions')
-      second-place = has-place empty _ _ _ total room distinct zero p at second-parts rows' positions' once.0 once.1
-          promised promised_is
-
-      pub frame-placed : (rows'' : List StreamRow) (positions'' : List ℕ)
-          → IsPut promised at rows' positions' rows'' positions''
-          → (length positions'' ≡ total)
-          × IsFilled empty (heard (row_streams empty) (notes_from 0 (take (i + 1) frames))) rows'' positions''
-      frame-placed rows'' positions'' again = rw heard-now
-          (put-filled empty _ _ _ total room distinct zero p at second-parts rows' positions' once.0 once.1 promised
-          promised_is rows'' positions'' again)
+module _ (credits_shown : Bool) (changes : List Change) (frames : List Frame) (streams : List ℕ)
+    (quiets : List QuietStream) (split : SplitFrames) (all : streams ≡ streams_of frames)
+    (distinct : AreDistinct streams) (above : NotAmong 0 streams)
+    (hushed : AreHushed credits_shown changes frames streams quiets)
+    (laid : IsLaid (loud_of streams quiets) (opened_in quiets) (notes_from 0 frames) split) where
+  pub split-is : IsSplit credits_shown changes frames split
+  split-is =
+      let named = filled-streams 0 (loud_of streams quiets) _ _ split.rows.items _ laid.filled in
+      let rows = split-rows split frames 0 (loud_of streams quiets) split.rows.items
+      (loud-not_among 0 streams quiets above) (omega arith) laid.filled in
+      let nothing : ℕ → Type 0 = λ s. shown credits_shown (stream_run s (frames_of s frames) changes) ≡ [] in
+      let silent = zip-apart (IsHushedOf credits_shown changes frames) (λ s quiet. quiet.is_quiet ≡ true → nothing s) 0
+      streams quiets above
+      (λ s quiet n hush e. rw (hush e).hidden (hush e).shows.shown) hushed in
+      let told = zip-apart (IsHushedOf credits_shown changes frames)
+      (λ s quiet. quiet.is_quiet ≡ true → opening_of frames changes s ≡ option_to_list (opened_of quiet.opened)) 0
+      streams quiets above (λ s quiet n hush e. ap option_to_list (hush e).shows.end) hushed in
+      record {
+        is_quiet = λ s. quiet_in s streams quiets;
+        streams = named ∙ rw (← all) (loud-filter streams quiets distinct
+            (AllZip-long (IsHushedOf credits_shown changes frames) streams quiets hushed));
+        ranges = All-from_recursion (IsRange split) _ rows.0;
+        parts = All-from_recursion (λ (row : StreamRow). IsPartOf frames row.stream (part_of split row)) _ rows.1;
+        quiet = rw (← all) (All-from_recursion (λ s. quiet_in s streams quiets ≡ true → nothing s) streams
+            (each-quiet nothing streams quiets distinct silent));
+        opened = rw (laid.opened, ← all) (opened-filter (opening_of frames changes) streams quiets distinct told);
+      }

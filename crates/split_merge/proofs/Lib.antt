@@ -5,6 +5,5 @@ pub mod Positions
 pub mod LaidOut
 pub mod Ahead
 pub mod LoudStreams
-pub mod SplitIs
 pub mod GroupRanges
 pub mod ShownMerge

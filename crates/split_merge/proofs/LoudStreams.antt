@@ -1,47 +1,36 @@
 -- The loud streams among all: which they are, where they stand, what they count, and what is noted of them.
-use Rattle.split_merge.proofs.Terms.{All, AllByRecursion, All-from_recursion, recursion_from_All, ◌≡◌, ◌≢◌, ℕ, zero}
-use Rattle.split_merge.proofs.Terms.{suc, ◌+◌, ◌-◌, ◌<◌, ◌≤◌, ◌==◌, not, Bool, true, if◌then◌else◌, List, [], ◌∷◌}
-use Rattle.split_merge.proofs.Terms.{length, get_or, slice_get, filter, flat_map, Option, Some, MatchOption}
+use Rattle.split_merge.proofs.Terms.{◌≡◌, ℕ, zero, suc, ◌+◌, ◌-◌, ◌≤◌, ◌==◌, not, Bool, true, map, if◌then◌else◌, List}
+use Rattle.split_merge.proofs.Terms.{[], ◌∷◌, length, get_or, slice_get, filter, flat_map, Option, Some, MatchOption}
 use Rattle.split_merge.proofs.Terms.{option_to_list, refl, ◌∙◌, arith, nat_tests, get_or_from_slice_get}
-use Rattle.split_merge.proofs.Terms.{slice_get_within, QuietStream, Visited, streams_in, noted, noted_positions}
-use Rattle.split_merge.proofs.Terms.{total_of, is_among, NotAmong, AreDistinct, loud_of, places_from, opened_in}
-use Rattle.split_merge.proofs.Terms.{quiet_in, heard, ArePlaces}
+use Rattle.split_merge.proofs.Terms.{slice_get_within, QuietStream, Visited, streams_in, total_of, NotAmong}
+use Rattle.split_merge.proofs.Terms.{AreDistinct, loud_of, places_from, opened_in, quiet_in, ArePlaces, AllByRecursion}
+use Rattle.split_merge.proofs.Terms.{AllZip, eq-eqb, ne_eqb}
 use Rattle.stream_credit.specs.code.QuietStream.{opened_of}
-use Rattle.split_merge.proofs.Visited.{none_among, found_among, not_among-at}
+use Rattle.split_merge.proofs.Visited.{not_among-at}
 
 -- ---- what holds of all holds of the loud ones
 
+pub loud-map : {X Y : Type 0} (f : X → Y) (xs : List X) (quiets : List QuietStream)
+    → map f (loud_of xs quiets) ≡ loud_of (map f xs) quiets
+loud-map f (x ∷ xs) (quiet ∷ quiets) = grind (arith, loud-map f xs quiets)
+loud-map f xs quiets = refl
+
 pub loud-streams : (rows : List Visited) (quiets : List QuietStream)
     → streams_in (loud_of rows quiets) ≡ loud_of (streams_in rows) quiets
-loud-streams [] quiets = refl
-loud-streams (row ∷ rows) [] = refl
-loud-streams (row ∷ rows) (quiet ∷ quiets) = grind (arith, loud-streams rows quiets)
+loud-streams rows quiets = loud-map (λ (row : Visited). row.stream) rows quiets
 
 pub loud-not_among : (s : ℕ) (xs : List ℕ) (quiets : List QuietStream) → NotAmong s xs → NotAmong s (loud_of xs quiets)
-loud-not_among s [] quiets n = tt
-loud-not_among s (x ∷ xs) [] n = tt
 loud-not_among s (x ∷ xs) (quiet ∷ quiets) n = grind (arith, loud-not_among s xs quiets n.1)
+loud-not_among s xs quiets n = tt
 
 pub loud-distinct : (xs : List ℕ) (quiets : List QuietStream) → AreDistinct xs → AreDistinct (loud_of xs quiets)
-loud-distinct [] quiets h = tt
-loud-distinct (x ∷ xs) [] h = tt
 loud-distinct (x ∷ xs) (quiet ∷ quiets) h =
     grind (arith, loud-distinct xs quiets h.1, loud-not_among x xs quiets h.0)
+loud-distinct xs quiets h = tt
 
 pub loud-total : (rows : List Visited) (quiets : List QuietStream) → total_of (loud_of rows quiets) ≤ total_of rows
-loud-total [] quiets = omega arith
-loud-total (row ∷ rows) [] = omega arith
 loud-total (row ∷ rows) (quiet ∷ quiets) = grind (arith, loud-total rows quiets)
-
-loud-all : (P : Visited → Type 0) (rows : List Visited) (quiets : List QuietStream) → AllByRecursion P rows
-    → AllByRecursion P (loud_of rows quiets)
-loud-all P [] quiets h = tt
-loud-all P (row ∷ rows) [] h = tt
-loud-all P (row ∷ rows) (quiet ∷ quiets) h = grind (arith, loud-all P rows quiets h.1)
-
-pub loud-each : (P : Visited → Type 0) (rows : List Visited) (quiets : List QuietStream) → All P rows
-    → All P (loud_of rows quiets)
-loud-each P rows quiets h = All-from_recursion P _ (loud-all P rows quiets (recursion_from_All P rows h))
+loud-total rows quiets = omega arith
 
 -- ---- which of the streams are loud
 
@@ -60,27 +49,33 @@ loud-filter (x ∷ xs) (quiet ∷ quiets) h e =
     grind (arith, nat_tests, loud-filter xs quiets h.1 (omega (arith, e)))
 
 pub opened-filter : (f : ℕ → List ℕ) (xs : List ℕ) (quiets : List QuietStream) → AreDistinct xs
-    → length quiets ≡ length xs →
-    ((r s : ℕ) (d : QuietStream) → slice_get xs r ≡ Some s → (get_or quiets r d).is_quiet ≡ true →
-    f s ≡ option_to_list (opened_of (get_or quiets r d).opened)) →
-    opened_in quiets ≡ flat_map f (filter (λ s. quiet_in s xs quiets) xs)
-opened-filter f [] [] h e told = refl
-opened-filter f [] (quiet ∷ quiets) h e told = absurd (omega (arith, e))
-opened-filter f (x ∷ xs) [] h e told = absurd (omega (arith, e))
-opened-filter f (x ∷ xs) (quiet ∷ quiets) h e told =
-    let ih = opened-filter f xs quiets h.1 (omega (arith, e)) (λ r s d at. told (suc r) s d at) in
+    → AllZip (λ s quiet. quiet.is_quiet ≡ true → f s ≡ option_to_list (opened_of quiet.opened)) xs quiets
+    → opened_in quiets ≡ flat_map f (filter (λ s. quiet_in s xs quiets) xs)
+opened-filter f [] [] h told = refl
+opened-filter f (x ∷ xs) (quiet ∷ quiets) h told =
+    let rest = opened-filter f xs quiets h.1 told.1 in
     let past = filter-past x quiet.is_quiet (λ s. quiet_in s xs quiets) (λ b. b) xs h.0 in
-    let first = told zero x quiet refl in
+    let first = told.0 in
     grind (arith, nat_tests)
+opened-filter f xs quiets h told = absurd told
 
-pub quiet_in-at : (xs : List ℕ) (quiets : List QuietStream) (k : ℕ) (d : QuietStream) → AreDistinct xs → k < length xs →
-    length quiets ≡ length xs → quiet_in (get_or xs k 0) xs quiets ≡ (get_or quiets k d).is_quiet
-quiet_in-at [] quiets k d h l e = absurd (omega (arith, l))
-quiet_in-at (x ∷ xs) [] k d h l e = absurd (omega (arith, e))
-quiet_in-at (x ∷ xs) (quiet ∷ quiets) zero d h l e = grind (arith, nat_tests)
-quiet_in-at (x ∷ xs) (quiet ∷ quiets) (suc k) d h l e =
-    let apart = not_among-at x xs k h.0 (omega (arith, l)) in
-    grind (arith, nat_tests, quiet_in-at xs quiets k d h.1 (omega (arith, l)) (omega (arith, e)))
+each-past : (P : ℕ → Type 0) (other : ℕ) (b : Bool) (h : ℕ → Bool) (xs : List ℕ) → NotAmong other xs
+    → AllByRecursion (λ s. h s ≡ true → P s) xs
+    → AllByRecursion (λ s. (if other == s then b else h s) ≡ true → P s) xs
+each-past P other b h [] n all = tt
+each-past P other b h (x ∷ xs) n all =
+    (rw (ne_eqb other x n.0) all.0, each-past P other b h xs n.1 all.1)
+
+-- what holds of each quiet stream
+pub each-quiet : (P : ℕ → Type 0) (xs : List ℕ) (quiets : List QuietStream) → AreDistinct xs
+    → AllZip (λ s quiet. quiet.is_quiet ≡ true → P s) xs quiets
+    → AllByRecursion (λ s. quiet_in s xs quiets ≡ true → P s) xs
+each-quiet P [] quiets h told = tt
+each-quiet P (x ∷ xs) [] h told = absurd told
+each-quiet P (x ∷ xs) (quiet ∷ quiets) h told = (
+  rw (eq-eqb x x refl) told.0,
+  each-past P x quiet.is_quiet (λ s. quiet_in s xs quiets) xs h.0 (each-quiet P xs quiets h.1 told.1),
+)
 
 -- ---- where they stand
 
@@ -113,19 +108,3 @@ are-places xs quiets n h above = record {
   absent = λ s out. loud-not_among s xs quiets out;
   found = λ r s d is. let at = places-at xs quiets n h 0 r s d is in grind arith;
 }
-
--- ---- what was noted of them
-
-pub heard-positions : (loud : List ℕ) (s : ℕ) (notes : List (ℕ × ℕ)) → is_among s loud ≡ true →
-    noted_positions s (heard loud notes) ≡ noted_positions s notes
-heard-positions loud s [] among = refl
-heard-positions loud s (n ∷ notes) among = grind (arith, nat_tests, heard-positions loud s notes among)
-
--- of one note
-pub heard-none : (loud : List ℕ) (stream position : ℕ) → NotAmong stream loud → heard loud (noted stream position) ≡ []
-heard-none loud stream position out = let none = none_among stream loud out in grind arith
-
-pub heard-one : (loud : List ℕ) (stream position row : ℕ) → stream ≢ 0 → slice_get loud row ≡ Some stream →
-    heard loud (noted stream position) ≡ (stream, position) ∷ []
-heard-one loud stream position row above at =
-    let found = found_among stream loud row at in grind (arith, nat_tests)

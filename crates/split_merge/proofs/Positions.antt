@@ -1,10 +1,9 @@
 -- What is noted frame by frame is where the frames stand that each stream meets.
-use Rattle.split_merge.proofs.Terms.{◌≡◌, ◌≢◌, ℕ, ◌+◌, ◌<◌, ◌≤◌, ◌==◌, if◌then◌else◌, List, [], ◌∷◌, ◌++◌, inl, inr}
-use Rattle.split_merge.proofs.Terms.{length, refl, ap, ◌∙◌, arith, All, nat_tests, append_assoc, append-nil}
-use Rattle.split_merge.proofs.Terms.{length_push, Frame, promised_by, meets, frames_of, positions_of, noted, notes_from}
-use Rattle.split_merge.proofs.Terms.{noted_positions, AllByRecursion, All-from_recursion, promises, positions_from}
-use Rattle.split_merge.proofs.Terms.{frames_at}
-use Rattle.std.proofs.lemmas.Bool.{cases_Bool}
+use Rattle.split_merge.proofs.Terms.{◌≡◌, ◌≢◌, ℕ, ◌+◌, ◌<◌, ◌≤◌, ◌==◌, if◌then◌else◌, List, [], ◌∷◌, ◌++◌, length, refl}
+use Rattle.split_merge.proofs.Terms.{ap, arith, All, nat_tests, append_assoc, length_push, Frame, promised_by}
+use Rattle.split_merge.proofs.Terms.{frames_of, positions_of, noted, notes_from, noted_positions, AllByRecursion}
+use Rattle.split_merge.proofs.Terms.{All-from_recursion, promises, positions_from, frames_at, ◌^◌, ◌*◌, get_or, drop}
+use Rattle.split_merge.proofs.Terms.{drop_more, length-append}
 use Rattle.split_merge.proofs.Visited.{slice_get-last, noted_positions-append}
 
 -- ---- a stream other than 0
@@ -17,22 +16,18 @@ module _ (stream : ℕ) (above : stream ≢ 0) where
   pub promised-is : (frame : Frame) → (promised_by frame == stream) ≡ promises stream frame
   promised-is frame = grind (arith, nat_tests)
 
-  noted-frame : (frame : Frame) (position : ℕ) (rest : List ℕ)
-      → noted_positions stream (noted frame.stream position)
-      ++ (noted_positions stream (noted (promised_by frame) position) ++ rest)
-      ≡ (if meets stream frame then position ∷ rest else rest)
-  noted-frame frame position rest = rw (noted-is, noted-is, promised-is frame) (grind arith)
-
   pub noted-positions : (position : ℕ) (frames : List Frame) →
       noted_positions stream (notes_from position frames) ≡ positions_from position stream frames
   noted-positions position [] = refl
   noted-positions position (frame ∷ frames) =
-      noted_positions-append stream (noted frame.stream position) _
-      ∙ ap (λ l. noted_positions stream (noted frame.stream position) ++ l)
-      (noted_positions-append stream (noted (promised_by frame) position) _
-      ∙ ap (λ l. noted_positions stream (noted (promised_by frame) position) ++ l)
-      (noted-positions (position + 1) frames))
-      ∙ noted-frame frame position (positions_from (position + 1) stream frames)
+      rw (
+        noted_positions-append stream (noted frame.stream position) _,
+        noted_positions-append stream (noted (promised_by frame) position) _,
+        noted-is frame.stream position,
+        noted-is (promised_by frame) position,
+        promised-is frame,
+        noted-positions (position + 1) frames,
+      ) (grind arith)
 
 -- ---- the frames at the positions
 
@@ -43,10 +38,7 @@ frames-from stream front (frame ∷ frames) position e =
     let later = rw append_assoc at (frames-from stream (front ++ frame ∷ []) frames (position + 1)
     (omega (arith, length_push front frame, e))) in
     let here = rw e at (slice_get-last front frames frame) in
-    elim (cases_Bool (meets stream frame)) [
-      | inl t ↦ rw (t, here) (ap (λ l. frame ∷ l) later)
-      | inr t ↦ rw t later
-    ]
+    grind arith
 
 -- the frames at the positions of a stream are those that it meets
 pub frames_at-positions : (stream : ℕ) (frames : List Frame)
@@ -65,17 +57,34 @@ pub positions-within : (stream : ℕ) (frames : List Frame)
 positions-within stream frames = All-from_recursion (λ position. position < length frames) _
     (below-from (length frames) 0 stream frames (omega arith))
 
--- ---- frames joined
+-- ---- what is noted of the next frame
 
-pub notes-append : (position : ℕ) (xs ys : List Frame) →
-    notes_from position (xs ++ ys) ≡ notes_from position xs ++ notes_from (position + length xs) ys
-notes-append position [] ys = ap (λ p. notes_from p ys) (omega arith)
-notes-append position (x ∷ xs) ys =
-    let e : position + 1 + length xs ≡ position + length (x ∷ xs) = omega arith in
-    simp (notes-append (position + 1) xs ys, e, append_assoc)
+pub notes-next : (i at p : ℕ) (frames : List Frame) (frame : Frame) → i < length frames
+    → frame ≡ get_or frames i frame → at ≡ i → p ≡ promised_by frame
+    → notes_from i (drop i frames)
+    ≡ noted frame.stream at ++ (noted p at ++ notes_from (i + 1) (drop (i + 1) frames))
+notes-next i at p frames frame within is e f = rw (drop_more frames i frame within, ← is, e, f) refl
 
-pub notes-push : (position at : ℕ) (frames : List Frame) (frame : Frame) → position + length frames ≡ at →
-    notes_from position (frames ++ frame ∷ [])
-    ≡ (notes_from position frames ++ noted frame.stream at) ++ noted (promised_by frame) at
-notes-push position at frames frame e =
-    simp (notes-append position frames (frame ∷ []), e, append_assoc, append-nil)
+noted-few : (stream position : ℕ) → length (noted stream position) ≤ 1
+noted-few stream position = grind arith
+
+notes-few : (position : ℕ) (frames : List Frame) → length (notes_from position frames) ≤ 2 * length frames
+notes-few position [] = omega arith
+notes-few position (frame ∷ frames) =
+    let rest = notes-few (position + 1) frames in
+    let own = noted-few frame.stream position in
+    let promised = noted-few (promised_by frame) position in
+    rw (length-append, length-append) (omega (arith, rest, own, promised))
+
+pub notes-fit : (frames : List Frame) → length frames < 2 ^ 28 → length (notes_from 0 frames) < 2 ^ 30
+notes-fit frames few = omega (arith, notes-few 0 frames, few)
+
+-- what came so far, of what is noted of all frames
+pub came-fits : (frames : List Frame) (came left : List (ℕ × ℕ)) → came ++ left ≡ notes_from 0 frames
+    → length frames < 2 ^ 28 → length came < 2 ^ 30
+came-fits frames came left e few = omega (arith, ap length e, length-append came left, notes-fit frames few)
+
+-- and two parts more of it
+pub came-more : (came own promised left all : List (ℕ × ℕ)) → came ++ (own ++ (promised ++ left)) ≡ all
+    → ((came ++ own) ++ promised) ++ left ≡ all
+came-more came own promised left all e = simp append_assoc e

@@ -1,7 +1,7 @@
 -- Where a stream stands among rows: at the front, where streams rise, or behind it, in a table.
 use Rattle.split_merge.proofs.Terms.{◌≡◌, ◌≢◌, ℕ, ◌+◌, ◌-◌, ◌<◌, ◌≤◌, ◌==◌, not, Bool, true, false, List, [], ◌∷◌, ◌++◌}
-use Rattle.split_merge.proofs.Terms.{length, get_or, slice_get, take, drop, Some, refl, sym, ap, ◌∙◌, subst, arith}
-use Rattle.split_merge.proofs.Terms.{cases_lt, nat_tests, common_steps, length-take-le, length-append, drop_all}
+use Rattle.split_merge.proofs.Terms.{length, get_or, slice_get, take, drop, Some, refl, sym, ap, ◌∙◌, arith, cases_lt}
+use Rattle.split_merge.proofs.Terms.{nat_tests, common_steps, length-take-le, length-append, drop_all}
 use Rattle.split_merge.proofs.Terms.{get_or_append_left, get_or_at, slice_get-get_or, get_or_from_slice_get}
 use Rattle.split_merge.proofs.Terms.{slice_get_within, find, RowIndex, Visited, NotAmong, is_among, streams_in}
 use Rattle.split_merge.proofs.Terms.{get_or-take, get_or-drop, length-drop, drop-append-le, position_or_len, AreBelow}
@@ -70,13 +70,6 @@ all-below rows index stream last is all at below = λ i l.
 
 -- ---- behind it
 
-absent-in_parts : (many stream : ℕ) (streams : List ℕ) → NotBefore many stream streams
-    → NotAmong stream (drop many streams) → NotAmong stream streams
-absent-in_parts many stream streams h out = absent-by_index stream streams (λ i l e.
-    let here = get_or-drop many streams (i - many) 0 in
-    let apart = not_among-at stream (drop many streams) (i - many) out in
-    grind (arith, h i, length-drop many streams, cases_lt i many))
-
 module _ (streams : List ℕ) (index : RowIndex) (is : IsIndex streams index) where
   pub behind-front : (place stream : ℕ) → slice_get index.others.keys place ≡ Some stream
       → slice_get streams (index.rising + place) ≡ Some stream
@@ -99,55 +92,10 @@ module _ (streams : List ℕ) (index : RowIndex) (is : IsIndex streams index) wh
   -- a stream that is neither at the front nor in the table
   pub absent-from_both : (stream : ℕ) → NotBefore index.rising stream streams → NotAmong stream index.others.keys
       → NotAmong stream streams
-  absent-from_both stream before behind =
-      absent-in_parts index.rising stream streams before (subst (NotAmong stream) is.others behind)
-
--- ---- one more stream
-
-module _ (streams : List ℕ) (before after : RowIndex) (is : IsIndex streams before) where
-  index-alike : after.rising ≡ before.rising → after.others.keys ≡ before.others.keys → IsIndex streams after
-  index-alike e f = record {
-    distinct = is.distinct;
-    above = is.above;
-    within = rw e is.within;
-    rises = rw e is.rises;
-    others = rw (e, f) is.others;
-  }
-
-  module _ (stream : ℕ) (above : stream ≢ 0) (new : NotAmong stream streams) where
-    long : length (streams ++ stream ∷ []) ≡ length streams + 1
-    long = length-append streams (stream ∷ [])
-
-    at-front : (i : ℕ) → i < length streams → get_or (streams ++ stream ∷ []) i 0 ≡ get_or streams i 0
-    at-front i l = get_or_append_left streams (stream ∷ []) 0 i l
-
-    -- it goes into the table
-    index-table : after.rising ≡ before.rising → is_among stream before.others.keys ≡ false
-        → after.others.keys ≡ insert_key (λ a b. a == b) before.others.keys stream
-        → IsIndex (streams ++ stream ∷ []) after
-    index-table e none keys = record {
-      distinct = distinct-push stream streams new is.distinct;
-      above = not_among-push 0 stream streams is.above (λ z. above (sym z));
-      within = omega (arith, e, is.within, long);
-      rises = λ i j p l. let w = is.within in grind (arith, is.rises i j, at-front i, at-front j);
-      others = keys ∙ rw none (ap (λ l. l ++ stream ∷ []) is.others)
-          ∙ sym (drop-append-le before.rising streams (stream ∷ []) is.within)
-          ∙ ap (λ n. drop n (streams ++ stream ∷ [])) (sym e);
-    }
-
-    -- it is above all of the front, and nothing is behind that
-    index-front : after.rising ≡ before.rising + 1 → before.rising ≡ length streams → AreBelow stream streams
-        → after.others.keys ≡ before.others.keys → IsIndex (streams ++ stream ∷ []) after
-    index-front e all below keys = record {
-      distinct = distinct-push stream streams new is.distinct;
-      above = not_among-push 0 stream streams is.above (λ z. above (sym z));
-      within = omega (arith, e, all, long);
-      rises = λ i j p l.
-          let last = get_or_at streams stream [] 0 j in
-          grind (arith, is.rises i j, below i, at-front i, at-front j, cases_lt j (length streams));
-      others = keys ∙ is.others ∙ drop_all before.rising streams (omega (arith, all))
-          ∙ sym (drop_all after.rising (streams ++ stream ∷ []) (omega (arith, e, all, long)));
-    }
+  absent-from_both stream before behind = absent-by_index stream streams (λ i l e.
+      let here = get_or-drop index.rising streams (i - index.rising) 0 in
+      let apart = not_among-at stream (drop index.rising streams) (i - index.rising) (rw is.others at behind) in
+      grind (arith, before i, length-drop index.rising streams, cases_lt i index.rising))
 
 -- ---- where a stream stands, or is to stand
 
@@ -158,15 +106,42 @@ place-behind stream keys out =
     (λ k l. let apart = not_among-at stream keys k out l in grind (arith, nat_tests))
     (λ l. absurd (omega (arith, l)))
 
-module _ (streams : List ℕ) (before after : RowIndex) (is : IsIndex streams before) (stream place : ℕ)
-    (above : stream ≢ 0) (out : NotBefore before.rising stream streams) (same : after.rising ≡ before.rising)
-    (keys : after.others.keys ≡ insert_key (λ a b. a == b) before.others.keys stream)
-    (at : place ≡ position_or_len (λ other. stream == other) before.others.keys)
-    (stored : (key : ℕ) × (slice_get after.others.keys place ≡ Some key) × ((stream == key) ≡ true)) where
+module _ (streams : List ℕ) (before after : RowIndex) (is : IsIndex streams before) (stream : ℕ)
+    (above : stream ≢ 0) where
+  long : length (streams ++ stream ∷ []) ≡ length streams + 1
+  long = length-append streams (stream ∷ [])
+
+  at-front : (i : ℕ) → i < length streams → get_or (streams ++ stream ∷ []) i 0 ≡ get_or streams i 0
+  at-front i l = get_or_append_left streams (stream ∷ []) 0 i l
+
+  -- a stream above all of the front, where nothing is behind that
+  pub row-above : (row : ℕ) → before.rising ≡ length streams → AreBelow stream streams
+      → after.rising ≡ before.rising + 1 → after.others.keys ≡ before.others.keys → row ≡ length streams
+      → IsRowOf true stream row streams after
+  row-above row all below e keys at =
+      let new = absent-by_index stream streams (λ i l s. let b = below i l in absurd (omega (arith, b, s))) in (
+        at,
+        new,
+        record {
+          distinct = distinct-push stream streams new is.distinct;
+          above = not_among-push 0 stream streams is.above (λ z. above (sym z));
+          within = omega (arith, e, all, long);
+          rises = λ i j p l.
+              let last = get_or_at streams stream [] 0 j in
+              grind (arith, is.rises i j, below i, at-front i, at-front j, cases_lt j (length streams));
+          others = keys ∙ is.others ∙ drop_all before.rising streams (omega (arith, all))
+              ∙ sym (drop_all after.rising (streams ++ stream ∷ []) (omega (arith, e, all, long)));
+        },
+      )
+
   -- what the table says of a stream that is not at the front
-  pub row-in_table : (added : Bool) → added ≡ not (is_among stream before.others.keys)
+  pub row-in_table : (place : ℕ) → NotBefore before.rising stream streams → after.rising ≡ before.rising
+      → after.others.keys ≡ insert_key (λ a b. a == b) before.others.keys stream
+      → place ≡ position_or_len (λ other. stream == other) before.others.keys
+      → (key : ℕ) × (slice_get after.others.keys place ≡ Some key) × ((stream == key) ≡ true)
+      → (added : Bool) → added ≡ not (is_among stream before.others.keys)
       → IsRowOf added stream (before.rising + place) streams after
-  row-in_table true e =
+  row-in_table place out same keys at stored true e =
       let none : is_among stream before.others.keys ≡ false = grind arith in
       let behind = none-from_test stream before.others.keys none in
       let new = absent-from_both streams before is stream out behind in
@@ -174,20 +149,26 @@ module _ (streams : List ℕ) (before after : RowIndex) (is : IsIndex streams be
       let last = at ∙ place-behind stream before.others.keys behind in (
         omega (arith, n, last, is.within),
         new,
-        index-table streams before after is stream above new same none keys,
+        record {
+          distinct = distinct-push stream streams new is.distinct;
+          above = not_among-push 0 stream streams is.above (λ z. above (sym z));
+          within = omega (arith, same, is.within, long);
+          rises = λ i j p l. let w = is.within in grind (arith, is.rises i j, at-front i, at-front j);
+          others = keys ∙ rw none (ap (λ l. l ++ stream ∷ []) is.others)
+              ∙ sym (drop-append-le before.rising streams (stream ∷ []) is.within)
+              ∙ ap (λ n. drop n (streams ++ stream ∷ [])) (sym same);
+        },
       )
-  row-in_table false e =
+  row-in_table place out same keys at stored false e =
       let found : is_among stream before.others.keys ≡ true = grind arith in
       let kept : after.others.keys ≡ before.others.keys = keys ∙ rw found refl in
       let is_stream : stored.0 ≡ stream = let t = stored.2 in grind (arith, nat_tests) in (
         behind-front streams before is place stream (rw (← kept) (stored.1 ∙ ap Some is_stream)),
-        index-alike streams before after is same kept,
+        record {
+          distinct = is.distinct;
+          above = is.above;
+          within = rw same is.within;
+          rises = rw same is.rises;
+          others = rw (same, kept) is.others;
+        },
       )
-
--- a stream above all of the front, where nothing is behind that
-pub row-above : (streams : List ℕ) (before after : RowIndex) → IsIndex streams before → (stream row : ℕ) → stream ≢ 0
-    → before.rising ≡ length streams → AreBelow stream streams → after.rising ≡ before.rising + 1
-    → after.others.keys ≡ before.others.keys → row ≡ length streams → IsRowOf true stream row streams after
-row-above streams before after is stream row above all below e keys at =
-    let new = absent-by_index stream streams (λ i l s. let b = below i l in absurd (omega (arith, b, s))) in
-    (at, new, index-front streams before after is stream above new e all below keys)

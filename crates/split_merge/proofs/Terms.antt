@@ -3,20 +3,19 @@ pub use Rattle.std.proofs.Common.{Bool, List, MatchOption, None, Option, Some, [
 pub use Rattle.std.proofs.Common.{filter, flat_map, get_or, if◌then◌else◌, inl, inr, length, map, min, mul-div_cancel}
 pub use Rattle.std.proofs.Common.{nat_lt, not, option_to_list, refl, rules, set, slice_get, subst, suc, sym, take, true}
 pub use Rattle.std.proofs.Common.{zero, ℕ, ◌&&◌, ◌*◌, ◌++◌, ◌+◌, ◌-◌, ◌/◌, ◌<◌, ◌==◌, ◌^◌, ◌||◌, ◌∙◌, ◌∷◌, ◌≡◌, ◌≢◌}
-pub use Rattle.std.proofs.Common.{◌≤◌, ◌⊎◌}
-pub use Rattle.std.proofs.lemmas.Bool.{OnTrue_from, cases_eq, cases_lt, cases_order}
+pub use Rattle.std.proofs.Common.{◌≤◌}
+pub use Rattle.std.proofs.lemmas.Bool.{OnTrue_from, cases_lt, eq-eqb, ne_eqb}
 pub use Rattle.std.proofs.lemmas.Bool.Decides.{nat_tests}
-pub use Rattle.std.proofs.lemmas.Grind.{common_steps, get_or-set_at}
-pub use Rattle.std.proofs.lemmas.List.{append-nil, at_drop_all, drop-append-le, drop-set-lt, drop_all, drop_more}
-pub use Rattle.std.proofs.lemmas.List.{get_or-drop, get_or-map, get_or-set_other, get_or-set_same, get_or-take}
-pub use Rattle.std.proofs.lemmas.List.{get_or_append_left, get_or_at, get_or_default, length-append, length-drop}
-pub use Rattle.std.proofs.lemmas.List.{length-map, length-set, length-take-le, length_push, map-append, map_push}
-pub use Rattle.std.proofs.lemmas.List.{places, same_lists, take-append-drop, take-set, take-set-le, take_more}
-pub use Rattle.std.proofs.lemmas.List.{with_items_is}
+pub use Rattle.std.proofs.lemmas.Grind.{common_steps}
+pub use Rattle.std.proofs.lemmas.List.{append-nil, at_drop_all, drop-append-le, drop-drop, drop-set-add, drop-set-lt}
+pub use Rattle.std.proofs.lemmas.List.{drop_all, drop_more, take_all, take_more_set, get_or-drop, get_or-map}
+pub use Rattle.std.proofs.lemmas.List.{get_or-set_other, get_or-set_same, get_or-take, get_or_append_left, get_or_at}
+pub use Rattle.std.proofs.lemmas.List.{get_or_default, length-append, length-drop, length-map, length-set}
+pub use Rattle.std.proofs.lemmas.List.{length-take-le, length_push, map-append, map_push, places, take-set-le}
+pub use Rattle.std.proofs.lemmas.List.{take_more, with_items_is}
 pub use Rattle.std.proofs.lemmas.List.Elements.{All-filter, All-from_recursion, filter-append, filter_agree}
-pub use Rattle.std.proofs.lemmas.List.Elements.{recursion_from_All}
 pub use Rattle.std.proofs.lemmas.Option.{get_or_from_slice_get, slice_get-get_or, slice_get-map, slice_get_within}
-pub use Rattle.std.specs.List.{All, AllByRecursion, between, find, position_or_len, range_with_len}
+pub use Rattle.std.specs.List.{All, AllByRecursion, AllZip, between, find, position_or_len, range_with_len}
 pub use Rattle.audit_terms.specs.Finding.{comes_after, in_order, is_shown, shown, upto_stop}
 pub use Rattle.audit_terms.specs.Frame.{is_ack, meets, promised_by, promises}
 pub use Rattle.audit_terms.specs.Pass.{first_of, streams_of}
@@ -24,15 +23,15 @@ pub use Rattle.audit_terms.specs.code.runs.Orderly.{IsInRange, IsOrderly, IsOrde
 pub use Rattle.audit_terms.specs.code.runs.Streams.{frames_of, stream_run}
 pub use Rattle.audit_terms.specs.declared.frames.Frame.{Frame}
 pub use Rattle.audit_terms.specs.declared.items.Change.{Change}
-pub use Rattle.split_merge.specs.code.Ahead.{AreAhead, AreHushed, IsHushed, with_next}
-pub use Rattle.split_merge.specs.code.Loud.{AreCounted, ArePlaces, HasPlace, IsLaid, IsPut, heard, loud_of, opened_in}
+pub use Rattle.split_merge.specs.code.Ahead.{AreAhead, AreHushed, IsAheadOf, IsHushedOf, with_next}
+pub use Rattle.split_merge.specs.code.Loud.{ArePlaces, CanPlace, IsKept, IsLaid, IsPlacing, loud_of, opened_in}
 pub use Rattle.split_merge.specs.code.Loud.{places_from, quiet_in}
 pub use Rattle.split_merge.specs.code.Split.{IsPartOf, IsRange, IsSplit, frames_at, opening_of, part_of, positions_from}
 pub use Rattle.split_merge.specs.code.Split.{positions_of}
-pub use Rattle.split_merge.specs.code.Visits.{AreBelow, AreDistinct, HasAtMost, HasRoomFor, IsFilled, IsIndex, IsListed}
-pub use Rattle.split_merge.specs.code.Visits.{IsRowOf, IsTableOf, NotAmong, NotBefore, counted, grown, is_among}
-pub use Rattle.split_merge.specs.code.Visits.{laid_out, longer, noted, noted_positions, notes_from, row_positions}
-pub use Rattle.split_merge.specs.code.Visits.{row_streams, streams_in, total_of, with_row, with_stream}
+pub use Rattle.split_merge.specs.code.Visits.{AreBelow, AreDistinct, AreFilled, IsFilled, IsIndex, IsRowOf, IsTableOf}
+pub use Rattle.split_merge.specs.code.Visits.{NotAmong, NotBefore, counted, is_among, laid_out, longer, noted}
+pub use Rattle.split_merge.specs.code.Visits.{noted_positions, notes_from, rows_of, streams_in, total_of, with_row}
+pub use Rattle.split_merge.specs.code.Visits.{with_stream}
 pub use Rattle.split_merge.specs.declared.row_index.RowIndex.{RowIndex}
 pub use Rattle.split_merge.specs.declared.splits.SplitFrames.{SplitFrames}
 pub use Rattle.split_merge.specs.declared.splits.StreamRow.{StreamRow}

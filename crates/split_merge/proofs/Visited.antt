@@ -1,13 +1,11 @@
 -- The streams that frames name, gathered one by one, and what the table of them says after one more visit.
 use Rattle.split_merge.proofs.Terms.{◌≡◌, ◌≢◌, ℕ, ◌<◌, zero, suc, Bool, true, false, not, ◌==◌, List, [], ◌∷◌, ◌++◌}
 use Rattle.split_merge.proofs.Terms.{length, get_or, slice_get, inl, inr, filter, arith, refl, sym, ap, ◌∙◌, Some}
-use Rattle.split_merge.proofs.Terms.{append_assoc, find, nat_tests, common_steps, get_or-map, length-map}
-use Rattle.split_merge.proofs.Terms.{get_or_from_slice_get, slice_get-get_or, slice_get_within, first_of, Visited}
-use Rattle.split_merge.proofs.Terms.{NotAmong, AreDistinct, is_among, with_stream, streams_in, ◌||◌, ◌&&◌, places}
-use Rattle.split_merge.proofs.Terms.{map_push, filter_agree, slice_get-map, HasAtMost, ◌+◌, ◌≤◌, if◌then◌else◌, set}
-use Rattle.split_merge.proofs.Terms.{append-nil, cases_lt, get_or-set_at, length-set, length_push, get_or-set_other}
-use Rattle.split_merge.proofs.Terms.{get_or_append_left, get_or_at, filter-append, row_positions, noted_positions}
-use Rattle.split_merge.proofs.Terms.{total_of, counted, noted, IsListed, map-append, with_row}
+use Rattle.split_merge.proofs.Terms.{append_assoc, find, nat_tests, get_or-map, length-map, get_or_from_slice_get}
+use Rattle.split_merge.proofs.Terms.{slice_get-get_or, slice_get_within, first_of, Visited, NotAmong, AreDistinct}
+use Rattle.split_merge.proofs.Terms.{is_among, with_stream, streams_in, ◌||◌, map_push, slice_get-map, ◌+◌, ◌≤◌, set}
+use Rattle.split_merge.proofs.Terms.{append-nil, length-set, length_push, filter-append, noted_positions, total_of}
+use Rattle.split_merge.proofs.Terms.{counted, noted, IsIndex, IsTableOf, map-append, rows_of, with_row}
 use Rattle.std.proofs.lemmas.Bool.{cases_Bool}
 use Rattle.split_merge.specs.declared.visits.Visits.{Visits}
 
@@ -36,9 +34,10 @@ not_among-at q [] i h l = absurd (omega arith)
 not_among-at q (x ∷ xs) zero h l = λ e. h.0 (sym e)
 not_among-at q (x ∷ xs) (suc i) h l = not_among-at q xs i h.1 (omega arith)
 
-pub above-at : (streams : List ℕ) (r s : ℕ) → NotAmong 0 streams → slice_get streams r ≡ Some s → s ≢ 0
-above-at streams r s above at e =
-    not_among-at 0 streams r above (slice_get_within streams r s at) (get_or_from_slice_get streams r s 0 at ∙ e)
+-- nor is what stands at an index
+pub among-apart : (q s : ℕ) (xs : List ℕ) (i : ℕ) → NotAmong q xs → slice_get xs i ≡ Some s → s ≢ q
+among-apart q s xs i out at e =
+    not_among-at q xs i out (slice_get_within xs i s at) (get_or_from_slice_get xs i s 0 at ∙ e)
 
 pub absent-by_index : (q : ℕ) (xs : List ℕ) → ((i : ℕ) → i < length xs → get_or xs i 0 ≢ q) → NotAmong q xs
 absent-by_index q [] h = tt
@@ -57,42 +56,27 @@ pub distinct-push : (s : ℕ) (xs : List ℕ) → NotAmong s xs → AreDistinct 
 distinct-push s [] n h = (tt, tt)
 distinct-push s (x ∷ xs) n h = (not_among-push x s xs h.0 (λ e. n.0 (sym e)), distinct-push s xs n.1 h.1)
 
--- a stream stands at one index
-pub one_index : (xs : List ℕ) (i j q : ℕ) → AreDistinct xs → get_or xs i 0 ≡ q → get_or xs j 0 ≡ q → q ≢ 0 → i ≡ j
-one_index [] i j q h e f n = absurd (n (sym e))
-one_index (x ∷ xs) zero zero q h e f n = refl
-one_index (x ∷ xs) zero (suc j) q h e f n =
-    absurd (not_among-at x xs j h.0 (grind (arith, places, common_steps)) (f ∙ sym e))
-one_index (x ∷ xs) (suc i) zero q h e f n =
-    absurd (not_among-at x xs i h.0 (grind (arith, places, common_steps)) (e ∙ sym f))
-one_index (x ∷ xs) (suc i) (suc j) q h e f n = ap suc (one_index xs i j q h.1 e f n)
-
 -- ---- one more stream, of those still to come
 
 -- the streams that are not among those seen
 abbrev pub without : (seen : List ℕ) → List ℕ → List ℕ
 without seen streams = filter (λ stream. not (is_among stream seen)) streams
 
-filter-filter : (p q : ℕ → Bool) (xs : List ℕ) → filter p (filter q xs) ≡ filter (λ x. q x && p x) xs
-filter-filter p q [] = refl
-filter-filter p q (x ∷ xs) = grind (arith, filter-filter p q xs)
+without-seen : (stream : ℕ) (seen later : List ℕ) → is_among stream seen ≡ true
+    → without seen (filter (λ other. not (other == stream)) later) ≡ without seen later
+without-seen stream seen [] h = refl
+without-seen stream seen (x ∷ later) h = grind (arith, nat_tests, without-seen stream seen later h)
 
-module _ (stream : ℕ) (seen later : List ℕ) where
-  without-seen : is_among stream seen ≡ true
-      → without seen (filter (λ other. not (other == stream)) later) ≡ without seen later
-  without-seen h =
-      filter-filter (λ x. not (is_among x seen)) (λ x. not (x == stream)) later
-      ∙ filter_agree _ _ (λ x. grind (arith, nat_tests)) later
+without-new : (stream : ℕ) (seen later : List ℕ)
+    → without seen (filter (λ other. not (other == stream)) later) ≡ without (seen ++ stream ∷ []) later
+without-new stream seen [] = refl
+without-new stream seen (x ∷ later) = grind (arith, among-push x stream seen, without-new stream seen later)
 
-  without-new : without seen (filter (λ other. not (other == stream)) later) ≡ without (seen ++ stream ∷ []) later
-  without-new =
-      filter-filter (λ x. not (is_among x seen)) (λ x. not (x == stream)) later
-      ∙ filter_agree _ _ (λ x. grind (arith, among-push x stream seen)) later
-
-  -- the streams seen and those still to come stay the same
-  pub named-more : with_stream stream seen ++ without (with_stream stream seen) later
-      ≡ seen ++ without seen (first_of stream later)
-  named-more = grind (arith, append_assoc, without-seen, without-new)
+-- the streams seen and those still to come stay the same
+pub named-more : (stream : ℕ) (seen later : List ℕ)
+    → with_stream stream seen ++ without (with_stream stream seen) later ≡ seen ++ without seen (first_of stream later)
+named-more stream seen later =
+    grind (arith, append_assoc, without-seen stream seen later, without-new stream seen later)
 
 pub named-first : (streams : List ℕ) → without [] streams ≡ streams
 named-first [] = refl
@@ -133,32 +117,18 @@ pub noted_positions-append : (s : ℕ) (xs ys : List (ℕ × ℕ)) →
     noted_positions s (xs ++ ys) ≡ noted_positions s xs ++ noted_positions s ys
 noted_positions-append s xs ys = simp (filter-append, map-append)
 
--- which row is a stream's
-pub same-test : (streams : List ℕ) (row stream : ℕ) → AreDistinct streams → slice_get streams row ≡ Some stream
-    → stream ≢ 0 → (r : ℕ) → (stream == get_or streams r 0) ≡ (row == r)
-same-test streams row stream distinct at above r =
-    let e = get_or_from_slice_get streams row stream 0 at in
-    grind (arith, nat_tests, one_index streams row r stream distinct e)
+-- the positions of a stream, when one more is noted
+pub positions-own : (q stream position : ℕ) (notes : List (ℕ × ℕ)) → q ≡ stream → stream ≢ 0
+    → noted_positions q (notes ++ noted stream position) ≡ noted_positions q notes ++ position ∷ []
+positions-own q stream position notes same above =
+    let split = noted_positions-append q notes (noted stream position) in grind (arith, nat_tests)
 
--- the positions of a row's stream, when one more is noted
-pub positions-push : (streams : List ℕ) (row stream : ℕ) → AreDistinct streams → slice_get streams row ≡ Some stream
-    → stream ≢ 0 → (notes : List (ℕ × ℕ)) (position r : ℕ)
-    → row_positions r streams (notes ++ (stream, position) ∷ [])
-    ≡ (if row == r then row_positions r streams notes ++ position ∷ [] else row_positions r streams notes)
-positions-push streams row stream distinct at above notes position r =
-    let which = same-test streams row stream distinct at above r in
-    let split = noted_positions-append (get_or streams r 0) notes ((stream, position) ∷ []) in
-    grind (arith, append-nil)
+pub positions-other : (q stream position : ℕ) (notes : List (ℕ × ℕ)) → stream ≢ q
+    → noted_positions q (notes ++ noted stream position) ≡ noted_positions q notes
+positions-other q stream position notes apart =
+    let split = noted_positions-append q notes (noted stream position) in grind (arith, nat_tests, append-nil)
 
 -- ---- a row for a stream
-
-pub with_row-seen : (stream : ℕ) (rows : List Visited) → is_among stream (streams_in rows) ≡ true
-    → rows ≡ with_row stream rows
-with_row-seen stream rows e = rw e refl
-
-pub with_row-new : (stream : ℕ) (rows : List Visited) → NotAmong stream (streams_in rows) →
-    rows ++ record { stream = stream; count = 0 } ∷ [] ≡ with_row stream rows
-with_row-new stream rows h = rw (none_among stream (streams_in rows) h) refl
 
 pub named-row : (stream : ℕ) (rows : List Visited) → stream ≢ 0 →
     streams_in (with_row stream rows) ≡ with_stream stream (streams_in rows)
@@ -170,58 +140,51 @@ streams-counted [] i d = refl
 streams-counted (x ∷ rows) zero d = refl
 streams-counted (x ∷ rows) (suc i) d = ap (λ l. x.stream ∷ l) (streams-counted rows i d)
 
-module _ (notes : List (ℕ × ℕ)) (rows : List Visited) (listed : IsListed notes rows) (stream : ℕ) where
-  listed-new : NotAmong stream (streams_in rows) → IsListed notes (rows ++ record { stream = stream; count = 0 } ∷ [])
-  listed-new new = record {
-    counts = λ r d h.
-        let n = length-streams_in rows in
-        let named = streams_in-push rows (record { stream = stream; count = 0 }) in
-        let none = listed.absent stream new in
-        grind (arith, cases_lt r (length rows), listed.counts r d, get_or_append_left, get_or_at, length_push);
-    none = listed.none;
-    absent = λ q h. listed.absent q (not_among-front q stream (streams_in rows) (rw streams_in-push at h)).0;
-  }
+rows-new : (streams : List ℕ) (stream : ℕ) (notes : List (ℕ × ℕ)) → noted_positions stream notes ≡ []
+    → rows_of streams notes ++ record { stream = stream; count = 0 } ∷ [] ≡ rows_of (streams ++ stream ∷ []) notes
+rows-new streams stream notes none =
+    let row : ℕ → Visited = λ q. record { stream = q; count = length (noted_positions q notes) } in
+    rw none at (sym (map_push row streams stream))
 
-  listed-row : IsListed notes (with_row stream rows)
-  listed-row = elim (cases_Bool (is_among stream (streams_in rows))) [
-    | inl e ↦ rw e listed
-    | inr e ↦ rw e (listed-new (none-from_test stream (streams_in rows) e))
-  ]
+rows-row : (rows : List Visited) (stream : ℕ) (notes : List (ℕ × ℕ)) → rows ≡ rows_of (streams_in rows) notes
+    → (NotAmong stream (streams_in rows) → noted_positions stream notes ≡ [])
+    → with_row stream rows ≡ rows_of (streams_in (with_row stream rows)) notes
+rows-row rows stream notes is none = elim (cases_Bool (is_among stream (streams_in rows))) [
+  | inl e ↦ rw e is
+  | inr e ↦ rw (e, streams_in-push) (ap (λ l. l ++ record { stream = stream; count = 0 } ∷ []) is
+      ∙ rows-new (streams_in rows) stream notes (none (none-from_test stream (streams_in rows) e)))
+]
+
+absent-row : (q stream : ℕ) (rows : List Visited) → NotAmong q (streams_in (with_row stream rows))
+    → NotAmong q (streams_in rows)
+absent-row q stream rows out = grind (arith, streams_in-push, not_among-front q stream (streams_in rows))
 
 -- ---- one more visit
 
-module _ (notes : List (ℕ × ℕ)) (rows : List Visited) (listed : IsListed notes rows) (row stream position : ℕ)
-    (d : Visited) (distinct : AreDistinct (streams_in rows)) (at : slice_get (streams_in rows) row ≡ Some stream)
-    (above : stream ≢ 0) where
-  listed-visit : IsListed (notes ++ (stream, position) ∷ []) (set rows row (counted (get_or rows row d)))
-  listed-visit = record {
-    counts = λ r e l.
-        let p = positions-push (streams_in rows) row stream distinct at above notes position r in
-        let n = length-set rows row (counted (get_or rows row d)) in
-        rw streams-counted
-        (grind (arith, nat_tests, get_or-set_at, get_or-set_other, listed.counts, length_push));
-    none =
-        let split = noted_positions-append 0 notes ((stream, position) ∷ []) in
-        let none = listed.none in grind (arith, nat_tests);
-    absent = λ q h.
-        let out = rw streams-counted at h in
-        let split = noted_positions-append q notes ((stream, position) ∷ []) in
-        let none = listed.absent q out in
-        let apart = not_among-at q (streams_in rows) row out (slice_get_within (streams_in rows) row stream at) in
-        let is = get_or_from_slice_get (streams_in rows) row stream 0 at in
-        grind (arith, nat_tests);
-  }
+rows-other : (streams : List ℕ) (stream position : ℕ) (notes : List (ℕ × ℕ)) → NotAmong stream streams
+    → rows_of streams (notes ++ noted stream position) ≡ rows_of streams notes
+rows-other [] stream position notes out = refl
+rows-other (q ∷ streams) stream position notes out =
+    rw (positions-other q stream position notes out.0, rows-other streams stream position notes out.1) refl
+
+rows-visit : (streams : List ℕ) (row stream position : ℕ) (notes : List (ℕ × ℕ)) (d : Visited) → stream ≢ 0
+    → AreDistinct streams → slice_get streams row ≡ Some stream
+    → set (rows_of streams notes) row (counted (get_or (rows_of streams notes) row d))
+    ≡ rows_of streams (notes ++ noted stream position)
+rows-visit [] row stream position notes d above h at = cc
+rows-visit (q ∷ streams) zero stream position notes d above h at =
+    let same : q ≡ stream = cc in
+    rw (
+      positions-own q stream position notes same above,
+      rows-other streams stream position notes (rw same at h.0),
+      length_push,
+    ) refl
+rows-visit (q ∷ streams) (suc row) stream position notes d above h at =
+    let row_is = rows-visit streams row stream position notes d above h.1 at in
+    rw (positions-other q stream position notes (among-apart q stream streams row h.0 at), row_is) refl
 
 pub noted-one : (stream position : ℕ) → stream ≢ 0 → noted stream position ≡ (stream, position) ∷ []
 noted-one stream position n = grind (arith, nat_tests)
-
-pub noted-listed : (notes : List (ℕ × ℕ)) (rows rows' : List Visited) (stream position row : ℕ) (d : Visited) →
-    stream ≢ 0 → IsListed notes rows → rows' ≡ with_row stream rows → AreDistinct (streams_in rows') →
-    slice_get (streams_in rows') row ≡ Some stream →
-    IsListed (notes ++ noted stream position) (set rows' row (counted (get_or rows' row d)))
-noted-listed notes rows rows' stream position row d n listed e distinct at =
-    rw (noted-one stream position n)
-    (listed-visit notes rows' (rw e (listed-row notes rows listed stream)) row stream position d distinct at n)
 
 -- ---- how many
 
@@ -241,5 +204,26 @@ total-counted (x ∷ rows) zero d l = (omega arith, omega arith)
 total-counted (x ∷ rows) (suc i) d l =
     let e = total-counted rows i d (omega arith) in (omega (arith, e), omega (arith, e))
 
-pub at-most : {few many : ℕ} {table : Visits} → HasAtMost few table → few ≤ many → HasAtMost many table
-at-most h le = record { rows = omega (arith, h.rows, le); visits = omega (arith, h.visits, le) }
+-- the table, when a stream that has a row meets one more frame
+pub table-visited : {notes : List (ℕ × ℕ)} {old new : Visits} (rows : List Visited) (stream position row : ℕ)
+    (d : Visited) → IsTableOf notes old → stream ≢ 0 → rows ≡ with_row stream old.rows.items
+    → slice_get (streams_in rows) row ≡ Some stream → IsIndex (streams_in rows) new.index
+    → new.rows.items ≡ set rows row (counted (get_or rows row d)) → IsTableOf (notes ++ noted stream position) new
+table-visited {notes} {old} rows stream position row d h above made at index is =
+    let more : length (notes ++ noted stream position) ≡ length notes + 1 =
+    rw (noted-one stream position above, length_push) refl in
+    let total = total-row stream old.rows.items in
+    let visits = total-counted rows row d (row_inside rows row stream at) in
+    let now : rows ≡ rows_of (streams_in rows) notes =
+    rw made (rows-row old.rows.items stream notes h.rows (h.absent stream)) in
+    record {
+      index = rw (is, streams-counted) index;
+      rows = rw (is, streams-counted) (ap (λ l. set l row (counted (get_or l row d))) now
+          ∙ rows-visit (streams_in rows) row stream position notes d above index.distinct at);
+      absent = λ q out.
+          let none = rw (is, streams-counted) at out in
+          positions-other q stream position notes (among-apart q stream (streams_in rows) row none at)
+          ∙ h.absent q (absent-row q stream old.rows.items (rw made at none));
+      few = rw (is, length-set, more, made) (omega (arith, total.1, h.few));
+      visits = rw (is, more, visits.0, made) (omega (arith, total.0, h.visits));
+    }

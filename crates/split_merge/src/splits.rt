@@ -1,10 +1,10 @@
-ghost use Rattle.std.specs.Prelude.{◌≡◌, ◌*◌, ◌^◌, ◌<◌, IfOk, length, set};
+ghost use Rattle.std.specs.Prelude.{◌≡◌, ℕ, ◌^◌, ◌<◌, ◌++◌, IfOk, List, length, set};
 ghost use Rattle.audit_terms.specs.code.runs.Orderly.{IsOrderly};
 ghost use Rattle.settings_pair.specs.code.Changes.{AreOrderly, AreAcknowledged};
 ghost use Rattle.split_merge.specs.code.Split.{IsRange, IsSplit, part_of};
-ghost use Rattle.split_merge.specs.code.Loud.{ArePlaces, HasPlace, IsLaid, IsPut, heard, loud_of};
-ghost use Rattle.split_merge.specs.code.Visits.{AreDistinct, HasAtMost, HasRoomFor, IsFilled, IsIndex, IsTableOf};
-ghost use Rattle.split_merge.specs.code.Visits.{laid_out, longer, notes_from, row_streams, streams_in, total_of};
+ghost use Rattle.split_merge.specs.code.Loud.{CanPlace, IsLaid, IsPlacing, loud_of};
+ghost use Rattle.split_merge.specs.code.Visits.{AreFilled, IsTableOf, laid_out, longer, noted, notes_from, streams_in};
+ghost use Rattle.split_merge.specs.code.Visits.{total_of};
 
 use crate::loud::{Loud, place_of, places_of};
 use crate::visits::{Visited, Visits, finish};
@@ -79,11 +79,9 @@ fn laid(
 ) -> Result<SplitFrames, AllocError>
     requires length { length frames.now < 2 ^ 28 }
     requires table { IsTableOf (notes_from 0 frames.now) table.old }
-    requires room { HasAtMost (2 * length frames.now) table.old }
     requires long { length table.old.quiets.items ≡ length table.old.rows.items }
     requires rows { loud.rows.items ≡ loud_of table.old.rows.items table.old.quiets.items }
-    ensures { IfOk result (IsLaid loud.rows.items loud.opened.items
-        (heard (streams_in loud.rows.items) (notes_from 0 frames.now))) }
+    ensures { IfOk result (IsLaid (streams_in loud.rows.items) loud.opened.items (notes_from 0 frames.now)) }
 {
     if loud.rows.is_empty() {
         return Ok(SplitFrames {
@@ -132,34 +130,44 @@ fn place(
     total: u32,
 ) -> Result<Vec<u32>, AllocError>
     requires length { length frames.now < 2 ^ 28 }
-    requires index { IsIndex (streams_in table.old.rows.items) table.old.index }
-    requires room { length table.old.rows.items < 2 ^ 31 }
-    requires places { ArePlaces (streams_in table.old.rows.items) places.now (row_streams rows.old) }
-    requires distinct { AreDistinct (row_streams rows.old) }
-    requires room_for { HasRoomFor rows.old (heard (row_streams rows.old) (notes_from 0 frames.now)) total }
-    ensures long { IfOk result (λ positions. length positions.items ≡ total) }
-    ensures filled { IfOk result (λ positions.
-        IsFilled rows.old (heard (row_streams rows.old) (notes_from 0 frames.now)) rows.new positions.items) }
+    requires room { (loud : List ℕ) × CanPlace loud (notes_from 0 frames.now) places.now table.old rows.old total }
+    ensures { IfOk result (λ positions. (loud : List ℕ)
+        → CanPlace loud (notes_from 0 frames.now) places.now table.old rows.old total
+        → AreFilled 0 loud (notes_from 0 frames.now) (notes_from 0 frames.now) rows.new positions.items) }
 {
     let mut positions = vec![in alloc; 0; total as usize]?;
     let mut position = 0;
     for frame in frames {
-        let own = place_of(table, places, frame.stream);
-        put_visit(&mut positions, rows, own, position);
-        let promised = place_of(table, places, frame.promised_by());
-        put_visit(&mut positions, rows, promised, position);
+        visit(&mut positions, rows, places, table, frame.stream, position);
+        visit(
+            &mut positions,
+            rows,
+            places,
+            table,
+            frame.promised_by(),
+            position,
+        );
         position += 1;
     }
     Ok(positions)
 }
 
-/// Puts a position at the end of a row's range, if it is that of a loud stream.
-fn put_visit(positions: &mut Vec<u32>, rows: &mut [StreamRow], row: Option<u32>, position: u32)
-    requires place { HasPlace row rows.old (length positions.old.items) }
-    requires short { length positions.old.items < 2 ^ 32 }
-    ensures { IsPut row position rows.old positions.old.items rows.new positions.new.items }
+/// Puts a position at the end of a stream's range, if it is a loud stream.
+fn visit(
+    positions: &mut Vec<u32>,
+    rows: &mut [StreamRow],
+    places: &[Option<u32>],
+    table: &mut Visits,
+    stream: u32,
+    position: u32,
+)
+    requires { (loud : List ℕ) × (came left : List (ℕ × ℕ)) × IsPlacing loud came (noted stream position ++ left)
+        places.now table.old rows.old positions.old.items }
+    ensures { (loud : List ℕ) (came left : List (ℕ × ℕ))
+        → IsPlacing loud came (noted stream position ++ left) places.now table.old rows.old positions.old.items
+        → IsPlacing loud (came ++ noted stream position) left places.now table.new rows.new positions.new.items }
 {
-    if let Some(row) = row {
+    if let Some(row) = place_of(table, places, stream) {
         put(positions, &mut rows[row as usize], position);
     }
 }

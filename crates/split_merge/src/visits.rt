@@ -1,4 +1,4 @@
-ghost use Rattle.std.specs.Prelude.{◌≡◌, ◌≢◌, ℕ, ◌*◌, ◌+◌, ◌^◌, ◌<◌, ◌++◌, [], List, IfOk, MatchOption, OnOk, Some};
+ghost use Rattle.std.specs.Prelude.{◌≡◌, ◌≢◌, ℕ, ◌^◌, ◌<◌, ◌++◌, [], List, IfOk, MatchOption, OnOk, Some};
 ghost use Rattle.std.specs.Prelude.{length, slice_get};
 ghost use Rattle.std.specs.Bool.{OnTrue};
 ghost use Rattle.audit_terms.specs.declared.frames.Frame.{Frame as FrameTerm};
@@ -7,7 +7,7 @@ ghost use Rattle.audit_terms.specs.Pass.{streams_of};
 ghost use Rattle.audit_terms.specs.code.runs.Orderly.{IsOrderly};
 ghost use Rattle.settings_pair.specs.code.Changes.{AreOrderly, AreAcknowledged};
 ghost use Rattle.stream_credit.specs.code.QuietStream.{IsAheadIfQuiet};
-ghost use Rattle.split_merge.specs.code.Visits.{HasAtMost, IsIndex, IsTableOf, NotAmong, counted, noted, notes_from};
+ghost use Rattle.split_merge.specs.code.Visits.{IsIndex, IsTableOf, NotAmong, counted, noted, notes_from};
 ghost use Rattle.split_merge.specs.code.Visits.{streams_in, with_row, with_stream};
 ghost use Rattle.split_merge.specs.code.Loud.{IsKept};
 ghost use Rattle.split_merge.specs.code.Ahead.{AreAhead, AreHushed, IsEnd, IsHushed, MeetsNext, with_next};
@@ -62,7 +62,6 @@ impl Visits {
         requires acknowledged { AreAcknowledged frames.now changes.now }
         ensures streams { IfOk result (λ table. streams_in table.rows.items ≡ streams_of frames.now) }
         ensures table { IfOk result (IsTableOf (notes_from 0 frames.now)) }
-        ensures room { IfOk result (HasAtMost (2 * length frames.now)) }
         ensures ahead { IfOk result (λ table.
             AreAhead changes.now frames.now (λ _. []) (streams_in table.rows.items) table.quiets.items) }
     {
@@ -100,15 +99,13 @@ impl Visits {
         changes: &Changes<'_>,
         frame: &Frame,
     ) -> Result<(), AllocError>
-        requires index { IsIndex (streams_in self.old.rows.items) self.old.index }
-        requires room { HasAtMost (2 ^ 30) self.old }
+        requires table { (notes : List (ℕ × ℕ)) × IsTableOf notes self.old × (length notes < 2 ^ 30) }
         requires streamed { stream < 2 ^ 31 }
         requires next { MeetsNext stream changes.now frame.now (streams_in self.old.rows.items) self.old.quiets.items }
         ensures named { OnOk result (streams_in self.new.rows.items
             ≡ with_stream stream (streams_in self.old.rows.items)) }
         ensures table { OnOk result ((notes : List (ℕ × ℕ)) (position : ℕ) → IsTableOf notes self.old
             → IsTableOf (notes ++ noted stream position) self.new) }
-        ensures room { OnOk result ((many : ℕ) → HasAtMost many self.old → HasAtMost (many + 1) self.new) }
         ensures ahead { OnOk result ((all : List FrameTerm) (rest : ℕ → List FrameTerm)
             → AreAhead changes.now all (with_next stream frame.now rest) (streams_in self.old.rows.items)
             self.old.quiets.items

@@ -1,22 +1,24 @@
 -- The stops of a desk one by one, that the board of a closed desk is settled, and its parts in the order of their jobs.
-use Rattle.stop_desk.proofs.Words.{All, All-contains, All-map, BoardPart, Bool, ClosedView, Contains, ⊎_elim}
-use Rattle.stop_desk.proofs.Words.{Contains-permutation, DeskId, IsAllWorked, IsAtMost, IsConnection, IsDeskSettled}
-use Rattle.stop_desk.proofs.Words.{IsGiven, IsLeast, IsLeastOnDesk, IsNonDecreasingBy, IsPartOf, IsPermutation}
-use Rattle.stop_desk.proofs.Words.{IsPermutation-map, IsPermutation-sym, IsSettled, IsStop, Job, List, None, Option}
-use Rattle.stop_desk.proofs.Words.{Part, PassView, Some, [], ap, arith, board_with, cases_lt, closed_of, cond_both}
-use Rattle.stop_desk.proofs.Words.{count_by, drop, eqb-true, final_stop, get_or, get_or-drop, get_or-map}
-use Rattle.stop_desk.proofs.Words.{get_or-map-range_with_len, get_or-range_with_len, get_or_from_slice_get, get_or_past}
-use Rattle.stop_desk.proofs.Words.{if◌then◌else◌, inl, inr, length, length-drop, length-map, length-map-range_with_len}
-use Rattle.stop_desk.proofs.Words.{length-range_with_len, ltb-true, map, marks, nat_tests, opening_stop, part_of}
-use Rattle.stop_desk.proofs.Words.{parts_of, past_places, place_at, range_with_len, refl, slice_get, slice_get_within}
-use Rattle.stop_desk.proofs.Words.{stop_of, subst, suc, sum_by-IsPermutation, sym, zero, ℕ, ◌+◌, ◌<◌, ◌==◌, ◌∙◌, ◌∷◌}
-use Rattle.stop_desk.proofs.Words.{◌≡◌, ◌≤◌, ◌⊎◌}
+use Rattle.stop_desk.proofs.Words.{All, Bool, ClosedView, Contains, Contains-permutation, DeskId, IsAllWorked, IsAtMost}
+use Rattle.stop_desk.proofs.Words.{IsConnection, IsDeskSettled, IsLeastOnDesk, IsNonDecreasingBy, IsPermutation}
+use Rattle.stop_desk.proofs.Words.{IsPermutation-map, IsPermutation-sym, IsStop, List, None, Option, Part, PassView}
+use Rattle.stop_desk.proofs.Words.{Some, [], ap, arith, board_with, cases_lt, closed_of, cond_both, count_by, drop}
+use Rattle.stop_desk.proofs.Words.{eqb-true, final_stop, get_or, get_or_from_slice_get, if◌then◌else◌, inl, inr, length}
+use Rattle.stop_desk.proofs.Words.{ltb-true, map, marks, nat_tests, opening_stop, part_of, past_places, place_at}
+use Rattle.stop_desk.proofs.Words.{range_with_len, refl, slice_get, slice_get_within, stops, subst, suc}
+use Rattle.stop_desk.proofs.Words.{sum_by-IsPermutation, sym, zero, ℕ, ⊎_elim, ◌+◌, ◌<◌, ◌==◌, ◌∙◌, ◌∷◌, ◌≡◌, ◌≤◌, ◌⊎◌}
+use Rattle.std.proofs.lemmas.List.{get_or-drop, get_or-map, get_or_past, length-drop, length-map}
+use Rattle.std.proofs.lemmas.List.Elements.{All-contains, All-map}
 use Rattle.std.proofs.lemmas.List.Folds.{fold-map}
-use Rattle.stop_desk.specs.code.Crew.{opening_stops, last_stops_from, last_stops, IsDone}
+use Rattle.std.proofs.lemmas.List.FromFn.{get_or-map-range_with_len, length-map-range_with_len}
+use Rattle.stop_desk.specs.code.Board.{Board, IsGiven, IsLeast, IsPartOf, IsSettled, Job, Part as BoardPart, Round}
+use Rattle.stop_desk.specs.code.Board.{parts_of, stop_of}
+use Rattle.stop_desk.specs.code.Crew.{IsDone, last_stops, last_stops_from, opening_stops}
 use Rattle.stop_desk.specs.code.Settling.{HasSettled}
 use Rattle.stop_desk.specs.declared.settling.Settled.{Settled}
 use Rattle.stop_desk.proofs.RoundMembers.{contains-none, contains-first, contains-later, contains-cases, map-contains}
 use Rattle.stop_desk.proofs.RoundMembers.{contains-here, contains-got, contains-map, count-cons, count-some, some-count}
+use Rattle.stop_desk.proofs.RoundSteps.{least-some}
 
 -- marks counted, and marks in a list
 contains-marks : (c p : ℕ) (ms : List (ℕ × ℕ)) → Contains ms (c, p) → 0 < marks c p ms
@@ -35,7 +37,7 @@ opening-at desk c there =
     ∙ ap place_at (get_or-drop 1 desk.opened c 0 ∙ ap (λ n. get_or desk.opened n 0) (omega arith))
 
 opening-past : (desk : DeskId) (c : ℕ) → length desk.opened ≤ c + 1 → stop_of (opening_stops desk) c ≡ None
-opening-past desk c past = get_or_past (opening_stops desk) c None
+opening-past desk c past = get_or_past _ c None
     (omega (arith, length-map (drop 1 desk.opened) place_at, length-drop 1 desk.opened))
 
 last_from-is : (closed : ClosedView) (first : ℕ) (words : List ℕ) →
@@ -48,6 +50,8 @@ pub last_stops-is : (closed : ClosedView) (count : ℕ) → length closed.desk.o
 last_stops-is closed count long =
     let same : count ≡ length (drop 1 closed.desk.opened) = omega (arith, length-drop 1 closed.desk.opened) in
     rw same (sym (last_from-is closed 0 (drop 1 closed.desk.opened)))
+
+pub ruleset stops_read = (last_stops-is)
 
 length-last_stops : (closed : ClosedView) → length (last_stops closed) ≡ length (drop 1 closed.desk.opened)
 length-last_stops closed = ap length (last_from-is closed 0 _) ∙ length-map-range_with_len (final_stop closed) 0 _
@@ -94,23 +98,19 @@ module _ {M : Type 0} (makes : ℕ → Option ℕ → M → Type 0) (jobs : List
       subst (λ (p : BoardPart). (job : Job) × (slice_get jobs p.job ≡ Some job) × IsPartOf last.seen last.lowered job p)
       is (l.job, l.is_job, l.of_job)
 
-  given-from : (c p : ℕ) → IsConnection desk c → (opening_stop desk c ≡ Some p) ⊎ (0 < marks c p last.lowered) →
+  given-there : (c p : ℕ) → IsConnection desk c → (opening_stop desk c ≡ Some p) ⊎ (0 < marks c p last.lowered) →
       Given c p
-  given-from c p there (inl e) = inl (opening-at desk c there ∙ e)
-  given-from c p there (inr k) = inr (marks-contains c p last.lowered k)
-
-  given-there : (c p : ℕ) → IsConnection desk c → Given c p →
-      (opening_stop desk c ≡ Some p) ⊎ (0 < marks c p last.lowered)
-  given-there c p there (inl e) = inl (sym (opening-at desk c there) ∙ e)
-  given-there c p there (inr k) = inr (contains-marks c p last.lowered k)
+  given-there c p there (inl e) = inl (opening-at desk c there ∙ e)
+  given-there c p there (inr k) = inr (marks-contains c p last.lowered k)
 
   least-there : (c : ℕ) → IsConnection desk c → (stop : Option ℕ) → IsLeastOnDesk desk last.lowered c stop →
       IsLeast (Given c) stop
-  least-there c there None l = λ place given. grind (arith, given-there c place there given, l.0, l.1 place)
+  least-there c there None l =
+      λ place given. grind (arith, opening-at desk c there, contains-marks c place last.lowered, l.0, l.1 place)
   least-there c there (Some q) l = (
-    given-from c q there l.2,
-    λ place given. ⊎_elim (λ e. at_most q (opening_stop desk c) place e l.0) (l.1 place)
-        (given-there c place there given),
+    given-there c q there l.2,
+    λ place given. ⊎_elim (λ e. at_most q (opening_stop desk c) place (sym (opening-at desk c there) ∙ e) l.0)
+        (λ k. l.1 place (contains-marks c place last.lowered k)) given,
   )
 
   -- of no other connection is there a place
@@ -127,7 +127,7 @@ module _ {M : Type 0} (makes : ℕ → Option ℕ → M → Type 0) (jobs : List
     | inr past ↦ rw (final-past closed c past) (not-past c past)
   ]
 
-  done : IsDone makes jobs desk round parts closed
+  pub done : IsDone makes jobs desk round parts closed
   done = record {
     desk_is = refl;
     board = record {
@@ -135,19 +135,11 @@ module _ {M : Type 0} (makes : ℕ → Option ℕ → M → Type 0) (jobs : List
       parts_of_jobs = parts-are;
       lowered_real = h.0.lowered_real;
       seen_given = λ c p k.
-          given-from c p (h.0.seen_there c p k) (s.given c p (contains-marks c p last.seen k));
+          given-there c p (h.0.seen_there c p k) (s.given c p (contains-marks c p last.seen k));
       stops_least = least;
     };
     made = λ part k. (let l = h.0.laid part k in (l.in_round, l.made));
   }
-
-pub closes : {M : Type 0} (makes : ℕ → Option ℕ → M → Type 0) (jobs : List Job) (round whole : ℕ) (desk : DeskId)
-    → All (λ (job : Job). IsConnection desk job.connection) jobs → (parts : List (Part M)) (last : PassView)
-    (closed : ClosedView) → IsAllWorked makes jobs desk round whole parts last
-    → closed ≡ closed_of desk closed.words last.drawn last.seen last.lowered → IsDeskSettled closed
-    → IsDone makes jobs desk round parts closed
-closes makes jobs round whole desk all parts last closed h is s =
-    rw is (done makes jobs round whole desk all parts last closed.words h (rw is at s))
 
 -- elements that do not fall by number, one for each of `count` numbers from `first` on, have these numbers in turn
 module _ {X : Type 0} (number : X → ℕ) where
@@ -156,25 +148,24 @@ module _ {X : Type 0} (number : X → ℕ) where
 
   in-turn : (first count : ℕ) (xs : List X) → IsNonDecreasingBy number xs →
       ((x : X) → Contains xs x → (first ≤ number x) × (number x < first + count)) →
-      ((n : ℕ) → first ≤ n → n < first + count → count_by (has n) xs ≡ 1) → map number xs ≡ range_with_len first count
-  in-turn first zero [] rise among once = refl
-  in-turn first (suc count) [] rise among once =
-      let o = once first (omega arith) (omega arith) in absurd (omega arith)
+      ((n : ℕ) → first ≤ n → n < first + count → count_by (has n) xs ≡ 1) →
+      (length xs ≡ count) × ((n : ℕ) (d : X) → n < length xs → number (get_or xs n d) ≡ first + n)
+  in-turn first zero [] rise among once = (refl, λ n d lt. absurd (omega arith))
+  in-turn first (suc count) [] rise among once = absurd (omega (arith, once first (omega arith) (omega arith)))
   in-turn first zero (x ∷ xs) rise among once = (let b = among x (contains-here x xs) in absurd (omega arith))
   in-turn first (suc count) (x ∷ xs) rise among once =
-      rw head (ap (λ ns. first ∷ ns) (in-turn (first + 1) count xs
-      (λ i j d le lt. rise (suc i) (suc j) d (omega arith) (omega arith)) later once-later)) where
+      let rest = in-turn (first + 1) count xs
+      (λ i j d le lt. rise (suc i) (suc j) d (omega arith) (omega arith)) later once-later in
+      (omega (arith, rest.0), places rest.1) where
         one : count_by (has first) (x ∷ xs) ≡ 1
         one = once first (omega arith) (omega arith)
 
         -- the one with the least number is not before the first
         head : number x ≡ first
         head =
-            let (y, (k, lt, at), is) = count-some (has first) (x ∷ xs) (let o = one in omega arith) in
-            let least = rise 0 k y (omega arith) lt in
+            let (y, (k, lt, at), is) = count-some (has first) (x ∷ xs) (omega (arith, one)) in
             let same = ap number at ∙ eqb-true (number y) first is in
-            let bounds = among x (contains-here x xs) in
-            omega arith
+            omega (arith, rise 0 k y (omega arith) lt, (among x (contains-here x xs)).0)
 
         later : (y : X) → Contains xs y → (first + 1 ≤ number y) × (number y < first + 1 + count)
         later y k =
@@ -183,53 +174,24 @@ module _ {X : Type 0} (number : X → ℕ) where
 
         once-later : (n : ℕ) → first + 1 ≤ n → n < first + 1 + count → count_by (has n) xs ≡ 1
         once-later n low high =
-            let o = once n (omega arith) (omega arith) in
-            grind (arith, nat_tests, head, count-cons (has n) x xs)
+            grind (arith, nat_tests, head, count-cons (has n) x xs, once n (omega arith) (omega arith))
 
-module _ {M : Type 0} where
-  abbrev number : Part M → ℕ
-  number part = part.job
+        places : ((n : ℕ) (d : X) → n < length xs → number (get_or xs n d) ≡ first + 1 + n) → (n : ℕ) (d : X) →
+            n < length (x ∷ xs) → number (get_or (x ∷ xs) n d) ≡ first + n
+        places rest zero d lt = omega (arith, head)
+        places rest (suc n) d lt = omega (arith, rest n d (omega arith))
 
-  abbrev AreSettled : List Job → (opening : List (Option ℕ)) → List (Part M) → (seen lowered : List (ℕ × ℕ))
-      → (stops : List (Option ℕ)) → Type 0
-  AreSettled jobs opening parts seen lowered stops =
-      IsSettled (record { jobs = jobs; opening_stops = opening }) (board_with (map part_of parts) seen lowered stops)
-
-  module _ (jobs : List Job) (opening : List (Option ℕ)) (parts sorted : List (Part M)) (seen lowered : List (ℕ × ℕ))
-      (stops : List (Option ℕ)) (same : IsPermutation parts sorted)
-      (board : AreSettled jobs opening parts seen lowered stops) where
-    board-sorted : AreSettled jobs opening sorted seen lowered stops
-    board-sorted =
-        let moved = IsPermutation-map part_of parts sorted same in record {
-          one_part_each = λ job lt.
-              sum_by-IsPermutation (λ (p : BoardPart). if p.job == job then 1 else 0) (map part_of parts)
-              (map part_of sorted) moved ∙ board.one_part_each job lt;
-          parts_of_jobs = λ part k.
-              board.parts_of_jobs part (Contains-permutation _ _ part (IsPermutation-sym _ _ moved) k);
-          lowered_real = board.lowered_real;
-          seen_given = board.seen_given;
-          stops_least = board.stops_least;
-        }
-
-    of-job : (part : Part M) → Contains sorted part →
-        (job : Job) × (slice_get jobs part.job ≡ Some job) × IsPartOf seen lowered job (part_of part)
-    of-job part k = board-sorted.parts_of_jobs (part_of part) (contains-map part_of sorted part k)
-
-    in-order : IsNonDecreasingBy number sorted → map number sorted ≡ range_with_len 0 (length jobs)
-    in-order rise = in-turn number 0 (length jobs) sorted rise
-        (λ part k. (let (job, got, right) = of-job part k in
-        let lt = slice_get_within jobs part.job job got in (omega arith, omega arith)))
-        (λ n low high. sym (fold-map _ part_of 0 sorted) ∙ board-sorted.one_part_each n (omega arith))
-
-    not-below : (part : Part M) → Contains sorted part → (place : ℕ) → part.upto ≡ Some place →
-        (stop : ℕ) × (stop_of stops part.connection ≡ Some stop) × (stop ≤ place)
-    not-below part k place e =
-        by_stop _ (stop_of stops part.connection) (board.stops_least part.connection)
-        (board.seen_given part.connection place ((of-job part k).2.upto_seen place e)) where
-          by_stop : (Holds : ℕ → Type 0) (stop : Option ℕ) → IsLeast Holds stop → Holds place →
-              (least : ℕ) × (stop ≡ Some least) × (least ≤ place)
-          by_stop Holds None l given = absurd (l place given)
-          by_stop Holds (Some least) l given = (least, refl, l.1 place given)
+-- a settled board is settled with its parts in another order
+settled-moves : (round : Round) (board : Board) (parts : List BoardPart) → IsPermutation board.parts parts →
+    IsSettled round board → IsSettled round (board_with parts board.seen board.lowered board.stops)
+settled-moves round board parts moved s = record {
+  one_part_each = λ job lt.
+      sum_by-IsPermutation (λ (p : BoardPart). if p.job == job then 1 else 0) _ _ moved ∙ s.one_part_each job lt;
+  parts_of_jobs = λ part k. s.parts_of_jobs part (Contains-permutation _ _ part (IsPermutation-sym _ _ moved) k);
+  lowered_real = s.lowered_real;
+  seen_given = s.seen_given;
+  stops_least = s.stops_least;
+}
 
 module _ {M : Type 0} (makes : ℕ → Option ℕ → M → Type 0) (jobs : List Job) (desk : DeskId) (round : ℕ)
     (parts : List (Part M)) (closed : ClosedView) (done : IsDone makes jobs desk round parts closed) where
@@ -243,31 +205,44 @@ module _ {M : Type 0} (makes : ℕ → Option ℕ → M → Type 0) (jobs : List
       part.round ≡ round
   in-round sorted same part k = (made-in sorted same part k).0
 
-  pub has-settled : (opening : List (Option ℕ)) (settled : Settled M) → opening_stops desk ≡ opening →
-      IsPermutation parts settled.parts.items → IsNonDecreasingBy number settled.parts.items →
-      settled.stops.items ≡ last_stops closed → HasSettled makes jobs opening settled
-  has-settled opening settled opened same rise stops_are =
-      let sorted = settled.parts.items in
-      let stops = settled.stops.items in
-      let board : AreSettled jobs opening parts closed.seen closed.lowered stops
-      = rw stops_are (rw opened at done.board) in
-      let run = in-order jobs opening parts sorted closed.seen closed.lowered stops same board rise in
-      let count : length sorted ≡ length jobs
-      = sym (length-map sorted number) ∙ ap length run ∙ length-range_with_len 0 (length jobs) in record {
-        seen = closed.seen;
-        lowered = closed.lowered;
-        board = board-sorted jobs opening parts sorted closed.seen closed.lowered stops same board;
-        count = count;
-        in_order = λ n part e.
-            (let lt = slice_get_within sorted n part e in
-            let is : part.job ≡ n
-            = ap number (sym (get_or_from_slice_get sorted n part part e))
-            ∙ sym (get_or-map number sorted n part 0 lt) ∙ ap (λ ns. get_or ns n 0) run
-            ∙ get_or-range_with_len 0 (length jobs) n 0 (omega arith) ∙ omega arith in
-            (is, rw is at (made-in sorted same part (contains-got sorted n part e)).1));
-        connections =
-            ap length stops_are ∙ length-last_stops closed ∙ sym (length-map (drop 1 closed.desk.opened) place_at)
-            ∙ ap (λ d. length (opening_stops d)) done.desk_is ∙ ap length opened;
-        places = rw stops_are (last_stops-places closed);
-        heeded = not-below jobs opening parts sorted closed.seen closed.lowered stops same board;
-      }
+  module _ (opening : List (Option ℕ)) (settled : Settled M) (opened : opening_stops desk ≡ opening)
+      (same : IsPermutation parts settled.parts.items)
+      (rise : IsNonDecreasingBy (λ (part : Part M). part.job) settled.parts.items)
+      (stops_are : settled.stops.items ≡ last_stops closed) where
+    abbrev sorted : List (Part M)
+    sorted = settled.parts.items
+
+    board : IsSettled (record { jobs = jobs; opening_stops = opening })
+        (board_with (map part_of sorted) closed.seen closed.lowered settled.stops.items)
+    board = simp stops_are (settled-moves _ _ _ (IsPermutation-map part_of parts sorted same) (rw opened at done.board))
+
+    of-job : (part : Part M) → Contains sorted part →
+        (job : Job) × (slice_get jobs part.job ≡ Some job) × IsPartOf closed.seen closed.lowered job (part_of part)
+    of-job part k = board.parts_of_jobs (part_of part) (contains-map part_of sorted part k)
+
+    in-order : (length sorted ≡ length jobs)
+        × ((n : ℕ) (d : Part M) → n < length sorted → (get_or sorted n d).job ≡ 0 + n)
+    in-order = in-turn (λ part. part.job) 0 (length jobs) sorted rise
+        (λ part k. (let (job, got, right) = of-job part k in
+        let lt = slice_get_within jobs part.job job got in (omega arith, omega arith)))
+        (λ n low high. sym (fold-map _ part_of 0 sorted) ∙ board.one_part_each n (omega arith))
+
+    pub has-settled : HasSettled makes jobs opening settled
+    has-settled = record {
+      seen = closed.seen;
+      lowered = closed.lowered;
+      board = board;
+      count = in-order.0;
+      in_order = λ n part e.
+          (let at = in-order.1 n part (slice_get_within sorted n part e) in
+          let is : part.job ≡ n = grind (arith, rw (get_or_from_slice_get sorted n part part e) at at) in
+          (is, rw is at (made-in sorted same part (contains-got sorted n part e)).1));
+      connections =
+          ap length stops_are ∙ length-last_stops closed ∙ sym (length-map (drop 1 closed.desk.opened) place_at)
+          ∙ ap (λ d. length (opening_stops d)) done.desk_is ∙ ap length opened;
+      places = rw stops_are (last_stops-places closed);
+      heeded = λ part k place e.
+          (let given = board.seen_given part.connection place ((of-job part k).2.upto_seen place e) in
+          let (least, is, _, low) = least-some _ _ place (board.stops_least part.connection) given in
+          (least, is, low place given));
+    }

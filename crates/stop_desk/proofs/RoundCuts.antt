@@ -1,10 +1,12 @@
 -- Cuts of lists in order, cuts put together, and what joins findings that are cut at their stop.
-use Rattle.stop_desk.proofs.Words.{Bool, Finding, IsCut, IsInOrder, IsPast, IsPermutation-filter_both, List, NoneBefore}
-use Rattle.stop_desk.proofs.Words.{Option, [], ap, append-nil, arith, comes_after, comes_after_is, cond_both, false}
-use Rattle.stop_desk.proofs.Words.{filter, in_order, in_order-append_comm, in_order-append_left, in_order-in_order}
-use Rattle.stop_desk.proofs.Words.{in_order-ordered, in_order-permutation, leb-false, nat_le, not, not-true}
-use Rattle.stop_desk.proofs.Words.{ordered-in_order, put_by, refl, subst, sym, true, upto_stop, ℕ, ◌++◌, ◌∙◌, ◌∷◌, ◌≡◌}
-use Rattle.stop_desk.specs.laws.Cuts.{FrontIsCut, WholeIsCut, CutsJoin, StopsJoin}
+use Rattle.stop_desk.proofs.Words.{Bool, Finding, IsPermutation-filter_both, List, Option, [], ap, append-nil, arith}
+use Rattle.stop_desk.proofs.Words.{comes_after, false, filter, in_order, leb-false, nat_le, not, not-true, put_by, refl}
+use Rattle.stop_desk.proofs.Words.{subst, sym, true, upto_stop, ℕ, ◌++◌, ◌∙◌, ◌∷◌, ◌≡◌}
+use Rattle.audit_terms.proofs.FindingOrder.{comes_after_is, in_order-append_comm, in_order-append_left}
+use Rattle.audit_terms.proofs.FindingOrder.{in_order-in_order, in_order-permutation}
+use Rattle.audit_terms.proofs.OrderedLists.{IsInOrder, NoneBefore, in_order-ordered, ordered-in_order}
+use Rattle.stop_desk.specs.code.Board.{IsCut, IsPast}
+use Rattle.stop_desk.specs.laws.Cuts.{CutsJoin, FrontIsCut, StopsJoin, WholeIsCut}
 use Rattle.stop_desk.proofs.RoundMembers.{contains-none, filter-contains}
 use Rattle.stop_desk.proofs.RoundMerge.{Leaves, leaves-both}
 
@@ -13,17 +15,12 @@ module _ (test : Finding → Bool) where
   none_before-filter : (x : Finding) (ys : List Finding) → NoneBefore comes_after comes_after_is x ys →
       NoneBefore comes_after comes_after_is x (filter test ys)
   none_before-filter x [] h = tt
-  none_before-filter x (y ∷ ys) h =
-      let rest = none_before-filter x ys h.1 in
-      cond_both (test y) _ _ (NoneBefore comes_after comes_after_is x) (λ _. (h.0, rest)) (λ _. rest)
+  none_before-filter x (y ∷ ys) h = grind (arith, none_before-filter x ys, h)
 
   in_order-filter : (xs : List Finding) → IsInOrder comes_after comes_after_is xs →
       IsInOrder comes_after comes_after_is (filter test xs)
   in_order-filter [] h = tt
-  in_order-filter (x ∷ xs) h =
-      let rest = in_order-filter xs h.1 in
-      cond_both (test x) _ _ (IsInOrder comes_after comes_after_is) (λ _. (none_before-filter x xs h.0, rest))
-      (λ _. rest)
+  in_order-filter (x ∷ xs) h = grind (arith, in_order-filter xs, none_before-filter x xs, h)
 
 pub front_is_cut_lem : FrontIsCut
 front_is_cut_lem whole upto e =

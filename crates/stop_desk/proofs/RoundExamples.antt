@@ -1,11 +1,12 @@
 -- The worked examples of a round of two workers.
-use Rattle.stop_desk.proofs.Words.{All-contains, All-from_recursion, AllByRecursion, AreAllowed, Contains, Finding}
-use Rattle.stop_desk.proofs.Words.{HasConnections, IsCut, IsFinished, IsPartOf, Job, List, None, Some, StopsAt, []}
-use Rattle.stop_desk.proofs.Words.{after_events, ap, arith, false, in_order, refl, round_start, slice_get}
-use Rattle.stop_desk.proofs.Words.{stops, subst, suc, sym, true≢false, zero, ℕ, ◌<◌, ◌∙◌, ◌∷◌, ◌≡◌, ⊎_elim}
-use Rattle.stop_desk.specs.examples.Rounds.{overrun, error, job, part, example, example_events, TwoWorkersFinish}
-use Rattle.stop_desk.specs.examples.Rounds.{TwoWorkersSettle, DrawnTwice, LookInvents, CutUnseen, AllSkipped}
-use Rattle.stop_desk.specs.examples.Rounds.{OverrunLowered, ErrorNotLowered}
+use Rattle.stop_desk.proofs.Words.{AllByRecursion, Contains, Finding, HasConnections, List, None, Some, [], ap, arith}
+use Rattle.stop_desk.proofs.Words.{false, in_order, refl, stops, suc, sym, zero, ℕ, ⊎_elim, ◌<◌, ◌∙◌, ◌∷◌, ◌≡◌}
+use Rattle.std.proofs.lemmas.List.Elements.{All-contains, All-from_recursion}
+use Rattle.stop_desk.specs.code.Board.{IsCut, IsPartOf, Job, StopsAt}
+use Rattle.stop_desk.specs.examples.Rounds.{AllSkipped, CutUnseen, DrawnTwice, ErrorNotLowered, LookInvents}
+use Rattle.stop_desk.specs.examples.Rounds.{OverrunLowered, TwoWorkersFinish, TwoWorkersSettle, error, example}
+use Rattle.stop_desk.specs.examples.Rounds.{example_events, job, overrun, part}
+use Rattle.stop_desk.specs.laws.Machine.{AreAllowed, IsFinished, after_events, round_start}
 use Rattle.stop_desk.proofs.RoundCuts.{front_is_cut_lem, whole_is_cut_lem}
 use Rattle.stop_desk.proofs.RoundMembers.{pair, contains-none, contains-here, contains-cases, contains-one}
 use Rattle.stop_desk.proofs.RoundMembers.{contains-in_order, in_order-contains}
@@ -29,18 +30,14 @@ none_stops : (xs : List Finding) (place : ℕ) → AllByRecursion (λ (x : Findi
     StopsAt xs place → ⊥
 none_stops xs place none (found, among, s, at) =
     let all = All-from_recursion (λ (x : Finding). stops x ≡ false) xs none in
-    true≢false (sym s ∙ All-contains (λ (x : Finding). stops x ≡ false) xs found all among)
-
--- the place of the error, whichever name it has
-among-one : (place : ℕ) → (error 7 3).place ≡ place → Contains the_place (0, place)
-among-one place p = (0, omega arith, ap (pair 0) p)
+    let off = All-contains (λ (x : Finding). stops x ≡ false) xs found all among in cc
 
 -- of job 0, what lies past the error is left out
 part_0 : IsPartOf the_place [] job_0 (part 0 0 (Some (error 7 3).place) (overrun 6 1 ∷ []))
 part_0 = record {
   of_connection = refl;
   cut = front_is_cut_lem job_0.findings (error 7 3).place refl;
-  upto_seen = λ place e. among-one place cc;
+  upto_seen = λ place e. (let is : (error 7 3).place ≡ place = cc in (0, omega arith, ap (pair 0) is));
   stops_lowered = λ place h. absurd (none_stops (overrun 6 1 ∷ []) place (refl, tt) h);
 }
 
@@ -48,39 +45,27 @@ part_0 = record {
 all-kept : (seen lowered : List (ℕ × ℕ)) (number : ℕ) (j : Job) → in_order j.findings ≡ j.findings →
     ((place : ℕ) → StopsAt j.findings place → Contains lowered (j.connection, place)) →
     IsPartOf seen lowered j (part number j.connection None j.findings)
-all-kept seen lowered number j ordered stops_lowered = record {
-  of_connection = refl;
-  cut = whole_is_cut_lem j.findings None ordered;
-  upto_seen = λ place e. cc;
-  stops_lowered = stops_lowered;
-}
+all-kept seen lowered number j ordered stops_lowered =
+    grind (arith, whole_is_cut_lem j.findings None ordered, stops_lowered)
 
 part_1 : IsPartOf [] the_place job_1 (part 1 0 None job_1.findings)
 part_1 = all-kept [] the_place 1 job_1 refl
-    (λ place h. ⊎_elim (λ e. among-one place (ap (λ (x : Finding). x.place) e ∙ h.3))
+    (λ place h. ⊎_elim (λ e. (0, omega arith, ap (pair 0) (ap (λ (x : Finding). x.place) e ∙ h.3)))
     (λ k. absurd (none_stops (overrun 8 3 ∷ []) place (refl, tt) (h.0, k, h.2, h.3)))
     (contains-cases (error 7 3) (overrun 8 3 ∷ []) h.0 h.1))
 
 part_2 : IsPartOf the_place [] job_2 (part 2 1 None job_2.findings)
 part_2 = all-kept the_place [] 2 job_2 refl (λ place h. absurd (none_stops job_2.findings place (refl, tt) h))
 
--- the error of job 1
-error_stops : StopsAt job_1.findings (error 7 3).place
-error_stops = (error 7 3, contains-here (error 7 3) (overrun 8 3 ∷ []), refl, refl)
-
--- what was drawn before the last
-drawn_before : (w n : ℕ) (last : ℕ × ℕ) (drawn : List (ℕ × ℕ)) → Contains (last ∷ (w, n) ∷ drawn) (w, n)
-drawn_before w n last drawn = (1, omega arith, refl)
-
 allowed : AreAllowed example (round_start example) example_events
 allowed =
     pair refl (pair refl (pair refl (
-      (1, job_1, (contains-here (pair 1 1) ((0, 0) ∷ []), refl), refl, refl, error_stops),
+      (1, job_1, ((0, omega arith, refl), refl), refl, refl, (error 7 3, (0, omega arith, refl), refl, refl)),
       pair refl (
-        (job_0, (drawn_before 0 0 (1, 1) [], refl), refl, part_0),
+        (job_0, ((1, omega arith, refl), refl), refl, part_0),
         pair refl (
-          (job_1, (drawn_before 1 1 (0, 2) ((0, 0) ∷ []), refl), refl, part_1),
-          pair refl ((job_2, (drawn_before 0 2 (1, 3) ((1, 1) ∷ (0, 0) ∷ []), refl), refl, part_2), pair refl tt),
+          (job_1, ((1, omega arith, refl), refl), refl, part_1),
+          pair refl ((job_2, ((1, omega arith, refl), refl), refl, part_2), pair refl tt),
         ),
       ),
     )))
@@ -113,29 +98,27 @@ cut_unseen (drawn, (drawn', (lowered, (finish, rest)))) =
 
 pub error_not_lowered : ErrorNotLowered
 error_not_lowered (drawn, (drawn', (finish, rest))) =
-    absurd (contains-none (pair 0 (error 7 3).place) (finish.3.stops_lowered (error 7 3).place error_stops))
+    let lowered = finish.3.stops_lowered (error 7 3).place (error 7 3, (0, omega arith, refl), refl, refl) in
+    absurd (contains-none (pair 0 (error 7 3).place) lowered)
 
 -- what is left out of a part that is empty, and goes up to the error, lies past the error
 skipped : (cut : IsCut job_0.findings (Some (error 7 3).place) []) → ⊥
 skipped cut =
-    let first = overrun 6 1 in
-    let past : (error 7 3).place < first.place
-    = cut.past first (in_order-contains cut.left_out first (rw cut.together
-    (contains-in_order job_0.findings first (contains-here first (overrun 9 1 ∷ []))))) in
+    let among = contains-in_order job_0.findings (overrun 6 1) (contains-here (overrun 6 1) (overrun 9 1 ∷ [])) in
+    let past : (error 7 3).place < (overrun 6 1).place
+    = cut.past (overrun 6 1) (in_order-contains cut.left_out (overrun 6 1) (rw cut.together among)) in
     absurd (omega arith)
 
 pub all_skipped : AllSkipped
 all_skipped (drawn, (drawn', (lowered, (seen, ((j, at_work, is, right), rest))))) =
-    skipped (subst (λ (k : Job). IsCut k.findings (Some (error 7 3).place) []) (let same : j ≡ job_0 = cc in same)
-    right.cut)
+    let same : j ≡ job_0 = cc in skipped (rw same at right.cut)
 
 pub overrun_lowered : OverrunLowered
 overrun_lowered (drawn, ((number, j, at_work, got, of_it, stopping), rest)) =
     let zeroth : number ≡ 0 = ap (λ (x : ℕ × ℕ). x.1) (sym (contains-one (pair 0 0) (pair 0 number) at_work.0)) in
-    let first : Some job_0 ≡ Some j = subst (λ n. slice_get example.jobs n ≡ Some j) zeroth got in
+    let first = rw zeroth at got in
     let same : j ≡ job_0 = cc in
-    none_stops job_0.findings (overrun 6 1).place (pair refl (pair refl tt))
-    (subst (λ (k : Job). StopsAt k.findings (overrun 6 1).place) same stopping)
+    none_stops job_0.findings (overrun 6 1).place (pair refl (pair refl tt)) (rw same at stopping)
 
 pub ruleset two_workers = (two_workers_finish, two_workers_settle)
 

@@ -1,12 +1,12 @@
 -- What the machine of workers keeps true after each event, from which a finished run is settled.
-use Rattle.stop_desk.proofs.Words.{⊎_elim}
-use Rattle.stop_desk.proofs.Words.{AreAllowed, Bool, Contains, Draw, Event, Finish, HasConnections, IsAllowed, IsAtWork}
-use Rattle.stop_desk.proofs.Words.{IsGiven, IsLeast, IsPartOf, Job, JobStopsAt, List, Look, Lower, None, Option, Round}
-use Rattle.stop_desk.proofs.Words.{RoundState, RunSettles, Some, [], after_event, after_events, ap, arith, by_all}
-use Rattle.stop_desk.proofs.Words.{by_worker, cases_lt, eq-eqb, eqb-true, get_or-set_other, get_or-set_same, inl, inr}
-use Rattle.stop_desk.proofs.Words.{length, length-set, lesser, min, nat_tests, parts_of, refl, round_start, slice_get}
-use Rattle.stop_desk.proofs.Words.{slice_set, stop_of, subst, sym, ℕ, ℕ_discrete, ◌<◌, ◌==◌, ◌∙◌, ◌∷◌, ◌≡◌, ◌≤◌, ◌⊎◌}
-use Rattle.stop_desk.specs.code.Board.{Part}
+use Rattle.stop_desk.proofs.Words.{Bool, Contains, HasConnections, List, None, Option, RunSettles, Some, [], ap, arith}
+use Rattle.stop_desk.proofs.Words.{eq-eqb, eqb-true, get_or-set_other, get_or-set_same, inr, length, length-set}
+use Rattle.stop_desk.proofs.Words.{nat_tests, refl, slice_get, slice_set, stops, subst, sym, ℕ, ℕ_discrete, ◌<◌, ◌==◌}
+use Rattle.stop_desk.proofs.Words.{◌∙◌, ◌∷◌, ◌≡◌, ◌≤◌, ◌⊎◌}
+use Rattle.stop_desk.specs.code.Board.{IsGiven, IsLeast, IsPartOf, Job, JobStopsAt, Part, Round, parts_of, stop_of}
+use Rattle.stop_desk.specs.code.Rule.{Holds}
+use Rattle.stop_desk.specs.laws.Machine.{AreAllowed, Draw, Event, Finish, IsAllowed, IsAtWork, Look, Lower, RoundState}
+use Rattle.stop_desk.specs.laws.Machine.{after_event, after_events, by_all, by_worker, lesser, round_start}
 use Rattle.stop_desk.proofs.RoundMembers.{contains-none, contains-here, contains-later, contains-cases, contains-each}
 use Rattle.stop_desk.proofs.RoundMembers.{contains-pair, own-all, contains-own, map-contains, count-cons, count-some}
 use Rattle.stop_desk.proofs.RoundMembers.{some-count, contains-got}
@@ -38,28 +38,21 @@ Grows xs ys = (connection place : ℕ) → Contains xs (connection, place) → C
 
 pub part-grows : {seen lowered seen' lowered' : List (ℕ × ℕ)} {job : Job} {part : Part} → Grows seen seen' →
     Grows lowered lowered' → IsPartOf seen lowered job part → IsPartOf seen' lowered' job part
-part-grows {part} s l h = record {
-  of_connection = h.of_connection;
-  cut = h.cut;
-  upto_seen = λ place e. s part.connection place (h.upto_seen place e);
-  stops_lowered = λ place k. l part.connection place (h.stops_lowered place k);
-}
+part-grows s l h = grind (arith, s, l, h)
 
--- a least place is one of those
-pub least-holds : (Holds : ℕ → Type 0) (stop : Option ℕ) (place : ℕ) → stop ≡ Some place → IsLeast Holds stop →
-    Holds place
-least-holds Holds stop place e h = (rw e at h).0
+-- the least of places, where there is one
+pub least-some : (Holds : ℕ → Type 0) (stop : Option ℕ) (place : ℕ) → IsLeast Holds stop → Holds place →
+    (least : ℕ) × (stop ≡ Some least) × Holds least × ((q : ℕ) → Holds q → least ≤ q)
+least-some Holds None place h k = absurd (h place k)
+least-some Holds (Some least) place h k = (least, refl, h.0, h.1)
 
 -- the least of some places and one more
 least-lesser : (Holds Holds' : ℕ → Type 0) (stop : Option ℕ) (place : ℕ) → ((q : ℕ) → Holds q → Holds' q) →
     Holds' place → ((q : ℕ) → Holds' q → (place ≡ q) ⊎ Holds q) → IsLeast Holds stop →
     IsLeast Holds' (Some (lesser stop place))
 least-lesser Holds Holds' None place more here back h = (here, λ q k. grind (arith, back q k, h q))
-least-lesser Holds Holds' (Some stop) place more here back h = (
-  ⊎_elim (λ low. (let e : min stop place ≡ stop = omega arith in rw e (more stop h.0)))
-      (λ high. (let e : min stop place ≡ place = omega arith in rw e here)) (cases_lt stop place),
-  λ q k. grind (arith, back q k, h.1 q),
-)
+least-lesser Holds Holds' (Some stop) place more here back h =
+    (grind (arith, more stop h.0, here), λ q k. grind (arith, back q k, h.1 q))
 
 -- the least of some places is that of others, where at or before each of the ones there is one of the others
 pub least-moves : (Holds Holds' : ℕ → Type 0) (stop : Option ℕ) →
@@ -70,32 +63,17 @@ least-moves Holds Holds' (Some least) to from h =
     let above : (q : ℕ) → Holds' q → least ≤ q
     = λ q k. (let (p, low, is) = from q k in let l = h.1 p is in omega arith) in
     let (first, low, is) = to least h.0 in
-    let l = above first is in
-    let same : first ≡ least = omega arith in
+    let same : first ≡ least = omega (arith, above first is) in
     (rw same at is, above)
 
 -- at the start
 start-least : (round : Round) (connection : ℕ) (stop : Option ℕ) → stop_of round.opening_stops connection ≡ stop →
     IsLeast (IsGiven round [] connection) stop
-start-least round connection None e = λ place given. grind (arith, given)
-start-least round connection (Some least) e = (inl e, λ place given. grind (arith, given))
+start-least round connection None e = grind arith
+start-least round connection (Some least) e = grind arith
 
 start-kept : (round : Round) → IsKept round (round_start round)
-start-kept round = record {
-  draws = record {
-    below = λ worker number h. absurd (contains-none _ h);
-    by_one = λ one other number h. absurd (contains-none _ h);
-    parts_drawn = λ worker part h. absurd (contains-none _ h);
-    parts_once = λ job. omega arith;
-  };
-  parts = λ part h. absurd (contains-none part h);
-  places = record {
-    lowered_right = λ connection place h. absurd (contains-none _ h);
-    seen_right = λ connection place h. absurd (contains-none _ h);
-    stops_right = λ connection. start-least round connection _ refl;
-    wide = refl;
-  };
-}
+start-kept round = grind (arith, contains-none, start-least round)
 
 module _ (round : Round) (state : RoundState) (h : IsKept round state) where
   abbrev seen : List (ℕ × ℕ)
@@ -107,19 +85,13 @@ module _ (round : Round) (state : RoundState) (h : IsKept round state) where
   -- a number is drawn
   draw-kept : (worker number : ℕ) → number ≡ state.next → IsKept round (after_event state (Draw worker number))
   draw-kept worker number e =
-      let cases = contains-cases (worker, number) state.drawn in record {
+      let cases = contains-cases (worker, number) state.drawn in
+      let d = h.draws in record {
         draws = record {
-          below = λ w n k. grind (arith, cases (w, n) k, h.draws.below w n);
-          by_one = λ v w n j k. grind (
-            arith,
-            cases (v, n) j,
-            cases (w, n) k,
-            h.draws.below v n,
-            h.draws.below w n,
-            h.draws.by_one v w n,
-          );
-          parts_drawn = λ w part k. contains-later _ state.drawn _ (h.draws.parts_drawn w part k);
-          parts_once = h.draws.parts_once;
+          below = λ w n k. grind (arith, cases (w, n) k, d.below w n);
+          by_one = λ v w n j k. grind (arith, cases (v, n) j, cases (w, n) k, d.below v n, d.below w n, d.by_one v w n);
+          parts_drawn = λ w part k. contains-later _ state.drawn _ (d.parts_drawn w part k);
+          parts_once = d.parts_once;
         };
         parts = h.parts;
         places = h.places;
@@ -136,8 +108,7 @@ module _ (round : Round) (state : RoundState) (h : IsKept round state) where
     places = record {
       lowered_right = h.places.lowered_right;
       seen_right = contains-pair connection place seen (IsGiven round lowered)
-          (least-holds (IsGiven round lowered connection) _ place (sym e) (h.places.stops_right connection))
-          h.places.seen_right;
+          (rw (← e) at (h.places.stops_right connection)).0 h.places.seen_right;
       stops_right = h.places.stops_right;
       wide = h.places.wide;
     };
@@ -150,8 +121,7 @@ module _ (round : Round) (state : RoundState) (h : IsKept round state) where
     now = (connection, place) ∷ lowered
 
     given-more : (c q : ℕ) → IsGiven round lowered c q → IsGiven round now c q
-    given-more c q (inl e) = inl e
-    given-more c q (inr k) = inr (contains-later (connection, place) lowered (c, q) k)
+    given-more c q given = grind (arith, given, contains-later (connection, place) lowered (c, q))
 
     given-cases : (c q : ℕ) → IsGiven round now c q → ((connection ≡ c) × (place ≡ q)) ⊎ IsGiven round lowered c q
     given-cases c q given = grind (arith, contains-cases (connection, place) lowered (c, q))
@@ -166,8 +136,7 @@ module _ (round : Round) (state : RoundState) (h : IsKept round state) where
           (λ q k. grind (arith, given-cases connection q k)) (h.places.stops_right connection))))
       | no other ↦ rw (get_or-set_other state.stops connection c (Some _) None (λ e. other (sym e)))
           (least-moves (IsGiven round lowered c) _ _ (λ q k. (q, omega arith, given-more c q k))
-          (λ q k. (q, omega arith, elim (given-cases c q k) [ inl new ↦ absurd (other new.0) | inr old ↦ old ]))
-          (h.places.stops_right c))
+          (λ q k. (q, omega arith, grind (arith, given-cases c q k, other))) (h.places.stops_right c))
     ]
 
     lower-kept : IsKept round (after_event state (Lower worker connection place))
@@ -211,20 +180,11 @@ module _ (round : Round) (state : RoundState) (h : IsKept round state) where
 
     finish-kept : IsKept round (after_event state (Finish worker part))
     finish-kept = record {
-      draws = record {
-        below = h.draws.below;
-        by_one = h.draws.by_one;
-        parts_drawn = contains-pair worker part state.parts (λ w p. Contains state.drawn (w, p.job)) work.0
-            h.draws.parts_drawn;
-        parts_once = once;
-      };
-      parts = contains-each part (by_all state.parts) _ (
-        job,
-        is_job,
-        part-grows (λ c q. own-all worker state.seen (c, q))
-            (λ c q. own-all worker state.lowered (c, q)) is_part,
-      )
-          h.parts;
+      draws = grind (arith, contains-cases (worker, part) state.parts, h.draws, work.0, once);
+      parts =
+          (let of_all = part-grows (λ c q. own-all worker state.seen (c, q))
+          (λ c q. own-all worker state.lowered (c, q)) is_part in
+          contains-each part (by_all state.parts) _ (job, is_job, of_all) h.parts);
       places = h.places;
     }
 
@@ -246,7 +206,7 @@ events-kept round has state (event ∷ events) a h =
 pub run_settles_lem : RunSettles
 run_settles_lem round has events allowed finished =
     let h = events-kept round has (round_start round) events allowed (start-kept round) in record {
-      one_part_each = λ job l. (let n = finished job l in let once = h.draws.parts_once job in omega arith);
+      one_part_each = λ job l. omega (arith, finished job l, h.draws.parts_once job);
       parts_of_jobs = h.parts;
       lowered_real = h.places.lowered_right;
       seen_given = h.places.seen_right;

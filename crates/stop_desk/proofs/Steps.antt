@@ -1,84 +1,25 @@
 -- How the parts of the rule go over a step, that each step of a pass keeps the rule, and what its play says.
-use Rattle.stop_desk.proofs.Words.{Allows, Dealt, Fits, Holds, Joins, Kept, Knows, List, Lowers, Opening, PassState}
-use Rattle.stop_desk.proofs.Words.{Sees, Splits, State, Stops, [], allowance_in, ap, arith, cases_lt, drawn_by}
-use Rattle.stop_desk.proofs.Words.{drawn_in, draws_in, get_elem?, get_or, get_or-set_other, get_or-set_same, given_part}
-use Rattle.stop_desk.proofs.Words.{if◌then◌else◌, inl, inr, is_mark, is_number, joined, keeps, kept_part, knows, le-ltb}
-use Rattle.stop_desk.proofs.Words.{learned_by, length, length-append, length-set, lowered_by, lowered_in, min, nat_lt}
-use Rattle.stop_desk.proofs.Words.{nat_tests, none, once_below, opening, opening_view, past_places, refl, seen_by}
-use Rattle.stop_desk.proofs.Words.{seen_in, set, set-get_or, share, some, some-ne-none, spent, step, subst, sym, times}
-use Rattle.stop_desk.proofs.Words.{weigh, ℕ, ℕ_discrete, ◌%◌, ◌++◌, ◌+◌, ◌-◌, ◌<◌, ◌^◌, ◌∙◌, ◌∷◌, ◌≡◌, ◌≤◌}
+use Rattle.stop_desk.proofs.Words.{Allows, Joins, Knows, List, Opening, PassState, Sees, Splits, State, [], ap, arith}
+use Rattle.stop_desk.proofs.Words.{cases_lt, get_elem?, get_or, get_or-set_other, get_or-set_same, if◌then◌else◌, inl}
+use Rattle.stop_desk.proofs.Words.{inr, is_mark, is_number, joined, keeps, length, length-append, length-set, min}
+use Rattle.stop_desk.proofs.Words.{nat_lt, nat_tests, none, past_places, refl, set, some, step, subst, times, weigh, ℕ}
+use Rattle.stop_desk.proofs.Words.{ℕ_discrete, ◌%◌, ◌++◌, ◌+◌, ◌-◌, ◌<◌, ◌^◌, ◌∙◌, ◌∷◌, ◌≡◌, ◌≤◌}
 use Rattle.atomic_table.proofs.Lists.{at_set, at_snoc, set_again}
-use Rattle.stop_desk.proofs.Weights.{weigh-set, weigh-snoc, weigh-append, weigh-same, weigh-part, weigh-split}
-use Rattle.stop_desk.proofs.Weights.{weigh-join, seen-cases}
-
--- a step from the words and views of a state to others
-module _ (o : Opening) (s : State (Unit {0}) Knows) (h : Holds o s) (words : List ℕ) (views : List Knows)
-    (long : length words ≡ length s.words) where
-  -- draws are kept where word 0 and the sums are
-  dealt-kept : get_or words 0 0 ≡ get_or s.words 0 0 → weigh allowance_in views ≡ weigh allowance_in s.views
-      → weigh draws_in views ≡ weigh draws_in s.views
-      → ((x : ℕ) → weigh (drawn_in x) views ≡ weigh (drawn_in x) s.views) → Dealt o.whole words views
-  dealt-kept same allowances draws drawn = record {
-    in_word = h.0.in_word;
-    some_word = omega (arith, h.0.some_word);
-    whole_is = omega (arith, h.0.whole_is);
-    lengths = omega (arith, h.0.lengths);
-    each_once = λ x. drawn x ∙ h.0.each_once x ∙ ap (once_below x) (sym same);
-  }
-
-  -- stops are kept where the stop words and the sums are
-  stops-kept : ((c : ℕ) → get_or words (c + 1) 0 ≡ get_or s.words (c + 1) 0)
-      → ((c p : ℕ) → weigh (lowered_in c p) views ≡ weigh (lowered_in c p) s.views)
-      → ((c p : ℕ) → weigh (seen_in c p) views ≡ weigh (seen_in c p) s.views) → Stops o.words.items words views
-  stops-kept same lowered seen = record {
-    wide = long ∙ h.1.wide;
-    below_opening = λ c. omega (arith, same c, h.1.below_opening c);
-    below_lowered = λ c p there. rw (same c) (h.1.below_lowered c p (rw (lowered c p) at there));
-    below_seen = λ c p there. rw (same c, lowered c p) (h.1.below_seen c p (rw (seen c p) at there));
-    reached = λ c. rw (same c, lowered c (get_or s.words (c + 1) 0)) (h.1.reached c);
-  }
+use Rattle.std.proofs.lemmas.List.{set-get_or}
+use Rattle.stop_desk.specs.code.Plays.{Lowers, drawn_by, given_part, kept_part, learned_by, lowered_by, seen_by, spent}
+use Rattle.stop_desk.specs.code.Rule.{Fits, Holds, Kept, allowance_in, drawn_in, knows, lowered_in, seen_in, share}
+use Rattle.stop_desk.proofs.Weights.{weigh-set, weigh-snoc, weigh-append, weigh-part}
+use Rattle.stop_desk.proofs.Weights.{seen-cases}
 
 pub fits-set : (opened : List ℕ) (views : List Knows) (id : ℕ) (w : Knows) → Fits opened w
     → ((j : ℕ) (u : Knows) → get_elem? views j ≡ some u → Fits opened u)
     → (j : ℕ) (u : Knows) → get_elem? (set views id w) j ≡ some u → Fits opened u
-fits-set opened views id w new all j u at =
-    elim (at_set views id j w u at) [ inl here ↦ rw here.1 at new | inr there ↦ all j u there.1 ]
+fits-set opened views id w new all j u at = grind (arith, at_set views id j w u at, all j u, new)
 
 pub fits-snoc : (opened : List ℕ) (views : List Knows) (w : Knows) → Fits opened w
     → ((j : ℕ) (u : Knows) → get_elem? views j ≡ some u → Fits opened u)
     → (j : ℕ) (u : Knows) → get_elem? (views ++ w ∷ []) j ≡ some u → Fits opened u
-fits-snoc opened views w new all j u at =
-    elim (at_snoc views w u j at) [ inl there ↦ all j u there | inr is ↦ rw is at new ]
-
--- a pass with a share knows what the desk was opened with
-pub fits-sharing : (opened : List ℕ) (v w : Knows) → Fits opened v → w.opened ≡ v.opened
-    → 0 < length v.drawn + v.allowance → 0 < length w.drawn + w.allowance → Fits opened w
-fits-sharing opened v w fits same some_share some_share' = record {
-  idle = λ none. absurd (omega arith);
-  knowing = λ _. same ∙ fits.knowing some_share;
-}
-
--- at the start
-pub starts : (o : Opening) → o.whole < 2 ^ 64 → 0 < length o.words.items → get_or o.words.items 0 0 ≡ 0
-    → Holds o (opening {S = Unit {0}} o.words.items [] (opening_view o))
-starts o fits wide zeroth = (
-  record {
-    in_word = fits;
-    some_word = wide;
-    whole_is = omega arith;
-    lengths = sym zeroth;
-    each_once = λ x. rw (zeroth, le-ltb x 0 (omega arith)) refl;
-  },
-  record {
-    wide = refl;
-    below_opening = λ c. omega arith;
-    below_lowered = λ c p there. absurd (omega arith);
-    below_seen = λ c p there. absurd (omega arith);
-    reached = λ c. inl refl;
-  },
-  fits-snoc o.words.items [] (opening_view o) (record { idle = λ _. (refl, refl); knowing = λ _. refl })
-      (λ j u at. absurd (some-ne-none u (sym at))),
-)
+fits-snoc opened views w new all j u at = grind (arith, at_snoc views w u j at, all j u, new)
 
 -- a step of the pass `id`, which knew v
 module _ (o : Opening) (s : State (Unit {0}) Knows) (id : ℕ) (v : Knows) (h : Holds o s)
@@ -90,9 +31,6 @@ module _ (o : Opening) (s : State (Unit {0}) Knows) (id : ℕ) (v : Knows) (h : 
   abbrev after : Knows → List Knows
   after w = set s.views id w
 
-  same : (f : Knows → ℕ) (w : Knows) → f w ≡ f v → weigh f (after w) ≡ weigh f s.views
-  same f w e = weigh-same f s.views id v w at e
-
   changed : (f : Knows → ℕ) (w : Knows) → weigh f (after w) + f v ≡ weigh f s.views + f w
   changed f w = weigh-set f s.views id v w at
 
@@ -101,8 +39,7 @@ module _ (o : Opening) (s : State (Unit {0}) Knows) (id : ℕ) (v : Knows) (h : 
 
   fits : (w : Knows) → w.opened ≡ v.opened → 0 < share v → 0 < share w → (j : ℕ) (u : Knows)
       → get_elem? (after w) j ≡ some u → Fits opened u
-  fits w e some_share some_share' =
-      fits-set opened s.views id w (fits-sharing opened v w (h.2 id v at) e some_share some_share') h.2
+  fits w e some_share some_share' = fits-set opened s.views id w (grind (arith, h.2 id v at)) h.2
 
   -- a draw
   abbrev drew : Knows
@@ -116,22 +53,17 @@ module _ (o : Opening) (s : State (Unit {0}) Knows) (id : ℕ) (v : Knows) (h : 
       = omega (arith, h.0.whole_is, h.0.in_word, part allowance_in) in
       let next : get_or words 0 0 ≡ n + 1 = get_or-set_same s.words 0 _ 0 h.0.some_word ∙ wraps in
       let more = length-append v.drawn (n ∷ []) in
-      let long : length words ≡ length s.words = length-set s.words 0 _ in (
+      let long : length words ≡ length s.words = length-set s.words 0 _ in
+      let other : (c : ℕ) → get_or words (c + 1) 0 ≡ get_or s.words (c + 1) 0
+      = λ c. get_or-set_other s.words 0 (c + 1) _ 0 (λ e. omega arith) in (
+        grind (arith, nat_tests, h.0, changed, λ (x : ℕ). weigh-snoc (is_number x) v.drawn n),
         record {
-          in_word = h.0.in_word;
-          some_word = omega (arith, h.0.some_word);
-          whole_is = omega (arith, h.0.whole_is, changed allowance_in drew);
-          lengths = omega (arith, h.0.lengths, changed draws_in drew);
-          each_once = λ x. rw next (grind (
-            arith,
-            nat_tests,
-            h.0.each_once x,
-            changed (drawn_in x) drew,
-            weigh-snoc (is_number x) v.drawn n,
-          ));
+          wide = long ∙ h.1.wide;
+          below_opening = grind (arith, other, h.1.below_opening);
+          below_lowered = grind (arith, other, changed, h.1.below_lowered);
+          below_seen = grind (arith, other, changed, h.1.below_seen);
+          reached = λ c. rw (other c) (grind (arith, changed, h.1.reached c));
         },
-        stops-kept o s h words (after drew) long (λ c. get_or-set_other s.words 0 (c + 1) _ 0 (λ e. omega arith))
-            (λ c p. same (lowered_in c p) drew refl) (λ c p. same (seen_in c p) drew refl),
         fits drew refl (omega arith) (omega arith),
       )
 
@@ -149,35 +81,15 @@ module _ (o : Opening) (s : State (Unit {0}) Knows) (id : ℕ) (v : Knows) (h : 
   -- what the pass knew of connection c is not below the stop word
   sees-below : (c : ℕ) (me : PassState) → 0 < share v →
       Sees c (v, me.1) (get_or s.words (c + 1) 0) (saw c, me.1)
-  sees-below c me some_share = record {
-    opening = subst (λ os. get_or s.words (c + 1) 0 ≤ get_or os (c + 1) 0) (sym ((h.2 id v at).knowing some_share))
-        (h.1.below_opening c);
-    lowered = λ p there. h.1.below_lowered c p (omega (arith, part (lowered_in c p)));
-    seen = λ p there.
-        (let (low, place, given) = h.1.below_seen c p (omega (arith, part (seen_in c p))) in (low, place));
-    added = refl;
-  }
+  sees-below c me some_share =
+      let opened = (h.2 id v at).knowing some_share in
+      grind (arith, h.1, λ (p : ℕ). part (lowered_in c p), λ (p : ℕ). part (seen_in c p))
 
   look-kept : (c : ℕ) → 0 < share v → Kept o.whole opened s.words (after (saw c))
   look-kept c some_share =
       let n : ℕ = get_or s.words (c + 1) 0 in
-      let w : Knows = saw c in
-      let low : (c' p : ℕ) → weigh (lowered_in c' p) (after w) ≡ weigh (lowered_in c' p) s.views
-      = λ c' p. same (lowered_in c' p) w refl in (
-        dealt-kept o s h s.words (after w) refl refl (same allowance_in w refl) (same draws_in w refl)
-            (λ x. same (drawn_in x) w refl),
-        record {
-          wide = h.1.wide;
-          below_opening = h.1.below_opening;
-          below_lowered = λ c' p there. h.1.below_lowered c' p (rw (low c' p) at there);
-          below_seen = λ c' p there. rw (low c' p) (elim (seen-cases (nat_lt n past_places) c' p c n v.seen refl) [
-            | inl old ↦ h.1.below_seen c' p (omega (arith, changed (seen_in c' p) w))
-            | inr (on, at, place) ↦ rw (on, at) (omega arith, place, h.1.reached c)
-          ]);
-          reached = λ c'. rw (low c' (get_or s.words (c' + 1) 0)) (h.1.reached c');
-        },
-        fits w refl some_share some_share,
-      )
+      let cases = λ (c' p : ℕ). seen-cases (nat_lt n past_places) c' p c n v.seen refl in
+      (grind (arith, h.0, changed), grind (arith, h.1, changed, cases), fits (saw c) refl some_share some_share)
 
   -- a lowering of the stop of connection c to p
   abbrev lowered : (c p : ℕ) → Knows
@@ -193,39 +105,28 @@ module _ (o : Opening) (s : State (Unit {0}) Knows) (id : ℕ) (v : Knows) (h : 
       let w : Knows = lowered c p in
       let words : List ℕ = fallen c p in
       let long : length words ≡ length s.words = length-set s.words (c + 1) (min n p) in
-      let inside : c + 1 < length s.words =
-      (let wide : length v.opened ≡ length opened = ap length ((h.2 id v at).knowing some_share) in
-      let wide' = h.1.wide in omega arith) in
+      let inside : c + 1 < length s.words = omega (arith, ap length ((h.2 id v at).knowing some_share), h.1.wide) in
       let here : get_or words (c + 1) 0 ≡ min n p = get_or-set_same s.words (c + 1) (min n p) 0 inside in
-      let elsewhere = λ (c' : ℕ) (apart : c' ≡ c → ⊥).
-      get_or-set_other s.words (c + 1) (c' + 1) (min n p) 0 (λ e. apart (omega arith)) in
+      let other : (c' : ℕ) → (c' ≡ c → ⊥) → get_or words (c' + 1) 0 ≡ get_or s.words (c' + 1) 0
+      = λ c' apart. get_or-set_other s.words (c + 1) (c' + 1) (min n p) 0 (λ e. apart (omega arith)) in
       let falls : (c' : ℕ) → get_or words (c' + 1) 0 ≤ get_or s.words (c' + 1) 0
-      = λ c'. (elim (ℕ_discrete c' c) [
-        | yes is ↦ rw is (omega arith)
-        | no apart ↦ (let e = elsewhere c' apart in omega arith)
-      ]) in
-      let more : (c' p' : ℕ) → weigh (lowered_in c' p') (after w) ≡ weigh (lowered_in c' p') s.views
-      + is_mark c' p' (c, p) =
-      λ c' p'. (let sum = changed (lowered_in c' p') w in
-      let marked = weigh-snoc (is_mark c' p') v.lowered (c, p) in omega arith) in (
-        dealt-kept o s h words (after w) long
-            (get_or-set_other s.words (c + 1) 0 (min n p) 0 (λ e. omega arith)) (same allowance_in w refl)
-            (same draws_in w refl) (λ x. same (drawn_in x) w refl),
+      = λ c'. grind (arith, nat_tests, here, other c') in
+      let marked = λ (c' p' : ℕ). weigh-snoc (is_mark c' p') v.lowered (c, p) in (
+        grind (arith, h.0, changed, get_or-set_other s.words (c + 1) 0 (min n p) 0 (λ e. omega arith)),
         record {
           wide = long ∙ h.1.wide;
-          below_opening = λ c'. omega (arith, falls c', h.1.below_opening c');
-          below_lowered = λ c' p' there. grind (arith, nat_tests, more c' p', falls c', here, h.1.below_lowered c' p');
-          below_seen = λ c' p' there.
-              (let (low, is, given) = h.1.below_seen c' p' (rw (same (seen_in c' p') w refl) at there) in
-              (omega (arith, falls c'), is, grind (arith, more c' p', given)));
+          below_opening = grind (arith, falls, h.1.below_opening);
+          below_lowered = λ c' p' there.
+              grind (arith, nat_tests, changed, marked c' p', falls c', here, h.1.below_lowered c' p');
+          below_seen = λ c' p' there. grind (arith, changed, marked c' p', falls c', h.1.below_seen c' p');
           reached = λ c'. elim (ℕ_discrete c' c) [
             | yes is ↦ rw is (elim (cases_lt p n) [
               | inl falls ↦ (let low : get_or words (c + 1) 0 ≡ p = omega arith in
-                  rw low (inr (grind (arith, nat_tests, more c p))))
+                  rw low (inr (grind (arith, nat_tests, changed, marked c p))))
               | inr stays ↦ (let low : get_or words (c + 1) 0 ≡ n = omega arith in
-                  rw low (grind (arith, more c n, h.1.reached c)))
+                  rw low (grind (arith, changed, marked c n, h.1.reached c)))
             ])
-            | no apart ↦ rw (elsewhere c' apart) (grind (arith, more c' (get_or s.words (c' + 1) 0), h.1.reached c'))
+            | no apart ↦ rw (other c' apart) (grind (arith, changed, marked c', h.1.reached c'))
           ];
         },
         fits w refl some_share some_share,
@@ -237,15 +138,10 @@ module _ (o : Opening) (s : State (Unit {0}) Knows) (id : ℕ) (v : Knows) (h : 
   split-kept amount some_part less =
       let left : Knows = kept_part amount v in
       let right : Knows = given_part amount v in
-      let views : List Knows = after left ++ right ∷ [] in
-      let sum = λ (f : Knows → ℕ) (whole : f left + f right ≡ f v). weigh-split f s.views id v left right at whole in (
-        dealt-kept o s h s.words views refl refl (sum allowance_in (omega arith))
-            (sum draws_in (omega arith)) (λ x. sum (drawn_in x) (omega arith)),
-        stops-kept o s h s.words views refl (λ c. refl) (λ c p. sum (lowered_in c p) (omega arith))
-            (λ c p. sum (seen_in c p) (omega arith)),
-        fits-snoc opened (after left) right
-            (fits-sharing opened v right (h.2 id v at) refl (omega arith) (omega arith))
-            (fits left refl (omega arith) (omega arith)),
+      let more = λ (f : Knows → ℕ). weigh-snoc f (after left) right in (
+        grind (arith, h.0, changed, more),
+        grind (arith, h.1, changed, more),
+        fits-snoc opened (after left) right (grind (arith, h.2 id v at)) (fits left refl (omega arith) (omega arith)),
       )
 
   -- and one of two
@@ -254,29 +150,19 @@ module _ (o : Opening) (s : State (Unit {0}) Knows) (id : ℕ) (v : Knows) (h : 
   join-kept other w at' some_share =
       let both : Knows = joined v w in
       let views : List Knows = set (after both) other spent in
-      let sum = λ (f : Knows → ℕ) (whole : f both + f spent ≡ f v + f w).
-      weigh-join f s.views id other v w both spent at at' whole in
+      let sum : (f : Knows → ℕ) → weigh f views + f v + f w ≡ weigh f s.views + f both + f spent
+      = λ f. omega (arith, changed f both, weigh-set f (after both) other w spent at') in
       let longer = length-append v.drawn w.drawn in (
-        dealt-kept o s h s.words views refl refl (sum allowance_in (omega arith))
-            (sum draws_in (omega arith))
-            (λ x. sum (drawn_in x) (let all = weigh-append (is_number x) v.drawn w.drawn in omega arith)),
-        stops-kept o s h s.words views refl (λ c. refl)
-            (λ c p. sum (lowered_in c p) (let all = weigh-append (is_mark c p) v.lowered w.lowered in omega arith))
-            (λ c p. sum (seen_in c p) (let all = weigh-append (is_mark c p) v.seen w.seen in omega arith)),
-        fits-set opened (after both) other spent
-            (record { idle = λ _. (refl, refl); knowing = λ low. absurd (omega arith) })
-            (fits both refl some_share (omega arith)),
+        grind (arith, h.0, sum, λ (x : ℕ). weigh-append (is_number x) v.drawn w.drawn),
+        grind (arith, h.1, sum, λ (c p : ℕ). weigh-append (is_mark c p)),
+        fits-set opened (after both) other spent (grind arith) (fits both refl some_share (omega arith)),
       )
 
 pub draws : (o : Opening) (slots id : ℕ) (me : PassState) → 0 < me.0.allowance
     → Allows (Holds o) slots id me 0 (λ n. (n + 1) % 2 ^ 64) (drawn_by (step slots 0 1 0 none) me)
-draws o slots id me left s h _ at _ = (
-  drew o s id me.0 h at,
-  keeps,
-  tt,
-  draw-kept o s id me.0 h at left,
-  (omega arith, draw-fresh o s id me.0 h at, refl),
-)
+draws o slots id me left s h _ at _ =
+    let drawn = draw-fresh o s id me.0 h at in
+    (drew o s id me.0 h at, keeps, tt, draw-kept o s id me.0 h at left, (omega arith, drawn, refl))
 
 pub sees : (o : Opening) (slots id : ℕ) (me : PassState) (c : ℕ) → 0 < share me.0
     → Allows (Holds o) slots id me (c + 1) (λ n. n) (seen_by (step slots (c + 1) 0 0 none) me)

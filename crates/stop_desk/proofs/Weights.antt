@@ -17,53 +17,28 @@ module _ {X : Type 0} where
   weigh-set f (x ∷ xs) zero v w at = let same : f x ≡ f v = ap f (some-injective x v at) in omega arith
   weigh-set f (x ∷ xs) (suc i) v w at = let rest = weigh-set f xs i v w at in omega arith
 
-  pub weigh-same : (f : X → ℕ) (xs : List X) (i : ℕ) (v w : X) → get_elem? xs i ≡ some v → f w ≡ f v
-      → weigh f (set xs i w) ≡ weigh f xs
-  weigh-same f xs i v w at same = let sum = weigh-set f xs i v w at in omega arith
-
   pub weigh-part : (f : X → ℕ) (xs : List X) (i : ℕ) (v : X) → get_elem? xs i ≡ some v → f v ≤ weigh f xs
   weigh-part f [] i v at = absurd (some-ne-none v (sym at))
   weigh-part f (x ∷ xs) zero v at = let same : f x ≡ f v = ap f (some-injective x v at) in omega arith
   weigh-part f (x ∷ xs) (suc i) v at = let rest = weigh-part f xs i v at in omega arith
-
-  pub weigh-split : (f : X → ℕ) (xs : List X) (i : ℕ) (v left right : X) → get_elem? xs i ≡ some v
-      → f left + f right ≡ f v → weigh f (set xs i left ++ right ∷ []) ≡ weigh f xs
-  weigh-split f xs i v left right at whole =
-      let sum = weigh-set f xs i v left at in
-      let all = weigh-snoc f (set xs i left) right in
-      omega arith
-
-  pub weigh-join : (f : X → ℕ) (xs : List X) (i j : ℕ) (v w both spent : X) → get_elem? xs i ≡ some v
-      → get_elem? (set xs i both) j ≡ some w → f both + f spent ≡ f v + f w
-      → weigh f (set (set xs i both) j spent) ≡ weigh f xs
-  weigh-join f xs i j v w both spent at other whole =
-      let sum = weigh-set f xs i v both at in
-      let sum' = weigh-set f (set xs i both) j w spent other in
-      omega arith
 
   -- where f weighs nothing, and g nothing of what f weighs nothing, g weighs nothing
   weigh-nothing : (f g : X → ℕ) (xs : List X) → weigh f xs ≡ 0
       → ((i : ℕ) (x : X) → get_elem? xs i ≡ some x → f x ≡ 0 → g x ≡ 0) → weigh g xs ≡ 0
   weigh-nothing f g [] none idle = omega arith
   weigh-nothing f g (x ∷ xs) none idle =
-      let here = idle 0 x (λ _. some x) (omega arith) in
-      let rest = weigh-nothing f g xs (omega arith) (λ i y at. idle (suc i) y at) in
-      omega arith
+      omega (arith, idle 0 x (λ _. some x), weigh-nothing f g xs (omega arith) (λ i. idle (suc i)))
 
   -- who has the whole weight of f has the whole of each g that is nothing where f is
   pub weigh-whole : (f g : X → ℕ) (xs : List X) (i : ℕ) (v : X) → get_elem? xs i ≡ some v → weigh f xs ≡ f v
       → ((j : ℕ) (x : X) → get_elem? xs j ≡ some x → f x ≡ 0 → g x ≡ 0) → weigh g xs ≡ g v
   weigh-whole f g [] i v at whole idle = absurd (some-ne-none v (sym at))
   weigh-whole f g (x ∷ xs) zero v at whole idle =
-      let same : f x ≡ f v = ap f (some-injective x v at) in
-      let same' : g x ≡ g v = ap g (some-injective x v at) in
-      let rest = weigh-nothing f g xs (omega arith) (λ j y there. idle (suc j) y there) in
-      omega arith
+      let same = some-injective x v at in
+      omega (arith, ap f same, ap g same, weigh-nothing f g xs (omega (arith, ap f same)) (λ j. idle (suc j)))
   weigh-whole f g (x ∷ xs) (suc i) v at whole idle =
       let part = weigh-part f xs i v at in
-      let here = idle 0 x (λ _. some x) (omega arith) in
-      let rest = weigh-whole f g xs i v at (omega arith) (λ j y there. idle (suc j) y there) in
-      omega arith
+      omega (arith, idle 0 x (λ _. some x), weigh-whole f g xs i v at (omega arith) (λ j. idle (suc j)))
 
 -- what a look adds to the places seen is a place
 pub seen-cases : (b : Bool) (c p c' n : ℕ) (ms : List (ℕ × ℕ)) → b ≡ nat_lt n past_places

@@ -1,17 +1,17 @@
 -- A job that is done, and what a worker has done after one draw more, and when no job is left.
-use Rattle.stop_desk.proofs.Words.{All, AllByRecursion, Asked, BoardPart, Contains, Contains-append_cases, ⊎_elim}
-use Rattle.stop_desk.proofs.Words.{Contains-append_left, Contains-append_right, Contains-push_cases, DeskId, DoesJob}
-use Rattle.stop_desk.proofs.Words.{Draws, DrewJobs, Finding, IsAllWorked, IsClaim, IsConnection, IsCut, IsLaid, IsLook}
-use Rattle.stop_desk.proofs.Words.{IsWorked, Job, List, Looked, None, Option, Part, PassView, Some, StopsAt, [], ap}
-use Rattle.stop_desk.proofs.Words.{append-nil, append_assoc, arith, cases_lt, eqb, false, filter, flat_map, get_or}
-use Rattle.stop_desk.proofs.Words.{if◌then◌else◌, inl, inr, is_number, length, length-append, list_any, map, map-append}
-use Rattle.stop_desk.proofs.Words.{nat_tests, part_of, parts_of, pass_draws, pass_of, refl, slice_get, slice_get-get_or}
-use Rattle.stop_desk.proofs.Words.{stops, stops_on, subst, sum_by-append, sym, times, true, ℕ, ◌++◌, ◌+◌, ◌<◌, ◌==◌}
-use Rattle.stop_desk.proofs.Words.{◌∙◌, ◌∷◌, ◌≡◌, ◌≤◌}
-use Rattle.std.proofs.lemmas.Map.Steps.{length-le_from_distinct_below}
-use Rattle.std.specs.List.{IsDistinct}
+use Rattle.stop_desk.proofs.Words.{All, Asked, Contains, Contains-append_cases, Contains-append_right, DeskId, DoesJob}
+use Rattle.stop_desk.proofs.Words.{Draws, DrewJobs, Finding, IsAllWorked, IsClaim, IsConnection, IsLaid, IsLook}
+use Rattle.stop_desk.proofs.Words.{IsWorked, List, Looked, None, Option, Part, PassView, Some, [], ap, append-nil}
+use Rattle.stop_desk.proofs.Words.{append_assoc, arith, filter, flat_map, get_or, if◌then◌else◌, inl, inr, is_number}
+use Rattle.stop_desk.proofs.Words.{joined, length, length-append, map, nat_tests, not, part_of, pass_draws, pass_of}
+use Rattle.stop_desk.proofs.Words.{refl, slice_get, slice_get-get_or, stops, stops_on, subst, suc, sum_by-append, sym}
+use Rattle.stop_desk.proofs.Words.{times, zero, ℕ, ⊎_elim, ◌++◌, ◌+◌, ◌<◌, ◌==◌, ◌∙◌, ◌∷◌, ◌≡◌, ◌≤◌}
+use Rattle.std.proofs.lemmas.List.{map-append}
+use Rattle.std.proofs.lemmas.List.Elements.{Contains-append_left, Contains-push_cases}
+use Rattle.stop_desk.specs.code.Board.{IsCut, Job, Part as BoardPart, StopsAt, parts_of}
 use Rattle.stop_desk.specs.declared.claims.Claim.{Claim}
-use Rattle.stop_desk.specs.declared.claims.Claim.TheVariants.{Spent, Job as Drawn, Done}
+use Rattle.stop_desk.specs.declared.claims.Claim.TheVariants.{Done, Job as Drawn, Spent}
+use Rattle.stop_desk.specs.declared.desk_looks.DeskLook.{DeskLook}
 use Rattle.stop_desk.proofs.RoundMembers.{pair, contains-none, contains-here, contains-one, contains-got, contains-map}
 use Rattle.stop_desk.proofs.RoundMembers.{map-contains, contains-in_order, in_order-contains, contains-filter}
 use Rattle.stop_desk.proofs.RoundMembers.{filter-contains, count-cons, contains-flat_map, flat_map-contains}
@@ -56,23 +56,20 @@ saw_more pass more = pass_of pass.desk pass.allowance pass.drawn (pass.seen ++ m
 
 one-look : (c : ℕ) (before between : PassView) (answer : Option ℕ) (more : List (ℕ × ℕ)) →
     IsLook c before answer between → saw_more between more ≡ saw_more before (answer_on c answer ++ more)
-one-look c before between None more look = ap (λ v. saw_more v more) look.0
-one-look c before between (Some place) more look =
-    ap (λ v. saw_more v more) look.3
-    ∙ ap (λ s. pass_of before.desk before.allowance before.drawn s before.lowered)
-    (append_assoc before.seen ((c, place) ∷ []) more)
+one-look c before between None more look = rw look.0
+one-look c before between (Some place) more look = rw (look.3, append_assoc before.seen)
 
-module _ {L : Type 0} (answers : L → List Finding → Option ℕ → L → Type 0) (pass : L → PassView) (c : ℕ)
-    (IsOn : L → Type 0)
-    (is_look : (s : L) (found : List Finding) (answer : Option ℕ) (t : L) → IsOn s → answers s found answer t →
-    IsOn t × IsLook c (pass s) answer (pass t)) where
-  pub watched : (before : L) (asked : List Asked) (after : L) → IsOn before → Looked answers before asked after →
-      pass after ≡ saw_more (pass before) (answers_on c asked)
-  watched before [] after on h = rw (append-nil (pass before).seen) (ap pass (sym h))
-  watched before (first ∷ rest) after on (between, step, others) =
-      let (still, look) = is_look before first.handed first.answer between on step in
-      watched between rest after still others
-      ∙ one-look c (pass before) (pass between) first.answer (answers_on c rest) look
+-- what a look at a desk says
+abbrev LooksAt : DeskLook → List Finding → Option ℕ → DeskLook → Type 0
+LooksAt before found answer after = (after.connection ≡ before.connection) × (after.desk.now ≡ before.desk.now)
+    × IsLook before.connection before.pass answer after.pass
+
+pub watched : (before : DeskLook) (asked : List Asked) (after : DeskLook) → Looked LooksAt before asked after →
+    after.pass ≡ saw_more before.pass (answers_on before.connection asked)
+watched before [] after h = rw (append-nil before.pass.seen) (ap (λ (l : DeskLook). l.pass) (sym h))
+watched before (first ∷ rest) after (between, (on, _, look), others) =
+    rw on at (watched between rest after others)
+    ∙ one-look before.connection before.pass between.pass first.answer (answers_on before.connection rest) look
 
 pub no_job : Job
 no_job = record { connection = 0; findings = [] }
@@ -113,20 +110,16 @@ module _ {M : Type 0} (makes : ℕ → Option ℕ → M → Type 0) (jobs : List
         kept = refl;
         seen_kept = λ c p. Contains-append_left before.seen answers (c, p);
         lowered_kept = λ c p. Contains-append_left before.lowered errors (c, p);
-        seen_there = λ c p k. elim (Contains-append_cases before.seen answers (c, p) k) [
-          | inl old ↦ inl old
-          | inr new ↦ (let (one, among, is) = flat_map-contains _ asked (c, p) new in
-              inr (job-there before.desk jobs part.job c lt all
-              (sym (answer-on part.connection c p one.answer is) ∙ connection_is)))
-        ];
-        lowered_real = λ c p k. elim (Contains-append_cases before.lowered errors (c, p) k) [
-          | inl old ↦ inl old
-          | inr new ↦ (let job = job_at jobs part.job in
-              let (is, stopping) = stops_on-contains part.connection part.findings.items c p new in
-              let whole = cut-stops job.findings part.upto part.findings.items p cut stopping in
-              let among = contains-got jobs part.job job (at-job jobs part.job lt) in
-              inr (job, among, sym connection_is ∙ is, whole))
-        ];
+        seen_there = λ c p k. ⊎_elim inl (λ new. (let (one, among, is) = flat_map-contains _ asked (c, p) new in
+            inr (job-there before.desk jobs part.job c lt all
+            (sym (answer-on part.connection c p one.answer is) ∙ connection_is))))
+            (Contains-append_cases before.seen answers (c, p) k);
+        lowered_real = λ c p k. ⊎_elim inl (λ new. (let job = job_at jobs part.job in
+            let (is, stopping) = stops_on-contains part.connection part.findings.items c p new in
+            let among = contains-got jobs part.job job (at-job jobs part.job lt) in
+            let whole = cut-stops job.findings part.upto part.findings.items p cut stopping in
+            inr (job, among, sym connection_is ∙ is, whole)))
+            (Contains-append_cases before.lowered errors (c, p) k);
       },
       record {
         in_round = in_round;
@@ -145,24 +138,24 @@ module _ {M : Type 0} (makes : ℕ → Option ℕ → M → Type 0) (jobs : List
       },
     )
 
+-- a list without a number
+without : (n x : ℕ) (xs : List ℕ) → times x (filter (λ y. not (y == n)) xs) ≡ (if x == n then 0 else times x xs)
+without n x [] = grind (arith, nat_tests)
+without n x (y ∷ ys) = grind (arith, nat_tests, without n x ys)
+
+length-without : (n : ℕ) (xs : List ℕ) → length (filter (λ y. not (y == n)) xs) + times n xs ≡ length xs
+length-without n [] = omega arith
+length-without n (y ∷ ys) = grind (arith, nat_tests, length-without n ys)
+
 -- different numbers below a bound are at most so many
-none-of : (x : ℕ) (ys : List ℕ) → times x ys ≡ 0 → AllByRecursion (λ y. eqb x y ≡ false) ys
-none-of x [] none = tt
-none-of x (y ∷ ys) none = (grind (arith, nat_tests), none-of x ys (omega arith))
-
-distinct : (xs : List ℕ) → ((x : ℕ) → times x xs ≤ 1) → IsDistinct eqb xs
-unfolding IsDistinct
-distinct [] once = tt
-distinct (x ∷ xs) once =
-    (none-of x xs (grind (arith, nat_tests, once x)), distinct xs (λ y. (let o = once y in omega arith)))
-
-has-times : (q : ℕ) (xs : List ℕ) → list_any (eqb q) xs ≡ true → 0 < times q xs
-has-times q [] h = cc
-has-times q (x ∷ xs) h = grind (arith, nat_tests, has-times q xs)
-
 few-distinct : (n : ℕ) (xs : List ℕ) → ((x : ℕ) → n ≤ x → times x xs ≡ 0) → ((x : ℕ) → times x xs ≤ 1) → length xs ≤ n
-few-distinct n xs none once = length-le_from_distinct_below xs n (distinct xs once) (λ q h. ⊎_elim (λ low. low)
-    (λ past. (let some = has-times q xs h in let no = none q past in absurd (omega arith))) (cases_lt q n))
+few-distinct zero [] none once = omega arith
+few-distinct zero (x ∷ xs) none once = absurd (grind (arith, nat_tests, none x))
+few-distinct (suc n) xs none once =
+    let rest = few-distinct n (filter (λ y. not (y == n)) xs)
+    (λ x past. grind (arith, nat_tests, without n x xs, none x))
+    (λ x. grind (arith, nat_tests, without n x xs, once x)) in
+    omega (arith, once n, length-without n xs)
 
 module _ {M : Type 0} (makes : ℕ → Option ℕ → M → Type 0) (jobs : List Job) (round : ℕ) where
   -- a part stays one where more was seen and lowered
@@ -190,17 +183,19 @@ module _ {M : Type 0} (makes : ℕ → Option ℕ → M → Type 0) (jobs : List
     more-times x = ap (λ (v : PassView). times x v.drawn) draws.added ∙ weigh-snoc (is_number x) before.drawn n
 
     same-whole : pass_draws claimed ≡ whole
-    same-whole =
-        let long = ap (λ (v : PassView). length v.drawn) draws.added ∙ length-append before.drawn (n ∷ []) in
-        let all = h.whole_is in
-        let paid = draws.paid in
-        omega arith
+    same-whole = omega (
+      arith,
+      ap (λ (v : PassView). length v.drawn) draws.added,
+      length-append before.drawn (n ∷ []),
+      h.whole_is,
+      draws.paid,
+    )
 
     -- a number past all jobs
     worked-past : length jobs ≤ n → IsAllWorked makes jobs desk round whole parts claimed
     worked-past past = (
       record {
-        desk_is = ap (λ (v : PassView). v.desk) draws.added ∙ h.desk_is;
+        desk_is = rw draws.added h.desk_is;
         whole_is = same-whole;
         drawn = λ job lt. grind (arith, nat_tests, more-times job, h.drawn job lt);
         laid = rw draws.added h.laid;
@@ -229,23 +224,15 @@ module _ {M : Type 0} (makes : ℕ → Option ℕ → M → Type 0) (jobs : List
               parts_of-append job parts (part ∷ []),
               count-cons (λ (p : BoardPart). p.job == job) (part_of part) [],
             );
-            laid = λ other k. elim (Contains-push_cases parts part other k) [
-              | inl old ↦ laid-grows goes.seen_kept goes.lowered_kept (rw draws.added (h.laid other old))
-              | inr new ↦ rw new at laid
-            ];
-            seen_there = λ c p k. elim (goes.seen_there c p k) [
-              | inl old ↦ h.seen_there c p (rw draws.added at old)
-              | inr there ↦ rw (ap (λ (v : PassView). v.desk) draws.added ∙ h.desk_is) at there
-            ];
-            lowered_real = λ c p k. elim (goes.lowered_real c p k) [
-              | inl old ↦ h.lowered_real c p (rw draws.added at old)
-              | inr real ↦ real
-            ];
+            laid = λ other k. ⊎_elim
+                (λ old. laid-grows goes.seen_kept goes.lowered_kept (rw draws.added (h.laid other old)))
+                (λ new. rw new at laid) (Contains-push_cases parts part other k);
+            seen_there = λ c p k. ⊎_elim (λ old. h.seen_there c p (rw draws.added at old))
+                (λ there. rw (draws.added, h.desk_is) at there) (goes.seen_there c p k);
+            lowered_real = λ c p k. ⊎_elim (λ old. h.lowered_real c p (rw draws.added at old)) (λ real. real)
+                (goes.lowered_real c p k);
           },
-          (
-            λ x past. grind (arith, nat_tests, after-times x, drew.0 x past),
-            λ x. grind (arith, nat_tests, after-times x, drew.1 x, draws.fresh),
-          ),
+          (grind (arith, nat_tests, after-times, drew.0), grind (arith, nat_tests, after-times, drew.1, draws.fresh)),
         )
 
   -- no job is left: a worker whose allowance is one more than the jobs never runs out of it
@@ -254,10 +241,7 @@ module _ {M : Type 0} (makes : ℕ → Option ℕ → M → Type 0) (jobs : List
       IsClaim count before claim after → ((n : ℕ) → claim ≡ Drawn n → ⊥) →
       IsAllWorked makes jobs desk round (count + 1) parts after
   worked-ends desk count parts before after Spent counted h drew is no_job =
-      let few = few-distinct (length jobs) before.drawn drew.0 drew.1 in
-      let all = h.whole_is in
-      let spent = is.0 in
-      absurd (omega arith)
+      absurd (omega (arith, few-distinct (length jobs) before.drawn drew.0 drew.1, h.whole_is, is.0))
   worked-ends desk count parts before after (Drawn n) counted h drew is no_job = absurd (no_job n refl)
   worked-ends desk count parts before after Done counted h drew (n, past, draws) no_job =
       worked-past desk (count + 1) parts before after n h draws (omega arith)

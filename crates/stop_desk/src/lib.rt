@@ -69,11 +69,11 @@
 //! place, a lowering that overwrites, the stop of the connection before; parts dropped where two halves join, an
 //! overrun lowered, stops handed on as the round found them.
 //!
-//! Tested, in `round_tests`: two passes in one thread and in two, that a look loads and does not answer from what its
-//! own pass knows, that a job sees the stop that an earlier one lowered, that two workers are in one round at once, and
-//! how many jobs each round of an audit has. Trusted: the toolchain's `atomic_table`, and std's `join`, which starts
-//! threads, and does the work on the thread at hand where none can be had. That several threads work at once is not
-//! proved.
+//! Tested, in `round_tests`: two passes in two threads, that a look loads and does not answer from what its own pass
+//! knows, that a job sees the stop that an earlier one lowered; in `crate_tests`: that two workers are in one round at
+//! once, and how many jobs each round of an audit has. Trusted: the toolchain's `atomic_table`, and std's `join`, which
+//! starts threads, and does the work on the thread at hand where none can be had. That several threads work at once is
+//! not proved.
 #![tactic(auto)]
 
 mod claims;

@@ -1,6 +1,6 @@
 pub mod Words
+pub mod ChangeLemmas
 pub mod MergedLemmas
-pub mod LeftLemmas
 pub mod SilentLemmas
 pub mod WalkLemmas
 pub mod QuietLemmas

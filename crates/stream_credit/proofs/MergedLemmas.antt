@@ -1,78 +1,25 @@
--- The forward walk gives the steps of the definition; it takes out the changes before a frame, then the frame.
+-- The forward walk gives the steps of the definition, in order; it takes out a change before the next frame, or a frame
+-- with the change that it brings.
 use Rattle.std.proofs.Common.{All}
-use Rattle.stream_credit.proofs.Words.{◌≡◌, ℕ, ◌+◌, ◌<◌, ◌≤◌, nat_lt, ◌==◌, List, [], ◌∷◌, ◌++◌, map, refl, sym, ap}
-use Rattle.stream_credit.proofs.Words.{◌∙◌, inl, inr, arith, AllByRecursion, map-append, recursion_from_All, cases_Bool}
-use Rattle.stream_credit.proofs.Words.{cases_order, ltb-true, eq-eqb, ne_eqb, lt-ltb, le-ltb, Frame, Change, Step}
-use Rattle.stream_credit.proofs.Words.{frame_step, change_step, with_change, steps_of, AreOrderlyFrom, AreAcknowledged}
-use Rattle.stream_credit.proofs.Words.{passed, left_from, change_at, left_after, frame_with, merged_at, merged}
-use Rattle.stream_credit.proofs.Words.{AcknowledgesAt, Acknowledge, StartsAt}
-use Rattle.stream_credit.proofs.LeftLemmas.{parted, orderly-lower}
+use Rattle.stream_credit.proofs.Words.{◌≡◌, ℕ, ◌+◌, ◌<◌, ◌≤◌, ◌^◌, ◌-◌, List, [], ◌∷◌, map, refl, sym, ap, ◌∙◌, drop}
+use Rattle.stream_credit.proofs.Words.{arith, nat_tests, AllByRecursion, recursion_from_All, eq-eqb, ne_eqb, lt-ltb}
+use Rattle.stream_credit.proofs.Words.{le-ltb, Option, Some, None, Frame, Change, Step, frame_step, change_step}
+use Rattle.stream_credit.proofs.Words.{with_change, steps_of, AreOrderlyFrom, AreAcknowledged, frame_with, merged}
+use Rattle.stream_credit.proofs.Words.{AcknowledgesAt, Acknowledge, StartsAt, AreFrom, IsBrought, met_after, AreInOrder}
+use Rattle.stream_credit.proofs.Words.{IsOrderly, IsOrderlyFrom}
+use Rattle.stream_credit.proofs.ChangeLemmas.{drop-next}
 use Rattle.std.proofs.lemmas.List.Elements.{All-weaker}
 
 -- ---- the walk is the definition's list
-
--- the first step, if there is one, has a greater number
-abbrev StartsAbove : ℕ → List Step → Type 0
-StartsAbove number [] = Unit {0}
-StartsAbove number (step ∷ steps) = number < step.number
-
--- a change below all steps is the first
-with_change-first : (change : Change) (steps : List Step) → StartsAbove change.number steps
-    → with_change steps change ≡ change_step change ∷ steps
-with_change-first change [] h = refl
-with_change-first change (step ∷ steps) h =
-    rw (ne_eqb step.number change.number (λ e. absurd (omega arith)), lt-ltb change.number step.number h) refl
-
--- a frame below all changes is the first
-pub merged_at-first : (frame : Frame) (after : List Change → List Step) (changes : List Change)
-    → AreOrderlyFrom (frame.number + 1) changes
-    → merged_at frame after changes ≡ frame_step frame ∷ after changes
-merged_at-first frame after [] h = refl
-merged_at-first frame after (change ∷ changes) h =
-    rw (
-      ne_eqb frame.number change.number (λ e. absurd (omega (arith, h.0))),
-      le-ltb change.number frame.number (omega (arith, h.0)),
-    ) refl
-
--- all changes and the frame are above a number
-merged_at-above : (number : ℕ) (frame : Frame) (after : List Change → List Step) (changes : List Change)
-    → number < frame.number
-    → AreOrderlyFrom (number + 1) changes → StartsAbove number (merged_at frame after changes)
-merged_at-above number frame after [] above h = above
-merged_at-above number frame after (change ∷ changes) above h =
-    elim (cases_Bool (frame.number == change.number)) [
-      | inl e ↦ rw e above
-      | inr e ↦ elim (cases_Bool (nat_lt change.number frame.number)) [
-        | inl f ↦ rw (e, f) (omega (arith, h.0))
-        | inr f ↦ rw (e, f) above
-      ]
-    ]
 
 with_change-merged : (frames : List Frame) (change : Change) (changes : List Change)
     → AreOrderlyFrom (change.number + 1) changes
     → with_change (merged frames changes) change ≡ merged frames (change ∷ changes)
 with_change-merged [] change [] h = refl
-with_change-merged [] change (next ∷ changes) h =
-    with_change-first change (change_step next ∷ map change_step changes) (omega (arith, h.0))
-with_change-merged (frame ∷ frames) change changes h =
-    let first = λ (order : frame.number ≤ change.number).
-    merged_at-first frame (merged frames) changes
-    (orderly-lower (change.number + 1) (frame.number + 1) changes (omega (arith, order)) h) in
-    elim (cases_order frame.number change.number) [
-      | inl e ↦ rw (first (omega (arith, e)), eq-eqb frame.number change.number e) refl
-      | inr (inl less) ↦ rw (
-        first (omega (arith, less)),
-        ne_eqb frame.number change.number (λ e. absurd (omega (arith, less, e))),
-        le-ltb change.number frame.number (omega (arith, less)),
-      ) (ap (λ steps. frame_step frame ∷ steps) (with_change-merged frames change changes h))
-      | inr (inr more) ↦
-          with_change-first change (merged_at frame (merged frames) changes)
-          (merged_at-above change.number frame (merged frames) changes more h)
-          ∙ rw (
-            ne_eqb frame.number change.number (λ e. absurd (omega (arith, more, e))),
-            lt-ltb change.number frame.number more,
-          ) refl
-    ]
+with_change-merged [] change (next ∷ changes) h = let above = h.0 in grind (arith, nat_tests)
+with_change-merged (frame ∷ frames) change [] h = grind (arith, nat_tests, with_change-merged frames change [] h)
+with_change-merged (frame ∷ frames) change (next ∷ changes) h =
+    let above = h.0 in grind (arith, nat_tests, with_change-merged frames change (next ∷ changes) h)
 
 merged-no_changes : (frames : List Frame) → merged frames [] ≡ map frame_step frames
 merged-no_changes [] = refl
@@ -85,28 +32,29 @@ steps_of-merged low frames (change ∷ changes) h =
     ap (λ steps. with_change steps change) (steps_of-merged (change.number + 1) frames changes h.2)
     ∙ with_change-merged frames change changes h.2
 
--- ---- the walk takes out the changes before a frame, then the frame with its own
+-- ---- the steps come in order
 
-merged_at-passed : (frame : Frame) (after : List Change → List Step) (changes : List Change)
-    → merged_at frame after changes
-    ≡ map change_step (passed frame.number changes) ++ merged_at frame after (left_from frame.number changes)
-merged_at-passed frame after [] = refl
-merged_at-passed frame after (change ∷ changes) =
-    elim (cases_Bool (nat_lt change.number frame.number)) [
-      | inl e ↦
-          let under = ltb-true change.number frame.number e in
-          rw (e, ne_eqb frame.number change.number (λ same. absurd (omega (arith, under, same))))
-          (ap (λ steps. change_step change ∷ steps) (merged_at-passed frame after changes))
-      | inr e ↦ rw (e, e) refl
-    ]
+order-with : (low : ℕ) (steps : List Step) (change : Change) → low ≤ change.number → change.number ≤ 2 ^ 28 - 2
+    → AreInOrder low steps → AreInOrder low (with_change steps change)
+order-with low [] change least most h = (least, most, tt, tt)
+order-with low (step ∷ steps) change least most h =
+    let rest = order-with (step.number + 1) steps change in grind (arith, nat_tests)
 
--- the steps of the changes before the first frame come first
-pub merged-passed : (number : ℕ) (frames : List Frame) (changes : List Change) → StartsAt number frames
-    → merged frames changes ≡ map change_step (passed number changes) ++ merged frames (left_from number changes)
-merged-passed number [] changes h =
-    ap (map change_step) (sym (parted number changes)) ∙ map-append change_step (passed number changes) _
-merged-passed number (frame ∷ frames) changes h = rw (← h) (merged_at-passed frame (merged frames) changes)
+order-frames : (low : ℕ) (frames : List Frame) → IsOrderlyFrom low frames → AreInOrder low (map frame_step frames)
+order-frames low [] h = tt
+order-frames low (frame ∷ frames) h =
+    (h.0, omega (arith, h.1.number), refl, order-frames (frame.number + 1) frames h.2)
 
+pub order-steps : (low : ℕ) (frames : List Frame) (changes : List Change) → IsOrderly frames
+    → AreOrderlyFrom low changes → AreInOrder 0 (steps_of frames changes)
+order-steps low frames [] o h = order-frames 0 frames o
+order-steps low frames (change ∷ changes) o h =
+    order-with 0 (steps_of frames changes) change (omega arith) (omega (arith, h.1))
+    (order-steps (change.number + 1) frames changes o h.2)
+
+-- ---- what the walk takes out
+
+-- a change before the next frame
 pub merged-change : (number : ℕ) (frames : List Frame) (change : Change) (changes : List Change)
     → StartsAt number frames → change.number < number
     → merged frames (change ∷ changes) ≡ change_step change ∷ merged frames changes
@@ -117,16 +65,24 @@ merged-change number (frame ∷ frames) change changes h below =
       lt-ltb change.number frame.number (omega (arith, h, below)),
     ) refl
 
-pub merged_at-own : (frame : Frame) (after : List Change → List Step) (changes : List Change)
-    → AreOrderlyFrom frame.number changes
-    → merged_at frame after changes
-    ≡ frame_with frame (change_at frame.number changes) ∷ after (left_after frame.number changes)
-merged_at-own frame after [] h = refl
-merged_at-own frame after (change ∷ changes) h =
-    elim (cases_Bool (frame.number == change.number)) [
-      | inl e ↦ rw e refl
-      | inr e ↦ rw (e, le-ltb change.number frame.number h.0) refl
-    ]
+-- a frame before all changes
+pub merged-first : (frame : Frame) (frames : List Frame) (changes : List Change) → AreFrom (frame.number + 1) changes
+    → merged (frame ∷ frames) changes ≡ frame_step frame ∷ merged frames changes
+merged-first frame frames [] h = refl
+merged-first frame frames (change ∷ changes) h =
+    rw (
+      ne_eqb frame.number change.number (λ e. absurd (omega (arith, h, e))),
+      le-ltb change.number frame.number (omega (arith, h)),
+    ) refl
+
+-- a frame with the change that it brings, if it brings one
+pub merged-brought : (frame : Frame) (frames : List Frame) (met : ℕ) (changes : List Change) (change : Option Change)
+    → IsBrought frame.number met changes change → AreFrom frame.number (drop met changes)
+    → merged (frame ∷ frames) (drop met changes)
+    ≡ frame_with frame change ∷ merged frames (drop (met_after met change) changes)
+merged-brought frame frames met changes None h from = merged-first frame frames (drop met changes) (h from)
+merged-brought frame frames met changes (Some change) h from =
+    rw (drop-next met changes change h.0, eq-eqb frame.number change.number (sym h.1)) refl
 
 -- ---- acknowledgements, by recursion
 

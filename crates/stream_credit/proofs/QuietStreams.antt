@@ -1,25 +1,20 @@
 -- A stream of which nothing is shown, from one of its frames to the next.
-use Rattle.std.proofs.lemmas.List.{length-append}
-use Rattle.stream_credit.proofs.Words.{◌≡◌, ℕ, pos, ◌+◌, ◌-◌, ◌^◌, ◌<◌, ◌≤◌, Bool, true, false, List, [], ◌∷◌, ◌++◌}
-use Rattle.stream_credit.proofs.Words.{map, drop, length, slice_get, Some, refl, sym, ap, ◌∙◌, arith, inl, inr}
-use Rattle.stream_credit.proofs.Words.{cases_Bool, nat_tests, drop-drop, drop_more, length-drop, filter-append}
-use Rattle.stream_credit.proofs.Words.{slice_get_within, get_or_from_slice_get, Sides, StreamLife, Frame, Change, Step}
-use Rattle.stream_credit.proofs.Words.{Stream, Finding, other, side_of, in_order, is_shown, shown, idle_stream}
+use Rattle.stream_credit.proofs.Words.{◌≡◌, ℕ, pos, ◌+◌, ◌-◌, ◌^◌, ◌<◌, ◌≤◌, Bool, true, false, List, [], ◌∷◌, drop}
+use Rattle.stream_credit.proofs.Words.{length, slice_get, Some, None, refl, sym, ap, ◌∙◌, arith, inl, inr, cases_Bool}
+use Rattle.stream_credit.proofs.Words.{nat_tests, filter-append, slice_get_within, Sides, StreamLife, Frame, Change}
+use Rattle.stream_credit.proofs.Words.{Step, Stream, Finding, other, side_of, in_order, is_shown, shown, idle_stream}
 use Rattle.stream_credit.proofs.Words.{stream_said, stream_after, IsOrderlyFrom, IsOrderly, frame_step, change_step}
-use Rattle.stream_credit.proofs.Words.{initial_after, stream_run_from, stream_after_all, AreOrderlyFrom, AreOrderly}
-use Rattle.stream_credit.proofs.Words.{AreAcknowledged, QuietStream, Move, is_live, after_changes, passed, left_from}
-use Rattle.stream_credit.proofs.Words.{merged, Acknowledge, IsMove, IsRaised, IsQuiet, has_credit, has_ended, window_of}
-use Rattle.stream_credit.proofs.Words.{stream_of, initial_at, IsPassed, IsNext, AreFrom, StartsAt, IsAhead}
-use Rattle.stream_credit.proofs.Words.{ShowsNothing, Side}
+use Rattle.stream_credit.proofs.Words.{initial_after, stream_run_from, stream_after_all, AreOrderly, AreAcknowledged}
+use Rattle.stream_credit.proofs.Words.{QuietStream, Move, is_live, merged, Acknowledge, IsMove, IsRaised, IsQuiet}
+use Rattle.stream_credit.proofs.Words.{has_credit, has_ended, window_of, stream_of, initial_at, IsMovedBy, IsPassed}
+use Rattle.stream_credit.proofs.Words.{IsNext, AreFrom, ArePassed, StartsAt, IsAhead, ShowsNothing, Side}
 use Rattle.audit_terms.proofs.FindingLists.{each-in_order}
-use Rattle.stream_credit.proofs.LeftLemmas.{parted, initial-passed, initial-next, left-drop, left-from, orderly-drop}
-use Rattle.stream_credit.proofs.LeftLemmas.{orderly-from}
-use Rattle.stream_credit.proofs.MergedLemmas.{steps_of-merged, acknowledge-all, merged_at-first, merged-change}
-use Rattle.stream_credit.proofs.MergedLemmas.{merged-passed}
+use Rattle.stream_credit.proofs.ChangeLemmas.{drop-next, initial-next, passed-each, none-left}
+use Rattle.stream_credit.proofs.MergedLemmas.{steps_of-merged, acknowledge-all, merged-first, merged-change}
 use Rattle.stream_credit.proofs.QuietLemmas.{quiet-unshown, quiet-after}
 use Rattle.stream_credit.proofs.SilentLemmas.{IsUnshown, AreUnshown, none-shown, calm-changes, stream-shown}
 use Rattle.stream_credit.proofs.SilentLemmas.{stream-moved}
-use Rattle.stream_credit.proofs.WalkLemmas.{passes}
+use Rattle.stream_credit.proofs.WalkLemmas.{none-live}
 
 -- ---- what a run comes to
 
@@ -37,49 +32,12 @@ unfolding outcome
 outcome-next stream initial entry step steps h =
     rw (filter-append (is_shown false) (in_order (stream_said stream initial entry step)), h) refl
 
--- changes that find no live window
-outcome-passes : (stream : ℕ) (initial : Sides ℕ) (entry : Stream) (changes : List Change) (rest : List Step)
-    → is_live entry ≡ false
-    → outcome stream initial entry (map change_step changes ++ rest)
-    ≡ outcome stream (after_changes initial changes) entry rest
-unfolding outcome
-outcome-passes stream initial entry changes rest dead =
-    passes (outcome stream) (λ initial life change steps. refl) initial entry dead changes rest
-
--- ---- lists of changes
-
-few : (low : ℕ) (changes : List Change) → low ≤ 2 ^ 28 - 1 → AreOrderlyFrom low changes
-    → low + length changes ≤ 2 ^ 28 - 1
-few low [] b h = omega (arith, b)
-few low (change ∷ changes) b h =
-    let more : change.number + 1 + length changes ≤ 2 ^ 28 - 1 =
-    few (change.number + 1) changes (omega (arith, h.1)) h.2 in
-    omega (arith, more, h.0)
-
-pub few-changes : (changes : List Change) → AreOrderly changes → length changes < 2 ^ 28
-few-changes changes h = omega (arith, few 0 changes (omega arith) h)
-
-none-left : (low : ℕ) (changes : List Change) → AreOrderlyFrom low changes → AreFrom (2 ^ 32 - 1) changes
-    → changes ≡ []
-none-left low [] h f = refl
-none-left low (change ∷ changes) h f = absurd (omega (arith, h.1, f))
+-- ---- from one step to the next
 
 frames-lower : (low least : ℕ) (frames : List Frame) → least ≤ low → IsOrderlyFrom low frames
     → IsOrderlyFrom least frames
 frames-lower low least [] h o = tt
 frames-lower low least (frame ∷ frames) h o = (omega (arith, h, o.0), o.1, o.2)
-
-pub drop-next : (met : ℕ) (changes : List Change) (change : Change) → slice_get changes met ≡ Some change
-    → drop met changes ≡ change ∷ drop (met + 1) changes
-drop-next met changes change e =
-    drop_more changes met change (slice_get_within changes met change e)
-    ∙ ap (λ (c : Change). c ∷ drop (met + 1) changes) (get_or_from_slice_get changes met change change e)
-
-drop-passed : (number met : ℕ) (changes : List Change)
-    → left_from number (drop met changes) ≡ drop (met + length (passed number (drop met changes))) changes
-drop-passed number met changes = left-drop number (drop met changes) ∙ drop-drop _ met changes
-
--- ---- from one step to the next
 
 -- a stream that no frame has met
 pub ahead-idle : (idle : QuietStream) → stream_of idle ≡ idle_stream → idle.met ≡ 0 → (stream : ℕ)
@@ -148,46 +106,44 @@ module _ {stream : ℕ} {changes : List Change} {all rest : List Frame} {old : Q
       (outcome-next stream initial (stream_of old) step (merged rest (drop (old.met + 1) changes))
       (stream-shown stream initial (stream_of old) step (stream_of new).window refl calm tt)))
 
-  -- changes that find no live window
-  pub ahead-passed : (number met : ℕ) → StartsAt number rest → is_live (stream_of old) ≡ false
-      → met ≡ old.met + length (passed number left) → IsAhead stream changes all rest (record old { met = met })
-  ahead-passed number met s dead m =
-      let before = passed number left in
-      let met-before = h.met in
-      let whole = ap length (parted number left) in
-      let parts = length-append before (left_from number left) in
-      ahead-by (omega (arith, m, met-before, whole, parts, length-drop old.met changes))
-      h.orderly h.acknowledged
-      (rw (
-        m,
-        initial-passed number old.met changes,
-        ← drop-passed number old.met changes,
-        merged-passed number rest left s,
-      )
-      (outcome-passes stream initial (stream_of old) before (merged rest (left_from number left)) dead))
+-- a change moves no window that is not live
+unmoved : (before after standing : ℕ) → window_of standing ≡ None → IsMovedBy before after standing standing
+unmoved before after standing none = record {
+  moved = rw none refl;
+  silent = rw none (λ x e. cc);
+  ended = refl;
+}
 
-pub from-passed : (number met : ℕ) (changes : List Change) (more : ℕ)
-    → more ≡ met + length (passed number (drop met changes)) → AreFrom number (drop more changes)
-from-passed number met changes more m = rw (m, ← drop-passed number met changes) (left-from number (drop met changes))
+-- changes that find no live window
+pub ahead-passed : {stream : ℕ} {changes : List Change} {all rest : List Frame} {old : QuietStream} {number next : ℕ}
+    → StartsAt number rest → is_live (stream_of old) ≡ false → ArePassed number changes old.met next
+    → IsAhead stream changes all rest old → IsAhead stream changes all rest (record old { met = next })
+ahead-passed {stream} {changes} {all} {rest} {old} {number} starts dead passed h =
+    let none = none-live (window_of old.client) (window_of old.server) dead in
+    passed-each (λ k. IsAhead stream changes all rest (record old { met = k })) passed
+    (λ k change is below was. ahead-change was number starts is below refl (record {
+      client = unmoved _ _ old.client none.0;
+      server = unmoved _ _ old.server none.1;
+      opened = refl;
+      met = refl;
+    })) h
 
 -- a frame
 pub ahead-frame : {stream : ℕ} {changes : List Change} {all rest : List Frame} {frame : Frame} {old new : QuietStream}
     → IsAhead stream changes all (frame ∷ rest) old → AreFrom (frame.number + 1) (drop old.met changes)
     → IsNext stream (initial_at old.met changes) frame old new → IsAhead stream changes all rest new
 ahead-frame {stream} {changes} {all} {rest} {frame} {old} {new} h f n =
-    let initial = initial_at old.met changes in
     let left = drop old.met changes in
-    let orderly = orderly-from 0 (frame.number + 1) left (orderly-drop 0 old.met changes h.rise) f in
     ahead-by h (rw n.met h.met) (frames-lower (frame.number + 1) 0 rest (omega arith) h.orderly.2) h.acknowledged.1
-    (rw (n.met, n.after, merged_at-first frame (merged rest) left orderly)
-    (outcome-next stream initial (stream_of old) (frame_step frame) (merged rest left) n.shown))
+    (rw (n.met, n.after, merged-first frame rest left f)
+    (outcome-next stream (initial_at old.met changes) (stream_of old) (frame_step frame) (merged rest left) n.shown))
 
 -- the end
 pub shows-nothing : {stream : ℕ} {changes : List Change} {all : List Frame} {quiet : QuietStream}
     → IsAhead stream changes all [] quiet → AreFrom (2 ^ 32 - 1) (drop quiet.met changes)
     → ShowsNothing stream changes all quiet.opened
 shows-nothing {changes = changes} {quiet = quiet} h f =
-    let over = none-left 0 (drop quiet.met changes) (orderly-drop 0 quiet.met changes h.rise) f in
+    let over = none-left 0 quiet.met changes h.rise f in
     record {
       shown = rw over at h.shown;
       end = ap (λ (entry : Stream). entry.life.opened) (rw over at h.end);
@@ -227,11 +183,7 @@ next-moved {stream} {frame} {old} {new} {one} d before credit e m r live left wa
 
 unshown-of : (found : List Finding) → shown false found ≡ [] → AreUnshown found
 unshown-of [] e = tt
-unshown-of (x ∷ xs) e =
-    elim (cases_Bool (is_shown false x)) [
-      | inl is ↦ let some = rw is at e in cc
-      | inr is ↦ (is, unshown-of xs (rw is at e))
-    ]
+unshown-of (x ∷ xs) e = grind (arith, unshown-of xs)
 
 pub none-in_order : (found : List Finding) → shown false found ≡ [] → shown false (in_order found) ≡ []
 none-in_order found e = none-shown (in_order found) (each-in_order IsUnshown found (unshown-of found e))

@@ -15,10 +15,11 @@ pub use Rattle.audit_terms.specs.Window.{is_used_up, overflows, overruns}
 pub use Rattle.audit_terms.specs.code.Room.{HasRoom, WindowHasRoom}
 pub use Rattle.fault_rules.specs.code.StreamSteps.{counted, is_overflowing_grant}
 pub use Rattle.audit_terms.specs.code.Watch.{IsStopped, NeverFallFrom, Watches}
-pub use Rattle.audit_terms.specs.code.runs.Look.{IsRun, found_before, is_past, up_to}
+pub use Rattle.audit_terms.specs.code.runs.Look.{IsRun, found_before, is_past, steps_between, up_to}
 pub use Rattle.audit_terms.specs.code.runs.Orderly.{IsOrderly, IsOrderlyFrom}
-pub use Rattle.audit_terms.specs.code.runs.Streams.{change_step, frame_step, initial_after, steps_of, stream_after_all}
-pub use Rattle.audit_terms.specs.code.runs.Streams.{stream_at_end, stream_run, stream_run_from, with_change}
+pub use Rattle.audit_terms.specs.code.runs.Streams.{IsAcknowledged, change_step, frame_step, initial_after, steps_of}
+pub use Rattle.audit_terms.specs.code.runs.Streams.{stream_after_all, stream_at_end, stream_run, stream_run_from}
+pub use Rattle.audit_terms.specs.code.runs.Streams.{with_change}
 pub use Rattle.audit_terms.specs.declared.findings.Finding.{Finding}
 pub use Rattle.audit_terms.specs.declared.frames.Body.{Body}
 pub use Rattle.audit_terms.specs.declared.frames.Body.TheVariants.{WindowUpdate}
@@ -41,30 +42,31 @@ pub use Rattle.std.proofs.Math.Seq.{drop-append_seam, take-add, take-append_seam
 pub use Rattle.std.proofs.lemmas.Bool.{OnFalse_at, OnFalse_from, OnTrue_at, OnTrue_from, and_right, cases_Bool}
 pub use Rattle.std.proofs.lemmas.Bool.{cases_eq, cases_order, cond-false, cond-true, eq-eqb, eqb-true, le-ltb, lt-ltb}
 pub use Rattle.std.proofs.lemmas.Bool.{ltb-false, ltb-true, ne_eqb, or_from, or_left}
-pub use Rattle.std.proofs.lemmas.Bool.Decides.{nat_tests}
+pub use Rattle.std.proofs.lemmas.Bool.Decides.{nat_tests, when_false, when_true}
 pub use Rattle.std.proofs.lemmas.Grind.{flat_map-append}
 pub use Rattle.std.proofs.lemmas.Int.{ints, to_z-of_z}
-pub use Rattle.std.proofs.lemmas.List.{append-nil, drop-drop, drop_all, drop_more, length-drop, length-take-le}
-pub use Rattle.std.proofs.lemmas.List.{map-append, nil_from_length, take_all, take_more, take_rest}
+pub use Rattle.std.proofs.lemmas.List.{append-nil, drop-drop, drop_all, drop_more, get_or-drop, length-drop}
+pub use Rattle.std.proofs.lemmas.List.{length-take-le, map-append, nil_from_length, take_all, take_more, take_rest}
 pub use Rattle.std.proofs.lemmas.List.Elements.{All-drop, All-from_recursion, All-take, filter-append}
 pub use Rattle.std.proofs.lemmas.List.Elements.{recursion_from_All}
 pub use Rattle.std.proofs.lemmas.List.Sorted.{IsPartitionPoint-from_clause, IsPartitionedBy-ltb}
-pub use Rattle.std.proofs.lemmas.Option.{get_or_from_slice_get, same_Some, slice_get-get_or, slice_get_within}
+pub use Rattle.std.proofs.lemmas.Option.{get_or_from_slice_get, same_Some, slice_get-get_or, slice_get_cases}
+pub use Rattle.std.proofs.lemmas.Option.{slice_get_within}
+pub use Rattle.std.specs.Bool.{MatchBool}
 pub use Rattle.std.specs.List.{AllByRecursion}
 pub use Rattle.std.specs.List.Sorted.{IsPartitionPoint, IsPartitionedBy}
 pub use Rattle.std.specs.Option.{ForSome, option_map_or, option_to_list}
-pub use Rattle.stream_credit.specs.code.Left.{IsInForce, after_changes, after_each, change_at, left_after, left_from}
-pub use Rattle.stream_credit.specs.code.Left.{passed}
+pub use Rattle.stream_credit.specs.code.Changes.{AreFrom, ArePassed, IsBrought, IsDue, after_changes, after_each}
+pub use Rattle.stream_credit.specs.code.Changes.{initial_at, met_after}
 pub use Rattle.stream_credit.specs.code.Looks.{is_live, is_met, met_from, opened_up_to, step_numbers}
 pub use Rattle.stream_credit.specs.code.Merged.{Acknowledge, AcknowledgesAt, frame_with, merged, merged_at}
 pub use Rattle.stream_credit.specs.code.Part.{frames_at, part_frames}
 pub use Rattle.stream_credit.specs.code.Quiet.{IsMove, IsQuiet, IsRaised, granted, sent}
-pub use Rattle.stream_credit.specs.code.QuietStream.{AreFrom, IsAhead, IsNext, IsPassed, ShowsNothing, StartsAt}
-pub use Rattle.stream_credit.specs.code.QuietStream.{has_credit, has_ended, initial_at, stream_of, window_of}
+pub use Rattle.stream_credit.specs.code.QuietStream.{IsAhead, IsMovedBy, IsNext, IsPassed, ShowsNothing, StartsAt}
+pub use Rattle.stream_credit.specs.code.QuietStream.{has_credit, has_ended, stream_of, window_of}
 pub use Rattle.stream_credit.specs.code.Silent.{IsSilent, moved}
-pub use Rattle.stream_credit.specs.code.Walk.{AreBefore, HasEnded, HasRoomAt, HasStopped, IsAt, IsAtChanges, IsCounted}
+pub use Rattle.stream_credit.specs.code.Walk.{AreInOrder, HasEnded, HasRoomAt, HasStopped, IsAt, IsBegun, IsCounted}
 pub use Rattle.stream_credit.specs.code.Walk.{IsNumbered, IsSound, WholeRun, met_by, numbers_of}
-pub use Rattle.stream_credit.specs.declared.left.Left.{Left}
 pub use Rattle.stream_credit.specs.declared.quiet.Move.{Move}
 pub use Rattle.stream_credit.specs.declared.quiet_streams.QuietStream.{QuietStream}
 pub use Rattle.stream_credit.specs.declared.walks.Walk.{Walk}

@@ -1,4 +1,4 @@
-pub mod Left
+pub mod Changes
 pub mod Merged
 pub mod Quiet
 pub mod QuietStream

@@ -1,13 +1,11 @@
-ghost use Rattle.std.specs.Prelude.{◌≡◌, ◌+◌, ◌<◌, ◌≤◌, List, IfOk, Some, None, slice_get, length, drop};
-ghost use Rattle.std.specs.Bool.{OnFalse};
+ghost use Rattle.std.specs.Prelude.{◌≡◌, ◌^◌, ◌<◌, ◌≤◌, List, IfOk, None, length, drop};
 ghost use Rattle.std.specs.Option.{ForSome};
 ghost use Rattle.audit_terms.specs.declared.items.Change.{Change};
 ghost use Rattle.audit_terms.specs.InForce.{initial_in_force};
 ghost use Rattle.settings_pair.specs.code.Changes.{AreOrderly};
-ghost use Rattle.stream_credit.specs.code.Left.{after_each, passed};
-ghost use Rattle.stream_credit.specs.code.QuietStream.{AreFrom, initial_at};
+ghost use Rattle.stream_credit.specs.code.Changes.{AreFrom, ArePassed, IsBrought, IsDue, after_each, initial_at};
+ghost use Rattle.stream_credit.specs.code.Changes.{met_after};
 
-use crate::left::Left;
 use audit_terms::{Change, FIRST_WINDOW, Sides, initial_after};
 use std::alloc::{AllocError, Global};
 use std::marker::Model;
@@ -49,21 +47,9 @@ impl<'a> Changes<'a> {
         Ok(Changes { all, in_force })
     }
 
-    /// All of them, none of which is met yet.
-    pub(crate) fn left(&self) -> Left<'_>
-        ensures changes { result.changes.now ≡ self.now }
-        ensures in_force { result.in_force.now ≡ after_each initial_in_force.initial self.now }
-    {
-        Left {
-            changes: self.all,
-            in_force: self.in_force.as_slice(),
-        }
-    }
-
     /// The change after so many, if its number is below another.
     pub(crate) fn before(&self, met: u32, number: u32) -> Option<Change>
-        ensures change { ForSome result (λ change. slice_get self.now met ≡ Some change) }
-        ensures below { ForSome result (λ change. change.number < number) }
+        ensures change { ForSome result (IsDue number met self.now) }
         ensures none { result ≡ None → AreFrom number (drop met self.now) }
     {
         match self.all.get(met as usize) {
@@ -72,13 +58,13 @@ impl<'a> Changes<'a> {
         }
     }
 
-    /// Has the change after so many this number?
-    pub(crate) fn is_at(&self, met: u32, number: u32) -> bool
-        ensures { OnFalse result (AreFrom number (drop met self.now) → AreFrom (number + 1) (drop met self.now)) }
+    /// The change after so many, if it has this number: that which a frame of the number brings.
+    pub(crate) fn at(&self, met: u32, number: u32) -> Option<Change>
+        ensures { IsBrought number met self.now result }
     {
         match self.all.get(met as usize) {
-            Some(change) => change.number == number,
-            None => false,
+            Some(change) if change.number == number => Some(*change),
+            _ => None,
         }
     }
 
@@ -97,9 +83,20 @@ impl<'a> Changes<'a> {
     pub(crate) fn passed(&self, met: u32, number: u32) -> u32
         requires orderly { AreOrderly self.now }
         requires met { met ≤ length self.now }
-        ensures { result ≡ met + length (passed number (drop met self.now)) }
+        ensures { ArePassed number self.now met result }
     {
         let left = &self.all[met as usize..];
         met + left.partition_point(|change| change.number < number) as u32
+    }
+}
+
+/// How many changes are met behind a frame that brings this one, if it brings one.
+pub(crate) fn met_after(met: u32, change: &Option<Change>) -> u32
+    requires { met < 2 ^ 28 }
+    ensures { result ≡ met_after met change.now }
+{
+    match change {
+        Some(_) => met + 1,
+        None => met,
     }
 }

@@ -39,7 +39,6 @@
 
 mod changes;
 mod ends;
-mod left;
 mod parts;
 mod quiet;
 mod quiet_streams;

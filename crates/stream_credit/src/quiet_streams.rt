@@ -11,7 +11,8 @@ ghost use Rattle.audit_terms.specs.code.runs.Orderly.{IsOrderly, IsInRange};
 ghost use Rattle.settings_pair.specs.code.Changes.{AreOrderly, AreAcknowledged};
 ghost use Rattle.stream_credit.specs.code.Looks.{is_live};
 ghost use Rattle.audit_terms.specs.code.Room.{HasRoom};
-ghost use Rattle.stream_credit.specs.code.QuietStream.{AreFrom, CanMeet, HasMet, IsAhead, IsAheadIfQuiet, IsCreditOf};
+ghost use Rattle.stream_credit.specs.code.Changes.{AreFrom};
+ghost use Rattle.stream_credit.specs.code.QuietStream.{CanMeet, HasMet, IsAhead, IsAheadIfQuiet, IsCreditOf};
 ghost use Rattle.stream_credit.specs.code.QuietStream.{IsMovedBy, IsNext, IsPassed, ShowsNothing, opened_of, stream_of};
 ghost use Rattle.stream_credit.specs.code.QuietStream.{has_credit, has_ended, window_of, IsStanding};
 ghost use Rattle.stream_credit.specs.code.Quiet.{IsRaised};
@@ -327,7 +328,7 @@ impl QuietStream {
             → IsAhead stream changes.now all (frame.now ∷ rest) self.old
             → IsAhead stream changes.now all rest self.new)) }
     {
-        if changes.is_at(self.met.get(), frame.number) {
+        if let Some(_) = changes.at(self.met.get(), frame.number) {
             return Ok(false);
         }
         if self.moves(stream, frame) {

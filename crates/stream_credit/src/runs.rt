@@ -1,5 +1,5 @@
 ghost use Rattle.std.specs.Prelude.{◌≡◌, ℕ, ◌-◌, ◌^◌, ◌<◌, ◌≤◌, ◌++◌, All, List, IfOk, OnOk, length};
-ghost use Rattle.std.specs.Bool.{OnTrue, OnFalse};
+ghost use Rattle.std.specs.Bool.{MatchBool};
 ghost use Rattle.audit_terms.specs.declared.frames.Frame.{Frame as FrameTerm};
 ghost use Rattle.audit_terms.specs.declared.findings.Finding.{Finding};
 ghost use Rattle.audit_terms.specs.Place.{place_number};
@@ -13,7 +13,6 @@ ghost use Rattle.stream_credit.specs.code.Walk.{WholeRun, IsSound, HasEnded, Has
 
 use crate::changes::Changes;
 use crate::ends::run_of;
-use crate::left::Left;
 use crate::parts::{StreamPart, StreamRun};
 use crate::walks::Walk;
 use audit_terms::{Frame, Look};
@@ -39,20 +38,19 @@ fn gather(near: &mut Vec<Frame>, frames: &[Frame], positions: &[u32]) -> Result<
 fn meet_frames<L: Look>(
     walk: &mut Walk,
     look: &mut L,
-    left: &mut Left<'_>,
+    changes: &Changes<'_>,
+    met: &mut u32,
     frames: &[Frame],
 ) -> Result<bool, AllocError>
     requires { (run : WholeRun L) × (rest : List FrameTerm)
-        × IsSound L.answers run look.old walk.old left.old (frames.now ++ rest) }
-    ensures goes_on { IfOk result (λ goes_on. OnTrue goes_on ((run : WholeRun L) (rest : List FrameTerm)
-        → IsSound L.answers run look.old walk.old left.old (frames.now ++ rest)
-        → IsSound L.answers run look.new walk.new left.new rest)) }
-    ensures stops { IfOk result (λ goes_on. OnFalse goes_on ((run : WholeRun L) (rest : List FrameTerm)
-        → IsSound L.answers run look.old walk.old left.old (frames.now ++ rest)
-        → HasStopped L.answers run look.new walk.new)) }
+        × IsSound L.answers run look.old walk.old changes.now met.old (frames.now ++ rest) }
+    ensures { IfOk result (λ goes_on. (run : WholeRun L) (rest : List FrameTerm)
+        → IsSound L.answers run look.old walk.old changes.now met.old (frames.now ++ rest)
+        → MatchBool goes_on (IsSound L.answers run look.new walk.new changes.now met.new rest)
+        (HasStopped L.answers run look.new walk.new)) }
 {
     for frame in frames {
-        if !walk.meet_frame(look, left, frame)? {
+        if !walk.meet_frame(look, changes, met, frame)? {
             return Ok(false);
         }
     }
@@ -65,28 +63,26 @@ fn meet_all<L: Look>(
     walk: &mut Walk,
     look: &mut L,
     part: &StreamPart<'_>,
-    mut left: Left<'_>,
+    changes: &Changes<'_>,
 ) -> Result<bool, AllocError>
     requires part { IsPart part.now }
-    requires sound { (run : WholeRun L) × IsSound L.answers run look.old walk.old left (part_frames part.now) }
-    ensures goes_on { IfOk result (λ goes_on. OnTrue goes_on ((run : WholeRun L)
-        → IsSound L.answers run look.old walk.old left.entry (part_frames part.now)
-        → HasEnded L.answers run look.new walk.new)) }
-    ensures stops { IfOk result (λ goes_on. OnFalse goes_on ((run : WholeRun L)
-        → IsSound L.answers run look.old walk.old left.entry (part_frames part.now)
-        → HasStopped L.answers run look.new walk.new)) }
+    requires sound { (run : WholeRun L) × IsSound L.answers run look.old walk.old changes.now 0 (part_frames part.now) }
+    ensures { IfOk result (λ goes_on. (run : WholeRun L)
+        → IsSound L.answers run look.old walk.old changes.now 0 (part_frames part.now)
+        → MatchBool goes_on (HasEnded L.answers run look.new walk.new) (HasStopped L.answers run look.new walk.new)) }
 {
+    let mut met = 0;
     let mut rest = part.positions;
     let mut near = Vec::with_capacity(alloc, rest.len().min(NEAR))?;
     while !rest.is_empty() {
         let (some, later) = rest.split_at(rest.len().min(NEAR));
         gather(&mut near, part.frames, some)?;
-        if !meet_frames(walk, look, &mut left, near.as_slice())? {
+        if !meet_frames(walk, look, changes, &mut met, near.as_slice())? {
             return Ok(false);
         }
         rest = later;
     }
-    let is_met = walk.meet_changes(look, left)?;
+    let is_met = walk.meet_changes(look, changes, &mut met, u32::MAX)?;
     Ok(is_met)
 }
 
@@ -118,6 +114,6 @@ pub fn stream_run<L: Look>(
         All (λ (found : Finding). place_number found.place ≤ 2 ^ 28 - 2) run.findings.items) }
 {
     let mut walk = Walk::idle(alloc, part.stream, credits_shown, look);
-    let is_whole = meet_all(alloc, &mut walk, look, part, changes.left())?;
+    let is_whole = meet_all(alloc, &mut walk, look, part, changes)?;
     Ok(run_of(walk, is_whole))
 }

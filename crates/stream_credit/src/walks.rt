@@ -1,20 +1,17 @@
-ghost use Rattle.std.specs.Prelude.{◌≡◌, ℕ, ◌+◌, ◌-◌, ◌*◌, ◌^◌, ◌<◌, ◌≤◌, [], ◌∷◌, ◌++◌, true, List, OnOk, IfOk};
-ghost use Rattle.std.specs.Bool.{OnTrue, OnFalse};
-ghost use Rattle.audit_terms.specs.declared.frames.Frame.{Frame};
-ghost use Rattle.audit_terms.specs.declared.items.Step.{Step};
+ghost use Rattle.std.specs.Prelude.{◌≡◌, ℕ, ◌+◌, ◌-◌, ◌*◌, ◌^◌, ◌<◌, ◌≤◌, [], ◌∷◌, ◌++◌, drop, true, List, OnOk, IfOk};
+ghost use Rattle.std.specs.Bool.{MatchBool, OnTrue, OnFalse};
+ghost use Rattle.audit_terms.specs.declared.frames.Frame.{Frame as FrameTerm};
 ghost use Rattle.audit_terms.specs.declared.findings.Finding.{Finding as FindingTerm};
-ghost use Rattle.audit_terms.specs.InForce.{initial_in_force};
 ghost use Rattle.audit_terms.specs.code.runs.Look.{found_before, steps_between};
-ghost use Rattle.audit_terms.specs.Stream.{idle_stream, stream_after};
-ghost use Rattle.audit_terms.specs.code.runs.Streams.{IsAcknowledged, initial_after};
-ghost use Rattle.audit_terms.specs.code.Watch.{Watches, IsStopped, NeverFallFrom};
-ghost use Rattle.stream_credit.specs.code.Looks.{is_live, is_met};
+ghost use Rattle.audit_terms.specs.code.runs.Streams.{IsAcknowledged};
+ghost use Rattle.audit_terms.specs.code.Watch.{Watches, IsStopped};
+ghost use Rattle.stream_credit.specs.code.Looks.{is_live};
 ghost use Rattle.stream_credit.specs.code.Merged.{frame_with};
-ghost use Rattle.stream_credit.specs.code.Left.{after_changes, IsInForce};
-ghost use Rattle.stream_credit.specs.code.Walk.{IsCounted, HasRoomAt, WholeRun, IsAt, IsAtChanges, IsSound, HasStopped};
+ghost use Rattle.stream_credit.specs.code.Changes.{AreFrom};
+ghost use Rattle.stream_credit.specs.code.QuietStream.{StartsAt};
+ghost use Rattle.stream_credit.specs.code.Walk.{HasRoomAt, HasStopped, IsBegun, IsCounted, IsSound, WholeRun};
 
-use crate::changes::FIRST_WINDOWS;
-use crate::left::Left;
+use crate::changes::{Changes, FIRST_WINDOWS, met_after};
 use crate::quiet::{move_of, moved_quietly};
 use crate::silent::{is_silent, moved};
 use audit_terms::{
@@ -46,13 +43,7 @@ impl Walk {
         credits_shown: bool,
         look: &mut L,
     ) -> Self
-        ensures stream { result.stream ≡ stream }
-        ensures credits_shown { result.credits_shown ≡ credits_shown }
-        ensures watch { (whole : List FindingTerm) (numbers : List ℕ) → NeverFallFrom 0 numbers
-            → Watches L.answers look.old look.new whole [] numbers result.watch }
-        ensures entry { result.entry ≡ idle_stream }
-        ensures initial { result.initial ≡ initial_in_force.initial }
-        ensures found { result.found.items ≡ [] }
+        ensures { IsBegun L.answers look.old look.new stream credits_shown result }
     {
         let watch = Watch::begin(look);
         Walk {
@@ -156,146 +147,92 @@ impl Walk {
         self.watch.goes_on(look, found, number)
     }
 
-    /// Meets one step, unless it lies past the place at which its connection stops, and answers whether it met it.
-    fn meet<L: Look>(&mut self, look: &mut L, step: &Step) -> Result<bool, AllocError>
-        requires numbered { step.now.number ≤ 2 ^ 28 - 2 }
-        requires acknowledged { IsAcknowledged step.now }
-        requires met { is_met self.old.entry step.now ≡ true }
-        requires at { (run : WholeRun L) × (rest : List Step)
-            × IsAt L.answers run look.old self.old step.now.number (step.now ∷ rest) }
-        ensures goes_on { IfOk result (λ goes_on. OnTrue goes_on ((run : WholeRun L) (rest : List Step)
-            → IsAt L.answers run look.old self.old step.now.number (step.now ∷ rest)
-            → IsAt L.answers run look.new self.new (step.now.number + 1) rest)) }
-        ensures stops { IfOk result (λ goes_on. OnFalse goes_on ((run : WholeRun L) (rest : List Step)
-            → IsAt L.answers run look.old self.old step.now.number (step.now ∷ rest)
-            → HasStopped L.answers run look.new self.new)) }
-        ensures initial { IfOk result (λ goes_on. OnTrue goes_on
-            (self.new.initial ≡ initial_after step.now.change self.old.initial)) }
-        ensures entry { IfOk result (λ goes_on. OnTrue goes_on
-            (self.new.entry ≡ stream_after self.old.stream self.old.initial self.old.entry step.now)) }
-    {
-        if !self.goes_on(look, step.number) {
-            return Ok(false);
-        }
-        self.count(step)?;
-        Ok(true)
-    }
-
-    /// Meets changes whose frames are on other streams, and answers whether it met them all. Where no window lives it
-    /// has none of them to meet.
+    /// Meets the changes before a number, and answers whether it met them all. Where no window lives it has none of
+    /// them to meet.
     pub(crate) fn meet_changes<L: Look>(
         &mut self,
         look: &mut L,
-        passed: Left<'_>,
+        changes: &Changes<'_>,
+        met: &mut u32,
+        number: u32,
     ) -> Result<bool, AllocError>
-        requires at { (run : WholeRun L) × (number : ℕ) × (rest : List Step)
-            × IsAtChanges L.answers run look.old self.old number passed.changes.now rest }
-        requires in_force { IsInForce self.old.initial passed }
-        ensures goes_on { IfOk result (λ goes_on. OnTrue goes_on ((run : WholeRun L) (number : ℕ) (rest : List Step)
-            → IsAtChanges L.answers run look.old self.old number passed.entry.changes.now rest
-            → IsAt L.answers run look.new self.new number rest)) }
-        ensures stops { IfOk result (λ goes_on. OnFalse goes_on ((run : WholeRun L) (number : ℕ) (rest : List Step)
-            → IsAtChanges L.answers run look.old self.old number passed.entry.changes.now rest
-            → HasStopped L.answers run look.new self.new)) }
-        ensures initial { IfOk result (λ goes_on. OnTrue goes_on
-            (self.new.initial ≡ after_changes self.old.initial passed.entry.changes.now)) }
+        requires { (run : WholeRun L) × (rest : List FrameTerm) × StartsAt number rest
+            × IsSound L.answers run look.old self.old changes.now met.old rest }
+        ensures { IfOk result (λ goes_on. (run : WholeRun L) (rest : List FrameTerm) → StartsAt number rest
+            → IsSound L.answers run look.old self.old changes.now met.old rest → MatchBool goes_on
+            (IsSound L.answers run look.new self.new changes.now met.new rest
+            × AreFrom number (drop met.new changes.now)) (HasStopped L.answers run look.new self.new)) }
     {
-        if passed.changes.is_empty() {
-            return Ok(true);
-        }
         if self.is_live() {
-            return self.meet_each(look, passed.changes);
+            return self.meet_each(look, changes, met, number);
         }
-        self.pass(&passed);
-        Ok(true)
-    }
-
-    /// Meets changes one by one.
-    fn meet_each<L: Look>(&mut self, look: &mut L, changes: &[Change]) -> Result<bool, AllocError>
-        requires live { is_live self.old.entry ≡ true }
-        requires at { (run : WholeRun L) × (number : ℕ) × (rest : List Step)
-            × IsAtChanges L.answers run look.old self.old number changes.now rest }
-        ensures goes_on { IfOk result (λ goes_on. OnTrue goes_on ((run : WholeRun L) (number : ℕ) (rest : List Step)
-            → IsAtChanges L.answers run look.old self.old number changes.now rest
-            → IsAt L.answers run look.new self.new number rest)) }
-        ensures stops { IfOk result (λ goes_on. OnFalse goes_on ((run : WholeRun L) (number : ℕ) (rest : List Step)
-            → IsAtChanges L.answers run look.old self.old number changes.now rest
-            → HasStopped L.answers run look.new self.new)) }
-        ensures initial { IfOk result (λ goes_on. OnTrue goes_on
-            (self.new.initial ≡ after_changes self.old.initial changes.now)) }
-    {
-        for change in changes {
-            let step = Step {
-                number: change.number,
-                frame: None,
-                change: Some(*change),
-            };
-            if !self.meet(look, &step)? {
-                return Ok(false);
-            }
-        }
+        *met = changes.passed(*met, number);
+        self.pass(&changes.initial_at(*met));
         Ok(true)
     }
 
     /// Passes over changes: only what they leave in force counts.
-    fn pass(&mut self, passed: &Left<'_>)
-        requires { IsInForce self.old.initial passed.now }
-        ensures { self.new ≡ record self.old { initial = after_changes self.old.initial passed.now.changes.now } }
+    fn pass(&mut self, initial: &Sides<u32>)
+        ensures { self.new ≡ record self.old { initial = initial.now } }
     {
-        if let Some(initial) = passed.in_force.last() {
-            self.initial = *initial;
+        self.initial = *initial;
+    }
+
+    /// Meets them one by one.
+    fn meet_each<L: Look>(
+        &mut self,
+        look: &mut L,
+        changes: &Changes<'_>,
+        met: &mut u32,
+        number: u32,
+    ) -> Result<bool, AllocError>
+        requires live { is_live self.old.entry ≡ true }
+        requires sound { (run : WholeRun L) × (rest : List FrameTerm) × StartsAt number rest
+            × IsSound L.answers run look.old self.old changes.now met.old rest }
+        ensures { IfOk result (λ goes_on. (run : WholeRun L) (rest : List FrameTerm) → StartsAt number rest
+            → IsSound L.answers run look.old self.old changes.now met.old rest → MatchBool goes_on
+            (IsSound L.answers run look.new self.new changes.now met.new rest
+            × AreFrom number (drop met.new changes.now)) (HasStopped L.answers run look.new self.new)) }
+    {
+        while let Some(change) = changes.before(*met, number) {
+            if !self.goes_on(look, change.number) {
+                return Ok(false);
+            }
+            let step = Step {
+                number: change.number,
+                frame: None,
+                change: Some(change),
+            };
+            self.count(&step)?;
+            *met += 1;
         }
+        Ok(true)
     }
 
     /// Meets the next frame of the stream, and the changes before it, and answers whether it met them all.
     pub(crate) fn meet_frame<L: Look>(
         &mut self,
         look: &mut L,
-        left: &mut Left<'_>,
+        changes: &Changes<'_>,
+        met: &mut u32,
         frame: &Frame,
     ) -> Result<bool, AllocError>
-        requires { (run : WholeRun L) × (frames : List Frame)
-            × IsSound L.answers run look.old self.old left.old (frame.now ∷ frames) }
-        ensures goes_on { IfOk result (λ goes_on. OnTrue goes_on ((run : WholeRun L) (frames : List Frame)
-            → IsSound L.answers run look.old self.old left.old (frame.now ∷ frames)
-            → IsSound L.answers run look.new self.new left.new frames)) }
-        ensures stops { IfOk result (λ goes_on. OnFalse goes_on ((run : WholeRun L) (frames : List Frame)
-            → IsSound L.answers run look.old self.old left.old (frame.now ∷ frames)
-            → HasStopped L.answers run look.new self.new)) }
+        requires { (run : WholeRun L) × (frames : List FrameTerm)
+            × IsSound L.answers run look.old self.old changes.now met.old (frame.now ∷ frames) }
+        ensures { IfOk result (λ goes_on. (run : WholeRun L) (frames : List FrameTerm)
+            → IsSound L.answers run look.old self.old changes.now met.old (frame.now ∷ frames)
+            → MatchBool goes_on (IsSound L.answers run look.new self.new changes.now met.new frames)
+            (HasStopped L.answers run look.new self.new)) }
     {
-        let passed = left.pass(frame.number);
-        if !self.meet_changes(look, passed)? {
+        if !self.meet_changes(look, changes, met, frame.number)? {
             return Ok(false);
         }
-        let change = left.take(frame.number);
-        let is_met = self.meet_with(look, frame, &change)?;
-        Ok(is_met)
-    }
-
-    /// Meets a frame and the change that it brings, if it brings one, under the same conditions as any step.
-    fn meet_with<L: Look>(
-        &mut self,
-        look: &mut L,
-        frame: &Frame,
-        change: &Option<Change>,
-    ) -> Result<bool, AllocError>
-        requires numbered { frame.now.number ≤ 2 ^ 28 - 2 }
-        requires acknowledged { IsAcknowledged (frame_with frame.now change.now) }
-        requires at { (run : WholeRun L) × (rest : List Step)
-            × IsAt L.answers run look.old self.old frame.now.number (frame_with frame.now change.now ∷ rest) }
-        ensures goes_on { IfOk result (λ goes_on. OnTrue goes_on ((run : WholeRun L) (rest : List Step)
-            → IsAt L.answers run look.old self.old frame.now.number (frame_with frame.now change.now ∷ rest)
-            → IsAt L.answers run look.new self.new (frame.now.number + 1) rest)) }
-        ensures stops { IfOk result (λ goes_on. OnFalse goes_on ((run : WholeRun L) (rest : List Step)
-            → IsAt L.answers run look.old self.old frame.now.number (frame_with frame.now change.now ∷ rest)
-            → HasStopped L.answers run look.new self.new)) }
-        ensures initial { IfOk result (λ goes_on. OnTrue goes_on
-            (self.new.initial ≡ initial_after change.now self.old.initial)) }
-    {
+        let change = changes.at(*met, frame.number);
         if !self.goes_on(look, frame.number) {
             return Ok(false);
         }
-        self.count_frame(frame, change)?;
+        self.count_frame(frame, &change)?;
+        *met = met_after(*met, &change);
         Ok(true)
     }
 

@@ -86,11 +86,7 @@ strays-of-past packets =
     rw (belongings-are packets, strays-are past, first_strays-are past)
     (λ i. map (λ s. stray-is (past_words.strays past) s i) (past_words.first_strays past))
 
--- a connection of the definition, as the table's
-connection-is : (past : List Segment) (o : Segment) (c : Connection) → IsConnectionOf (belong past) o c
-    → past_words.membership c ≡ past_words.connection_of past o
-connection-is past o c h = cc (members-are o past)
-
+-- a connection of the definition is the table's, and the other way round
 is-connection : (past : List Segment) (o : Segment) (c : Connection)
     → past_words.membership c ≡ past_words.connection_of past o → IsConnectionOf (belong past) o c
 is-connection past o c e = record {
@@ -108,7 +104,10 @@ zip-to_map : (past : List Segment) (os : List Segment) (cs : List Connection)
 zip-to_map past [] [] h = refl
 zip-to_map past [] (c ∷ cs) h = absurd h
 zip-to_map past (o ∷ os) [] h = absurd h
-zip-to_map past (o ∷ os) (c ∷ cs) h = ap₂ (λ m ms. m ∷ ms) (connection-is past o c h.0) (zip-to_map past os cs h.1)
+zip-to_map past (o ∷ os) (c ∷ cs) h =
+    let is = h.0 in
+    let one : past_words.membership c ≡ past_words.connection_of past o = cc (members-are o past) in
+    ap₂ (λ m ms. m ∷ ms) one (zip-to_map past os cs h.1)
 
 map-to_zip : (past : List Segment) (os : List Segment) (cs : List Connection)
     → map past_words.membership cs ≡ map (past_words.connection_of past) os

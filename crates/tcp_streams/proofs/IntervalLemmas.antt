@@ -1,11 +1,12 @@
 -- On intervals: the parts between two offsets, and one list of intervals laid over another.
 use Rattle.tcp_streams.proofs.Words.{◌≡◌, ℕ, ◌<◌, ◌≤◌, true, List, [], ◌∷◌, None, Some, refl, ◌∙◌, arith, zero, suc}
-use Rattle.tcp_streams.proofs.Words.{◌+◌, ◌-◌, ◌^◌, ◌++◌, length, drop, take, ap, get_or, ◌⊎◌, inl, inr, All, option_or}
-use Rattle.tcp_streams.proofs.Words.{nat_tests, take-append-drop, All-head, All-tail, sum_by-append, sum_by-cons}
-use Rattle.tcp_streams.proofs.Words.{end_of_offsets, IsInterval, Spans, at, size_of, source_in, width, IsSame, clipped}
-use Rattle.tcp_streams.proofs.Words.{lie_apart, overlay, Interval}
+use Rattle.tcp_streams.proofs.Words.{◌+◌, ◌-◌, ◌^◌, ◌++◌, length, drop, take, ap, get_or, All, option_or, nat_tests}
+use Rattle.tcp_streams.proofs.Words.{take-append-drop, All-head, All-tail, sum_by-cons, end_of_offsets, IsInterval}
+use Rattle.tcp_streams.proofs.Words.{Spans, at, size_of, source_in, width, clipped, lie_apart, overlay, Interval}
+use Rattle.tcp_streams.proofs.Words.{if◌then◌else◌, nat_lt, ◌&&◌, IsSome, false≢true}
+use Rattle.std.specs.Prelude.{nat_le}
 use Rattle.std.proofs.Common.{min, max}
-use Rattle.tcp_streams.specs.code.Interval.{part_of}
+use Rattle.tcp_streams.specs.code.Interval.{IsSettled}
 use Rattle.tcp_streams.proofs.Lists.{by_lt}
 
 -- an offset is held, or it lies before, or past
@@ -21,15 +22,11 @@ at-append [] ys o = refl
 at-append (x ∷ xs) ys o = grind (arith, at-append xs ys o)
 
 -- the lists that lie in order begin where they say
-pub Spans-weaker : (low low' high : ℕ) (xs : List Interval) → low' ≤ low → Spans low xs high → Spans low' xs high
+Spans-weaker : (low low' high : ℕ) (xs : List Interval) → low' ≤ low → Spans low xs high → Spans low' xs high
 Spans-weaker low low' high [] le h = omega (arith, h)
 Spans-weaker low low' high (x ∷ xs) le h = (omega (arith, h.0), h.1, h.2)
 
-pub Spans-ordered : (low high : ℕ) (xs : List Interval) → Spans low xs high → low ≤ high
-Spans-ordered low high [] h = h
-Spans-ordered low high (x ∷ xs) h = omega (arith, h.0, h.1.some, Spans-ordered x.upto high xs h.2)
-
-pub Spans-append : (low middle high : ℕ) (xs ys : List Interval) → Spans low xs middle → Spans middle ys high
+Spans-append : (low middle high : ℕ) (xs ys : List Interval) → Spans low xs middle → Spans middle ys high
     → Spans low (xs ++ ys) high
 Spans-append low middle high [] ys h k = Spans-weaker middle low high ys h k
 Spans-append low middle high (x ∷ xs) ys h k = (h.0, h.1, Spans-append x.upto middle high xs ys h.2 k)
@@ -47,17 +44,8 @@ Spans-before low high [] o lt h = refl
 Spans-before low high (x ∷ xs) o lt h =
     grind (arith, nat_tests, Spans-before x.upto high xs o (omega (arith, h.0, h.1.some)) h.2)
 
--- the first of the parts
-module _ (low high : ℕ) (y : Interval) (ys : List Interval) where
-  pub clipped-some : max y.from low < min y.upto high → clipped low high (y ∷ ys) ≡ part_of y (max y.from low)
-      (min y.upto high) ∷ clipped low high ys
-  clipped-some h = grind (arith, nat_tests)
-
-  pub clipped-none : min y.upto high ≤ max y.from low → clipped low high (y ∷ ys) ≡ clipped low high ys
-  clipped-none h = grind (arith, nat_tests)
-
 -- what lies past the end has no part
-pub clipped-beyond : (low high a b : ℕ) (ys : List Interval) → high ≤ a → Spans a ys b → clipped low high ys ≡ []
+clipped-beyond : (low high a b : ℕ) (ys : List Interval) → high ≤ a → Spans a ys b → clipped low high ys ≡ []
 clipped-beyond low high a b [] le h = refl
 clipped-beyond low high a b (y ∷ ys) le h =
     grind (arith, nat_tests, clipped-beyond low high y.upto b ys (omega (arith, h.0, h.1.some)) h.2)
@@ -73,20 +61,19 @@ clipped-last low high a b (y ∷ ys) (suc k) d lt over h = clipped-last low high
     (omega (arith, lt)) over h.2
 
 -- the parts lie in order
-pub Spans-clipped : (m low high a b : ℕ) (ys : List Interval) → Spans a ys b → m ≤ max a low → m ≤ high
+Spans-clipped : (m low high a b : ℕ) (ys : List Interval) → Spans a ys b → m ≤ max a low → m ≤ high
     → high ≤ end_of_offsets → Spans m (clipped low high ys) high
-Spans-clipped m low high a b [] h k le e = le
-Spans-clipped m low high a b (y ∷ ys) h k le e =
+Spans-clipped m low high a b [] h k le counts = le
+Spans-clipped m low high a b (y ∷ ys) h k le counts =
     by_lt (max y.from low) (min y.upto high)
-    (λ _ lt. rw (clipped-some low high y ys lt) (
+    (λ e lt. rw e (
       omega (arith, h.0, k),
       record { some = lt; counts = omega (arith, h.1.counts); room = omega (arith, h.1.room, lt) },
-      Spans-clipped (min y.upto high) low high y.upto b ys h.2 (omega arith) (omega arith) e,
+      Spans-clipped (min y.upto high) low high y.upto b ys h.2 (omega arith) (omega arith) counts,
     ))
-    (λ _ over. rw (clipped-none low high y ys over)
-    (Spans-clipped m low high y.upto b ys h.2 (omega (arith, h.0, h.1.some, k)) le e))
+    (λ e _. rw e (Spans-clipped m low high y.upto b ys h.2 (omega (arith, h.0, h.1.some, k)) le counts))
 
-pub Spans-overlay : (low : ℕ) (kept later : List Interval) → Spans low kept end_of_offsets
+Spans-overlay : (low : ℕ) (kept later : List Interval) → Spans low kept end_of_offsets
     → Spans 0 later end_of_offsets → Spans low (overlay kept later low) end_of_offsets
 Spans-overlay low [] later h k = Spans-clipped low low end_of_offsets 0 end_of_offsets later k (omega arith) h
     (omega arith)
@@ -95,94 +82,69 @@ Spans-overlay low (x ∷ kept) later h k =
     (Spans-clipped low low x.from 0 end_of_offsets later k (omega arith) h.0 (omega (arith, h.1.some, h.1.counts)))
     (omega arith, h.1, Spans-overlay x.upto kept later h.2 k)
 
--- between the two offsets the parts bring what the intervals bring
-pub at-clipped-inside : (low high : ℕ) (ys : List Interval) (o : ℕ) → low ≤ o → o < high
-    → at (clipped low high ys) o ≡ at ys o
-at-clipped-inside low high [] o a b = refl
-at-clipped-inside low high (y ∷ ys) o a b = grind (arith, nat_tests, at-clipped-inside low high ys o a b)
-
--- outside they bring nothing
-pub at-clipped-outside : (low high : ℕ) (ys : List Interval) (o : ℕ) → (o < low) ⊎ (high ≤ o)
-    → at (clipped low high ys) o ≡ None
-at-clipped-outside low high [] o out = refl
-at-clipped-outside low high (y ∷ ys) o out = grind (arith, nat_tests, at-clipped-outside low high ys o out)
+-- between the two offsets the parts bring what the intervals bring, and outside nothing
+at-clipped : (low high : ℕ) (ys : List Interval) (o : ℕ)
+    → at (clipped low high ys) o ≡ (if nat_le low o && nat_lt o high then at ys o else None)
+at-clipped low high [] o = grind arith
+at-clipped low high (y ∷ ys) o = grind (arith, nat_tests, at-clipped low high ys o)
 
 -- before low it brings nothing
 overlay-before : (low : ℕ) (kept later : List Interval) (o : ℕ) → Spans low kept end_of_offsets → o < low
     → at (overlay kept later low) o ≡ None
-overlay-before low [] later o h lt = at-clipped-outside low end_of_offsets later o (inl lt)
+overlay-before low [] later o h lt = grind (arith, nat_tests, at-clipped low end_of_offsets later o)
 overlay-before low (x ∷ kept) later o h lt =
     let after = overlay kept later x.upto in
     grind (
       arith,
       nat_tests,
       at-append (clipped low x.from later) (x ∷ after) o,
-      at-clipped-outside low x.from later o (inl lt),
+      at-clipped low x.from later o,
       overlay-before x.upto kept later o h.2 (omega (arith, h.0, h.1.some)),
     )
 
 -- from low on, the first of the two brings the byte, and the second where the first has none
-pub at-overlay : (low : ℕ) (kept later : List Interval) (o : ℕ) → Spans low kept end_of_offsets → low ≤ o
+at-overlay : (low : ℕ) (kept later : List Interval) (o : ℕ) → Spans low kept end_of_offsets → low ≤ o
     → o < end_of_offsets
     → at (overlay kept later low) o ≡ option_or (at kept o) (at later o)
-at-overlay low [] later o h a b = at-clipped-inside low end_of_offsets later o a b
+at-overlay low [] later o h a b = grind (arith, nat_tests, at-clipped low end_of_offsets later o)
 at-overlay low (x ∷ kept) later o h a b =
     grind (
       arith,
       nat_tests,
       at-append (clipped low x.from later) (x ∷ overlay kept later x.upto) o,
-      at-clipped-inside low x.from later o a,
-      (λ (over : x.from ≤ o). at-clipped-outside low x.from later o (inr over)),
+      at-clipped low x.from later o,
       overlay-before x.upto kept later o h.2,
       (λ (lt : o < x.upto). Spans-before x.upto end_of_offsets kept o lt h.2),
       (λ (le : x.upto ≤ o). at-overlay x.upto kept later o h.2 le b),
     )
 
--- how many offsets from d on the intervals hold
-abbrev left_of : ℕ → List Interval → ℕ
-left_of d [] = 0
-left_of d (y ∷ ys) = (y.upto - max y.from d) + left_of d ys
+-- how many offsets below n the intervals hold, each counted as often as it is held
+abbrev below : ℕ → List Interval → ℕ
+below n [] = 0
+below n (x ∷ xs) = (min n x.upto - x.from) + below n xs
 
-left_of-falls : (d e : ℕ) (ys : List Interval) → d ≤ e → left_of e ys ≤ left_of d ys
-left_of-falls d e [] le = omega arith
-left_of-falls d e (y ∷ ys) le = omega (arith, le, left_of-falls d e ys le)
+below-more : (n : ℕ) (xs : List Interval) → (below n xs ≤ below (suc n) xs)
+    × (IsSome (at xs n) → below n xs < below (suc n) xs)
+below-more n [] = (omega arith, λ some. absurd (false≢true some))
+below-more n (x ∷ xs) =
+    let rest = below-more n xs in
+    (omega (arith, rest.0), λ some. grind (arith, nat_tests, rest.0, rest.1))
 
-left_of-all : (ys : List Interval) → left_of 0 ys ≤ size_of ys
-left_of-all [] = omega arith
-left_of-all (y ∷ ys) = omega (arith, left_of-all ys, sum_by-cons width y ys)
+below-all : (n : ℕ) (xs : List Interval) → below n xs ≤ size_of xs
+below-all n [] = omega arith
+below-all n (x ∷ xs) = omega (arith, below-all n xs, sum_by-cons width x xs)
 
-size-clipped : (low high : ℕ) (ys : List Interval) → low ≤ high
-    → size_of (clipped low high ys) + left_of high ys ≤ left_of low ys
-size-clipped low high [] le = omega arith
-size-clipped low high (y ∷ ys) le = grind (
-  arith,
-  nat_tests,
-  sum_by-cons width (part_of y (max y.from low) (min y.upto high)) (clipped low high ys),
-  size-clipped low high ys le,
-)
+covered-below : (n : ℕ) (xs : List Interval) → ((o : ℕ) → o < n → IsSome (at xs o)) → n ≤ below n xs
+covered-below zero xs h = omega arith
+covered-below (suc n) xs h =
+    omega (arith, covered-below n xs (λ o lt. h o (omega arith)), (below-more n xs).1 (h n (omega arith)))
 
-size-overlay-left : (low : ℕ) (kept later : List Interval) → Spans low kept end_of_offsets
-    → size_of (overlay kept later low) ≤ size_of kept + left_of low later
-size-overlay-left low [] later h = omega (arith, size-clipped low end_of_offsets later h)
-size-overlay-left low (x ∷ kept) later h =
-    omega (
-      arith,
-      sum_by-append width (clipped low x.from later) (x ∷ overlay kept later x.upto),
-      sum_by-cons width x kept,
-      sum_by-cons width x (overlay kept later x.upto),
-      size-clipped low x.from later h.0,
-      left_of-falls x.from x.upto later
-          (omega (arith, h.1.some)),
-      size-overlay-left x.upto kept later h.2,
-    )
-
--- laying one over the other adds no offsets
-pub size-overlay : (kept later : List Interval) → Spans 0 kept end_of_offsets
-    → size_of (overlay kept later 0) ≤ size_of kept + size_of later
-size-overlay kept later h = omega (arith, size-overlay-left 0 kept later h, left_of-all later)
+-- so they hold as many offsets as they cover
+pub covered-fit : (n : ℕ) (xs : List Interval) → ((o : ℕ) → o < n → IsSome (at xs o)) → n ≤ size_of xs
+covered-fit n xs h = omega (arith, covered-below n xs h, below-all n xs)
 
 -- pieces that lie apart lie in order
-pub Spans-apart : (low : ℕ) (pieces : List Interval) → low ≤ 2 ^ 31 → lie_apart low pieces ≡ true
+Spans-apart : (low : ℕ) (pieces : List Interval) → low ≤ 2 ^ 31 → lie_apart low pieces ≡ true
     → All IsInterval pieces → Spans low pieces (2 ^ 31)
 Spans-apart low [] le apart h = le
 Spans-apart low (x ∷ xs) le apart h =
@@ -190,23 +152,19 @@ Spans-apart low (x ∷ xs) le apart h =
     let order : (low ≤ x.from) × (lie_apart x.upto xs ≡ true) = grind (arith, nat_tests) in
     (order.0, is, Spans-apart x.upto xs is.counts order.1 (All-tail IsInterval x xs h))
 
--- two halves that bring the same as the halves of a list, one laid over the other, bring the same as the list
-pub halves-same : (kept later pieces : List Interval) (n : ℕ) → Spans 0 kept end_of_offsets
-    → IsSame (at kept) (at (take n pieces)) → IsSame (at later) (at (drop n pieces))
-    → IsSame (at (overlay kept later 0)) (at pieces)
-halves-same kept later pieces n h k l = λ o lt.
-    at-overlay 0 kept later o h (omega arith) lt ∙ rw (k o lt, l o lt, ← at-append (take n pieces) (drop n pieces) o)
-    (ap (λ ps. at ps o) (take-append-drop n pieces))
+-- so they are settled
+pub settled-apart : (pieces : List Interval) → lie_apart 0 pieces ≡ true → All IsInterval pieces
+    → IsSettled pieces pieces
+settled-apart pieces apart all =
+    record { spans = Spans-apart 0 pieces (omega arith) apart all; same = λ o lt. refl }
 
-pub halves-size : (kept later pieces : List Interval) (n : ℕ) → Spans 0 kept end_of_offsets
-    → size_of kept ≤ size_of (take n pieces) → size_of later ≤ size_of (drop n pieces)
-    → size_of (overlay kept later 0) ≤ size_of pieces
-halves-size kept later pieces n h k l =
-    omega (
-      arith,
-      size-overlay kept later h,
-      k,
-      l,
-      sum_by-append width (take n pieces) (drop n pieces),
-      ap size_of (take-append-drop n pieces),
-    )
+-- and the settled halves of a list, one laid over the other, settle the list
+pub settled-halves : (kept later pieces : List Interval) (n : ℕ) → IsSettled (take n pieces) kept
+    → IsSettled (drop n pieces) later → IsSettled pieces (overlay kept later 0)
+settled-halves kept later pieces n h k = record {
+  spans = Spans-overlay 0 kept later h.spans k.spans;
+  same = λ o lt.
+      at-overlay 0 kept later o h.spans (omega arith) lt
+      ∙ rw (h.same o lt, k.same o lt, ← at-append (take n pieces) (drop n pieces) o)
+      (ap (λ ps. at ps o) (take-append-drop n pieces));
+}

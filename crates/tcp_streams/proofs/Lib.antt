@@ -1,7 +1,5 @@
 pub mod Belongings
-pub mod CaptureFits
 pub mod FlowLemmas
-pub mod InOrder
 pub mod IntervalLemmas
 pub mod Lists
 pub mod Numbered
@@ -11,7 +9,6 @@ pub mod RunLemmas
 pub mod Past
 pub mod Sides
 pub mod Steps
-pub mod Turns
 pub mod UniqueFlow
 pub mod Words
 pub mod Wrapped

@@ -6,7 +6,7 @@ use Rattle.tcp_streams.proofs.Words.{common_steps, get_or-map, length-map, map-a
 use Rattle.tcp_streams.proofs.Words.{All-tail, All-push, list_any-append, get_or_from_slice_get, slice_get_within}
 use Rattle.tcp_streams.proofs.Words.{Segment, with_if}
 use Rattle.std.proofs.Common.{◌≢◌}
-use Rattle.std.specs.Prelude.{Result, Ok, Err, OnOk, IfOk}
+use Rattle.std.specs.Prelude.{Result, Ok, Err, OnOk}
 use Rattle.std.proofs.lemmas.Bool.{cases_lt}
 use Rattle.std.proofs.lemmas.List.{length-drop, get_or-set_other, get_or-set_same, length-set, same_lists}
 use Rattle.std.proofs.lemmas.List.Quantifiers.{all_pairs_push}
@@ -101,8 +101,3 @@ module _ (b : Bool) (xs : List Segment) (s : Segment) where
 pub on_ok_3 : {A E P Q R W : Type 0} (r : Result A E) → OnOk r P → OnOk r Q → OnOk r R → (P → Q → R → W) → OnOk r W
 on_ok_3 (Ok x) p q h f = f p q h
 on_ok_3 (Err e) p q h f = tt
-
-pub if_ok_4 : {A E : Type 0} {P Q R S W : A → Type 0} (r : Result A E) → IfOk r P → IfOk r Q → IfOk r R → IfOk r S
-    → ((x : A) → P x → Q x → R x → S x → W x) → IfOk r W
-if_ok_4 (Ok x) p q h k f = f x p q h k
-if_ok_4 (Err e) p q h k f = tt

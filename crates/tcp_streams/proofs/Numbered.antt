@@ -1,14 +1,15 @@
 -- On packets that are numbered by their records: what their past is, and that members name segments.
 use Rattle.tcp_streams.proofs.Words.{◌≡◌, ℕ, ◌<◌, ◌≤◌, List, [], ◌∷◌, Some, refl, sym, ◌∙◌, arith, zero, suc, ◌+◌, ◌-◌}
 use Rattle.tcp_streams.proofs.Words.{◌++◌, length, drop, take, slice_get, ap, IsSome, get_or, map, All, common_steps}
-use Rattle.tcp_streams.proofs.Words.{get_or-map, length-map, map-append, drop-drop, length-take-le, All-nil, All-weaker}
+use Rattle.tcp_streams.proofs.Words.{get_or-map, length-map, map-append, drop-drop, All-nil, All-weaker}
 use Rattle.tcp_streams.proofs.Words.{All-head, All-tail, All-push, none-some, AreNumberedFrom, Packet, Carried, Segment}
 use Rattle.tcp_streams.proofs.Words.{is_opening, segment_of, AreMembers, members, opening_at, openings, Membership}
 use Rattle.tcp_streams.proofs.Words.{membership, connection_of, connections_of, past_after, past_of, with_packet, Falls}
-use Rattle.tcp_streams.proofs.Words.{Connection}
-use Rattle.std.proofs.lemmas.List.{take_more}
+use Rattle.tcp_streams.proofs.Words.{Connection, IfSome, get_or_from_slice_get, inl, inr, slice_get_within}
+use Rattle.std.proofs.lemmas.List.{length-take, take_more}
 use Rattle.std.proofs.lemmas.List.Elements.{All-map}
-use Rattle.std.proofs.lemmas.Option.{gets, slice_get-get_or}
+use Rattle.std.proofs.lemmas.Option.{gets, slice_get_cases}
+use Rattle.packet_heads.specs.code.Standing.{IsPassedOver}
 use Rattle.tcp_streams.proofs.Lists.{by_Bool}
 use Rattle.tcp_streams.proofs.Past.{Falls-weaker}
 
@@ -18,15 +19,24 @@ past_after-push past [] p = refl
 past_after-push past (x ∷ xs) p = past_after-push (with_packet past x) xs p
 
 -- the past of one more packet
-pub past_of-more : (packets : List Packet) (i : ℕ) (d p : Packet) → i < length packets → get_or packets i d ≡ p
+pub past_of-more : (packets : List Packet) (i : ℕ) (p : Packet) → slice_get packets i ≡ Some p
     → past_of (take (i + 1) packets) ≡ with_packet (past_of (take i packets)) p
-past_of-more packets i d p lt e = rw (take_more packets i d lt, e) (past_after-push [] (take i packets) p)
+past_of-more packets i p is =
+    rw (take_more packets i p (slice_get_within packets i p is), get_or_from_slice_get packets i p p is)
+    (past_after-push [] (take i packets) p)
 
--- a packet that is no segment changes nothing
-pub with_packet-other : (past : List Segment) (p : Packet) → ((s : Segment) → p ≡ Carried s → ⊥)
-    → with_packet past p ≡ past
-with_packet-other past (Carried s) h = absurd (h s refl)
-with_packet-other past _ h = refl
+with_packet-passed : (past : List Segment) (p : Packet) → IsPassedOver p → with_packet past p ≡ past
+with_packet-passed past (Carried s) h = absurd h
+with_packet-passed past _ h = refl
+
+-- one that is passed over changes nothing
+pub past_of-passed : (packets : List Packet) (i : ℕ) → i < length packets → IfSome (slice_get packets i) IsPassedOver
+    → past_of (take (i + 1) packets) ≡ past_of (take i packets)
+past_of-passed packets i lt h =
+    elim (slice_get_cases packets i).1 [
+      | inl (p, _, is, _) ↦ past_of-more packets i p is ∙ with_packet-passed (past_of (take i packets)) p (rw is at h)
+      | inr (le, _) ↦ absurd (omega arith)
+    ]
 
 -- a segment bears the number of its index
 pub numbered_at : (n : ℕ) (packets : List Packet) (i : ℕ) (s : Segment) → AreNumberedFrom n packets
@@ -36,12 +46,6 @@ numbered_at n (Carried t ∷ rest) zero s h at = rw (let same : s ≡ t = cc in 
 numbered_at n (_ ∷ rest) zero s h at = absurd cc
 numbered_at n (Carried t ∷ rest) (suc i) s h at = omega (arith, numbered_at (n + 1) rest i s h.1 at)
 numbered_at n (_ ∷ rest) (suc i) s h at = omega (arith, numbered_at (n + 1) rest i s h at)
-
-numbered_take : (n : ℕ) (packets : List Packet) (i : ℕ) → AreNumberedFrom n packets → AreNumberedFrom n (take i packets)
-numbered_take n packets zero h = tt
-numbered_take n [] (suc i) h = tt
-numbered_take n (Carried s ∷ rest) (suc i) h = (h.0, numbered_take (n + 1) rest i h.1)
-numbered_take n (_ ∷ rest) (suc i) h = numbered_take (n + 1) rest i h
 
 pub Falls-past_after : (n : ℕ) (past : List Segment) (packets : List Packet) → AreNumberedFrom n packets → Falls n past
     → Falls (n + length packets) (past_after past packets)
@@ -54,13 +58,15 @@ Falls-past_after n past (_ ∷ rest) h f =
     (Falls-past_after (n + 1) past rest h (Falls-weaker n (n + 1) past (omega arith) f))
 
 -- the records fall along the past, from below the next segment's
-pub Falls-next : (packets : List Packet) (i : ℕ) (d : Packet) (s : Segment) → AreNumberedFrom 1 packets
-    → i < length packets → get_or packets i d ≡ Carried s → Falls s.rec (past_of (take i packets))
-Falls-next packets i d s h lt e =
-    let number = numbered_at 1 packets i s h (slice_get-get_or packets i d lt ∙ ap Some e) in
-    let taken = length-take-le i packets (omega arith) in
-    Falls-weaker (1 + length (take i packets)) s.rec (past_of (take i packets)) (omega arith)
-    (Falls-past_after 1 [] (take i packets) (numbered_take 1 packets i h) tt)
+pub Falls-next : (n : ℕ) (past : List Segment) (packets : List Packet) (i : ℕ) (s : Segment) → AreNumberedFrom n packets
+    → Falls n past → slice_get packets i ≡ Some (Carried s) → Falls s.rec (past_after past (take i packets))
+Falls-next n past [] i s h f at = absurd (none-some (Carried s) at)
+Falls-next n past (Carried t ∷ rest) zero s h f at = rw ((let same : s ≡ t = cc in same), h.0) f
+Falls-next n past (_ ∷ rest) zero s h f at = absurd cc
+Falls-next n past (Carried t ∷ rest) (suc i) s h f at =
+    Falls-next (n + 1) (t ∷ past) rest i s h.1 (omega (arith, h.0), rw h.0 f) at
+Falls-next n past (_ ∷ rest) (suc i) s h f at =
+    Falls-next (n + 1) past rest i s h (Falls-weaker n (n + 1) past (omega arith) f) at
 
 past_after-few : (past : List Segment) (packets : List Packet)
     → length (past_after past packets) ≤ length past + length packets
@@ -69,8 +75,8 @@ past_after-few past (Carried s ∷ rest) = omega (arith, past_after-few (s ∷ p
 past_after-few past (_ ∷ rest) = omega (arith, past_after-few past rest)
 
 -- there are no more segments than packets
-pub past_of-few : (packets : List Packet) (i : ℕ) → i < length packets → length (past_of (take i packets)) ≤ i
-past_of-few packets i lt = omega (arith, past_after-few [] (take i packets), length-take-le i packets (omega arith))
+pub past_of-few : (packets : List Packet) (i : ℕ) → length (past_of (take i packets)) ≤ i
+past_of-few packets i = omega (arith, past_after-few [] (take i packets), length-take i packets)
 
 -- the past's segments stand among the packets
 abbrev pub Known : List Packet → List Segment → Type 0
@@ -124,16 +130,14 @@ members-are packets o n (s ∷ past) f k =
 abbrev IsNamed : List Packet → Membership → Type 0
 IsNamed packets m = AreMembers 0 packets m.members
 
-unmap : (packets : List Packet) (xs : List Connection) → All (IsNamed packets) (map membership xs)
-    → All (λ c. IsNamed packets (membership c)) xs
-unmap packets xs all = λ k d lt. rw (get_or-map membership xs k d (membership d) lt) at
-    (all k (membership d) (omega (arith, length-map xs membership)))
-
 pub connections-members : (packets : List Packet) (found : List Connection) → AreNumberedFrom 1 packets
     → map membership found ≡ connections_of (past_of packets)
     → All (λ (c : Connection). AreMembers 0 packets c.members.items) found
 connections-members packets found h same =
     let past = past_of packets in
-    unmap packets found (rw same (All-map (IsNamed packets) (connection_of past) (openings past) (λ k d lt.
+    let named : All (IsNamed packets) (map membership found) =
+    rw same (All-map (IsNamed packets) (connection_of past) (openings past) (λ k d lt.
     (members-are packets (get_or (openings past) k d) (1 + length packets) past
-    (Falls-past_after 1 [] packets h tt) (Known-past_of packets h)).0)))
+    (Falls-past_after 1 [] packets h tt) (Known-past_of packets h)).0)) in
+    λ k d lt. rw (get_or-map membership found k d (membership d) lt) at
+    (named k (membership d) (omega (arith, length-map found membership)))

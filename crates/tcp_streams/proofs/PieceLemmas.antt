@@ -1,6 +1,6 @@
 -- On the pieces of a side's segments: they bring what the segments bring.
-use Rattle.tcp_streams.proofs.Words.{◌≡◌, ℕ, ◌<◌, ◌≤◌, Bool, List, [], ◌∷◌, Option, None, Some, refl, sym, ◌∙◌, arith}
-use Rattle.tcp_streams.proofs.Words.{zero, suc, ◌+◌, ◌-◌, ◌^◌, length, slice_get, IsSome, ◌%◌, filter, get_or}
+use Rattle.tcp_streams.proofs.Words.{◌≡◌, ℕ, ◌<◌, ◌≤◌, List, [], ◌∷◌, Option, None, Some, refl, sym, ◌∙◌, arith}
+use Rattle.tcp_streams.proofs.Words.{zero, suc, ◌+◌, ◌-◌, ◌^◌, slice_get, ◌%◌, filter, drop}
 use Rattle.tcp_streams.proofs.Words.{if◌then◌else◌, All, IfSome, nat_lt, option_and_then, filter_map, option_or}
 use Rattle.tcp_streams.proofs.Words.{option_to_list, lt-ltb, nat_tests, All-nil, All-cons, sum_by-cons, IfSome_then}
 use Rattle.tcp_streams.proofs.Words.{none-some, Side, AreNumberedFrom, PayloadsRise, TimesFit, Packet, Carried, Segment}
@@ -10,7 +10,7 @@ use Rattle.tcp_streams.proofs.Words.{member_piece, piece, AreMembers, payload_su
 use Rattle.std.proofs.Common.{min}
 use Rattle.std.specs.List.{cons_option}
 use Rattle.tcp_streams.specs.Sequence.{brings, distance, earlier_of, modulus, start_of}
-use Rattle.tcp_streams.specs.code.Interval.{PayloadsFit, stretch}
+use Rattle.tcp_streams.specs.code.Interval.{stretch}
 use Rattle.tcp_streams.specs.laws.Flows.{ByteHasOffset}
 use Rattle.tcp_streams.proofs.IntervalLemmas.{at-append}
 use Rattle.tcp_streams.proofs.Lists.{by_Bool, by_lt, by_option}
@@ -23,8 +23,7 @@ pub record StandsIn (size : ℕ) (s : Segment) : Type 0 where
 
 -- an interval of a segment's payload
 pub record IsPieceOf (s : Segment) (x : Interval) : Type 0 where
-  pub some : x.from < x.upto
-  pub counts : x.upto ≤ end_of_offsets
+  pub interval : IsInterval x
   pub first : s.lo ≤ x.index
   pub within : x.index + (x.upto - x.from) ≤ s.hi
   pub rec_is : x.rec ≡ s.rec
@@ -36,11 +35,16 @@ distance-past st o a b c = omega arith
 distance-before : (st o : ℕ) → st < 2 ^ 32 → o < st → (o + (2 ^ 32 - st)) % 2 ^ 32 ≡ o + (2 ^ 32 - st)
 distance-before st o a b = omega arith
 
-stretch-is : (s : Segment) (skipped from upto : ℕ) → upto ≤ end_of_offsets
+stretch-is : (s : Segment) (skipped from upto : ℕ) → s.hi < 2 ^ 31 → upto ≤ end_of_offsets
     → (from < upto → s.lo + skipped + (upto - from) ≤ s.hi) → IfSome (stretch s skipped from upto) (IsPieceOf s)
-stretch-is s skipped from upto counts within =
+stretch-is s skipped from upto short counts within =
     by_lt from upto
-    (λ e lt. rw e (record { some = lt; counts = counts; first = omega arith; within = within lt; rec_is = refl }))
+    (λ e lt. rw e (record {
+      interval = record { some = lt; counts = counts; room = omega (arith, within lt) };
+      first = omega arith;
+      within = within lt;
+      rec_is = refl;
+    }))
     (λ e _. rw e tt)
 
 -- what a payload's byte at this distance from the first brings
@@ -60,8 +64,8 @@ module _ (initial_number size : ℕ) (small : size < 2 ^ 31) (s : Segment) (stan
   piece-is =
       let low : start_of initial_number s < 2 ^ 32 = omega arith in
       by_lt (start_of initial_number s) end_of_offsets
-      (λ e below. rw e (stretch-is s 0 _ _ (omega arith) (λ some. omega arith)))
-      (λ e above. rw e (stretch-is s _ 0 _ (omega arith) (λ some. omega arith)))
+      (λ e below. rw e (stretch-is s 0 _ _ (omega (arith, stands.within)) (omega arith) (λ some. omega arith)))
+      (λ e above. rw e (stretch-is s _ 0 _ (omega (arith, stands.within)) (omega arith) (λ some. omega arith)))
 
   -- the piece of a segment brings what the segment brings
   pub piece-same : IsSame (brings initial_number s) (at (option_to_list (piece initial_number s)))
@@ -81,15 +85,13 @@ byte-has-offset initial_number s k le lt =
     ≡ k = round-trip (s.seq + (if s.syn then 1 else 0)) initial_number k (omega arith) in
     rw (at, lt-ltb k (payload_length s) lt)
 
--- the segments stand in the capture, their records rise, and their times are a capture's
-abbrev pub AreSound : ℕ → ℕ → List Segment → Type 0
-AreSound size low [] = Unit {0}
-AreSound size low (s ∷ later) = StandsIn size s × (low < s.rec) × (s.nanos < 2 ^ 63) × AreSound size s.rec later
+pub ruleset laws = (byte-has-offset)
 
-AreSound-weaker : (size low low' : ℕ) (segments : List Segment) → low' ≤ low → AreSound size low segments
-    → AreSound size low' segments
-AreSound-weaker size low low' [] le h = tt
-AreSound-weaker size low low' (s ∷ later) le h = (h.0, omega (arith, h.1), h.2, h.3)
+-- the segment stands in the capture, in a record after this one, and its time is a capture's
+record IsSound (size low : ℕ) (s : Segment) : Type 0 where
+  stands : StandsIn size s
+  after : low < s.rec
+  timely : s.nanos < 2 ^ 63
 
 -- pieces in order of record
 abbrev pub AreRising : ℕ → List Interval → Type 0
@@ -131,71 +133,78 @@ module _ (initial_number size : ℕ) (small : size < 2 ^ 31) where
       (λ e _. rw e tt)
 
   -- one segment before others
-  module _ (low : ℕ) (s : Segment) (later : List Segment) (sound : AreSound size low (s ∷ later))
+  module _ (low : ℕ) (s : Segment) (later : List Segment) (sound : IsSound size low s)
       (rest : List Interval) (are : ArePiecesOf initial_number size s.rec later rest) where
     -- its source comes before theirs
     first : (o : ℕ) → source initial_number (s ∷ later) o
         ≡ option_or (brings initial_number s o) (source initial_number later o)
     first o = earliest (brings initial_number s o) (source initial_number later o) s.rec
-        (IfSome_then (brings initial_number s o) (brings-are s o sound.0 sound.2) (λ x k. k.0))
+        (IfSome_then (brings initial_number s o) (brings-are s o sound.stands sound.timely) (λ x k. k.0))
         (IfSome_then (source initial_number later o) (are.cited o) (λ x k. k.0))
 
     cited : (o : ℕ) → IfSome (source initial_number (s ∷ later) o) (IsCitedAfter size low)
     cited o = rw (first o) (either (brings initial_number s o) (source initial_number later o) (IsCitedAfter size low)
-        (IfSome_then (brings initial_number s o) (brings-are s o sound.0 sound.2)
-        (λ x k. (omega (arith, k.0, sound.1), (k.1, omega (arith, k.0, sound.1), k.2))))
-        (IfSome_then (source initial_number later o) (are.cited o) (λ x k. (omega (arith, k.0, sound.1), k.1))))
+        (IfSome_then (brings initial_number s o) (brings-are s o sound.stands sound.timely)
+        (λ x k. (omega (arith, k.0, sound.after), (k.1, omega (arith, k.0, sound.after), k.2))))
+        (IfSome_then (source initial_number later o) (are.cited o) (λ x k. (omega (arith, k.0, sound.after), k.1))))
 
     one_more : (p : Option Interval) → IfSome p (IsPieceOf s) → IsSame (brings initial_number s) (at (option_to_list p))
         → ArePiecesOf initial_number size low (s ∷ later) (cons_option p rest)
     one_more None is same = record {
       intervals = are.intervals;
       fit = omega (arith, are.fit, sum_by-cons payload_length s later);
-      rise = AreRising-weaker s.rec low rest (omega (arith, sound.1)) are.rise;
+      rise = AreRising-weaker s.rec low rest (omega (arith, sound.after)) are.rise;
       cited = cited;
       same = λ o lt. first o ∙ rw (same o lt) (are.same o lt);
     }
     one_more (Some x) is same = record {
-      intervals =
-          let room : x.index + (x.upto - x.from) < 2 ^ 32 = omega (arith, is.within, sound.0.within) in
-          All-cons IsInterval x rest (record { some = is.some; counts = is.counts; room = room }) are.intervals;
+      intervals = All-cons IsInterval x rest is.interval are.intervals;
       fit = omega (arith, is.first, is.within, are.fit, sum_by-cons payload_length s later, sum_by-cons width x rest);
-      rise = (omega (arith, is.rec_is, sound.1), rw is.rec_is are.rise);
+      rise = (omega (arith, is.rec_is, sound.after), rw is.rec_is are.rise);
       cited = cited;
       same = λ o lt. first o ∙ rw (same o lt, are.same o lt) (sym (at-append (x ∷ []) rest o));
     }
 
-  pub pieces-are : (low : ℕ) (segments : List Segment) → AreSound size low segments
-      → ArePiecesOf initial_number size low segments (filter_map (piece initial_number) segments)
-  pieces-are low [] h = record {
-    intervals = All-nil IsInterval;
-    fit = omega arith;
-    rise = tt;
-    cited = λ o. tt;
-    same = λ o lt. refl;
+  -- what is so after one record is so after one before it
+  weaker : (low low' : ℕ) (segments : List Segment) (pieces : List Interval) → low' ≤ low
+      → ArePiecesOf initial_number size low segments pieces → ArePiecesOf initial_number size low' segments pieces
+  weaker low low' segments pieces le are = record {
+    intervals = are.intervals;
+    fit = are.fit;
+    rise = AreRising-weaker low low' pieces le are.rise;
+    cited = λ o. IfSome_then (source initial_number segments o) (are.cited o) (λ x k. (omega (arith, k.0), k.1));
+    same = are.same;
   }
-  pieces-are low (s ∷ later) h = one_more low s later h _ (pieces-are s.rec later h.3) (piece initial_number s)
-      (piece-is initial_number size small s h.0) (piece-same initial_number size small s h.0)
 
 pub PayloadsRise-end : (from size : ℕ) (packets : List Packet) → PayloadsRise from size packets → from ≤ size
 PayloadsRise-end from size [] h = h
 PayloadsRise-end from size (Carried s ∷ rest) h = omega (arith, h.0, h.1, PayloadsRise-end s.hi size rest h.2)
 PayloadsRise-end from size (_ ∷ rest) h = PayloadsRise-end from size rest h
 
-stands-at : (size from : ℕ) (packets : List Packet) (i : ℕ) (s : Segment) → PayloadsRise from size packets
-    → TimesFit packets → slice_get packets i ≡ Some (Carried s) → StandsIn size s × (s.nanos < 2 ^ 63)
-stands-at size from [] i s p t at' = absurd (none-some (Carried s) at')
-stands-at size from (Carried x ∷ rest) zero s p t at' =
-    rw (let same : s ≡ x = cc in same) (record { ordered = p.1; within = PayloadsRise-end x.hi size rest p.2 }, t.0)
-stands-at size from (_ ∷ rest) zero s p t at' = absurd cc
-stands-at size from (Carried x ∷ rest) (suc i) s p t at' = stands-at size x.hi rest i s p.2 t.1 at'
-stands-at size from (_ ∷ rest) (suc i) s p t at' = stands-at size from rest i s p t at'
+-- a segment's payload stands after those before it, and before those of the packets that follow
+pub rise-drop : (from size : ℕ) (packets : List Packet) (k : ℕ) (s : Segment) → PayloadsRise from size packets
+    → slice_get packets k ≡ Some (Carried s)
+    → (from ≤ s.lo) × (s.lo ≤ s.hi) × PayloadsRise s.hi size (drop (suc k) packets)
+rise-drop from size [] k s h at' = absurd (none-some (Carried s) at')
+rise-drop from size (Carried x ∷ rest) zero s h at' = rw (let same : s ≡ x = cc in same) h
+rise-drop from size (_ ∷ rest) zero s h at' = absurd cc
+rise-drop from size (Carried x ∷ rest) (suc i) s h at' =
+    let r = rise-drop x.hi size rest i s h.2 at' in (omega (arith, h.0, h.1, r.0), r.1, r.2)
+rise-drop from size (_ ∷ rest) (suc i) s h at' = rise-drop from size rest i s h at'
 
--- the segment in a record stands in the capture and bears the record's number
-pub record SoundAt (size m : ℕ) (s : Segment) : Type 0 where
-  pub stands : StandsIn size s
-  pub numbered : s.rec ≡ m
-  pub timely : s.nanos < 2 ^ 63
+pub stands-at : (size : ℕ) (packets : List Packet) (i : ℕ) (s : Segment) → PayloadsRise 0 size packets
+    → slice_get packets i ≡ Some (Carried s) → StandsIn size s
+stands-at size packets i s rise here =
+    let r = rise-drop 0 size packets i s rise here in
+    record { ordered = r.1; within = PayloadsRise-end s.hi size (drop (suc i) packets) r.2 }
+
+timely-at : (packets : List Packet) (i : ℕ) (s : Segment) → TimesFit packets → slice_get packets i ≡ Some (Carried s)
+    → s.nanos < 2 ^ 63
+timely-at [] i s t at' = absurd (none-some (Carried s) at')
+timely-at (Carried x ∷ rest) zero s t at' = rw (let same : s ≡ x = cc in same) t.0
+timely-at (_ ∷ rest) zero s t at' = absurd cc
+timely-at (Carried x ∷ rest) (suc i) s t at' = timely-at rest i s t.1 at'
+timely-at (_ ∷ rest) (suc i) s t at' = timely-at rest i s t at'
 
 -- a segment found by its record stands at the record's index
 pub found-at : (packets : List Packet) (m : ℕ) (s : Segment) → segment_of packets m ≡ Some s
@@ -206,63 +215,27 @@ found-at packets m s h = by (slice_get packets (m - 1)) h
     by (Some (Carried x)) e = cc
     by _ e = absurd (none-some s e)
 
-module _ (packets : List Packet) (size : ℕ) (rise : PayloadsRise 0 size packets) (times : TimesFit packets)
-    (numbered : AreNumberedFrom 1 packets) where
-  pub sound-found : (m : ℕ) (s : Segment) → 0 < m → segment_of packets m ≡ Some s → SoundAt size m s
-  sound-found m s some h =
-      let here = found-at packets m s h in
-      let (stands, timely) = stands-at size 0 packets (m - 1) s rise times here in
-      let number = numbered_at 1 packets (m - 1) s numbered here in
-      record { stands = stands; numbered = omega (arith, number); timely = timely }
-
-  -- the members' segments that pass a test are sound
-  pub members-sound : (test : Segment → Bool) (low : ℕ) (members : List ℕ) → AreMembers low packets members
-      → AreSound size low (filter test (segments_of packets members))
-  members-sound test low [] h = tt
-  members-sound test low (m ∷ rest) h =
-      let later = members-sound test m rest h.2 in
-      by_option (segment_of packets m)
-      (λ e. rw e (AreSound-weaker size m low _ (omega (arith, h.0)) later))
-      (λ s e.
-      let sound = sound-found m s (omega (arith, h.0)) e in
-      rw e (by_Bool (test s)
-      (λ t. rw t (sound.stands, omega (arith, sound.numbered, h.0), sound.timely, rw sound.numbered later))
-      (λ t. rw t (AreSound-weaker size m low _ (omega (arith, h.0)) later))))
-
 -- the members' pieces are the pieces of the side's segments
-pub member-pieces : (initial_number : ℕ) (packets : List Packet) (connection : Connection) (side : Side)
-    (members : List ℕ)
-    → filter_map (member_piece initial_number packets connection side) members ≡ filter_map (piece initial_number)
-    (filter (is_sent_by connection side) (segments_of packets members))
-member-pieces initial_number packets connection side [] = refl
-member-pieces initial_number packets connection side (m ∷ rest) =
-    grind (arith, member-pieces initial_number packets connection side rest)
-
--- payloads in the capture fit
-pub PayloadsFit-from : (from size : ℕ) (packets : List Packet) → size < 2 ^ 31 → PayloadsRise from size packets
-    → PayloadsFit packets
-PayloadsFit-from from size [] small h = tt
-PayloadsFit-from from size (Carried s ∷ rest) small h =
-    (h.1, omega (arith, PayloadsRise-end s.hi size rest h.2), PayloadsFit-from s.hi size rest small h.2)
-PayloadsFit-from from size (_ ∷ rest) small h = PayloadsFit-from from size rest small h
-
-pub payload-fits : (packets : List Packet) (i : ℕ) (s : Segment) → PayloadsFit packets
-    → slice_get packets i ≡ Some (Carried s) → (s.lo ≤ s.hi) × (s.hi < 2 ^ 31)
-payload-fits [] i s h at' = absurd (none-some (Carried s) at')
-payload-fits (Carried x ∷ rest) zero s h at' = rw (let same : s ≡ x = cc in same) (h.0, h.1)
-payload-fits (_ ∷ rest) zero s h at' = absurd cc
-payload-fits (Carried x ∷ rest) (suc i) s h at' = payload-fits rest i s h.2 at'
-payload-fits (_ ∷ rest) (suc i) s h at' = payload-fits rest i s h at'
-
--- each member is counted from 1 and names a segment
-member-at : (low : ℕ) (packets : List Packet) (members : List ℕ) (k : ℕ) → AreMembers low packets members
-    → k < length members → (low < get_or members k 0) × IsSome (segment_of packets (get_or members k 0))
-member-at low packets [] k h lt = absurd (omega arith)
-member-at low packets (m ∷ rest) zero h lt = (h.0, h.1)
-member-at low packets (m ∷ rest) (suc k) h lt =
-    let r = member-at m packets rest k h.2 (omega arith) in (omega (arith, h.0, r.0), r.1)
-
--- the same of the list that a loop goes over
-pub member-shown : (packets : List Packet) (members shown : List ℕ) (k : ℕ) → AreMembers 0 packets members
-    → shown ≡ members → k < length shown → (0 < get_or shown k 0) × IsSome (segment_of packets (get_or shown k 0))
-member-shown packets members shown k h same lt = rw same (member-at 0 packets members k h (rw same at lt))
+module _ (initial_number size : ℕ) (small : size < 2 ^ 31) (packets : List Packet) (connection : Connection)
+    (side : Side) (rise : PayloadsRise 0 size packets) (times : TimesFit packets)
+    (numbered : AreNumberedFrom 1 packets) where
+  pub pieces-are : (low : ℕ) (members : List ℕ) → AreMembers low packets members
+      → ArePiecesOf initial_number size low (filter (is_sent_by connection side) (segments_of packets members))
+      (filter_map (member_piece initial_number packets connection side) members)
+  pieces-are low [] h =
+      record { intervals = All-nil IsInterval; fit = omega arith; rise = tt; cited = λ o. tt; same = λ o lt. refl }
+  pieces-are low (m ∷ rest) h =
+      let later = pieces-are m rest h.2 in
+      let le : low ≤ m = omega (arith, h.0) in
+      by_option (segment_of packets m)
+      (λ e. rw e (weaker initial_number size small m low _ _ le later))
+      (λ s e.
+      let here = found-at packets m s e in
+      let number : s.rec ≡ m = omega (arith, h.0, numbered_at 1 packets (m - 1) s numbered here) in
+      let stands = stands-at size packets (m - 1) s rise here in
+      let sound : IsSound size low s =
+      record { stands = stands; after = omega (arith, number, h.0); timely = timely-at packets (m - 1) s times here } in
+      rw e (by_Bool (is_sent_by connection side s)
+      (λ t. rw t (one_more initial_number size small low s _ sound _ (rw number later) (piece initial_number s)
+      (piece-is initial_number size small s stands) (piece-same initial_number size small s stands)))
+      (λ t. rw t (weaker initial_number size small m low _ _ le later))))

@@ -3,13 +3,14 @@ use Rattle.tcp_streams.proofs.Words.{◌≡◌, ℕ, ◌<◌, ◌≤◌, List, [
 use Rattle.tcp_streams.proofs.Words.{suc, ◌+◌, ◌-◌, ◌^◌, ◌++◌, length, drop, take, slice_get, ap, IsSome, All, IfSome}
 use Rattle.tcp_streams.proofs.Words.{IsSomeAnd, slice_range, option_or, ne_eqb, eq-eqb, lt-ltb, le-ltb, nat_tests}
 use Rattle.tcp_streams.proofs.Words.{append-nil, append_assoc, length-append, All-nil, All-weaker, All-cons, All-head}
-use Rattle.tcp_streams.proofs.Words.{if◌then◌else◌, nat_lt}
-use Rattle.tcp_streams.proofs.Words.{All-tail, sum_by-append, sum_by-cons, Rises, IsArrivalOf, IsFlow, IsGap}
-use Rattle.tcp_streams.proofs.Words.{arrival_at, Source, arrival, end_of_offsets, AreCaptured, IsInterval, IsCaptured}
-use Rattle.tcp_streams.proofs.Words.{Spans, arrival_with, arrivals_after, arrivals_in, at, bytes_in, run_length}
-use Rattle.tcp_streams.proofs.Words.{size_of, source_in, width, AreTimely, Interval, Arrival}
-use Rattle.tcp_streams.specs.Flow.{AreArrivals}
+use Rattle.tcp_streams.proofs.Words.{if◌then◌else◌, nat_lt, All-tail, sum_by-append, sum_by-cons, Rises, IsArrivalOf}
+use Rattle.tcp_streams.proofs.Words.{IsFlow, IsGap, arrival_at, Source, arrival, end_of_offsets, AreCaptured}
+use Rattle.tcp_streams.proofs.Words.{IsInterval, IsCaptured, Spans, arrival_with, arrivals_after, arrivals_in, at}
+use Rattle.tcp_streams.proofs.Words.{bytes_in, run_length, size_of, source_in, width, AreTimely, Interval, Arrival}
+use Rattle.tcp_streams.proofs.Words.{Flow, IsSame, IsTrue, bytes_of, common_steps, filter_map-append}
 use Rattle.tcp_streams.specs.Sequence.{later_of}
+use Rattle.tcp_streams.specs.code.Assembled.{IsLaidOut}
+use Rattle.tcp_streams.specs.code.Interval.{IsInside}
 use Rattle.tcp_streams.proofs.IntervalLemmas.{Spans-before, at-append, at-in, at-past}
 use Rattle.tcp_streams.proofs.Lists.{by_lt, length-slice_range, slice_get-left, slice_get-right, slice_get-slice_range}
 
@@ -68,17 +69,9 @@ rest-before end (y ∷ ys) o r le = Spans-before y.from end_of_offsets (y ∷ ys
 or-some : (p q : Option Source) → IsSome p → option_or p q ≡ p
 or-some p q h = grind arith
 
--- what a list brings in its longest run, and past it
-module _ (low : ℕ) (run rest : List Interval) (is : IsRunOf low run rest) where
-  at-run : (o : ℕ) → low ≤ o → o < run_end low run → at (run ++ rest) o ≡ at run o
-  at-run o a b = at-append run rest o ∙ or-some (at run o) (at rest o) (run-covers low run o is.follows a b)
-
-  at-rest : (o : ℕ) → run_end low run ≤ o → at (run ++ rest) o ≡ at rest o
-  at-rest o b = at-append run rest o ∙ rw (run-beyond low run o is.follows b)
-
 -- an interval of bytes of the capture, in a record with a number and a time
 pub record IsHeld (size : ℕ) (x : Interval) : Type 0 where
-  pub within : x.index + (x.upto - x.from) ≤ size
+  pub inside : IsInside size x
   pub numbered : 0 < x.rec
   pub timely : x.nanos < 2 ^ 63
 
@@ -89,8 +82,9 @@ held size low [] f h = All-nil (IsHeld size)
 held size low (x ∷ xs) f h =
     let end = h (x.upto - 1) (omega (arith, f.0, f.1.some)) (omega (arith, f.1.some, run_end-after x.upto xs f.2)) in
     let last = rw (at-in x xs (x.upto - 1) (omega (arith, f.1.some)) (omega (arith, f.1.some))) at end in
+    let inside : IsInside size x = record { interval = f.1; captured = omega (arith, f.1.some, last.0) } in
     All-cons (IsHeld size) x xs
-    (record { within = omega (arith, f.1.some, last.0); numbered = last.1; timely = last.2 })
+    (record { inside = inside; numbered = last.1; timely = last.2 })
     (held size x.upto xs f.2 (λ o a b. rw (at-past x xs o a) at (h o (omega (arith, f.0, f.1.some)) b)))
 
 -- an interval's bytes
@@ -102,15 +96,14 @@ pub bytes_in-push : (capture : List ℕ) (xs : List Interval) (x : Interval)
 bytes_in-push capture [] x = append-nil (part capture x)
 bytes_in-push capture (y ∷ xs) x = rw (bytes_in-push capture xs x) (sym (append_assoc (part capture y) _ _))
 
+pub ruleset pushes = (common_steps, filter_map-append, bytes_in-push)
+
 length-part : (capture : List ℕ) (x : Interval) → x.index + (x.upto - x.from) ≤ length capture
     → length (part capture x) ≡ width x
 length-part capture x h = omega (arith, length-slice_range capture x.index (x.index + width x) (omega arith) h)
 
 module _ (capture : List ℕ) where
-  abbrev AreHeld : List Interval → Type 0
-  AreHeld run = All (IsHeld (length capture)) run
-
-  length-bytes_in : (low : ℕ) (run : List Interval) → Follows low run → AreHeld run
+  length-bytes_in : (low : ℕ) (run : List Interval) → Follows low run → All (IsHeld (length capture)) run
       → low + length (bytes_in capture run) ≡ run_end low run
   length-bytes_in low [] f h = omega arith
   length-bytes_in low (x ∷ xs) f h = omega (
@@ -118,16 +111,17 @@ module _ (capture : List ℕ) where
     f.0,
     f.1.some,
     length-append (part capture x) (bytes_in capture xs),
-    length-part capture x (All-head (IsHeld (length capture)) x xs h).within,
+    length-part capture x (All-head (IsHeld (length capture)) x xs h).inside.captured,
     length-bytes_in x.upto xs f.2 (All-tail (IsHeld (length capture)) x xs h),
   )
 
   -- each byte is the capture's at its index
-  bytes-at : (low : ℕ) (run : List Interval) (o : ℕ) → Follows low run → AreHeld run → low ≤ o → o < run_end low run
+  bytes-at : (low : ℕ) (run : List Interval) (o : ℕ) → Follows low run → All (IsHeld (length capture)) run
+      → low ≤ o → o < run_end low run
       → IsSomeAnd (at run o) (λ (s : Source). slice_get capture s.index ≡ slice_get (bytes_in capture run) (o - low))
   bytes-at low [] o f h a b = absurd (omega (arith, a, b))
   bytes-at low (x ∷ xs) o f h a b =
-      let size = length-part capture x (All-head (IsHeld (length capture)) x xs h).within in
+      let size = length-part capture x (All-head (IsHeld (length capture)) x xs h).inside.captured in
       by_lt o x.upto
       (λ _ lt. rw (
         at-in x xs o (omega (arith, f.0)) lt,
@@ -144,7 +138,14 @@ module _ (capture : List ℕ) where
 abbrev up_to : Arrival → ℕ → Arrival
 up_to a upto = record { upto = upto; rec = a.rec; nanos = a.nanos }
 
-module _ (sources : ℕ → Option Source) where
+-- arrivals from an offset and a record on: they rise to an end, their times are a capture's, and each byte has its own
+pub record AreArrived (sources : ℕ → Option Source) (low rec end : ℕ) (arrivals : List Arrival) : Type 0 where
+  pub rises : Rises low rec arrivals end
+  pub timely : AreTimely arrivals
+  pub each : (o : ℕ) → low ≤ o → o < end
+      → IsSomeAnd (arrival_at arrivals o) (λ (e : Arrival). IsArrivalOf e (arrival sources o))
+
+module _ (size : ℕ) (sources : ℕ → Option Source) where
   -- at an interval's offset, the later of the two records counts
   later : (p : Option Source) (a : Arrival) (x : Interval) (o : ℕ) → IsArrivalOf a p
       → IsArrivalOf (if nat_lt a.rec x.rec then arrival_with x else a) (later_of p (Some (source_in x o)))
@@ -168,14 +169,20 @@ module _ (sources : ℕ → Option Source) where
   next zero m e = absurd (omega arith)
   next (suc o) m e = rw (let same : m ≡ o = omega arith in same)
 
-  -- each byte from low on arrives at the entry of its own: the first of them at this arrival, those past it after it
-  arrivals-from : (a : Arrival) (xs : List Interval) (low : ℕ) → low < a.upto → Follows a.upto xs
+  -- so do those after one arrival, of the bytes of intervals that follow it
+  arrivals-from : (a : Arrival) (xs : List Interval) (low rec : ℕ) → low < a.upto → rec < a.rec → a.nanos < 2 ^ 63
+      → Follows a.upto xs → All (IsHeld size) xs
       → ((o : ℕ) → low ≤ o → o < a.upto → IsArrivalOf a (arrival sources o))
-      → ((o : ℕ) → a.upto ≤ o → o < run_end a.upto xs → sources o ≡ at xs o) → (o : ℕ) → low ≤ o
-      → o < run_end a.upto xs
-      → IsSomeAnd (arrival_at (arrivals_after a xs) o) (λ (e : Arrival). IsArrivalOf e (arrival sources o))
-  arrivals-from a [] low some f here same o le lt = rw (lt-ltb o a.upto lt) (here o le lt)
-  arrivals-from a (x ∷ xs) low some f here same o le lt =
+      → ((o : ℕ) → a.upto ≤ o → o < run_end a.upto xs → sources o ≡ at xs o)
+      → AreArrived sources low rec (run_end a.upto xs) (arrivals_after a xs)
+  arrivals-from a [] low rec some k timely f h here same = record {
+    rises = (some, k, refl);
+    timely = All-cons (λ (e : Arrival). e.nanos < 2 ^ 63) a [] timely (All-nil _);
+    each = λ o le lt. rw (lt-ltb o a.upto lt) (here o le lt);
+  }
+  arrivals-from a (x ∷ xs) low rec some k timely f h here same =
+      let head = All-head (IsHeld size) x xs h in
+      let tail = All-tail (IsHeld size) x xs h in
       let brings : (p : ℕ) → a.upto ≤ p → p < x.upto → sources p ≡ Some (source_in x p) =
       λ p q r. same p q (omega (arith, run_end-after x.upto xs f.2)) ∙ at-in x xs p (omega (arith, f.0)) r in
       let past : (p : ℕ) → x.upto ≤ p → p < run_end x.upto xs → sources p ≡ at xs p =
@@ -185,52 +192,36 @@ module _ (sources : ℕ → Option Source) where
       let begins = next a.upto (a.upto - 1) (omega arith) ∙ ap (later_of before)
       (brings a.upto (omega arith) (omega (arith, f.0, f.1.some))) in
       by_lt a.rec x.rec
-      (λ e newer. rw e (by_lt o a.upto
-      (λ t before. rw t (here o le before))
-      (λ t after. rw t (arrivals-from (arrival_with x) xs a.upto (omega (arith, f.0, f.1.some)) f.2
-      (stays (arrival_with x) x a.upto (omega arith) (rw begins (rw e at (later before a x a.upto last)))
-      (λ p q r. brings p (omega arith) r)) past o after lt))))
-      (λ e in_time. rw e (arrivals-from (up_to a x.upto) xs low (omega (arith, f.0, f.1.some)) f.2
+      (λ e newer.
+      let rest = arrivals-from (arrival_with x) xs a.upto a.rec (omega (arith, f.0, f.1.some)) newer head.timely f.2
+      tail (stays (arrival_with x) x a.upto (omega arith) (rw begins (rw e at (later before a x a.upto last)))
+      (λ p q r. brings p (omega arith) r)) past in
+      rw e (record {
+        rises = (some, k, rest.rises);
+        timely = All-cons (λ (e : Arrival). e.nanos < 2 ^ 63) a _ timely rest.timely;
+        each = λ o le lt. by_lt o a.upto (λ t early. rw t (here o le early)) (λ t after. rw t (rest.each o after lt));
+      }))
+      (λ e in_time. rw e (arrivals-from (up_to a x.upto) xs low rec (omega (arith, f.0, f.1.some)) k timely f.2 tail
       (λ p q r. by_lt p a.upto
-      (λ _ before. here p q before)
+      (λ _ early. here p q early)
       (λ _ after. stays a x a.upto in_time (rw begins (rw e at (later before a x a.upto last)))
-      (λ p q r. brings p (omega arith) r) p after r)) past o le lt))
+      (λ p q r. brings p (omega arith) r) p after r)) past))
 
-  -- the entries of a run are its arrivals
-  pub run-arrivals : (run : List Interval) → Follows 0 run
-      → ((o : ℕ) → o < run_end 0 run → sources o ≡ at run o) → AreArrivals sources (arrivals_in run) (run_end 0 run)
-  run-arrivals [] f same o lt = absurd (omega (arith, lt))
-  run-arrivals (x ∷ xs) f same o lt =
+  -- and those of a run
+  run-arrivals : (run : List Interval) → Follows 0 run → All (IsHeld size) run
+      → ((o : ℕ) → o < run_end 0 run → sources o ≡ at run o)
+      → AreArrived sources 0 0 (run_end 0 run) (arrivals_in run)
+  run-arrivals [] f h same =
+      record { rises = refl; timely = All-nil _; each = λ o le lt. absurd (omega (arith, lt)) }
+  run-arrivals (x ∷ xs) f h same =
+      let head = All-head (IsHeld size) x xs h in
       let brings : (p : ℕ) → p < x.upto → sources p ≡ Some (source_in x p) =
       λ p r. same p (omega (arith, run_end-after x.upto xs f.2)) ∙ at-in x xs p (omega (arith, f.0)) r in
-      arrivals-from (arrival_with x) xs 0 (omega (arith, f.1.some)) f.2
+      arrivals-from (arrival_with x) xs 0 0 (omega (arith, f.1.some)) head.numbered head.timely f.2
+      (All-tail (IsHeld size) x xs h)
       (stays (arrival_with x) x 0 (omega arith) (rw (brings 0 (omega (arith, f.1.some))) (refl, refl))
       (λ p q r. brings p r))
-      (λ p q r. same p r ∙ at-past x xs p q) o (omega arith) lt
-
--- they rise, end at the run's end, and their times are the intervals'
-entries : (size low rec : ℕ) (a : Arrival) (xs : List Interval) → low < a.upto → rec < a.rec → a.nanos < 2 ^ 63
-    → Follows a.upto xs → All (IsHeld size) xs
-    → Rises low rec (arrivals_after a xs) (run_end a.upto xs) × AreTimely (arrivals_after a xs)
-entries size low rec a [] lt k timely f h =
-    ((lt, k, refl), All-cons (λ (e : Arrival). e.nanos < 2 ^ 63) a [] timely (All-nil _))
-entries size low rec a (x ∷ xs) lt k timely f h =
-    let head = All-head (IsHeld size) x xs h in
-    let tail = All-tail (IsHeld size) x xs h in
-    let within : a.upto < x.upto = omega (arith, f.0, f.1.some) in
-    by_lt a.rec x.rec
-    (λ e newer.
-    let rest = entries size a.upto a.rec (arrival_with x) xs within newer head.timely f.2 tail in
-    rw e ((lt, k, rest.0), All-cons (λ (e : Arrival). e.nanos < 2 ^ 63) a _ timely rest.1))
-    (λ e _. rw e (entries size low rec (up_to a x.upto) xs (omega arith) k timely f.2 tail))
-
-run-entries : (size : ℕ) (run : List Interval) → Follows 0 run → All (IsHeld size) run
-    → Rises 0 0 (arrivals_in run) (run_end 0 run) × AreTimely (arrivals_in run)
-run-entries size [] f h = (refl, All-nil _)
-run-entries size (x ∷ xs) f h =
-    let head = All-head (IsHeld size) x xs h in
-    entries size 0 0 (arrival_with x) xs (omega (arith, f.1.some)) head.numbered head.timely f.2
-    (All-tail (IsHeld size) x xs h)
+      (λ p q r. same p r ∙ at-past x xs p q)
 
 -- a gap where something comes after
 abbrev pub gap_of : List Interval → ℕ → Option ℕ
@@ -241,59 +232,75 @@ gap_of (y ∷ ys) n = Some n
 module _ (capture : List ℕ) (whole run rest : List Interval) (same : run ++ rest ≡ whole) (is : IsRunOf 0 run rest)
     (captured : AreCaptured (length capture) (at whole)) where
   here : (o : ℕ) → o < run_end 0 run → at whole o ≡ at run o
-  here o lt = ap (λ l. at l o) (sym same) ∙ at-run 0 run rest is o (omega arith) lt
+  here o lt = ap (λ l. at l o) (sym same) ∙ at-append run rest o
+      ∙ or-some (at run o) (at rest o) (run-covers 0 run o is.follows (omega arith) lt)
 
   there : (o : ℕ) → run_end 0 run ≤ o → at whole o ≡ at rest o
-  there o le = ap (λ l. at l o) (sym same) ∙ at-rest 0 run rest is o le
+  there o le = ap (λ l. at l o) (sym same) ∙ at-append run rest o ∙ rw (run-beyond 0 run o is.follows le)
 
   run-held : All (IsHeld (length capture)) run
   run-held = held (length capture) 0 run is.follows
       (λ o le lt. rw (here o lt) at (captured o (omega (arith, is.within))))
 
-  pub run-in_capture : All (λ (x : Interval). x.index + (x.upto - x.from) ≤ length capture) run
-  run-in_capture = All-weaker (IsHeld (length capture)) _ (λ x is. is.within) run run-held
-
-  pub run-timely : AreTimely (arrivals_in run)
-  run-timely = (run-entries (length capture) run is.follows run-held).1
+  pub run-inside : All (IsInside (length capture)) run
+  run-inside = All-weaker (IsHeld (length capture)) _ (λ x is. is.inside) run run-held
 
   run-length : length (bytes_in capture run) ≡ run_end 0 run
   run-length = omega (arith, length-bytes_in capture 0 run is.follows run-held)
 
-  gap-is : IsGap (at whole) (run_end 0 run) (gap_of rest (run_end 0 run))
-  gap-is = by rest is.leaves there
-    where
-      by : (r : List Interval) → IsRest (run_end 0 run) r → ((o : ℕ) → run_end 0 run ≤ o → at whole o ≡ at r o)
-          → IsGap (at whole) (run_end 0 run) (gap_of r (run_end 0 run))
-      by [] leaves later = λ o lt k. later o (omega arith)
-      by (y ∷ ys) leaves later = (
-        refl,
-        (
-          y.from,
-          leaves.0,
-          omega (arith, leaves.1.some, leaves.1.counts),
-          rw (later y.from (omega (arith, leaves.0)), at-in y ys y.from (omega arith) leaves.1.some) refl,
-        ),
-      )
+  -- those of whatever brings what the list brings
+  module _ (sources : ℕ → Option Source) (agree : IsSame sources (at whole)) where
+    in-run : (o : ℕ) → o < run_end 0 run → sources o ≡ at run o
+    in-run o lt = agree o (omega (arith, is.within)) ∙ here o lt
 
-  pub run-flow : IsFlow capture (at whole) (bytes_in capture run) (arrivals_in run)
-      (gap_of rest (length (bytes_in capture run)))
-  run-flow = record {
-    run = rw run-length (record {
-      within = is.within;
-      covered = λ o lt. rw (here o lt) (run-covers 0 run o is.follows (omega arith) lt);
-      longest = λ lt. there (run_end 0 run) (omega arith)
-          ∙ rest-before (run_end 0 run) rest (run_end 0 run) is.leaves (omega arith);
-    });
-    bytes_are = λ o lt. rw (here o (omega (arith, run-length))) (rw (let e : o - 0 ≡ o = omega arith in e) at
-        (bytes-at capture 0 run o is.follows run-held (omega arith) (omega (arith, run-length))));
-    rises = rw run-length (run-entries (length capture) run is.follows run-held).0;
-    arrivals_are = rw run-length (run-arrivals (at whole) run is.follows here);
-    gap_is = rw run-length gap-is;
+    past-run : (o : ℕ) → run_end 0 run ≤ o → o < end_of_offsets → sources o ≡ at rest o
+    past-run o le lt = agree o lt ∙ there o le
+
+    gap-is : IsGap sources (run_end 0 run) (gap_of rest (run_end 0 run))
+    gap-is = by rest is.leaves past-run
+      where
+        by : (r : List Interval) → IsRest (run_end 0 run) r
+            → ((o : ℕ) → run_end 0 run ≤ o → o < end_of_offsets → sources o ≡ at r o)
+            → IsGap sources (run_end 0 run) (gap_of r (run_end 0 run))
+        by [] leaves later = λ o lt counts. later o (omega arith) counts
+        by (y ∷ ys) leaves later =
+            let counts : y.from < end_of_offsets = omega (arith, leaves.1.some, leaves.1.counts) in (
+              refl,
+              (
+                y.from,
+                leaves.0,
+                counts,
+                rw (
+                  later y.from (omega (arith, leaves.0)) counts,
+                  at-in y ys y.from (omega arith) leaves.1.some,
+                ) refl,
+              ),
+            )
+
+    pub run-arrived : AreArrived sources 0 0 (length (bytes_in capture run)) (arrivals_in run)
+    run-arrived = rw run-length (run-arrivals (length capture) sources run is.follows run-held in-run)
+
+    run-flow : IsFlow capture sources (bytes_in capture run) (arrivals_in run)
+        (gap_of rest (length (bytes_in capture run)))
+    run-flow = record {
+      run = rw run-length (record {
+        within = is.within;
+        covered = λ o lt. rw (in-run o lt) (run-covers 0 run o is.follows (omega arith) lt);
+        longest = λ lt. past-run (run_end 0 run) (omega arith) lt
+            ∙ rest-before (run_end 0 run) rest (run_end 0 run) is.leaves (omega arith);
+      });
+      bytes_are = λ o lt. rw (in-run o (omega (arith, run-length))) (rw (let e : o - 0 ≡ o = omega arith in e) at
+          (bytes-at capture 0 run o is.follows run-held (omega arith) (omega (arith, run-length))));
+      rises = run-arrived.rises;
+      arrivals_are = λ o lt. run-arrived.each o (omega arith) lt;
+      gap_is = rw run-length gap-is;
+    }
+
+  -- a flow of these lays the list out
+  pub run-laid : (f : Flow) → IsTrue f.started → bytes_of f ≡ bytes_in capture run → f.arrivals.items ≡ arrivals_in run
+      → f.gap ≡ gap_of rest (length (bytes_in capture run)) → IsLaidOut capture whole f
+  run-laid f started bytes arrivals gap = record {
+    started = started;
+    is_flow = λ sources agree. rw (bytes, arrivals, gap) (run-flow sources agree);
+    timely = rw arrivals (run-arrived (at whole) (λ o lt. refl)).timely;
   }
-
-  pub run-size : length (bytes_in capture run) ≤ size_of whole
-  run-size = omega (arith, run-length, ap size_of same, sum_by-append width run rest, size-run 0 run is.follows)
-    where
-      size-run : (low : ℕ) (xs : List Interval) → Follows low xs → run_end low xs ≡ low + size_of xs
-      size-run low [] f = omega arith
-      size-run low (x ∷ xs) f = omega (arith, f.0, f.1.some, sum_by-cons width x xs, size-run x.upto xs f.2)

@@ -1,45 +1,123 @@
--- On the pieces of a side: what lies apart and brings what they bring makes the side's flow.
-use Rattle.tcp_streams.proofs.Words.{◌≡◌, ℕ, ◌<◌, ◌≤◌, List, sym, ◌∙◌, arith, ◌^◌, length, IsTrue, filter_map}
-use Rattle.tcp_streams.proofs.Words.{IfSome_then, Side, AreNumberedFrom, PayloadsRise, TimesFit, Packet, Segment}
-use Rattle.tcp_streams.proofs.Words.{bytes_of, IsFlow, is_sent_by, side_segments, source, IsAssembled, AreCaptured, at}
-use Rattle.tcp_streams.proofs.Words.{size_of, IsSame, member_piece, AreTimely, AreMembers, Interval, Connection, Flow}
-use Rattle.tcp_streams.proofs.FlowLemmas.{IsFlow-same, side-fits}
-use Rattle.tcp_streams.proofs.PieceLemmas.{ArePiecesOf, member-pieces, members-sound, pieces-are}
+-- On the pieces of a side: what lies apart and brings what they bring makes the side's flow, and so do pieces that
+-- follow each other, laid out as they come.
+use Rattle.tcp_streams.proofs.Words.{◌≡◌, ℕ, ◌<◌, ◌≤◌, List, [], ◌∷◌, None, Some, refl, sym, ◌∙◌, arith, ◌+◌, ◌-◌, ◌^◌}
+use Rattle.tcp_streams.proofs.Words.{◌++◌, length, ap, map, IfSome, IsTrue, slice_range, filter_map, lt-ltb}
+use Rattle.tcp_streams.proofs.Words.{append-nil, map-append, IfSome_then, Side, PayloadsRise, Packet, bytes_of}
+use Rattle.tcp_streams.proofs.Words.{is_sent_by, segment_of, side_segments, source, end_of_offsets, IsAssembled}
+use Rattle.tcp_streams.proofs.Words.{AreCaptured, IsInterval, IsSame, arrival_with, arrivals_after, arrivals_in, at}
+use Rattle.tcp_streams.proofs.Words.{bytes_in, width, member_piece, piece, Interval, Connection, Arrival, Flow}
+use Rattle.tcp_streams.specs.code.Assembled.{IsLaidOut, IsOfCapture}
+use Rattle.tcp_streams.specs.code.Interval.{IsInside}
+use Rattle.tcp_streams.proofs.FlowLemmas.{side-fits}
+use Rattle.tcp_streams.proofs.IntervalLemmas.{covered-fit}
+use Rattle.tcp_streams.proofs.Lists.{by_Bool, by_option}
+use Rattle.tcp_streams.proofs.PieceLemmas.{ArePiecesOf, AreRising, found-at, piece-is, pieces-are, stands-at}
+use Rattle.tcp_streams.proofs.RunLemmas.{Follows, IsRunOf, bytes_in-push, run-laid, run_end}
+
+-- the piece of a member lies in the capture
+member-inside : (initial_number size : ℕ) (packets : List Packet) (connection : Connection) (side : Side) (m : ℕ)
+    → size < 2 ^ 31 → PayloadsRise 0 size packets
+    → IfSome (member_piece initial_number packets connection side m) (IsInside size)
+member-inside initial_number size packets connection side m small rise =
+    by_option (segment_of packets m)
+    (λ e. rw e tt)
+    (λ s e.
+    let stands = stands-at size packets (m - 1) s rise (found-at packets m s e) in
+    rw e (by_Bool (is_sent_by connection side s)
+    (λ sent. rw sent (IfSome_then (piece initial_number s) (piece-is initial_number size small s stands)
+    (λ x is. record { interval = is.interval; captured = omega (arith, is.within, stands.within) })))
+    (λ other. rw other tt)))
+
+-- pieces in order of record bring an arrival each
+Rising-after : (a : Arrival) (xs : List Interval) → AreRising a.rec xs → arrivals_after a xs ≡ a ∷ map arrival_with xs
+Rising-after a [] h = refl
+Rising-after a (x ∷ xs) h = rw (lt-ltb a.rec x.rec h.0) (ap (λ l. a ∷ l) (Rising-after (arrival_with x) xs h.1))
+
+arrivals-each : (pieces : List Interval) → AreRising 0 pieces → arrivals_in pieces ≡ map arrival_with pieces
+arrivals-each [] h = refl
+arrivals-each (x ∷ xs) h = Rising-after (arrival_with x) xs h.1
+
+-- what is laid out of pieces that follow each other from offset 0
+pub record IsLaid (capture : List ℕ) (pieces : List Interval) (bytes : List ℕ) (arrivals : List Arrival)
+    (end : ℕ) : Type 0 where
+  pub follows : Follows 0 pieces
+  pub reach : run_end 0 pieces ≡ end
+  pub bytes_are : bytes ≡ bytes_in capture pieces
+  pub arrivals_are : arrivals ≡ map arrival_with pieces
+
+run_end-push : (low : ℕ) (xs : List Interval) (x : Interval) → run_end low (xs ++ x ∷ []) ≡ x.upto
+run_end-push low [] x = refl
+run_end-push low (y ∷ xs) x = run_end-push y.upto xs x
+
+Follows-push : (low : ℕ) (xs : List Interval) (x : Interval) → Follows low xs → x.from ≡ run_end low xs → IsInterval x
+    → Follows low (xs ++ x ∷ [])
+Follows-push low [] x f e is = (e, is, tt)
+Follows-push low (y ∷ xs) x f e is = (f.0, f.1, Follows-push y.upto xs x f.2 e is)
+
+-- one more piece
+pub IsLaid-more : (capture : List ℕ) (pieces : List Interval) (bytes : List ℕ) (arrivals : List Arrival) (end : ℕ)
+    (x : Interval)
+    → IsLaid capture pieces bytes arrivals end → x.from ≡ end → IsInside (length capture) x
+    → IsLaid capture (pieces ++ x ∷ []) (bytes ++ slice_range capture x.index (x.index + width x))
+    (arrivals ++ arrival_with x ∷ []) x.upto
+IsLaid-more capture pieces bytes arrivals end x h at-end is = record {
+  follows = Follows-push 0 pieces x h.follows (at-end ∙ sym h.reach) is.interval;
+  reach = run_end-push 0 pieces x;
+  bytes_are = rw (h.bytes_are, bytes_in-push capture pieces x);
+  arrivals_are = rw (h.arrivals_are, map-append arrival_with pieces (x ∷ []));
+}
+
+run_end-within : (low : ℕ) (xs : List Interval) → low ≤ end_of_offsets → Follows low xs
+    → run_end low xs ≤ end_of_offsets
+run_end-within low [] le f = le
+run_end-within low (x ∷ xs) le f = run_end-within x.upto xs f.1.counts f.2
 
 module _ (initial_number : ℕ) (capture : List ℕ) (packets : List Packet) (connection : Connection) (side : Side)
-    (small : length capture < 2 ^ 31) (numbered : AreNumberedFrom 1 packets)
-    (rise : PayloadsRise 0 (length capture) packets) (times : TimesFit packets)
-    (members : AreMembers 0 packets connection.members.items)
-    (pieces : List Interval)
-    (are : pieces ≡ filter_map (member_piece initial_number packets connection side) connection.members.items) where
-  abbrev segments : List Segment
-  segments = side_segments packets connection side
+    (is : IsOfCapture capture packets connection) where
+  abbrev pieces : List Interval
+  pieces = filter_map (member_piece initial_number packets connection side) connection.members.items
+
+  pub piece-inside : (m : ℕ) (x : Interval) → Some x ≡ member_piece initial_number packets connection side m
+      → IsInside (length capture) x
+  piece-inside m x e =
+      rw (← e) at (member-inside initial_number (length capture) packets connection side m is.size is.payloads)
 
   pub side-pieces : ArePiecesOf initial_number (length capture) 0 (side_segments packets connection side) pieces
-  side-pieces = rw (are, member-pieces initial_number packets connection side connection.members.items)
-      (pieces-are initial_number (length capture) small 0 segments
-      (members-sound packets (length capture) rise times numbered (is_sent_by connection side) 0 _ members))
+  side-pieces = pieces-are initial_number (length capture) is.size packets connection side is.payloads is.times
+      is.numbered 0 connection.members.items is.members
 
-  module _ (intervals : List Interval) (same : IsSame (at intervals) (at pieces))
-      (size : size_of intervals ≤ size_of pieces) where
-    sources-same : IsSame (at intervals) (source initial_number segments)
-    sources-same = λ o lt. same o lt ∙ sym (side-pieces.same o lt)
+  module _ (intervals : List Interval) (same : IsSame (at intervals) (at pieces)) where
+    sources-same : IsSame (source initial_number (side_segments packets connection side)) (at intervals)
+    sources-same = λ o lt. side-pieces.same o lt ∙ sym (same o lt)
 
     pub intervals-captured : AreCaptured (length capture) (at intervals)
     intervals-captured = λ o lt.
-        rw (sources-same o lt)
-        (IfSome_then (source initial_number segments o) (side-pieces.cited o) (λ x cited. cited.1))
+        rw (← sources-same o lt)
+        (IfSome_then (source initial_number (side_segments packets connection side) o) (side-pieces.cited o)
+        (λ x cited. cited.1))
 
     -- a flow of the intervals is the side's
-    pub assembled : (f : Flow) → IsTrue f.started → length (bytes_of f) ≤ size_of intervals
-        → IsFlow capture (at intervals) (bytes_of f) f.arrivals.items f.gap → AreTimely f.arrivals.items
+    pub assembled : (f : Flow) → IsLaidOut capture intervals f
         → IsAssembled capture packets connection side initial_number f
-    assembled f started within flow timely =
-        let fits = side-fits packets (length capture) connection side rise members in
+    assembled f laid =
+        let flow = laid.is_flow _ sources-same in
+        let within = covered-fit (length (bytes_of f)) pieces
+        (λ o lt. rw (side-pieces.same o (omega (arith, flow.run.within))) at (flow.run.covered o lt)) in
+        let fits = side-fits packets (length capture) connection side is.payloads is.members in
         let fit = side-pieces.fit in
         record {
-          started = started;
-          is_flow = IsFlow-same capture _ _ (bytes_of f) f.arrivals.items f.gap sources-same flow;
-          within = omega (arith, fit);
-          orderly = record { short = omega (arith, fit, fits); rises = flow.rises; timely = timely };
+          started = laid.started;
+          is_flow = flow;
+          within = omega arith;
+          orderly = record { short = omega (arith, is.size); rises = flow.rises; timely = laid.timely };
         }
+
+  -- what is laid out of all pieces is the side's flow
+  pub laid-assembled : (f : Flow) (end : ℕ) → IsLaid capture pieces (bytes_of f) f.arrivals.items end
+      → IsTrue f.started → f.gap ≡ None → IsAssembled capture packets connection side initial_number f
+  laid-assembled f end laid started none =
+      let run : IsRunOf 0 pieces [] =
+      record { follows = laid.follows; within = run_end-within 0 pieces (omega arith) laid.follows; leaves = tt } in
+      assembled pieces (λ o lt. refl) f (run-laid capture pieces pieces [] (append-nil pieces) run
+      (intervals-captured pieces (λ o lt. refl)) f started laid.bytes_are
+      (laid.arrivals_are ∙ sym (arrivals-each pieces side-pieces.rise)) none)

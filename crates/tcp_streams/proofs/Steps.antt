@@ -1,5 +1,5 @@
--- What the table shows after one more segment: it opens a connection, joins one, counts as one more stray
--- of its pair, or is the first stray of it.
+-- What the table shows after one more segment, which opens a connection, joins one, counts as one more stray of its
+-- pair, or is the first stray of it; and what a segment does, by what the table shows of its pair.
 use Rattle.tcp_streams.proofs.Words.{◌≡◌, ℕ, ◌<◌, Bool, true, false, List, [], ◌∷◌, Option, None, Some, refl, ◌∙◌}
 use Rattle.tcp_streams.proofs.Words.{arith, ◌++◌, length, filter, get_or, ◌⊎◌, map, set, inl, inr, if◌then◌else◌}
 use Rattle.tcp_streams.proofs.Words.{is_none, All, list_any, option_or, ne_eqb, or_right, eq-eqb, append-nil}
@@ -7,9 +7,14 @@ use Rattle.tcp_streams.proofs.Words.{length-append, length-map, map-append, All-
 use Rattle.tcp_streams.proofs.Words.{is_opening, is_of, pair_of, is_pair, first_strays, last_opening, members}
 use Rattle.tcp_streams.proofs.Words.{opening_at, openings, opens, strays, Membership, connection_of, stray_of, Falls}
 use Rattle.tcp_streams.proofs.Words.{IsOpened, IsUnopened, Stray, Pair, Opened}
-use Rattle.std.specs.Prelude.{find, option_map}
+use Rattle.tcp_streams.proofs.Words.{◌≤◌, not, sym, slice_get, ap, get_or-map, get_or_from_slice_get, slice_get_within}
+use Rattle.tcp_streams.proofs.Words.{is_request, membership, standing_of, IsTableOf, Connection, Table}
+use Rattle.std.specs.Prelude.{◌||◌, find, option_map}
 use Rattle.std.proofs.lemmas.List.Elements.{filter-append}
 use Rattle.std.proofs.lemmas.List.Folds.{find-append}
+use Rattle.std.proofs.lemmas.List.Sums.{count_by-le-length, length-filter}
+use Rattle.std.proofs.lemmas.Option.{slice_get-map}
+use Rattle.tcp_streams.specs.code.Past.{is_again}
 use Rattle.tcp_streams.specs.Membership.{is_answer}
 use Rattle.tcp_streams.specs.code.Standings.{SetsStandingIn}
 use Rattle.tcp_streams.specs.code.Table.{IsShown, IsUnknown, Stands, counted, first_stray, joined, opened_by}
@@ -35,11 +40,8 @@ Stands-grown past s p (Some (Unopened k)) l a h = record {
   at = slice_get-with_if _ (first_strays past) s k h.first h.at;
   of_pair = h.of_pair;
 }
-Stands-grown past s p (Some (Opened k)) l a h = record {
-  last = h.last;
-  opened = l ∙ h.opened;
-  at = slice_get-with_if (opens s past) (openings past) s k h.last h.at;
-}
+Stands-grown past s p (Some (Opened k)) l a h =
+    record { last = h.last; opened = l ∙ h.opened; at = slice_get-with_if _ (openings past) s k h.last h.at }
 
 -- no stray passes, so none is kept
 filter-none : (p : Segment → Bool) (xs : List Segment) → list_any p xs ≡ false → filter p xs ≡ []
@@ -95,6 +97,11 @@ module _ (past : List Segment) (s : Segment) where
   stray-counted f e =
       let own = is_of (pair_of f) in
       rw (filter-append own (strays past) (s ∷ []), e, length-append (filter own (strays past)) (s ∷ []))
+
+  -- whether a pair has a stray, where the segment is one
+  strays-any : (p : Pair) → opening_at s past ≡ None
+      → list_any (is_of p) (strays (s ∷ past)) ≡ (list_any (is_of p) (strays past) || list_any (is_of p) (s ∷ []))
+  strays-any p none = rw none (list_any-append (is_of p) (strays past) (s ∷ []))
 
   module _ (standing : Pair → Option Standing) (opened : List Membership) (found : List Stray)
       (shown : IsShown past standing opened found) where
@@ -176,12 +183,7 @@ module _ (past : List Segment) (s : Segment) where
           strays_are = rw (strays_grow, firsts_stay) cc (but, counts, here);
           stands = λ p. Stands-grown past s p (standing p) (last_opening-kept past s e p)
               (by_Bool (is_of p s)
-              (λ q. rw (
-                strays_grow,
-                list_any-append (is_of p) (strays past) (s ∷ []),
-                is_pair-same p (pair_of s) q,
-                u.some_stray,
-              ))
+              (λ q. rw (strays-any p looks_back, is_pair-same p (pair_of s) q, u.some_stray))
               (λ q. list_any-other _ (strays past) s (is_of p) q))
               (shown.stands p);
         }
@@ -206,12 +208,7 @@ module _ (past : List Segment) (s : Segment) where
           stands = λ p. rw (sets p) (by_Bool (is_pair (pair_of s) p)
               (λ q. let same = is_pair-same (pair_of s) p q in rw q (record {
                 unopened = last_opening-kept past s e p ∙ rw (← same) u.unopened;
-                some_stray = rw (
-                  strays_grow,
-                  list_any-append (is_of p) (strays past) (s ∷ []),
-                  is_pair-sym p (pair_of s),
-                  q,
-                ) (or_right _ true refl);
+                some_stray = rw (strays-any p looks_back, is_pair-sym p (pair_of s), q) (or_right _ true refl);
                 first = s;
                 at = rw (firsts_grow, shown.strays_are, length-map (first_strays past) (stray_of (strays past)))
                     (slice_get-last (first_strays past) s);
@@ -221,3 +218,48 @@ module _ (past : List Segment) (s : Segment) where
               (last_opening-other past s p other) (list_any-other _ (strays past) s (is_of p) other)
               (shown.stands p))));
         }
+
+strays-few : (past : List Segment) → length (strays past) ≤ length past
+strays-few [] = omega arith
+strays-few (s ∷ past) = grind (arith, length-append (strays past) (s ∷ []), strays-few past)
+
+-- what stands in the table at the index of a pair's last opening, or of its first stray
+module _ (past : List Segment) (t : Table) (shown : IsTableOf past t) (p : Pair) (k : ℕ) where
+  pub stands-opened : (o : IsOpened past p k) (c : Connection) → c ≡ get_or t.opened.items k c
+      → connection_of past o.last ≡ membership c
+  stands-opened o c is =
+      let items = t.opened.items in
+      let here : slice_get (map membership items) k ≡ Some (connection_of past o.last) =
+      rw (shown.opened_are, slice_get-map (connection_of past) (openings past) k, o.at) in
+      let within = slice_get_within (map membership items) k _ here in
+      sym (get_or_from_slice_get (map membership items) k _ (membership c) here)
+      ∙ get_or-map membership items k c (membership c) (omega (arith, length-map items membership))
+      ∙ ap membership (sym is)
+
+  pub stands-unopened : (u : IsUnopened past p k) (x : Stray) → x ≡ get_or t.strays.items k x
+      → stray_of (strays past) u.first ≡ x
+  stands-unopened u x is =
+      let here : slice_get t.strays.items k ≡ Some (stray_of (strays past) u.first) =
+      rw (shown.strays_are, slice_get-map (stray_of (strays past)) (first_strays past) k, u.at) in
+      sym (get_or_from_slice_get t.strays.items k _ x here) ∙ sym is
+
+  -- no stray is counted more often than there are segments
+  pub counted-few : IsUnopened past p k → (x : Stray) → x ≡ get_or t.strays.items k x → x.segments ≤ length past
+  counted-few u x is = omega (
+    arith,
+    ap (λ (y : Stray). y.segments) (stands-unopened u x is),
+    length-filter (is_of (pair_of u.first)) (strays past),
+    count_by-le-length (is_of (pair_of u.first)) (strays past),
+    strays-few past,
+  )
+
+-- of a pair with an opening, a request opens a connection unless it says again what that opening said
+module _ (past : List Segment) (t : Table) (shown : IsTableOf past t) (s : Segment) (k : ℕ)
+    (at : standing_of t.standings (pair_of s) ≡ Some (Opened k)) where
+  pub stands_so : IsOpened past (pair_of s) k
+  stands_so = rw at at (shown.stands (pair_of s))
+
+  pub decides : (c : Connection) → c ≡ get_or t.opened.items k c → is_request s ≡ true
+      → opens s past ≡ not (is_again s c.client c.client_isn)
+  decides c is r = rw (r, stands_so.opened) (ap (λ (m : Membership). not (is_again s m.client m.client_isn))
+      (stands-opened past t shown (pair_of s) k stands_so c is))

@@ -1,6 +1,6 @@
 -- Two flows of the same sources are one.
 use Rattle.tcp_streams.proofs.Words.{◌≡◌, ℕ, ◌<◌, ◌≤◌, List, [], ◌∷◌, Option, None, Some, refl, sym, ◌∙◌, arith, length}
-use Rattle.tcp_streams.proofs.Words.{slice_get, ap, IsSome, IfSome, IsSomeAnd, false≢true, lt-ltb, le-ltb, IfSome_then}
+use Rattle.tcp_streams.proofs.Words.{slice_get, ap, get_or, IfSome, IsSomeAnd, false≢true, lt-ltb, le-ltb, IfSome_then}
 use Rattle.tcp_streams.proofs.Words.{Rises, IsArrivalOf, IsFlow, IsGap, arrival_at, Source, arrival, Arrival}
 use Rattle.std.specs.Prelude.{unwrap_or}
 use Rattle.std.proofs.lemmas.Grind.{same_number_lists}
@@ -8,34 +8,23 @@ use Rattle.std.proofs.lemmas.Option.{unwrap_or-slice_get}
 use Rattle.tcp_streams.specs.Flow.{IsLongestRun}
 use Rattle.tcp_streams.proofs.Lists.{by_lt}
 
--- lists of one length that agree at each index are equal
-same-lists : (xs ys : List ℕ) → length xs ≡ length ys → ((i : ℕ) → i < length xs → slice_get xs i ≡ slice_get ys i)
-    → xs ≡ ys
-same-lists xs ys e h = same_number_lists xs ys e (λ k lt.
-    sym (unwrap_or-slice_get xs k 0) ∙ ap (λ p. unwrap_or p 0) (h k lt) ∙ unwrap_or-slice_get ys k 0)
-
-none_and_some : (p : Option Source) → p ≡ None → IsSome p → ⊥
-none_and_some p none some = false≢true (rw none at some)
-
 -- no longest run is shorter than another
 not-shorter : (F : ℕ → Option Source) (n m : ℕ) → IsLongestRun F n → IsLongestRun F m → n < m → ⊥
-not-shorter F n m h k lt = none_and_some (F n) (h.longest (omega (arith, k.within))) (k.covered n lt)
-
-run-unique : (F : ℕ → Option Source) (n m : ℕ) → IsLongestRun F n → IsLongestRun F m → n ≡ m
-run-unique F n m h k = omega (arith, not-shorter F n m h k, not-shorter F m n k h)
+not-shorter F n m h k lt = false≢true (rw (h.longest (omega (arith, k.within))) at (k.covered n lt))
 
 -- one source, one byte
-same-byte : (p : Option Source) (capture : List ℕ) (x y : Option ℕ)
-    → IsSomeAnd p (λ (s : Source). slice_get capture s.index ≡ x)
-    → IsSomeAnd p (λ (s : Source). slice_get capture s.index ≡ y) → x ≡ y
-same-byte None capture x y h k = absurd h
-same-byte (Some s) capture x y h k = sym h ∙ k
+same-byte : (p : Option Source) (capture xs ys : List ℕ) (o : ℕ)
+    → IsSomeAnd p (λ (s : Source). slice_get capture s.index ≡ slice_get xs o)
+    → IsSomeAnd p (λ (s : Source). slice_get capture s.index ≡ slice_get ys o) → get_or xs o 0 ≡ get_or ys o 0
+same-byte None capture xs ys o h k = absurd h
+same-byte (Some s) capture xs ys o h k =
+    sym (unwrap_or-slice_get xs o 0) ∙ ap (λ p. unwrap_or p 0) (sym h ∙ k) ∙ unwrap_or-slice_get ys o 0
 
 gap-unique : (F : ℕ → Option Source) (n : ℕ) (g k : Option ℕ) → IsGap F n g → IsGap F n k → g ≡ k
 gap-unique F n None None h k = refl
 gap-unique F n (Some g) (Some k) h j = ap Some (h.0 ∙ sym j.0)
-gap-unique F n None (Some k) h (is, (o, past, low, some)) = absurd (none_and_some (F o) (h o past low) some)
-gap-unique F n (Some g) None (is, (o, past, low, some)) j = absurd (none_and_some (F o) (j o past low) some)
+gap-unique F n None (Some k) h (is, (o, past, low, some)) = absurd (false≢true (rw (h o past low) at some))
+gap-unique F n (Some g) None (is, (o, past, low, some)) j = absurd (false≢true (rw (j o past low) at some))
 
 -- entries that bear one source bear the same record and time
 same-rec : (s : Option Source) (e f : Arrival) → IsArrivalOf e s → IsArrivalOf f s
@@ -107,9 +96,10 @@ pub IsFlow-unique : (capture : List ℕ) (F : ℕ → Option Source) (bytes byte
     → IsFlow capture F bytes arrivals gap → IsFlow capture F bytes' arrivals' gap' → (bytes ≡ bytes')
     × (arrivals ≡ arrivals') × (gap ≡ gap')
 IsFlow-unique capture F bytes bytes' arrivals arrivals' gap gap' h k =
-    let size : length bytes ≡ length bytes' = run-unique F (length bytes) (length bytes') h.run k.run in (
-      same-lists bytes bytes' size (λ o lt. same-byte (F o) capture (slice_get bytes o) (slice_get bytes' o)
-          (h.bytes_are o lt) (k.bytes_are o (omega (arith, lt, size)))),
+    let size : length bytes ≡ length bytes' =
+    omega (arith, not-shorter F _ _ h.run k.run, not-shorter F _ _ k.run h.run) in (
+      same_number_lists bytes bytes' size (λ o lt. same-byte (F o) capture bytes bytes' o (h.bytes_are o lt)
+          (k.bytes_are o (omega (arith, lt, size)))),
       arrivals-unique (arrival F) (length bytes) 0 0 0 arrivals arrivals' h.rises (rw size k.rises)
           (λ o p lt. h.arrivals_are o lt) (λ o p lt. k.arrivals_are o (omega (arith, lt, size))),
       gap-unique F (length bytes) gap gap' h.gap_is (rw size k.gap_is),

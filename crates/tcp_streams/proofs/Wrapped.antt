@@ -1,8 +1,8 @@
 -- The worked example of a flow whose sequence numbers come round.
-use Rattle.tcp_streams.proofs.Words.{◌≡◌, ℕ, ◌<◌, List, [], ◌∷◌, Option, None, Some, refl, sym, ◌∙◌, arith, zero, suc}
+use Rattle.tcp_streams.proofs.Words.{◌≡◌, ℕ, ◌<◌, List, [], ◌∷◌, Option, None, Some, refl, arith, zero, suc}
 use Rattle.tcp_streams.proofs.Words.{◌+◌, ◌-◌, ◌^◌, length, slice_get, ap, ◌%◌, filter, map, le-ltb, Segment, bytes_of}
 use Rattle.tcp_streams.proofs.Words.{IsFlow, segments_of, is_endpoint, Source, source, Membership, membership}
-use Rattle.tcp_streams.proofs.Words.{Connection, Arrival}
+use Rattle.tcp_streams.proofs.Words.{Connection, Arrival, length-map}
 use Rattle.std.proofs.Common.{subst, lit<}
 use Rattle.std.specs.Prelude.{codes}
 use Rattle.tcp_streams.specs.examples.Retransmission.{WrappedRetransmission, client, letters, server, wrapped}
@@ -59,11 +59,7 @@ flow-is = record {
 one-alone : (found : List Connection) (m : Membership) (connection : Connection) → map membership found ≡ m ∷ []
     → slice_get found 0 ≡ Some connection → (length found ≡ 1) × (membership connection ≡ m)
 one-alone [] m connection e at = absurd (cc)
-one-alone (c ∷ []) m connection e at =
-    let same : membership c ≡ m = cc in
-    let it : c ≡ connection = let some : Some c ≡ Some connection = at in cc in
-    (refl, ap membership (sym it) ∙ same)
-one-alone (c ∷ d ∷ rest) m connection e at = absurd (cc)
+one-alone (c ∷ rest) m connection e at = (omega (arith, ap length e, length-map rest membership), cc)
 
 pub wrapped-retransmission : WrappedRetransmission
 wrapped-retransmission found connection flow are at flows =

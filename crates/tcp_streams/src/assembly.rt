@@ -5,7 +5,7 @@ ghost use Rattle.tcp_streams.specs.Bytes.{bytes_of};
 ghost use Rattle.tcp_streams.specs.Flow.{IsFlow};
 ghost use Rattle.tcp_streams.specs.Members.{initial_of, side_segments};
 ghost use Rattle.tcp_streams.specs.Sequence.{source};
-ghost use Rattle.tcp_streams.specs.code.Assembled.{IsAssembled};
+ghost use Rattle.tcp_streams.specs.code.Assembled.{IsAssembled, IsOfCapture};
 
 use crate::in_order::flow_in_order;
 use crate::layout::lay_out;
@@ -85,11 +85,7 @@ fn flow_in_any_order<'a>(
     side: Side,
     initial_number: u32,
 ) -> Result<Flow<'a>, AllocError>
-    requires size { length capture.now < 2 ^ 31 }
-    requires numbered { AreNumberedFrom 1 packets.now }
-    requires payloads { PayloadsRise 0 (length capture.now) packets.now }
-    requires times { TimesFit packets.now }
-    requires members { AreMembers 0 packets.now connection.now.members.items }
+    requires { IsOfCapture capture.now packets.now connection.now }
     ensures { IfOk result (IsAssembled capture.now packets.now connection.now side initial_number) }
 {
     let pieces = pieces_of(alloc, initial_number, packets, connection, side)?;

@@ -2,11 +2,9 @@
 
 ghost use Rattle.std.specs.Prelude.{◌≡◌, ◌+◌, ◌-◌, ◌<◌, ◌≤◌, ◌^◌, ◌∷◌, ◌++◌, [], length, IfOk, IfSome, OnOk};
 ghost use Rattle.std.specs.List.{slice_range};
-ghost use Rattle.packet_heads.specs.code.Order.{AreNumberedFrom, PayloadsRise, TimesFit};
 ghost use Rattle.tcp_streams.specs.Bytes.{joined};
-ghost use Rattle.tcp_streams.specs.code.Assembled.{IsAssembled};
-ghost use Rattle.tcp_streams.specs.code.Interval.{IsInterval, arrival_with, width};
-ghost use Rattle.tcp_streams.specs.code.Orderly.{AreMembers};
+ghost use Rattle.tcp_streams.specs.code.Assembled.{IsAssembled, IsOfCapture};
+ghost use Rattle.tcp_streams.specs.code.Interval.{IsInside, arrival_with, width};
 
 use crate::interval::Interval;
 use crate::layout::arrival_with;
@@ -30,8 +28,7 @@ struct Laid<'a> {
 impl<'a> Laid<'a> {
     /// Adds an interval of the capture, and when its bytes arrived.
     fn add(&mut self, capture: &Capture<'a>, x: &Interval) -> Result<(), AllocError>
-        requires interval { IsInterval x.now }
-        requires captured { x.now.index + (x.now.upto - x.now.from) ≤ length capture.now }
+        requires { IsInside (length capture.now) x.now }
         ensures bytes { OnOk result (joined self.new.pieces.items ≡ joined self.old.pieces.items
             ++ slice_range capture.now x.now.index (x.now.index + width x.now)) }
         ensures arrivals { OnOk result (self.new.arrivals.items ≡ self.old.arrivals.items ++ arrival_with x.now ∷ []) }
@@ -55,11 +52,7 @@ pub fn flow_in_order<'a>(
     side: Side,
     initial_number: u32,
 ) -> Result<Option<Flow<'a>>, AllocError>
-    requires size { length capture.now < 2 ^ 31 }
-    requires numbered { AreNumberedFrom 1 packets.now }
-    requires payloads { PayloadsRise 0 (length capture.now) packets.now }
-    requires times { TimesFit packets.now }
-    requires members { AreMembers 0 packets.now connection.now.members.items }
+    requires { IsOfCapture capture.now packets.now connection.now }
     ensures { IfOk result (λ found. IfSome found
         (IsAssembled capture.now packets.now connection.now side initial_number)) }
 {

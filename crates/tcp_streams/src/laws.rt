@@ -8,6 +8,7 @@ pub fn flow_is_unique()
 {}
 
 /// The payloads of a connection's two sides together are no longer than the capture.
+#[tactic(auto, using(crate::proofs::FlowLemmas::laws))]
 pub fn sides_fit()
     ensures { SidesFit }
 {}
@@ -21,6 +22,7 @@ pub fn flows_fit()
 {}
 
 /// Payload byte k of a segment has the offset that RFC 9293, 3.4 gives it.
+#[tactic(auto, using(crate::proofs::PieceLemmas::laws))]
 pub fn byte_has_offset()
     ensures { ByteHasOffset }
 {}

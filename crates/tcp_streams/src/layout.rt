@@ -1,10 +1,8 @@
-ghost use Rattle.std.specs.Prelude.{◌≡◌, ◌+◌, ◌-◌, ◌<◌, ◌≤◌, ◌^◌, true, length, All, IfOk};
-ghost use Rattle.tcp_streams.specs.code.Orderly.{AreTimely};
-ghost use Rattle.tcp_streams.specs.Bytes.{bytes_of, joined};
-ghost use Rattle.tcp_streams.specs.Flow.{IsFlow};
-ghost use Rattle.tcp_streams.specs.code.Interval.{AreCaptured, IsInterval, Spans, arrival_with, arrivals_in, at};
-ghost use Rattle.tcp_streams.specs.code.Interval.{bytes_in, run_length, size_of};
-ghost use Rattle.tcp_streams.specs.declared.interval.Interval.{Interval as Held};
+ghost use Rattle.std.specs.Prelude.{◌≡◌, ◌+◌, ◌-◌, ◌<◌, ◌≤◌, ◌^◌, length, All, IfOk};
+ghost use Rattle.tcp_streams.specs.Bytes.{joined};
+ghost use Rattle.tcp_streams.specs.code.Assembled.{IsLaidOut};
+ghost use Rattle.tcp_streams.specs.code.Interval.{AreCaptured, IsInside, Spans, arrival_with, arrivals_in, at};
+ghost use Rattle.tcp_streams.specs.code.Interval.{bytes_in, run_length};
 
 use crate::interval::Interval;
 use crate::streams::{Arrival, Flow, end_of};
@@ -19,10 +17,7 @@ pub fn lay_out<'a>(
 ) -> Result<Flow<'a>, AllocError>
     requires spans { Spans 0 intervals.now (2 ^ 31) }
     requires captured { AreCaptured (length capture.now) (at intervals.now) }
-    ensures flow { IfOk result (λ f. IsFlow capture.now (at intervals.now) (bytes_of f) f.arrivals.items f.gap) }
-    ensures started { IfOk result (λ f. f.started ≡ true) }
-    ensures size { IfOk result (λ f. length (bytes_of f) ≤ size_of intervals.now) }
-    ensures timely { IfOk result (λ f. AreTimely f.arrivals.items) }
+    ensures { IfOk result (IsLaidOut capture.now intervals.now) }
 {
     let count = run_length(intervals);
     let run = &intervals[..count];
@@ -56,13 +51,13 @@ fn run_length(intervals: &[Interval]) -> usize
 }
 
 /// The pieces of the capture that the intervals name.
+#[tactic(auto, using(crate::proofs::RunLemmas::pushes))]
 fn pieces_in<'a>(
     alloc: Global,
     capture: &Capture<'a>,
     run: &[Interval],
 ) -> Result<Vec<&'a [u8]>, AllocError>
-    requires intervals { All IsInterval run.now }
-    requires captured { All (λ (x : Held). x.index + (x.upto - x.from) ≤ length capture.now) run.now }
+    requires { All (IsInside (length capture.now)) run.now }
     ensures { IfOk result (λ v. joined v.items ≡ bytes_in capture.now run.now) }
 {
     let mut pieces = Vec::with_capacity(alloc, run.len())?;

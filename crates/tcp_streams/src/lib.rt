@@ -22,8 +22,8 @@
 //!
 //! Wrong bodies that the prover refuses: the last retransmission wins, a SYN of any number opens again, a pair is known
 //! by one end. [`worked_examples`] goes from packets to a flow; worked examples of openings, strays and offsets are
-//! proved in `crate_tests`. Tested there: random segments beside a slow program that keeps a plain list of offsets, and
-//! that keys are drawn. Tested by whole reports: interleaved connections.
+//! proved in `crate_tests`. Tested there: random segments beside a slow program that goes offset by offset, and that
+//! keys are drawn. Tested by whole reports: interleaved connections.
 #![tactic(auto)]
 
 mod assembly;

@@ -20,6 +20,9 @@ pub struct Connection {
     pub members: Vec<u32>,
 }
 
+/// How many members a connection has room for at first: the least block of memory holds as many.
+const FIRST_MEMBERS: usize = 6;
+
 impl Connection {
     ghost use Rattle.tcp_streams.specs.Members.{initial_of};
     ghost use Rattle.tcp_streams.specs.code.Past.{membership, is_again};
@@ -29,7 +32,7 @@ impl Connection {
     pub(crate) fn opened_by(alloc: Global, segment: &Segment) -> Result<Connection, AllocError>
         ensures { IfOk result (λ c. membership c ≡ opened_by segment.now) }
     {
-        let mut members = Vec::new(alloc);
+        let mut members = Vec::with_capacity(alloc, FIRST_MEMBERS)?;
         members.push(segment.rec)?;
         Ok(Connection {
             client: segment.from,

@@ -6,7 +6,7 @@ ghost use Rattle.packet_heads.specs.code.Order.{AreNumberedFrom};
 use crate::members::Connections;
 use crate::table::Table;
 use input_output::TableHash;
-use packet_heads::{Packet, Packets};
+use packet_heads::Packets;
 use std::alloc::{AllocError, Global};
 
 /// Says which segments belong to which opening, and which to none.
@@ -28,12 +28,10 @@ pub fn connections(
     ensures members { IfOk result (λ found. All (λ c. AreMembers 0 packets.now c.members.items) found.opened.items) }
 {
     let mut table = Table::new(alloc, hash);
-    let mut at = 0;
-    while let Some(packet) = packets.get(at) {
-        if let Packet::Segment(segment) = packet {
-            table.add(&segment)?;
+    for index in 0..packets.len() {
+        if let Some(segment) = packets.segment(index) {
+            table.add(segment)?;
         }
-        at += 1;
     }
     Ok(table.into_connections())
 }

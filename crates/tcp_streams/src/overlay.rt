@@ -1,6 +1,5 @@
 ghost use Rattle.std.specs.Prelude.{◌≡◌, ◌+◌, ◌-◌, ◌<◌, ◌≤◌, ◌^◌, [], ◌∷◌, ◌++◌, false, All, length, drop, IfOk, OnOk};
-ghost use Rattle.tcp_streams.specs.code.Interval.{HasPassed, IsInterval, IsSame, Spans, at, clipped, lie_apart};
-ghost use Rattle.tcp_streams.specs.code.Interval.{overlay, size_of};
+ghost use Rattle.tcp_streams.specs.code.Interval.{HasPassed, IsInterval, IsSettled, Spans, clipped, lie_apart, overlay};
 
 use crate::interval::{END_OF_OFFSETS, Interval};
 use std::alloc::{AllocError, Global};
@@ -9,9 +8,7 @@ use std::alloc::{AllocError, Global};
 /// of them brings it.
 pub fn settle(alloc: Global, pieces: Vec<Interval>) -> Result<Vec<Interval>, AllocError>
     requires { All IsInterval pieces.items }
-    ensures spans { IfOk result (λ v. Spans 0 v.items (2 ^ 31)) }
-    ensures same { IfOk result (λ v. IsSame (at v.items) (at pieces.items)) }
-    ensures size { IfOk result (λ v. size_of v.items ≤ size_of pieces.items) }
+    ensures { IfOk result (λ v. IsSettled pieces.items v.items) }
 {
     if lie_apart(&pieces) {
         Ok(pieces)
@@ -38,9 +35,7 @@ fn lie_apart(pieces: &[Interval]) -> bool
 /// Settles the pieces by halves, of which the second fills what the first leaves free.
 fn settle_halves(alloc: Global, pieces: &[Interval]) -> Result<Vec<Interval>, AllocError>
     requires { All IsInterval pieces.now }
-    ensures spans { IfOk result (λ v. Spans 0 v.items (2 ^ 31)) }
-    ensures same { IfOk result (λ v. IsSame (at v.items) (at pieces.now)) }
-    ensures size { IfOk result (λ v. size_of v.items ≤ size_of pieces.now) }
+    ensures { IfOk result (λ v. IsSettled pieces.now v.items) }
 {
     if lie_apart(pieces) {
         return pieces.to_vec(alloc);

@@ -1,20 +1,19 @@
-ghost use Rattle.std.specs.Prelude.{◌≡◌, ◌+◌, ◌-◌, ◌%◌, ◌<◌, ◌≤◌, ◌^◌, if◌then◌else◌, length, Option, IsSome, IfOk};
+ghost use Rattle.std.specs.Prelude.{◌≡◌, ◌+◌, ◌-◌, ◌%◌, ◌<◌, ◌≤◌, ◌^◌, if◌then◌else◌, length, Option, IfOk};
 ghost use Rattle.std.specs.List.{filter_map};
 ghost use Rattle.tcp_streams.specs.code.Interval.{PayloadsFit, member_piece, piece, stretch};
-ghost use Rattle.tcp_streams.specs.code.Orderly.{AreMembers};
 ghost use Rattle.tcp_streams.specs.Members.{is_sent_by};
-ghost use Rattle.tcp_streams.specs.Packets.{segment_of};
 
 use crate::interval::{END_OF_OFFSETS, Interval};
 use crate::members::Connection;
 use audit_terms::Side;
-use packet_heads::{Packet, Packets, Segment};
+use packet_heads::{Packets, Segment};
 use std::alloc::{AllocError, Global};
 
 /// Sequence numbers come round at this number (RFC 9293, 3.4).
 const MODULUS: u64 = 0x1_0000_0000;
 
 /// The offsets that a side's segments cover, a piece for each that covers any, in order of record.
+#[tactic(auto, using(crate::proofs::RunLemmas::pushes))]
 pub fn pieces_of(
     alloc: Global,
     initial_number: u32,
@@ -22,8 +21,7 @@ pub fn pieces_of(
     connection: &Connection,
     side: Side,
 ) -> Result<Vec<Interval>, AllocError>
-    requires payloads { PayloadsFit packets.now }
-    requires members { AreMembers 0 packets.now connection.now.members.items }
+    requires { PayloadsFit packets.now }
     ensures { IfOk result (λ v. v.items
         ≡ filter_map (member_piece initial_number packets.now connection.now side) connection.now.members.items) }
 {
@@ -44,21 +42,14 @@ pub fn piece_of_member(
     side: Side,
     member: u32,
 ) -> Option<Interval>
-    requires payloads { PayloadsFit packets.now }
-    requires counted { 0 < member }
-    requires named { IsSome (segment_of packets.now member) }
+    requires { PayloadsFit packets.now }
     ensures { result ≡ member_piece initial_number packets.now connection.now side member }
 {
-    match packets.get((member - 1) as usize)? {
-        Packet::Segment(segment) => {
-            if is_sent_by(connection, side, &segment) {
-                piece_of(initial_number, &segment)
-            } else {
-                None
-            }
-        }
-        Packet::Skipped(_) => None,
-        Packet::Refused(_) => None,
+    let segment = packets.segment(member.saturating_sub(1) as usize)?;
+    if is_sent_by(connection, side, segment) {
+        piece_of(initial_number, segment)
+    } else {
+        None
     }
 }
 

@@ -4,13 +4,13 @@ use Rattle.std.specs.Prelude.{◌≡◌, Bool, List, Vec, All, map}
 use denote.Ref.{Bor}
 use Rattle.audit_terms.specs.declared.findings.Finding.{Finding}
 use Rattle.audit_terms.specs.declared.frames.Frame.{Frame}
+use Rattle.audit_rounds.specs.declared.connections.MadeReady.{MadeReady}
 use Rattle.audit_rounds.specs.declared.prepared.Prepared.{Prepared}
 use Rattle.audit_rounds.specs.code.Prepared.{IsPrepared, found_before}
 
 -- connections made ready, with what is found of each before the rounds
-pub record AreMadeReady (credits_shown : Bool) (connections : List (Bor (List Frame))) (made : List Prepared)
-    (found : List (Vec Finding Global)) : Type 0 where
-  pub frames : map (λ (one : Prepared). one.frames.now) made
+pub record AreMadeReady (credits_shown : Bool) (connections : List (Bor (List Frame))) (made : MadeReady) : Type 0 where
+  pub frames : map (λ (one : Prepared). one.frames.now) made.prepared.items
       ≡ map (λ (frames : Bor (List Frame)). frames.now) connections
-  pub prepared : All (IsPrepared credits_shown) made
-  pub before : map (λ (one : Vec Finding Global). one.items) found ≡ map found_before made
+  pub prepared : All (IsPrepared credits_shown) made.prepared.items
+  pub before : map (λ (one : Vec Finding Global). one.items) made.found.items ≡ map found_before made.prepared.items

@@ -10,10 +10,8 @@ use Rattle.audit_terms.specs.code.runs.Blocks.{block_run}
 use Rattle.audit_terms.specs.Finding.{shown}
 use Rattle.audit_terms.specs.code.runs.Look.{Asked}
 use Rattle.conn_scan.specs.code.Items.{items_in}
-use Rattle.stop_desk.specs.code.Board.{Job, IsSettled, findings_of_jobs}
-use Rattle.stop_desk.specs.declared.parts.Part.{Part}
+use Rattle.stop_desk.specs.code.Board.{Job, findings_of_jobs}
 use Rattle.stop_desk.specs.code.Heeding.{RunLooks}
-use Rattle.stop_desk.specs.code.Laid.{part_of, board_with}
 use Rattle.audit_rounds.specs.declared.blocks.ConnectionBlock.{ConnectionBlock}
 use Rattle.audit_rounds.specs.declared.block_plans.ReadyBlock.{ReadyBlock}
 use Rattle.audit_rounds.specs.code.Blocks.{IsReady, after_of, before_of}
@@ -67,11 +65,3 @@ pub record IsPlan (credits_shown : Bool) (connections : ℕ) (finds : ℕ → Li
   pub ready : AreReady plan
   pub within : All (λ (one : ReadyBlock). one.connection < connections) plan
   pub of_each : (n : ℕ) → findings_of_jobs n (map (block_job credits_shown) plan) ≡ finds n
-
--- the parts of a settled board, for connections with these stops
-pub record AreParts {M : Type 0} (jobs : List Job) (stops : List (Option ℕ)) (parts : List (Part M)) : Type 0 where
-  pub seen : List (ℕ × ℕ)
-  pub lowered : List (ℕ × ℕ)
-  pub last : List (Option ℕ)
-  pub board : IsSettled (record { jobs = jobs; opening_stops = stops })
-      (board_with (map part_of parts) seen lowered last)

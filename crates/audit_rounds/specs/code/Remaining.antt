@@ -1,7 +1,10 @@
--- What is left to do of a connection.
-use Rattle.std.specs.Prelude.{ℕ, List, Option}
+-- What is left to do of connections, and what is found of them once it is done.
+use Rattle.std.specs.Global.{Global}
+use Rattle.std.specs.Prelude.{◌≡◌, ℕ, ◌<◌, ◌++◌, Bool, List, Option, Vec, length, slice_index_or}
 use Rattle.audit_terms.specs.declared.findings.Finding.{Finding}
 use Rattle.audit_terms.specs.Connection.{connection_start}
+use Rattle.audit_terms.specs.code.runs.Blocks.{block_run}
+use Rattle.audit_terms.specs.Finding.{in_order, shown, upto_stop}
 use Rattle.conn_scan.specs.declared.block_items.Block.{Block}
 use Rattle.conn_scan.specs.code.Items.{items_in, IsBlock}
 use Rattle.conn_scan.specs.code.Block.{BlockFits}
@@ -14,3 +17,21 @@ pub record IsRemaining (whole : Block) (stop : Option ℕ) (found : List Finding
   pub fits : BlockFits connection_start (items_in whole)
   pub place : IsStop stop
   pub least : IsLeast (StopsAt found) stop
+
+-- that of each connection
+pub record AreRemaining (connections : List Block) (stops : List (Option ℕ)) (found : List (Vec Finding Global))
+    : Type 0 where
+  pub number : length stops ≡ length connections
+  pub founds : length connections ≡ length found
+  pub each : (n : ℕ) (whole : Block) (stop : Option ℕ) (list : Vec Finding Global) → n < length connections
+      → IsRemaining (slice_index_or connections n whole) (slice_index_or stops n stop)
+      (slice_index_or found n list).items
+
+-- up to the first error, what was found of each connection with what its blocks show
+pub record AreGoneThrough (credits_shown : Bool) (connections : List Block) (found last : List (Vec Finding Global))
+    : Type 0 where
+  pub number : length last ≡ length found
+  pub each : (n : ℕ) (whole : Block) (list list' : Vec Finding Global) → n < length connections
+      → upto_stop (in_order (slice_index_or last n list).items)
+      ≡ upto_stop (in_order ((slice_index_or found n list').items ++ shown credits_shown (block_run connection_start
+      (items_in (slice_index_or connections n whole)))))

@@ -1,7 +1,6 @@
 -- Worked examples of what payloads say, each type on the lengths next to which its answer changes (RFC 9113, 6.1 to
 -- 6.10). Types and flags are the numbers that the sections give them.
-use Rattle.std.specs.Prelude.{◌≡◌, ℕ, List, [], ◌∷◌, ◌++◌, map, replicate, Option, Some, None}
-use Rattle.audit_terms.specs.declared.frames.Body.{Body}
+use Rattle.std.specs.Prelude.{◌≡◌, ℕ, List, [], ◌∷◌, ◌++◌, map, replicate, Some}
 use Rattle.audit_terms.specs.declared.frames.Body.TheVariants.{Content, Headers, Priority, RstStream}
 use Rattle.audit_terms.specs.declared.frames.Body.TheVariants.{Settings as SettingsBody, SettingsAck, PushPromise, Ping}
 use Rattle.audit_terms.specs.declared.frames.Body.TheVariants.{GoAway, WindowUpdate, Continuation, Unknown, Unreadable}

@@ -1,6 +1,6 @@
 -- Worked examples of the preface and of frame headers (RFC 9113, 3.4 and 4.1), and of the order in which frames were
 -- captured.
-use Rattle.std.specs.Prelude.{◌≡◌, ℕ, ◌*◌, List, [], ◌∷◌, map}
+use Rattle.std.specs.Prelude.{◌≡◌, ℕ, ◌*◌, [], ◌∷◌, map}
 use Rattle.audit_terms.specs.declared.frames.Body.TheVariants.{Ping, Content}
 use Rattle.audit_terms.specs.declared.frames.Frame.{Frame}
 use Rattle.audit_terms.specs.declared.sides.Side.{Side}

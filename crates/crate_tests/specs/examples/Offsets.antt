@@ -1,6 +1,5 @@
 -- Worked examples of what a side's segments bring to the offsets of its stream (RFC 9293, 3.4).
-use Rattle.std.specs.Prelude.{◌≡◌, ℕ, ◌^◌, ◌-◌, ◌+◌, ◌*◌, true, false, List, [], ◌∷◌, map, Option, Some, None}
-use Rattle.packet_heads.specs.declared.packets.Endpoint.{Endpoint}
+use Rattle.std.specs.Prelude.{◌≡◌, ℕ, ◌^◌, ◌-◌, ◌+◌, ◌*◌, true, false, [], ◌∷◌, map, Option, Some, None}
 use Rattle.packet_heads.specs.declared.packets.Segment.{Segment}
 use Rattle.tcp_streams.specs.Sequence.{Source, arrival, source}
 use Rattle.crate_tests.specs.examples.Captured.{endpoint, segment}

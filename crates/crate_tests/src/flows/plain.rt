@@ -1,134 +1,69 @@
-//! The flow by its definition, byte by byte: a slow program that tests compare `assemble` with.
+//! A flow by its definition, offset by offset: a slow program that `assemble` is compared with.
 
-use audit_terms::Side;
-use packet_heads::{Packet, Packets, Segment};
+use packet_heads::Segment;
 use std::alloc::{AllocError, Global};
-use tcp_streams::{Arrival, Connection};
+use tcp_streams::Arrival;
+
+/// No segment of the tests has a byte at this offset or behind it, but below offset 0.
+const OFFSETS: u32 = 64;
 
 /// A flow with bytes of its own.
 #[derive(Drop)]
 pub struct PlainFlow {
-    pub started: bool,
     pub bytes: Vec<u8>,
     pub arrivals: Vec<Arrival>,
     pub gap: Option<u64>,
 }
 
-/// A byte at an offset that counts.
-#[derive(Clone, Copy)]
-struct Covered {
-    offset: u32,
-    byte: u8,
-    rec: u32,
-    nanos: u64,
+/// The segment that brings the byte at an offset, and where that lies in the capture: the first that covers it.
+fn source(segments: &[Segment], initial_number: u32, offset: u32) -> Option<(Segment, u32)> {
+    for segment in segments {
+        let first = segment.seq.wrapping_sub(initial_number);
+        let first = first.wrapping_sub(u32::from(!segment.syn));
+        let at = offset.wrapping_sub(first);
+        if at < segment.hi.wrapping_sub(segment.lo) {
+            return Some((*segment, segment.lo.wrapping_add(at)));
+        }
+    }
+    None
 }
 
-/// The flow of a side, from a plain list of the offsets that its segments cover.
+/// A byte arrives with the latest record of those up to it.
+fn arrive(flow: &mut PlainFlow, upto: u32, segment: &Segment) -> Result<(), AllocError> {
+    match flow.arrivals.last_mut() {
+        Some(last) if segment.rec <= last.rec => last.upto = upto,
+        _ => flow.arrivals.push(Arrival {
+            upto,
+            rec: segment.rec,
+            nanos: segment.nanos.get(),
+        })?,
+    }
+    Ok(())
+}
+
+/// The flow of a side's segments.
 pub fn assemble(
     alloc: Global,
     capture: &[u8],
-    packets: &Packets<'_>,
-    connection: &Connection,
-    side: Side,
-) -> Result<PlainFlow, AllocError> {
-    let Some(initial_number) = connection.initial_of(side) else {
-        return Ok(PlainFlow {
-            started: false,
-            bytes: Vec::new(alloc),
-            arrivals: Vec::new(alloc),
-            gap: None,
-        });
-    };
-    let mut covered = Vec::new(alloc);
-    for member in &connection.members {
-        if let Some(Packet::Segment(segment)) = packets.get((*member as usize).saturating_sub(1)) {
-            let is_client = segment.from == connection.client;
-            if is_client == (side == Side::Client) {
-                cover(&mut covered, capture, initial_number, &segment)?;
-            }
-        }
-    }
-    lay_out(alloc, &covered)
-}
-
-/// Adds each byte of a segment whose offset counts and is not covered yet.
-fn cover(
-    covered: &mut Vec<Covered>,
-    capture: &[u8],
+    segments: &[Segment],
     initial_number: u32,
-    segment: &Segment,
-) -> Result<(), AllocError> {
-    let mut number = segment.seq;
-    if segment.syn {
-        number = number.wrapping_add(1);
-    }
-    for index in segment.lo..segment.hi {
-        let offset = number.wrapping_sub(initial_number).wrapping_sub(1);
-        let byte = capture.get(index as usize).copied().unwrap_or(0);
-        if offset < 0x8000_0000 && !is_covered(covered, offset) {
-            covered.push(Covered {
-                offset,
-                byte,
-                rec: segment.rec,
-                nanos: segment.nanos.get(),
-            })?;
-        }
-        number = number.wrapping_add(1);
-    }
-    Ok(())
-}
-
-fn is_covered(covered: &[Covered], offset: u32) -> bool {
-    for c in covered {
-        if c.offset == offset {
-            return true;
-        }
-    }
-    false
-}
-
-/// Takes the bytes at offset 0, 1 and so on, as far as they are covered.
-fn lay_out(alloc: Global, covered: &[Covered]) -> Result<PlainFlow, AllocError> {
-    let mut bytes = Vec::new(alloc);
-    let mut arrivals = Vec::new(alloc);
-    for _ in covered {
-        let next = bytes.len() as u64;
-        for c in covered {
-            if u64::from(c.offset) == next {
-                bytes.push(c.byte)?;
-                note(&mut arrivals, c)?;
+) -> Result<PlainFlow, AllocError> {
+    let mut flow = PlainFlow {
+        bytes: Vec::new(alloc),
+        arrivals: Vec::new(alloc),
+        gap: None,
+    };
+    for offset in 0..OFFSETS {
+        let length = flow.bytes.len() as u64;
+        match source(segments, initial_number, offset) {
+            Some((segment, index)) if u64::from(offset) == length => {
+                flow.bytes
+                    .push(capture.get(index as usize).copied().unwrap_or(0))?;
+                arrive(&mut flow, offset + 1, &segment)?;
             }
+            Some(_) => flow.gap = Some(length),
+            None => {}
         }
     }
-    let length = bytes.len() as u64;
-    let mut gap = None;
-    for c in covered {
-        if u64::from(c.offset) > length {
-            gap = Some(length);
-        }
-    }
-    Ok(PlainFlow {
-        started: true,
-        bytes,
-        arrivals,
-        gap,
-    })
-}
-
-/// A byte arrives with the greatest record so far.
-fn note(arrivals: &mut Vec<Arrival>, c: &Covered) -> Result<(), AllocError> {
-    let upto = c.offset.saturating_add(1);
-    if let Some(last) = arrivals.pop() {
-        if c.rec <= last.rec {
-            arrivals.push(Arrival { upto, ..last })?;
-            return Ok(());
-        }
-        arrivals.push(last)?;
-    }
-    arrivals.push(Arrival {
-        upto,
-        rec: c.rec,
-        nanos: c.nanos,
-    })?;
-    Ok(())
+    Ok(flow)
 }

@@ -1,6 +1,6 @@
 -- The jobs of the first round: one for each connection, which finds nothing.
-use Rattle.std.specs.List.{AllZip}
-use Rattle.std.specs.Prelude.{◌≡◌, ℕ, ◌+◌, ◌^◌, ◌<◌, ◌≤◌, Bool, false, List, [], ◌∷◌, length, All, IsTrue}
+use Rattle.std.specs.List.{AllZip, range_with_len}
+use Rattle.std.specs.Prelude.{◌≡◌, ℕ, ◌^◌, ◌<◌, ◌≤◌, Bool, false, List, [], length, map, All, IsTrue}
 use Rattle.audit_report.specs.FlowLine.{extents_of}
 use Rattle.audit_report.specs.code.Reported.{AreToldOf, HasOrderlyOutcome, extents_in}
 use Rattle.audit_report.specs.declared.audited.Audited.{Audited}
@@ -79,10 +79,12 @@ pub record IsToldFlows
   pub server : IsFlowOf capture packets connection Server flows.server
   pub told : IsToldOfFlows credits_shown flows.client flows.server made
 
-abbrev pub flow_jobs : (first : ℕ) → List Connection → List Job
-flow_jobs first [] = []
-flow_jobs first (connection ∷ connections) =
-    record { connection = first; findings = [] } ∷ flow_jobs (first + 1) connections
+-- a job for each connection, which finds nothing
+abbrev pub flow_job : ℕ → Job
+flow_job number = record { connection = number; findings = [] }
+
+abbrev pub flow_jobs : List Connection → List Job
+flow_jobs opened = map flow_job (range_with_len 0 (length opened))
 
 -- each part tells of its connection
 abbrev pub AreToldFlows : (credits_shown : Bool) → List ℕ → List Packet → List Connection → List (Part Told) → Type 0
@@ -106,11 +108,7 @@ pub record FlowView : Type 0 where
   pub packets : List Packet
   pub opened : List Connection
 
--- a capture, its packets, and connections of them
+-- few connections of a capture, with the capture's packets
 pub record IsFlowView (view : FlowView) : Type 0 where
-  pub size : length view.capture < 2 ^ 31
   pub few : length view.opened < 2 ^ 32
-  pub numbered : AreNumberedFrom 1 view.packets
-  pub payloads : PayloadsRise 0 (length view.capture) view.packets
-  pub times : TimesFit view.packets
-  pub members : All (λ (c : Connection). AreMembers 0 view.packets c.members.items) view.opened
+  pub sources : All (AreSources view.capture view.packets) view.opened

@@ -1,9 +1,10 @@
 -- What is kept of a capture, what the capture answers, and how reading it fails.
-use Rattle.std.specs.Prelude.{◌≡◌, ◌⊎◌, ℕ, List, None, Some}
+use Rattle.std.specs.Prelude.{◌≡◌, ◌⊎◌, ◌^◌, ℕ, List, Option, None, Some, IfSome, take}
 use Rattle.pcap_records.specs.Refusal.{refusal}
-use Rattle.input_output.specs.Account.{HasReadFailed}
+use Rattle.input_output.specs.Account.{HasReadFailed, HaveGiven, IsReadToEnd, OfGiven, kept}
 use Rattle.input_output.specs.declared.capture_reader.CaptureReader.{CaptureReader}
 use Rattle.input_output.specs.declared.capture_reader.ReadState.TheVariants.{LackedMemory}
+use Rattle.h2audit.specs.Account.{IsBrief}
 use Rattle.h2audit.specs.declared.fault.AuditFault.{AuditFault}
 use Rattle.h2audit.specs.declared.fault.AuditFault.TheVariants as fault
 use Rattle.h2audit.specs.declared.reading.FileHeader.{FileHeader}
@@ -25,6 +26,16 @@ IsReadingFault _ _ = ⊥
 abbrev pub IsHeaderOf : List ℕ → FileHeader → Type 0
 IsHeaderOf kept (header.Taken walk) = IsPacketWalkIn kept walk
 IsHeaderOf kept (header.Refused e) = refusal kept ≡ Some e
+
+-- a capture was read to its end, of a reader that had these bytes left, where they are known: what is kept answers for
+-- it, and this is what its file header gives
+pub record HasReadCapture {R : Type 0} (left : Option (List ℕ)) (reader : CaptureReader R) (gives : FileHeader)
+    : Type 0 where
+  pub bytes : IfSome left (λ all. HaveGiven reader (take (2 ^ 31) all))
+  pub ok : IsReadToEnd reader
+  pub answers : OfGiven reader (AnswersFor (kept reader))
+  pub brief : IsBrief reader
+  pub header : IsHeaderOf (kept reader) gives
 
 -- the faults of an audit of what is kept: it has no report, or there was no memory for the list of its parts
 abbrev pub IsAuditingFault : {R : Type 0} → AuditFault → (old new : CaptureReader R) → Type 0

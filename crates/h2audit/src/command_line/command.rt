@@ -1,6 +1,5 @@
 ghost use Rattle.std.specs.Prelude.{◌≡◌, IfOk, Some, false, map, pos};
 ghost use Rattle.clap.specs.Words.{app_of, fault_of, found_of, matches_of, new_app, rows_of, rule_of, FailsBy};
-ghost use Rattle.h2audit.specs.code.Numbers.{HasNumbers};
 ghost use Rattle.clap.specs.declared.builder.value_parser.ValueParser.{ValueParser};
 ghost use Rattle.h2audit.specs.CommandLine.{app, command_start};
 ghost use Rattle.h2audit.specs.CommandLine.{file_rule, frames_rule, number_rule, option_rule};
@@ -23,7 +22,6 @@ pub(crate) const FILE: &str = "FILE";
 /// What clap finds in the program's words, which do not begin with the program's name.
 pub(crate) fn matches<'a>(alloc: Global, words: &'a [&'a str]) -> Result<ArgMatches<'a>, Error>
     ensures rows { IfOk result (λ m. rows_of (found_of m) ≡ matches_of app (map (λ w. w.now) words.entry.now)) }
-    ensures numbers { IfOk result (λ m. HasNumbers (found_of m)) }
     ensures fails { FailsBy (fault_of app (map (λ w. w.now) words.entry.now)) result }
 {
     command(alloc)?.try_get_matches_from(words)

@@ -1,6 +1,6 @@
 -- What the table of streams says of each stream that is quiet so far, as a split walks over the frames.
-use Rattle.std.specs.Prelude.{◌≡◌, ◌≢◌, ℕ, ◌==◌, if◌then◌else◌, Bool, true, false, List, [], ◌∷◌, length, get_or}
-use Rattle.std.specs.Prelude.{slice_get, Some}
+use Rattle.std.specs.Prelude.{◌≡◌, ◌≢◌, ℕ, ◌==◌, if◌then◌else◌, Bool, true, false, List, [], ◌∷◌}
+use Rattle.std.specs.List.{AllZip}
 use Rattle.audit_terms.specs.declared.frames.Frame.{Frame}
 use Rattle.audit_terms.specs.declared.items.Change.{Change}
 use Rattle.audit_terms.specs.code.runs.Orderly.{IsOrderly}
@@ -14,16 +14,18 @@ use Rattle.split_merge.specs.code.Visits.{NotAmong}
 abbrev pub with_next : (stream : ℕ) → Frame → (rest : ℕ → List Frame) → ℕ → List Frame
 with_next stream frame rest other = if stream == other then frame ∷ rest other else rest other
 
--- each stream is ahead of the frames that it has still to meet; one that is not among them has met none
+-- the stream is ahead of the frames that it has still to meet
+abbrev pub IsAheadOf : List Change → (all : List Frame) → (rest : ℕ → List Frame) → (stream : ℕ) → QuietStream → Type 0
+IsAheadOf changes all rest stream = IsAheadIfQuiet stream changes (frames_of stream all) (rest stream)
+
+-- each stream is; one that is not among them has met none
 pub record AreAhead (changes : List Change) (all : List Frame) (rest : ℕ → List Frame)
     (streams : List ℕ) (quiets : List QuietStream) : Type 0 where
-  pub long : length quiets ≡ length streams
   pub orderly : IsOrderly all
   pub rise : AreOrderly changes
   pub acknowledged : AreAcknowledged all changes
   pub above : NotAmong 0 streams
-  pub ahead : (r stream : ℕ) (d : QuietStream) → slice_get streams r ≡ Some stream →
-      IsAheadIfQuiet stream changes (frames_of stream all) (rest stream) (get_or quiets r d)
+  pub ahead : AllZip (IsAheadOf changes all rest) streams quiets
   pub unmet : (stream : ℕ) → stream ≢ 0 → NotAmong stream streams → rest stream ≡ frames_of stream all
 
 -- some stream may meet the frame next: this one, unless it is 0
@@ -49,8 +51,8 @@ IsHushed credits_shown changes stream frames quiet =
     quiet.is_quiet ≡ true → IsUnshown credits_shown changes stream frames quiet
 
 -- the same of each stream
-pub record AreHushed (credits_shown : Bool) (changes : List Change) (all : List Frame)
-    (streams : List ℕ) (quiets : List QuietStream) : Type 0 where
-  pub long : length quiets ≡ length streams
-  pub hushed : (r stream : ℕ) (d : QuietStream) → slice_get streams r ≡ Some stream →
-      IsHushed credits_shown changes stream (frames_of stream all) (get_or quiets r d)
+abbrev pub IsHushedOf : (credits_shown : Bool) → List Change → (all : List Frame) → (stream : ℕ) → QuietStream → Type 0
+IsHushedOf credits_shown changes all stream = IsHushed credits_shown changes stream (frames_of stream all)
+
+abbrev pub AreHushed : (credits_shown : Bool) → List Change → (all : List Frame) → List ℕ → List QuietStream → Type 0
+AreHushed credits_shown changes all = AllZip (IsHushedOf credits_shown changes all)

@@ -1,14 +1,12 @@
 -- The streams that are not quiet, apart from the others: the loud ones.
-use Rattle.std.specs.Prelude.{◌≡◌, ℕ, ◌+◌, ◌<◌, ◌==◌, if◌then◌else◌, Bool, true, List, [], ◌∷◌, ◌++◌, length, get_or}
-use Rattle.std.specs.Prelude.{set, slice_get, filter, Option, Some, None, MatchOption, option_to_list}
+use Rattle.std.specs.Prelude.{◌≡◌, ℕ, ◌+◌, ◌^◌, ◌<◌, ◌==◌, if◌then◌else◌, Bool, true, List, [], ◌∷◌, ◌++◌, length}
+use Rattle.std.specs.Prelude.{get_or, slice_get, Option, Some, None, MatchOption, option_to_list}
 use Rattle.stream_credit.specs.declared.quiet_streams.QuietStream.{QuietStream}
 use Rattle.stream_credit.specs.code.QuietStream.{opened_of}
 use Rattle.split_merge.specs.declared.splits.StreamRow.{StreamRow}
 use Rattle.split_merge.specs.declared.splits.SplitFrames.{SplitFrames}
-use Rattle.split_merge.specs.declared.visits.Visited.{Visited}
 use Rattle.split_merge.specs.declared.visits.Visits.{Visits}
-use Rattle.split_merge.specs.code.Visits.{NotAmong, is_among, row_positions, longer, streams_in, total_of, laid_out}
-use Rattle.split_merge.specs.code.Visits.{IsFilled}
+use Rattle.split_merge.specs.code.Visits.{AreDistinct, AreFilled, IsIndex, NotAmong, streams_in}
 
 -- those of some items whose streams are not quiet
 abbrev pub loud_of : {X : Type 0} → List X → List QuietStream → List X
@@ -43,34 +41,28 @@ pub record ArePlaces (streams : List ℕ) (places : List (Option ℕ)) (loud : L
   pub found : (r stream : ℕ) (d : Option ℕ) → slice_get streams r ≡ Some stream →
       MatchOption (get_or places r d) (NotAmong stream loud) (λ k. slice_get loud k ≡ Some stream)
 
--- what was noted of the loud streams
-abbrev pub heard : (loud : List ℕ) → List (ℕ × ℕ) → List (ℕ × ℕ)
-heard loud notes = filter (λ (n : ℕ × ℕ). is_among n.0 loud) notes
-
 -- the rows and the index of a table stay
 pub record IsKept (before after : Visits) : Type 0 where
   pub rows : after.rows ≡ before.rows
   pub index : after.index ≡ before.index
 
--- the end of the row's range, if there is a row, stands in the list
-abbrev pub HasPlace : (row : Option ℕ) → List StreamRow → (total : ℕ) → Type 0
-HasPlace None rows total = Unit {0}
-HasPlace (Some row) rows total = (row < length rows) × ((d : StreamRow) → (get_or rows row d).to < total)
+-- the ranges of the loud streams so far: `came` were put in, and those `left` are still to be
+pub record IsPlacing (loud : List ℕ) (came left : List (ℕ × ℕ)) (places : List (Option ℕ)) (table : Visits)
+    (rows : List StreamRow) (positions : List ℕ) : Type 0 where
+  pub index : IsIndex (streams_in table.rows.items) table.index
+  pub few : length table.rows.items < 2 ^ 31
+  pub short : length positions < 2 ^ 32
+  pub leads : ArePlaces (streams_in table.rows.items) places loud
+  pub distinct : AreDistinct loud
+  pub filled : AreFilled 0 loud came (came ++ left) rows positions
 
--- the position was put at the end of the row's range, if there is a row
-abbrev pub IsPut : (row : Option ℕ) (position : ℕ) → List StreamRow → List ℕ → List StreamRow → List ℕ → Type 0
-IsPut None position rows positions rows' positions' = (rows' ≡ rows) × (positions' ≡ positions)
-IsPut (Some row) position rows positions rows' positions' =
-    (d : StreamRow) → (rows' ≡ set rows row (longer (get_or rows row d)))
-    × (positions' ≡ set positions (get_or rows row d).to position)
+-- the same before any is put in
+abbrev pub CanPlace : (loud : List ℕ) → (left : List (ℕ × ℕ)) → List (Option ℕ) → Visits → List StreamRow → (total : ℕ)
+    → Type 0
+CanPlace loud left places table rows total =
+    (positions : List ℕ) → length positions ≡ total → IsPlacing loud [] left places table rows positions
 
--- the rows count what was noted of their streams
-pub record AreCounted (rows : List Visited) (notes : List (ℕ × ℕ)) : Type 0 where
-  pub counts : (r : ℕ) (d : Visited) → r < length rows
-      → (get_or rows r d).count ≡ length (row_positions r (streams_in rows) notes)
-
--- the rows, laid out, with the positions of what was noted
-pub record IsLaid (rows : List Visited) (numbers : List ℕ) (notes : List (ℕ × ℕ)) (split : SplitFrames) : Type 0 where
-  pub long : length split.positions.items ≡ total_of rows
-  pub filled : IsFilled (laid_out 0 rows) notes split.rows.items split.positions.items
+-- the ranges of the loud streams, with the positions of what was noted
+pub record IsLaid (loud numbers : List ℕ) (notes : List (ℕ × ℕ)) (split : SplitFrames) : Type 0 where
+  pub filled : AreFilled 0 loud notes notes split.rows.items split.positions.items
   pub opened : split.opened.items ≡ numbers

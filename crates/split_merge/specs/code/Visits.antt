@@ -1,7 +1,7 @@
 -- What the table of streams says that a split fills as it walks over the frames.
 use Rattle.std.specs.Prelude.{◌≡◌, ◌≢◌, ℕ, ◌+◌, ◌<◌, ◌≤◌, ◌==◌, ◌||◌, if◌then◌else◌, Bool, true, false, List, [], ◌∷◌}
-use Rattle.std.specs.Prelude.{◌++◌, map, filter, length, get_or, slice_get, drop, Some}
-use Rattle.std.specs.List.{between, list_any}
+use Rattle.std.specs.Prelude.{◌++◌, map, filter, length, get_or, slice_get, take, drop, Some}
+use Rattle.std.specs.List.{list_any}
 use Rattle.audit_terms.specs.declared.frames.Frame.{Frame}
 use Rattle.audit_terms.specs.Frame.{promised_by}
 use Rattle.split_merge.specs.declared.row_index.RowIndex.{RowIndex}
@@ -12,10 +12,6 @@ use Rattle.split_merge.specs.declared.visits.Visits.{Visits}
 -- the streams of the table's rows
 abbrev pub streams_in : List Visited → List ℕ
 streams_in rows = map (λ (row : Visited). row.stream) rows
-
--- the streams of rows that have their ranges
-abbrev pub row_streams : List StreamRow → List ℕ
-row_streams rows = map (λ (row : StreamRow). row.stream) rows
 
 -- a stream that meets a frame, by the frame's position, unless the stream is 0
 abbrev pub noted : (stream position : ℕ) → List (ℕ × ℕ)
@@ -30,10 +26,6 @@ notes_from position (frame ∷ frames) =
 -- the positions of a stream among these
 abbrev pub noted_positions : (stream : ℕ) → List (ℕ × ℕ) → List ℕ
 noted_positions stream notes = map (λ (n : ℕ × ℕ). n.1) (filter (λ (n : ℕ × ℕ). n.0 == stream) notes)
-
--- the positions of a row's stream among these
-abbrev pub row_positions : (row : ℕ) → (streams : List ℕ) → List (ℕ × ℕ) → List ℕ
-row_positions row streams notes = noted_positions (get_or streams row 0) notes
 
 -- how many visits the rows count
 abbrev pub total_of : List Visited → ℕ
@@ -91,22 +83,18 @@ with_row stream rows =
 abbrev pub counted : Visited → Visited
 counted row = record { stream = row.stream; count = row.count + 1 }
 
--- rows say what was noted: each counts the visits of its stream
-pub record IsListed (notes : List (ℕ × ℕ)) (rows : List Visited) : Type 0 where
-  pub counts : (r : ℕ) (d : Visited) → r < length rows
-      → (get_or rows r d).count ≡ length (row_positions r (streams_in rows) notes)
-  pub none : noted_positions 0 notes ≡ []
-  pub absent : (stream : ℕ) → NotAmong stream (streams_in rows) → noted_positions stream notes ≡ []
+-- the rows of some streams, each with its visits among what was noted
+abbrev pub rows_of : (streams : List ℕ) → List (ℕ × ℕ) → List Visited
+rows_of streams notes =
+    map (λ stream. record { stream = stream; count = length (noted_positions stream notes) }) streams
 
 -- the table of what was noted
 pub record IsTableOf (notes : List (ℕ × ℕ)) (table : Visits) : Type 0 where
   pub index : IsIndex (streams_in table.rows.items) table.index
-  pub listed : IsListed notes table.rows.items
-
--- the table holds at most so many rows and visits
-pub record HasAtMost (many : ℕ) (table : Visits) : Type 0 where
-  pub rows : length table.rows.items ≤ many
-  pub visits : total_of table.rows.items ≤ many
+  pub rows : table.rows.items ≡ rows_of (streams_in table.rows.items) notes
+  pub absent : (stream : ℕ) → NotAmong stream (streams_in table.rows.items) → noted_positions stream notes ≡ []
+  pub few : length table.rows.items ≤ length notes
+  pub visits : total_of table.rows.items ≤ length notes
 
 -- each row with its range, empty as yet, from this position of the list on
 abbrev pub laid_out : (from : ℕ) → List Visited → List StreamRow
@@ -118,25 +106,19 @@ laid_out from (row ∷ rows) =
 abbrev pub longer : StreamRow → StreamRow
 longer row = record { stream = row.stream; from = row.from; to = row.to + 1 }
 
--- the ranges of the rows are empty, and have room for what was noted, apart from one another
-pub record HasRoomFor (rows : List StreamRow) (notes : List (ℕ × ℕ)) (total : ℕ) : Type 0 where
-  pub empty : (r : ℕ) (d : StreamRow) → r < length rows → (get_or rows r d).to ≡ (get_or rows r d).from
-  pub apart : (r s : ℕ) (d : StreamRow) → r < s → s < length rows →
-      (get_or rows r d).from + length (row_positions r (row_streams rows) notes) ≤ (get_or rows s d).from
-  pub within : (r : ℕ) (d : StreamRow) → r < length rows →
-      (get_or rows r d).from + length (row_positions r (row_streams rows) notes) ≤ total
+-- the range of a stream's row, from this place on, of which `positions` are what the list has: it has those that came
+-- at its front, and room for all of the stream
+pub record IsFilled (from stream : ℕ) (came all : List ℕ) (row : StreamRow) (positions : List ℕ) : Type 0 where
+  pub is : row ≡ record { stream = stream; from = from; to = from + length came }
+  pub front : take (length came) positions ≡ came
+  pub fits : length came ≤ length all
+  pub room : length all ≤ length positions
 
--- a row whose range has grown from that of an empty one by so many positions
-abbrev pub grown : StreamRow → ℕ → StreamRow
-grown row many = record { stream = row.stream; from = row.from; to = row.from + many }
-
--- the ranges have grown from those of `empty` by the positions of what was noted
-pub record IsFilled (empty : List StreamRow) (notes : List (ℕ × ℕ)) (rows : List StreamRow)
-    (positions : List ℕ) : Type 0 where
-  pub long : length rows ≡ length empty
-  pub ranges : (r : ℕ) (d : StreamRow) → r < length empty →
-      get_or rows r d ≡ grown (get_or empty r d) (length (row_positions r (row_streams empty) notes))
-  pub filled : (r : ℕ) (d : StreamRow) → r < length empty →
-      between (get_or empty r d).from ((get_or empty r d).from + length (row_positions r (row_streams empty) notes))
-      positions
-      ≡ row_positions r (row_streams empty) notes
+-- the ranges of streams, one after the other, with those positions that came, of what is noted in all
+abbrev pub AreFilled : (from : ℕ) → (streams : List ℕ) → (came all : List (ℕ × ℕ)) → List StreamRow → List ℕ → Type 0
+AreFilled from [] came all rows positions = rows ≡ []
+AreFilled from (stream ∷ streams) came all [] positions = ⊥
+AreFilled from (stream ∷ streams) came all (row ∷ rows) positions =
+    IsFilled from stream (noted_positions stream came) (noted_positions stream all) row positions
+    × AreFilled (from + length (noted_positions stream all)) streams came all rows
+    (drop (length (noted_positions stream all)) positions)

@@ -1,11 +1,10 @@
 -- A stream of which nothing was shown so far, where credits are not shown.
 use Rattle.std.specs.Prelude.{◌≡◌, ℕ, ℤ, pos, ◌+◌, ◌^◌, ◌<◌, ◌≤◌, Bool, ◌==◌, ◌&&◌, nat_lt, if◌then◌else◌, true, false}
-use Rattle.std.specs.Prelude.{List, [], ◌∷◌, take, drop, length, Option, Some, None, option_map}
+use Rattle.std.specs.Prelude.{List, [], ◌∷◌, drop, length, Option, Some, None, option_map}
 use Rattle.audit_terms.specs.declared.sides.Sides.{Sides}
 use Rattle.audit_terms.specs.declared.frames.Frame.{Frame}
 use Rattle.audit_terms.specs.declared.items.Change.{Change}
 use Rattle.audit_terms.specs.declared.streams.Stream.{Stream}
-use Rattle.audit_terms.specs.InForce.{initial_in_force}
 use Rattle.audit_terms.specs.Finding.{in_order, shown}
 use Rattle.audit_terms.specs.Stream.{stream_said, stream_after}
 use Rattle.audit_terms.specs.code.runs.Orderly.{IsOrderly}
@@ -13,7 +12,7 @@ use Rattle.audit_terms.specs.code.runs.Streams.{frame_step, stream_run, stream_r
 use Rattle.audit_terms.specs.code.runs.Streams.{stream_after_all}
 use Rattle.settings_pair.specs.code.Changes.{AreOrderly}
 use Rattle.stream_credit.specs.declared.quiet_streams.QuietStream.{QuietStream}
-use Rattle.stream_credit.specs.code.Left.{after_changes}
+use Rattle.stream_credit.specs.code.Changes.{AreFrom, initial_at}
 use Rattle.stream_credit.specs.code.Merged.{merged, Acknowledge}
 use Rattle.stream_credit.specs.code.Silent.{moved, IsSilent}
 
@@ -46,10 +45,6 @@ stream_of quiet = record {
   window = record { client = window_of quiet.client; server = window_of quiet.server };
 }
 
--- the initial windows in force after so many of the changes
-abbrev pub initial_at : (met : ℕ) → List Change → Sides ℕ
-initial_at met changes = after_changes initial_in_force.initial (take met changes)
-
 -- a credit as it is kept: more than 0, and no more than the largest
 pub record IsCreditOf (credit : ℤ) (kept : ℕ) : Type 0 where
   pub same : pos kept ≡ credit
@@ -79,11 +74,6 @@ pub record IsNext (stream : ℕ) (initial : Sides ℕ) (frame : Frame) (old new 
   pub shown : shown false (in_order (stream_said stream initial (stream_of old) (frame_step frame))) ≡ []
   pub after : stream_of new ≡ stream_after stream initial (stream_of old) (frame_step frame)
   pub met : new.met ≡ old.met
-
--- the first change, if there is one, is not before the number
-abbrev pub AreFrom : (number : ℕ) → List Change → Type 0
-AreFrom number [] = Unit {0}
-AreFrom number (change ∷ changes) = number ≤ change.number
 
 -- the first frame, if there is one, has the number
 abbrev pub StartsAt : (number : ℕ) → List Frame → Type 0

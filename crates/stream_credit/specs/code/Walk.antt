@@ -1,6 +1,6 @@
 -- A stream's run between two of its steps.
-use Rattle.std.specs.Prelude.{◌≡◌, ℕ, ◌+◌, ◌-◌, ◌*◌, ◌^◌, ◌<◌, ◌≤◌, List, [], ◌∷◌, ◌++◌, length, map, Option, None}
-use Rattle.std.specs.Prelude.{Some}
+use Rattle.std.specs.Prelude.{◌≡◌, ℕ, ◌+◌, ◌-◌, ◌*◌, ◌^◌, ◌<◌, ◌≤◌, Bool, List, [], ◌∷◌, ◌++◌, drop, length, map}
+use Rattle.std.specs.Prelude.{Option, Some, None}
 use Rattle.std.specs.List.{AllByRecursion}
 use Rattle.audit_terms.specs.declared.sides.Side.{Side}
 use Rattle.audit_terms.specs.declared.frames.Frame.{Frame}
@@ -9,20 +9,18 @@ use Rattle.audit_terms.specs.declared.items.Step.{Step}
 use Rattle.audit_terms.specs.declared.streams.Stream.{Stream}
 use Rattle.audit_terms.specs.declared.findings.Finding.{Finding}
 use Rattle.audit_terms.specs.Sides.{side_of}
-use Rattle.audit_terms.specs.code.runs.Orderly.{IsOrderlyFrom}
 use Rattle.audit_terms.specs.Place.{place_number}
 use Rattle.audit_terms.specs.Finding.{in_order, shown}
 use Rattle.audit_terms.specs.code.runs.Look.{found_before}
-use Rattle.audit_terms.specs.code.runs.Streams.{change_step}
-use Rattle.audit_terms.specs.Stream.{stream_said, stream_after}
+use Rattle.audit_terms.specs.InForce.{initial_in_force}
+use Rattle.audit_terms.specs.Stream.{idle_stream, stream_said, stream_after}
 use Rattle.audit_terms.specs.code.runs.Streams.{initial_after, stream_run_from, stream_after_all}
 use Rattle.audit_terms.specs.code.Room.{WindowHasRoom}
 use Rattle.audit_terms.specs.code.Watch.{Watches, IsStopped, NeverFallFrom}
-use Rattle.settings_pair.specs.code.Changes.{AreOrderlyFrom}
-use Rattle.stream_credit.specs.declared.left.Left.{Left}
+use Rattle.settings_pair.specs.code.Changes.{AreOrderly}
 use Rattle.stream_credit.specs.declared.walks.Walk.{Walk}
 use Rattle.stream_credit.specs.code.Looks.{met_from, opened_up_to}
-use Rattle.stream_credit.specs.code.Left.{IsInForce}
+use Rattle.stream_credit.specs.code.Changes.{initial_at}
 use Rattle.stream_credit.specs.code.Merged.{merged, Acknowledge}
 
 -- what was found, with what some steps from here on show
@@ -45,6 +43,13 @@ numbers_of steps = map (λ (step : Step). step.number) steps
 abbrev pub IsNumbered : (number : ℕ) → Option Frame → Type 0
 IsNumbered number None = Unit {0}
 IsNumbered number (Some frame) = frame.number ≡ number
+
+-- steps in range and in order, the first numbered `low` or above
+abbrev pub AreInOrder : (low : ℕ) → List Step → Type 0
+AreInOrder low [] = Unit {0}
+AreInOrder low (step ∷ steps) =
+    (low ≤ step.number) × (step.number ≤ 2 ^ 28 - 2) × IsNumbered step.number step.frame
+    × AreInOrder (step.number + 1) steps
 
 -- one walk is another, with one more step
 pub record IsCounted (old : Walk) (step : Step) (new : Walk) : Type 0 where
@@ -79,35 +84,18 @@ pub record IsAt {L : Type 0} (answers : L → List Finding → Option ℕ → L 
   pub met : List ℕ
   pub count : length met ≤ low
   pub numbers : met ++ met_by walk steps ≡ run.numbers
-  pub rise : NeverFallFrom 0 (numbers_of steps)
-  pub own : AllByRecursion (λ (step : Step). IsNumbered step.number step.frame) steps
+  pub order : AreInOrder low steps
   pub watches : Watches answers run.start now run.found met (met_by walk steps) walk.watch
 
--- changes in range and in order, the first numbered `low` or above, all before a number
-abbrev pub AreBefore : (low number : ℕ) → List Change → Type 0
-AreBefore low number [] = Unit {0}
-AreBefore low number (change ∷ changes) =
-    (low ≤ change.number) × (change.number < number) × (change.number < 2 ^ 28 - 1)
-    × AreBefore (change.number + 1) number changes
-
--- the same with the steps of some changes to come, all before a number, and then the others, from that number on
-pub record IsAtChanges {L : Type 0} (answers : L → List Finding → Option ℕ → L → Type 0) (run : WholeRun L) (now : L)
-    (walk : Walk) (number : ℕ) (changes : List Change) (steps : List Step) : Type 0 where
-  pub low : ℕ
-  pub order : low ≤ number
-  pub before : AreBefore low number changes
-  pub later : AllByRecursion (λ n. number ≤ n) (numbers_of steps)
-  pub at : IsAt answers run now walk low (map change_step changes ++ steps)
-
--- the same with the steps of some frames and some changes to come
+-- the same with the steps of some frames to come, and of the changes behind the first `met`
 pub record IsSound {L : Type 0} (answers : L → List Finding → Option ℕ → L → Type 0) (run : WholeRun L) (now : L)
-    (walk : Walk) (left : Left) (frames : List Frame) : Type 0 where
+    (walk : Walk) (changes : List Change) (met : ℕ) (frames : List Frame) : Type 0 where
+  pub rise : AreOrderly changes
+  pub within : met ≤ length changes
+  pub acknowledged : Acknowledge frames changes
+  pub initial : walk.initial ≡ initial_at met changes
   pub low : ℕ
-  pub orderly : IsOrderlyFrom low frames
-  pub changes : AreOrderlyFrom low left.changes.now
-  pub acknowledged : Acknowledge frames left.changes.now
-  pub in_force : IsInForce walk.initial left
-  pub at : IsAt answers run now walk low (merged frames left.changes.now)
+  pub at : IsAt answers run now walk low (merged frames (drop met changes))
 
 -- a walk that has met all steps of such a run
 abbrev pub HasEnded : {L : Type 0} → (L → List Finding → Option ℕ → L → Type 0) → WholeRun L → L → Walk → Type 0
@@ -120,3 +108,14 @@ pub record HasStopped {L : Type 0} (answers : L → List Finding → Option ℕ 
   pub found : walk.found.items ≡ found_before number run.found
   pub stopped : IsStopped answers run.start now run.found run.numbers number walk.watch
   pub opened : opened_up_to walk.watch.stop walk.entry.life.opened ≡ opened_up_to walk.watch.stop run.entry.life.opened
+
+-- a walk that has met no step, after the first look
+pub record IsBegun {L : Type 0} (answers : L → List Finding → Option ℕ → L → Type 0) (before now : L) (stream : ℕ)
+    (credits_shown : Bool) (walk : Walk) : Type 0 where
+  pub own : walk.stream ≡ stream
+  pub shows : walk.credits_shown ≡ credits_shown
+  pub watch : (whole : List Finding) (numbers : List ℕ) → NeverFallFrom 0 numbers
+      → Watches answers before now whole [] numbers walk.watch
+  pub entry : walk.entry ≡ idle_stream
+  pub initial : walk.initial ≡ initial_in_force.initial
+  pub found : walk.found.items ≡ []

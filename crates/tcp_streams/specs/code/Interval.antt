@@ -3,8 +3,8 @@ use Rattle.std.specs.Prelude.{◌≡◌, ℕ, suc, ◌+◌, ◌-◌, ◌<◌, �
 use Rattle.std.specs.Prelude.{if◌then◌else◌, List, [], ◌∷◌, ◌++◌, Option, None, Some, IfSome, option_and_then, sum_by}
 use Rattle.std.specs.List.{slice_range}
 use Rattle.audit_terms.specs.declared.sides.Side.{Side}
+use Rattle.packet_heads.specs.code.Order.{PayloadsRise}
 use Rattle.packet_heads.specs.declared.packets.Packet.{Packet}
-use Rattle.packet_heads.specs.declared.packets.Packet.TheVariants.{Segment as Carried, Skipped, Refused}
 use Rattle.packet_heads.specs.declared.packets.Segment.{Segment}
 use Rattle.tcp_streams.specs.declared.interval.Interval.{Interval}
 use Rattle.tcp_streams.specs.declared.members.Connection.{Connection}
@@ -18,6 +18,11 @@ pub record IsInterval (x : Interval) : Type 0 where
   pub some : x.from < x.upto
   pub counts : x.upto ≤ end_of_offsets
   pub room : x.index + (x.upto - x.from) < 2 ^ 32
+
+-- an interval of bytes of a capture of this size
+pub record IsInside (size : ℕ) (x : Interval) : Type 0 where
+  pub interval : IsInterval x
+  pub captured : x.index + (x.upto - x.from) ≤ size
 
 abbrev pub holds : Interval → ℕ → Bool
 holds x o = nat_le x.from o && nat_lt o x.upto
@@ -51,6 +56,11 @@ width x = x.upto - x.from
 
 abbrev pub size_of : List Interval → ℕ
 size_of xs = sum_by width xs
+
+-- they lie apart, and bring what the pieces bring
+pub record IsSettled (pieces intervals : List Interval) : Type 0 where
+  pub spans : Spans 0 intervals (2 ^ 31)
+  pub same : IsSame (at intervals) (at pieces)
 
 -- the part of an interval between two offsets in it
 abbrev pub part_of : Interval → ℕ → ℕ → Interval
@@ -97,12 +107,9 @@ abbrev pub member_piece : ℕ → List Packet → Connection → Side → ℕ �
 member_piece initial_number packets connection side m =
     option_and_then (piece initial_number) (side_segment packets connection side m)
 
--- each segment's payload stands below 2 ^ 31
+-- the payloads stand one after the other, none past 2 ^ 31
 abbrev pub PayloadsFit : List Packet → Type 0
-PayloadsFit [] = Unit {0}
-PayloadsFit (Carried s ∷ rest) = (s.lo ≤ s.hi) × (s.hi < 2 ^ 31) × PayloadsFit rest
-PayloadsFit (Skipped _ ∷ rest) = PayloadsFit rest
-PayloadsFit (Refused _ ∷ rest) = PayloadsFit rest
+PayloadsFit packets = (size : ℕ) × (size < 2 ^ 31) × PayloadsRise 0 size packets
 
 -- how many of the intervals follow each other with no hole from low on
 abbrev pub run_length : ℕ → List Interval → ℕ

@@ -1,5 +1,5 @@
 use Rattle.audit_rounds.proofs.Words.{◌∙◌, ap, subst, IsFirstStop}
-use Rattle.audit_rounds.proofs.Openers.{zip-more}
+use Rattle.audit_rounds.proofs.Lists.{zip-more}
 use Rattle.audit_rounds.proofs.beginnings.opening_stops.Goals as goal
 
 pub loop-one-preserved : goal.loop-one-preserved

@@ -1,5 +1,5 @@
 use Rattle.audit_rounds.proofs.Words.{ap, ◌∙◌, get_or-map, Prepared, IsStreamsOf}
-use Rattle.audit_rounds.proofs.Openers.{zip-more}
+use Rattle.audit_rounds.proofs.Lists.{zip-more}
 use Rattle.audit_rounds.proofs.beginnings.streams_each.Goals as goal
 
 pub loop-n-preserved : goal.loop-n-preserved

@@ -1,7 +1,6 @@
 use Rattle.audit_rounds.proofs.Words.{length, refl, sym, wholes}
-use Rattle.audit_rounds.proofs.Cuts.{cut-within, little-each}
-use Rattle.audit_rounds.proofs.Plans.{cut-walk, plan-as}
-use Rattle.audit_rounds.proofs.Whole.{if_ok-then}
+use Rattle.audit_rounds.proofs.Plans.{cut-within, little-each, cut-walk, plan-as}
+use Rattle.audit_rounds.proofs.Lists.{if_ok-then}
 use Rattle.audit_rounds.proofs.block_rounds.planned.Goals as goal
 
 pub sums_of-requires-clause-within : goal.sums_of-requires-clause-within

@@ -1,7 +1,7 @@
 use Rattle.audit_rounds.proofs.Words.{◌<◌, length, rules, Job, sum_job, All-map, YieldsList-from_map}
 use Rattle.audit_rounds.proofs.Words.{YieldsList-from_vec, items_from_collect, ConnSum, Part}
 use Rattle.audit_rounds.proofs.Settles.{sums-settled}
-use Rattle.audit_rounds.proofs.Whole.{if_ok-then}
+use Rattle.audit_rounds.proofs.Lists.{if_ok-then}
 use Rattle.audit_rounds.proofs.block_rounds.sums_of.Goals as goal
 
 pub settle-requires-clause-connections : goal.settle-requires-clause-connections

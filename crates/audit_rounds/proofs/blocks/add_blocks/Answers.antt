@@ -1,6 +1,6 @@
-use Rattle.audit_rounds.proofs.Words.{[], ◌∷◌, ◌++◌, append_assoc, length, ap, ◌∙◌, arith, refl}
-use Rattle.audit_rounds.proofs.Words.{map-append, length_push, All-push, Block, ConnectionBlock, IsShort}
-use Rattle.audit_rounds.proofs.Cuts.{block-cut, items-push}
+use Rattle.audit_rounds.proofs.Words.{[], ◌∷◌, ◌++◌, append_assoc, length, ap, ◌∙◌, arith, refl, map-append}
+use Rattle.audit_rounds.proofs.Words.{length_push, All-push, Block, ConnectionBlock, IsShort}
+use Rattle.audit_rounds.proofs.Plans.{block-cut, items-push}
 use Rattle.audit_rounds.proofs.blocks.add_blocks.Goals as goal
 
 pub loop-first-preserved : goal.loop-first-preserved

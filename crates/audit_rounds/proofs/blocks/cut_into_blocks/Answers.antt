@@ -1,5 +1,5 @@
 use Rattle.audit_rounds.proofs.Words.{length, ap, arith, sum_by_more, Block}
-use Rattle.audit_rounds.proofs.Cuts.{cut-next}
+use Rattle.audit_rounds.proofs.Plans.{cut-next}
 use Rattle.audit_rounds.proofs.blocks.cut_into_blocks.Goals as goal
 
 pub loop-connection-preserved : goal.loop-connection-preserved

@@ -1,6 +1,6 @@
 use Rattle.audit_rounds.proofs.Words.{not, nat_lt, leb, filter, sym, ap, ◌∙◌, rules, Frame, frames_within}
 use Rattle.std.proofs.lemmas.List.Sorted.{IsPartitionPoint-from_clause}
-use Rattle.audit_rounds.proofs.Fronts.{frames-parted, within-point, all-within}
+use Rattle.audit_rounds.proofs.Settling.{frames-parted, within-point, all-within}
 use Rattle.audit_rounds.proofs.connections.frames_within.Goals as goal
 
 pub returns-in-Some : goal.returns-in-Some

@@ -1,14 +1,12 @@
-use Rattle.audit_rounds.proofs.Words.{List, map, sym, ap, ◌∙◌, arith, Bor, Vec, Global, All-push}
-use Rattle.audit_rounds.proofs.Words.{Finding, Frame, Prepared, IsPrepared, found_before}
-use Rattle.audit_rounds.proofs.Fronts.{before-more}
-use Rattle.audit_rounds.proofs.Alike.{frames_in, map-grows}
+use Rattle.audit_rounds.proofs.Words.{List, map, sym, ap, ◌∙◌, arith, All-push, Frame, Bor, Prepared, IsPrepared}
+use Rattle.audit_rounds.proofs.Words.{found_before}
+use Rattle.audit_rounds.proofs.Lists.{items_in, frames_in, known-more, map-grows}
 use Rattle.audit_rounds.proofs.connections.prepare_in_turn.Goals as goal
 
 pub loop-frames-preserved : goal.loop-frames-preserved
 loop-frames-preserved g c =
     let at = c.loop-frames in
     let made = at.prepared.items in
-    let found = at.found.items in
     let ready = c.in_ok-ready.ready in
     let within = c.loop-frames-test.true in
     let more = c.in_ok-push.ensures.items in
@@ -20,8 +18,8 @@ loop-frames-preserved g c =
           at.invariant.frames);
       prepared = rw more (All-push (IsPrepared c.args.crew.now.setup.credits_shown) made ready at.invariant.prepared
           c.in_ok-ready.ensures.prepared);
-      found = rw (more, c.in_ok-push-2.ensures.items)
-          (before-more found made c.in_ok-ready.before ready c.in_ok-ready.ensures.found at.invariant.found);
+      found = rw more (known-more items_in found_before made ready at.found.items _ c.in_ok-ready.before
+          c.in_ok-push-2.ensures.items c.in_ok-ready.ensures.found at.invariant.found);
     }
 
 pub loop-frames-init : goal.loop-frames-init
@@ -31,6 +29,5 @@ loop-frames-init g c =
       within = omega arith;
       frames = ap (map (λ (one : Prepared). one.frames.now)) none;
       prepared = rw none (λ n d l. absurd (omega arith));
-      found = ap (map (λ (list : Vec Finding Global). list.items)) c.in_ok-found.ensures.items
-          ∙ sym (ap (map found_before) none);
+      found = ap (map items_in) c.in_ok-found.ensures.items ∙ sym (ap (map found_before) none);
     }

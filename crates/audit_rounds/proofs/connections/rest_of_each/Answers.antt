@@ -1,5 +1,6 @@
-use Rattle.audit_rounds.proofs.Words.{length, sym, ap, ◌∙◌, arith, length-append}
-use Rattle.audit_rounds.proofs.Fronts.{rests-more}
+use Rattle.audit_rounds.proofs.Words.{ℕ, length, ap, ◌∙◌, arith, get_or, get_or_default, length_push, Block, IsRest}
+use Rattle.audit_rounds.proofs.Words.{Option, Prepared, Vec, Global}
+use Rattle.audit_rounds.proofs.Lists.{each-push}
 use Rattle.audit_rounds.proofs.connections.rest_of_each.Goals as goal
 
 pub loop-n-preserved : goal.loop-n-preserved
@@ -9,13 +10,33 @@ loop-n-preserved c =
     let stops = c.requires.stops in
     let opened = c.requires.opened in
     let within = c.loop-n-test.true in
+    let one = c.index-connections-n in
+    let stop = c.index-stops-n in
+    let numbers = c.index-opened-n in
+    let more = c.in_ok-extend_from_slice.ensures.items in
+    let rest : Block = record {
+      frames = c.frames_within.result;
+      opened = c.as_slice.result;
+      changes = c.as_slice-in-loop-n.result;
+    } in
     record {
       within = omega (arith, within);
-      number = ap length c.in_ok-extend_from_slice.ensures.items ∙ length-append at.rests.items _
-          ∙ omega (arith, number);
-      each = rw c.in_ok-extend_from_slice.ensures.items (rests-more c.args.connections.now c.args.stops.now
-          c.args.opened.now at.rests.items at.n c.index-connections-n.result c.index-stops-n.result
-          c.index-opened-n.result c.as_slice.result.now c.rest_of-rest.result (sym number) within
-          (omega (arith, within, stops)) (omega (arith, within, opened)) c.index-connections-n.is c.index-stops-n.is
-          c.index-opened-n.is c.as_slice.ensures.value c.rest_of-rest.ensures at.invariant.each);
+      number = ap length more ∙ length_push at.rests.items _ ∙ omega (arith, number);
+      each = rw more (λ n p s o r l. each-push (λ (n : ℕ) (rest : Block). (p : Prepared) (s : Option ℕ)
+          (o : Vec ℕ Global) → IsRest (get_or c.args.connections.now n p) (get_or c.args.stops.now n s)
+          (get_or c.args.opened.now n o).items rest) at.rests.items rest
+          (λ n r l p s o. at.invariant.each n p s o r l)
+          (λ p s o. rw (
+            number,
+            get_or_default c.args.connections.now at.n p one.result within,
+            get_or_default c.args.stops.now at.n s stop.result (omega (arith, within, stops)),
+            get_or_default c.args.opened.now at.n o numbers.result (omega (arith, within, opened)),
+            ← one.is,
+            ← stop.is,
+            ← numbers.is,
+          ) (record {
+            frames = c.frames_within.ensures;
+            opened = c.as_slice.ensures.value;
+            changes = c.as_slice-in-loop-n.ensures.value;
+          })) n r l p s o);
     }

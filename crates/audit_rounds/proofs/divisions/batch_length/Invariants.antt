@@ -1,5 +1,5 @@
 use Rattle.audit_rounds.proofs.Words.{◌≡◌, ◌≤◌, ◌-◌, ◌^◌, length, take, sum_by}
-use Rattle.audit_rounds.proofs.Few.{lent}
+use Rattle.audit_rounds.proofs.Batches.{lent}
 use Rattle.audit_rounds.proofs.divisions.batch_length.Given as goal
 
 -- the connections so far have few frames: those of the first one, or no more than a batch has

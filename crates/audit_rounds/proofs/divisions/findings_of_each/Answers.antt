@@ -1,6 +1,6 @@
-use Rattle.audit_rounds.proofs.Words.{List, All, sym, subst, arith, Bor, All-take}
-use Rattle.audit_rounds.proofs.Words.{All-drop, IsOrderly, Frame, shown, pass, AreFew}
-use Rattle.audit_rounds.proofs.Batches.{batch-more}
+use Rattle.audit_rounds.proofs.Words.{List, All, sym, subst, arith, Bor, All-take, All-drop, IsOrderly, Frame, shown}
+use Rattle.audit_rounds.proofs.Words.{pass, AreFew}
+use Rattle.audit_rounds.proofs.Lists.{items_in, batch-more}
 use Rattle.audit_rounds.proofs.divisions.findings_of_each.Goals as goal
 
 pub loop-done-preserved : goal.loop-done-preserved
@@ -13,11 +13,10 @@ loop-done-preserved g c =
     let within = at.invariant.within in
     record {
       within = omega (arith, left, long, few, within);
-      shown = batch-more (λ (frames : Bor (List Frame)). shown c.args.credits_shown (pass frames.now)) at.all.items
-          c.in_ok-found.found.items c.append.new.self.items c.args.connections.now cut.result.0.now
+      shown = batch-more items_in (λ (frames : Bor (List Frame)). shown c.args.credits_shown (pass frames.now))
+          at.all.items c.in_ok-found.found.items c.append.new.self.items c.args.connections.now cut.result.0.now
           c.split_at.result.1.now at.done c.batch_length.result long cut.ensures.front c.split_at.ensures.back
-          c.in_ok-append.ensures.items at.invariant.shown (rw (c.of-crew.ensures.setup, c.of-setup.ensures)
-          at c.in_ok-found.ensures);
+          c.in_ok-append.ensures.items at.invariant.shown (rw c.of-crew.ensures.setup at c.in_ok-found.ensures);
     }
 
 pub by_halves-requires : goal.by_halves-requires

@@ -1,7 +1,6 @@
 use Rattle.audit_rounds.proofs.Words.{List, map, ap, ◌∙◌, zip, Frame, shown, pass}
-use Rattle.audit_rounds.proofs.Alike.{items_in, frames_in, maps-alike}
-use Rattle.audit_rounds.proofs.ByFronts.{front_in, later_in, fronts-batch, laters-batch, chosen-pass}
-use Rattle.audit_rounds.proofs.Whole.{if_ok-then}
+use Rattle.audit_rounds.proofs.Lists.{items_in, frames_in, if_ok-then, maps-alike}
+use Rattle.audit_rounds.proofs.Batches.{front_in, later_in, fronts-batch, laters-batch, chosen-pass}
 use Rattle.audit_rounds.proofs.early_stops.findings_by_fronts.Goals as goal
 
 pub findings_of_batch-requires-2-after_bounds : goal.findings_of_batch-requires-2-after_bounds

@@ -1,6 +1,6 @@
 use Rattle.audit_rounds.proofs.Words.{rules, YieldsList-from_slice, YieldsList-from_map_by, map_from_collect}
-use Rattle.audit_rounds.proofs.Alike.{frames_in}
-use Rattle.audit_rounds.proofs.ByFronts.{front_in}
+use Rattle.audit_rounds.proofs.Batches.{front_in}
+use Rattle.audit_rounds.proofs.Lists.{frames_in}
 use Rattle.audit_rounds.proofs.early_stops.fronts_of.Goals as goal
 
 pub returns : goal.returns

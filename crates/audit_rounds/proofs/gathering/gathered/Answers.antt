@@ -1,7 +1,7 @@
-use Rattle.audit_rounds.proofs.Words.{◌≡◌, ◌<◌, ◌++◌, [], ◌∷◌, map, length, get_or, sym, ap, ◌∙◌, arith, length-set}
-use Rattle.audit_rounds.proofs.Words.{Vec, Global, Finding, map-append, into_iter_items, findings_of_parts, part_of}
-use Rattle.audit_rounds.proofs.Drawn.{taken-more, taken-holds, taken-all}
-use Rattle.audit_rounds.proofs.PartsKept.{gathered-more}
+use Rattle.audit_rounds.proofs.Words.{◌<◌, ◌++◌, [], ◌∷◌, map, length, get_or, sym, ap, ◌∙◌, arith, length-set, Vec}
+use Rattle.audit_rounds.proofs.Words.{Global, Finding, map-append, into_iter_items, findings_of_parts, part_of}
+use Rattle.stop_desk.specs.code.Board.{Part as BoardPart}
+use Rattle.audit_rounds.proofs.Lists.{part-more, taken-all, taken-holds, taken-more}
 use Rattle.audit_rounds.proofs.gathering.gathered.Goals as goal
 
 pub index_mut-requires : goal.index_mut-requires
@@ -25,14 +25,13 @@ loop-part-preserved g c =
       parts = taken-more at.yielded part rest _ _ steps at.invariant.parts;
       number = length-set at.all.items part.connection c.append.new.self ∙ at.invariant.number;
       each = λ n list list' l.
-          let d = c.index_mut.result.now in
-          let mine : d ≡ get_or at.all.items part.connection d = c.index_mut.ensures.value in
-          gathered-more c.args.found.items at.all.items n list list' d c.append.new.self (part_of part)
-          (map part_of at.yielded) at.invariant.number inside
-          (c.in_ok-append.ensures.items ∙ ap (λ (v : Vec Finding Global). v.items ++ part.findings.items) mine)
-          (λ list. at.invariant.each n list list' l)
-          ∙ ap (λ parts. (get_or c.args.found.items n list').items ++ findings_of_parts n parts)
-          (sym (map-append part_of at.yielded (part ∷ [])));
+          rw (map-append part_of at.yielded (part ∷ [])) (part-more at.all.items
+          (λ (one : BoardPart). one.connection) (λ (one : BoardPart). one.findings)
+          (get_or c.args.found.items n list').items n list c.index_mut.result.now c.append.new.self
+          (map part_of at.yielded) (part_of part) (rw at.invariant.number inside)
+          (c.in_ok-append.ensures.items
+          ∙ ap (λ (v : Vec Finding Global). v.items ++ part.findings.items) c.index_mut.ensures.value)
+          (λ list. at.invariant.each n list list' l));
     }
 
 pub returns-clause-each : goal.returns-clause-each

@@ -1,7 +1,6 @@
 use Rattle.audit_rounds.proofs.Words.{List, Bor, IfOk-at_ok, Frame, shown, pass}
 use Rattle.audit_rounds.specs.code.Batch.{AreShown}
-use Rattle.audit_rounds.proofs.Alike.{items_in}
-use Rattle.audit_rounds.proofs.BothHalves.{halves-whole}
+use Rattle.audit_rounds.proofs.Lists.{items_in, halves-whole}
 use Rattle.audit_rounds.proofs.halves.+by_halves+fn-by_halves-join+arg2+fn-by_halves-join+arg3.Goals as goal
 
 pub returns : goal.returns

@@ -1,5 +1,5 @@
 use Rattle.audit_rounds.proofs.Words.{◌≡◌, [], sym, ◌∙◌, nil_from_length, eqb-true}
-use Rattle.audit_rounds.proofs.Merges.{merge-in_order, merge-nil}
+use Rattle.audit_rounds.proofs.Settles.{merge-in_order, merge-nil}
 use Rattle.audit_rounds.proofs.merging.merged.Goals as goal
 
 pub returns-then-is_empty : goal.returns-then-is_empty

@@ -1,6 +1,6 @@
 use Rattle.audit_rounds.proofs.Words.{◌≡◌, ◌++◌, Vec, Global, ◌⊎◌, inl, inr, length, map, sym, ap, ◌∙◌, ⊎_elim, zip}
 use Rattle.audit_rounds.proofs.Words.{into_iter_items, zip_first, zip_second, Finding}
-use Rattle.audit_rounds.proofs.Merges.{both_in, zip-over}
+use Rattle.audit_rounds.proofs.Settles.{both_in, zip-over}
 use Rattle.audit_rounds.proofs.merging.merged_each.Goals as goal
 
 pub returns : goal.returns

@@ -1,6 +1,14 @@
-use Rattle.audit_rounds.proofs.Words.{◌≡◌, ℕ, ◌++◌, ◌<◌, ◌≤◌, length, get_or, Vec, Global, Prepared, numbers_told}
+use Rattle.audit_rounds.proofs.Words.{◌≡◌, ℕ, ◌++◌, ◌<◌, ◌≤◌, length, take, get_or, Vec, Global, Prepared, numbers_told}
 use Rattle.audit_rounds.proofs.Words.{IsInOrder}
 use Rattle.audit_rounds.proofs.opened.opened_each.Given as goal
+
+-- what the parts so far tell
+abbrev pub invariant-loop-part : goal.invariant-loop-part
+invariant-loop-part l = record {
+  number : length l.all.items ≡ length l.connections;
+  each : (n : ℕ) (list : Vec ℕ Global) → n < length l.connections →
+      (get_or l.all.items n list).items ≡ numbers_told n (take l.part-index l.parts);
+}
 
 -- the connections so far have all their numbers in order, and the others those that were told
 abbrev pub invariant-loop-n : goal.invariant-loop-n

@@ -1,4 +1,4 @@
-use Rattle.audit_rounds.proofs.Whole.{never-fall}
+use Rattle.audit_rounds.proofs.Lists.{never-fall}
 use Rattle.audit_rounds.proofs.opened.with_quiet.Goals as goal
 
 pub returns : goal.returns

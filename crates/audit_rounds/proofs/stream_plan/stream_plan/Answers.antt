@@ -1,5 +1,5 @@
 use Rattle.audit_rounds.proofs.Words.{drop, ap, length, length-append, arith, plan_from}
-use Rattle.audit_rounds.proofs.Few.{jobs-few}
+use Rattle.audit_rounds.proofs.Batches.{jobs-few}
 use Rattle.audit_rounds.proofs.stream_plan.stream_plan.Goals as goal
 
 pub returns-clause-numbered : goal.returns-clause-numbered

@@ -1,6 +1,6 @@
 use Rattle.audit_rounds.proofs.Words.{found_before}
-use Rattle.audit_rounds.proofs.Alike.{items_in, as-many}
-use Rattle.audit_rounds.proofs.StreamsLeft.{parts-inside, are-after}
+use Rattle.audit_rounds.proofs.Lists.{items_in, as-many}
+use Rattle.audit_rounds.proofs.StreamRounds.{parts-inside, are-after}
 use Rattle.audit_rounds.proofs.stream_round.round_over_streams.Goals as goal
 
 pub opened_each-requires : goal.opened_each-requires

@@ -1,7 +1,6 @@
 use Rattle.conn_scan.proofs.Terms.{◌≡◌, ◌^◌, arith, items_in, room-wider, walked}
 use Rattle.conn_scan.proofs.WalkLemmas.{block_walked}
-use Rattle.conn_scan.proofs.Halfway.{fits_next}
-use Rattle.conn_scan.proofs.Halfway.{begins, goes, stops, stops-numbered, is-whole}
+use Rattle.conn_scan.proofs.Halfway.{begins, fits_next, goes, stops, stops-numbered, is-whole}
 use Rattle.conn_scan.proofs.blocks.block_findings.Goals as goal
 
 pub loop-item-init : goal.loop-item-init
@@ -18,13 +17,13 @@ loop-item-init g c =
 
 pub returns-then-not-goes_on-clause-run : goal.returns-then-not-goes_on-clause-run
 returns-then-not-goes_on-clause-run g c =
-    stops _ _ _ _ _ _ _ _ _ _ _ (rw c.in-Some.ensures.steps at c.loop-item.invariant.halfway)
+    stops (rw c.in-Some.ensures.steps at c.loop-item.invariant.halfway)
     c.goes_on.new.look c.keep_up_to.new.found.items c.goes_on.new.watch
     (rw c.as_slice.ensures.value at c.if-not-goes_on.ensures.stops) c.keep_up_to.ensures
 
 pub returns-then-not-goes_on-clause-numbered : goal.returns-then-not-goes_on-clause-numbered
 returns-then-not-goes_on-clause-numbered g c =
-    stops-numbered _ _ _ _ _ _ _ _ _ _ _ (rw c.in-Some.ensures.steps at c.loop-item.invariant.halfway)
+    stops-numbered (rw c.in-Some.ensures.steps at c.loop-item.invariant.halfway)
     c.keep_up_to.new.found.items c.goes_on.new.watch.stop c.keep_up_to.ensures
 
 pub say_item-requires-clause-client : goal.say_item-requires-clause-client
@@ -38,11 +37,11 @@ loop-item-preserved g c =
     let meets = c.in_ok-say_item.ensures in
     record {
       fits = fits_next _ _ _ _ (rw c.in-Some.ensures.steps at c.loop-item.invariant.fits) meets.client meets.server;
-      halfway = goes _ _ _ _ _ _ _ _ _ _ _ (rw c.in-Some.ensures.steps at c.loop-item.invariant.halfway)
+      halfway = goes (rw c.in-Some.ensures.steps at c.loop-item.invariant.halfway)
           c.goes_on.new.look c.say_item.new.state c.say_item.new.said.items c.extend_from_slice.new.self.items
           c.goes_on.new.watch (rw c.as_slice.ensures.value at c.if-not-goes_on.ensures.goes_on) meets.after meets.said
           (rw c.as_slice-in-loop-item.ensures.value at c.in_ok-extend_from_slice.ensures.items);
     }
 
 pub returns-clause-run : goal.returns-clause-run
-returns-clause-run g c = is-whole _ _ _ _ _ _ _ _ _ (rw c.in-None.ensures.steps.0 at c.loop-item.invariant.halfway)
+returns-clause-run g c = is-whole (rw c.in-None.ensures.steps.0 at c.loop-item.invariant.halfway)

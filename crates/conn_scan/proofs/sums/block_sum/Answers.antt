@@ -1,7 +1,8 @@
 use Rattle.conn_scan.proofs.Terms.{◌≡◌, ◌+◌, [], ◌∷◌, ◌++◌, append_assoc, append-nil, sym, ◌∙◌, items_in, numbers_from}
-use Rattle.conn_scan.proofs.Terms.{changes_from, MovesLittle, all-append}
+use Rattle.conn_scan.proofs.Terms.{changes_from, MovesLittle, all-append, arith}
 use Rattle.conn_scan.specs.code.ConnSumLaws.{conn_sum_of-met}
-use Rattle.conn_scan.proofs.WalkLemmas.{block_walked, idle_at, walked-idle, walked-from, walked-none}
+use Rattle.conn_scan.proofs.WalkLemmas.{block_walked, idle_at, walked-idle, walked-from}
+use Rattle.std.proofs.lemmas.List.{nil_from_length}
 use Rattle.conn_scan.proofs.SumLemmas.{sum_roomy}
 use Rattle.conn_scan.proofs.sums.block_sum.Goals as goal
 
@@ -43,8 +44,8 @@ loop-frame-preserved c =
     let is = c.in-Some.ensures.cases.0 in
     let orderly = rw is at i.orderly in
     let item = c.item_at.result in
-    let left = walked-from (n + 1) (numbers_from n c.loop-frame.opened.now) (changes_from n c.loop-frame.changes.now)
-    c.in-Some.later.now orderly.2 in
+    let left = walked-from (n + 1) (n + 1) (numbers_from n c.loop-frame.opened.now)
+    (changes_from n c.loop-frame.changes.now) c.in-Some.later.now (omega arith) orderly.2 in
     record {
       low = n + 1;
       orderly = orderly.2;
@@ -67,8 +68,7 @@ loop-frame-preserved c =
 pub returns : goal.returns
 returns c =
     let i = c.loop-frame.invariant in
-    let none = walked-none c.loop-frame.opened.now c.loop-frame.changes.now c.loop-frame.frames.now
-    c.in_default.ensures.cases in
+    let none = nil_from_length c.loop-frame.frames.now c.in_default.ensures.cases in
     let all : i.done ≡ items_in c.args.block.now =
     sym (append-nil i.done) ∙ (rw none at i.split) ∙ block_walked c.args.block.now c.requires.block in
     record { sum = rw (← all) i.sum; little = rw (← all) i.little }

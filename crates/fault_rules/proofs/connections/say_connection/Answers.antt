@@ -4,9 +4,3 @@ use Rattle.fault_rules.proofs.connections.say_connection.Goals as goal
 pub returns-clause-said : goal.returns-clause-said
 returns-clause-said c =
     four-and _ _ _ _ _ _ _ _ c.in_ok-say_item.ensures c.in_ok-say_windows.ensures.said
-
-pub returns-clause-client : goal.returns-clause-client
-returns-clause-client c = c.in_ok-say_windows.ensures.client
-
-pub returns-clause-server : goal.returns-clause-server
-returns-clause-server c = c.in_ok-say_windows.ensures.server

@@ -44,6 +44,15 @@ flows_each-requires-clause-few g c κs within =
     let all = c.requires.order.few in
     omega (arith, few, same, lent, all)
 
+pub flows_each-requires-clause-sources : goal.flows_each-requires-clause-sources
+flows_each-requires-clause-sources g c κs within = λ k d low. record {
+  size = c.requires.size;
+  numbered = rw c.in_ok-packets.ensures c.requires.order.numbered;
+  payloads = rw c.in_ok-packets.ensures c.requires.order.payloads;
+  times = rw c.in_ok-packets.ensures c.requires.order.times;
+  members = (rw (← c.as_slice-lent.ensures.value) at c.in_ok-connections.ensures.members) k d low;
+}
+
 pub audit_each-requires-after_bounds : goal.audit_each-requires-after_bounds
 audit_each-requires-after_bounds g c κs within =
     told-orderly c.args.options.now.frames_shown c.args.capture.now c.in_ok-packets.packets

@@ -1,22 +1,18 @@
-use Rattle.std.proofs.Common.{◌≡◌, ◌<◌, Bool, length, sym, ◌∙◌, subst, All, arith}
+use Rattle.std.proofs.Common.{◌<◌, Bool, ◌∙◌, subst, All}
 use Rattle.stop_desk.specs.code.Board.{Job}
 use Rattle.h2audit.specs.code.Flows.{IsToldFlows, flow_jobs}
-use Rattle.h2audit.proofs.Flows.{flow_jobs-within, flow_jobs-length, are-told}
+use Rattle.h2audit.proofs.Flows.{are-told, flow_jobs-length, flow_jobs-within}
 use Rattle.h2audit.proofs.connection.flows_each.Goals as goal
 
 pub settle-requires-clause-connections : goal.settle-requires-clause-connections
 settle-requires-clause-connections g c κs within =
-    let size : length c.as_slice.result.now ≡ length c.args.opened.now =
-    c.as_slice.ensures.len ∙ c.in_ok-resize.ensures.len in
-    subst (λ n. All (λ (job : Job). job.connection < n) (flow_jobs 0 c.args.opened.now)) (sym size)
-    (flow_jobs-within 0 (length c.args.opened.now) c.args.opened.now (omega arith))
+    rw (c.as_slice.ensures.len, c.in_ok-resize.ensures.len) (flow_jobs-within c.args.opened.now)
 
 pub returns : goal.returns
 returns g c =
     let settled = c.in_ok-settled.ensures.settled in
     are-told c.args.options.now.frames_shown c.args.capture.now c.args.packets.now c.args.opened.now
-    c.in_ok-settled.settled.parts.items
-    (settled.count ∙ flow_jobs-length 0 c.args.opened.now)
+    c.in_ok-settled.settled.parts.items (settled.count ∙ flow_jobs-length c.args.opened.now)
     (λ n part connection is there. subst
     (λ (b : Bool). IsToldFlows b c.args.capture.now c.args.packets.now connection part.made) c.frames_shown.ensures
     ((settled.in_order n part is).1 connection there))

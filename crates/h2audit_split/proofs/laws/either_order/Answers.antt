@@ -1,5 +1,4 @@
-use Rattle.std.proofs.Common.{◌≡◌, ◌+◌, ◌*◌, ◌/◌, ◌%◌, ◌^◌, ℕ, ap, arith}
-use Rattle.h2audit_split.specs.Pair.{endpoint_key}
+use Rattle.h2audit_split.proofs.Terms.{ap, arith, endpoint_key, ℕ, ◌%◌, ◌*◌, ◌+◌, ◌/◌, ◌^◌, ◌≡◌}
 use Rattle.h2audit_split.proofs.laws.either_order.Goals as goal
 
 pub returns : goal.returns

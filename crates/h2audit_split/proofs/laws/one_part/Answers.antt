@@ -1,6 +1,4 @@
-use Rattle.std.proofs.Common.{◌==◌, ◌∙◌, ℕ, refl, sym}
-use Rattle.std.proofs.lemmas.Bool.{cond-false, cond-true, eq-eqb, ne_eqb}
-use Rattle.h2audit_split.specs.Dealt.{part_at}
+use Rattle.h2audit_split.proofs.Terms.{cond-false, cond-true, eq-eqb, ne_eqb, part_at, refl, sym, ℕ, ◌==◌, ◌∙◌}
 use Rattle.h2audit_split.proofs.Given.{given-some}
 use Rattle.h2audit_split.proofs.laws.one_part.Goals as goal
 

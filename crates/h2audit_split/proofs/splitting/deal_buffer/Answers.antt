@@ -1,5 +1,4 @@
-use Rattle.std.proofs.Common.{arith}
-use Rattle.std.proofs.lemmas.List.{length-take-le}
+use Rattle.h2audit_split.proofs.Terms.{arith, length-take-le}
 use Rattle.h2audit_split.proofs.Buffer.{moved_to_front}
 use Rattle.h2audit_split.proofs.splitting.deal_buffer.Goals as goal
 

@@ -1,6 +1,5 @@
-use Rattle.std.proofs.Common.{◌-◌, ◌≤◌, ◌∙◌, ℕ, List, [], append-nil, length, take, sym, rules, arith}
-use Rattle.std.proofs.lemmas.List.{length-take}
-use Rattle.std.proofs.lemmas.Slice.{take-put_mid_below}
+use Rattle.h2audit_split.proofs.Terms.{List, [], append-nil, arith, length, length-take, rules, sym, take}
+use Rattle.h2audit_split.proofs.Terms.{take-put_mid_below, ℕ, ◌-◌, ◌∙◌, ◌≤◌}
 use Rattle.h2audit_split.proofs.Buffer.{read_behind}
 use Rattle.h2audit_split.proofs.Turns.{Deals-nil, next_turn, no_turn}
 use Rattle.h2audit_split.proofs.splitting.deal_file.Goals as goal
@@ -8,9 +7,7 @@ use Rattle.h2audit_split.proofs.splitting.deal_file.Goals as goal
 pub loop-init : goal.loop-init
 loop-init g c = record {
   few = search rules;
-  part = search rules;
-  link = search rules;
-  little = search rules;
+  kept = search rules;
   turned = no_turn g.W.Write.contents g.R.Read.remaining c.args.dealer.now c.args.parts.now c.args.reader.now;
 }
 
@@ -37,9 +34,7 @@ loop-preserved g c =
     let same = read_behind a (length old - a) c.in-Ok.count old c.read.new.buf within read.bound.0 in
     record {
       few = search rules;
-      part = search rules;
-      link = search rules;
-      little = search rules;
+      kept = search rules;
       turned = next_turn g.W.Write.contents g.R.Read.remaining c.deal_buffer.new.dealer c.deal_buffer.new.parts
           c.read.new.self _ _ (take n c.deal_buffer.new.buffer) read.bytes.0 (sym same ∙ done.moved)
           (λ some. done.rest (omega (arith, some, length-take n c.deal_buffer.new.buffer)))

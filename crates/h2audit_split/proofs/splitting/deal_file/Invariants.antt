@@ -1,14 +1,11 @@
-use Rattle.std.proofs.Common.{◌≡◌, ◌<◌, length, take}
-use Rattle.h2audit_split.specs.code.Dealing.{HasTurned}
+use Rattle.h2audit_split.proofs.Terms.{HasTurned, length, take, ◌<◌, ◌≡◌}
 use Rattle.h2audit_split.proofs.splitting.deal_file.Given as goal
 
 abbrev pub invariant-loop : goal.invariant-loop
 invariant-loop g l = record {
   few : l.filled < 98;
-  part : l.dealer.part < length l.parts;
-  link : l.dealer.link ≡ l.initial.dealer.link;
-  little : l.dealer.is_little ≡ l.initial.dealer.is_little;
+  kept : (l.dealer.part < length l.parts) × (l.dealer.link ≡ l.initial.dealer.link)
+      × (l.dealer.is_little ≡ l.initial.dealer.is_little);
   turned : HasTurned g.W.Write.contents g.R.Read.remaining l.initial.dealer l.dealer l.initial.parts l.parts
-      l.initial.reader l.reader
-      (take l.filled l.buffer);
+      l.initial.reader l.reader (take l.filled l.buffer);
 }

@@ -1,5 +1,4 @@
-use Rattle.std.proofs.Common.{◌-◌, ℕ, List, length, take, rules}
-use Rattle.std.proofs.KnownBytes.{Consumes-trans}
+use Rattle.h2audit_split.proofs.Terms.{Consumes-trans, List, length, rules, take, ℕ, ◌-◌}
 use Rattle.h2audit_split.proofs.Buffer.{read_behind}
 use Rattle.h2audit_split.proofs.splitting.read_header.Goals as goal
 

@@ -1,5 +1,4 @@
-use Rattle.std.proofs.Common.{◌-◌, ◌≤◌, length, take}
-use Rattle.std.specs.Io.KnownBytes.{Consumes}
+use Rattle.h2audit_split.proofs.Terms.{Consumes, length, take, ◌-◌, ◌≤◌}
 use Rattle.h2audit_split.proofs.splitting.read_header.Given as goal
 
 abbrev pub invariant-loop-filled : goal.invariant-loop-filled

@@ -1,7 +1,6 @@
-use Rattle.std.proofs.Common.{◌≡◌, ℕ, List, [], Option, Some, None, IfSome}
+use Rattle.h2audit_split.proofs.Terms.{AreSplit, IfSome, List, None, Option, Some, [], ℕ, ◌≡◌}
 use Rattle.pcap_records.specs.FileHeader.{ByteOrder, link_of, number_of}
 use Rattle.pcap_records.specs.declared.format.Format.{Format}
-use Rattle.h2audit_split.specs.Parts.{AreSplit}
 use Rattle.h2audit_split.proofs.Standing.{none_dealt}
 use Rattle.h2audit_split.proofs.splitting.split_capture.Goals as goal
 
@@ -9,8 +8,7 @@ use Rattle.h2audit_split.proofs.splitting.split_capture.Goals as goal
 by_header : (P : ByteOrder → ℕ → Type 0) (order : ByteOrder) (link : ℕ) (header : List ℕ) (told : Option Format)
     → IfSome told (λ format. order ≡ number_of format.endian)
     → IfSome told (λ format. link ≡ link_of (number_of format.endian) header)
-    → P order link
-    → IfSome told (λ format. P (number_of format.endian) (link_of (number_of format.endian) header))
+    → P order link → IfSome told (λ format. P (number_of format.endian) (link_of (number_of format.endian) header))
 by_header P order link header None orders links holds = tt
 by_header P order link header (Some format) orders links holds = rw (← links, ← orders) holds
 
@@ -18,10 +16,8 @@ pub returns : goal.returns
 returns g c =
     let (given, consumed, end, split) = c.in_ok-split_last.ensures.split in
     let behind = c.behind-dealer.ensures in
-    let none = none_dealt g.W.Write.contents c.behind-dealer.result c.args.parts.now behind.number behind.left in (
-      given,
-      consumed,
-      end,
-      by_header (λ number link. AreSplit g.W.Write.contents number link given c.args.parts.now c.split_last.new.parts)
-          _ _ c.args.header.now _ behind.order behind.link (split c.args.parts.now [] none),
-    )
+    let parts = c.args.parts.now in
+    let none = none_dealt g.W.Write.contents c.behind-dealer.result parts behind.number behind.left in
+    let holds = by_header (λ number link. AreSplit g.W.Write.contents number link given parts c.split_last.new.parts)
+    _ _ c.args.header.now _ behind.order behind.link (split parts [] none) in
+    (given, consumed, end, holds)

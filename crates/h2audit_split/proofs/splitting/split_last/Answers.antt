@@ -1,4 +1,4 @@
-use Rattle.std.proofs.Common.{◌++◌, List, ℕ, take, append_assoc}
+use Rattle.h2audit_split.proofs.Terms.{List, append_assoc, take, ℕ, ◌++◌}
 use Rattle.h2audit_split.proofs.splitting.split_last.Goals as goal
 
 pub returns-clause-split : goal.returns-clause-split

@@ -1,7 +1,7 @@
-use Rattle.std.proofs.Common.{◌≡◌, ◌-◌, ◌+◌, ◌<◌, ℕ, List, Option, length}
+use Rattle.std.proofs.Common.{◌≡◌, ◌-◌, ◌+◌, ◌<◌, length}
 use Rattle.input_output.specs.Account.{kept}
 use Rattle.input_output.specs.declared.capture_reader.ReadState.TheVariants.{Open}
-use Rattle.input_output.specs.code.Reading.{HasConsumed, IsSound}
+use Rattle.input_output.specs.code.Reading.{HasPassed, IsSound}
 use Rattle.input_output.proofs.reading.pass_over.Given as goal
 
 abbrev pub invariant-loop-piece : goal.invariant-loop-piece
@@ -10,8 +10,7 @@ invariant-loop-piece g l = record {
   room : 0 < length l.piece;
   kept : l.reader.bytes ≡ l.initial.reader.bytes;
   state : l.reader.state ≡ Open;
-  read : (before : Option (List ℕ)) → HasConsumed before (g.R.Read.remaining l.initial.reader.reader) l.initial.reader
-      → HasConsumed before (g.R.Read.remaining l.reader.reader) l.reader;
+  bytes : HasPassed g.R.Read.remaining l.initial.reader l.reader;
 }
 
 abbrev pub decreases-loop-piece : goal.decreases-loop-piece

@@ -1,12 +1,12 @@
-use Rattle.split_merge.proofs.Terms.{◌≡◌, length, take, IsFilled, notes_from, row_streams, heard}
+use Rattle.split_merge.proofs.Terms.{◌≡◌, ℕ, ◌++◌, List, drop, CanPlace, IsPlacing, notes_from}
 use Rattle.split_merge.proofs.splits.place.Given as goal
 
+-- what came so far was put in, and what is noted of the frames that are left is still to be
 abbrev pub invariant-loop-frame : goal.invariant-loop-frame
 invariant-loop-frame l = record {
   position : l.position ≡ l.frame-index;
-  rows_kept : l.table.rows ≡ l.fn.table.rows;
-  index_kept : l.table.index ≡ l.fn.table.index;
-  long : length l.positions.items ≡ l.total;
-  filled : IsFilled l.fn.rows (heard (row_streams l.fn.rows) (notes_from 0 (take l.frame-index l.frames)))
-      l.rows l.positions.items;
+  placing : (loud : List ℕ) → CanPlace loud (notes_from 0 l.frames) l.places l.fn.table l.fn.rows l.total
+      → (came : List (ℕ × ℕ)) × (came ++ notes_from l.frame-index (drop l.frame-index l.frames) ≡ notes_from 0 l.frames)
+      × IsPlacing loud came (notes_from l.frame-index (drop l.frame-index l.frames)) l.places l.table l.rows
+      l.positions.items;
 }

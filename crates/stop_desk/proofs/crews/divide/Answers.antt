@@ -8,11 +8,5 @@ less-each workers given each =
 
 pub returns-clause-kept : goal.returns-clause-kept
 returns-clause-kept c =
-    rw (
-      c.split.ensures.kept,
-      c.requires.fresh,
-      c.from.ensures,
-      c.from-2.ensures,
-      c.jobs.ensures,
-      less-each c.args.workers c.args.given (c.args.desk.now.jobs + 1),
-    )
+    let kept = rw (c.requires.fresh, c.from.ensures, c.from-2.ensures, c.jobs.ensures) at c.split.ensures.kept in
+    rw (kept, less-each c.args.workers c.args.given (c.args.desk.now.jobs + 1))

@@ -1,4 +1,5 @@
-use Rattle.stop_desk.proofs.Words.{IsNonDecreasingBy-from_sort_by_key, rules}
+use Rattle.stop_desk.proofs.Words.{rules}
+use Rattle.std.proofs.lemmas.List.Sorted.{IsNonDecreasingBy-from_sort_by_key}
 use Rattle.stop_desk.proofs.settling.put_in_order.Goals as goal
 
 pub returns-clause-sorted : goal.returns-clause-sorted

@@ -1,5 +1,5 @@
-use Rattle.stop_desk.proofs.Words.{[], arith, final_stop, map-range_with_len_more, sym, ◌++◌, ◌∙◌, ◌∷◌}
-use Rattle.stop_desk.proofs.CrewDone.{last_stops-is}
+use Rattle.stop_desk.proofs.Words.{[], arith, final_stop, sym, ◌++◌, ◌∙◌, ◌∷◌}
+use Rattle.std.proofs.lemmas.List.FromFn.{map-range_with_len_more}
 use Rattle.stop_desk.proofs.settling.stops_of.Goals as goal
 
 pub loop-connection-preserved : goal.loop-connection-preserved
@@ -7,8 +7,3 @@ loop-connection-preserved c =
     c.in_ok-push.ensures.items
     ∙ (λ i. c.loop-connection.invariant i ++ c.stop.ensures i ∷ [])
     ∙ sym (map-range_with_len_more (final_stop c.args.closed.now) 0 c.loop-connection.connection _ (omega arith))
-
-pub returns : goal.returns
-returns c =
-    c.loop-connection.invariant
-    ∙ last_stops-is c.args.closed.now c.loop-connection.connection (omega (arith, c.requires))

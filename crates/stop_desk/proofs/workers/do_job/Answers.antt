@@ -1,7 +1,5 @@
-use Rattle.stop_desk.proofs.Words.{Asked, IsLook, List, Option, PassView, ap, refl, subst, ℕ, ◌∙◌, ◌≡◌}
-use Rattle.stop_desk.specs.code.Heeding.{Heeds}
-use Rattle.stop_desk.specs.declared.desk_looks.DeskLook.{DeskLook}
-use Rattle.stop_desk.proofs.Working.{saw_more, answers_on, watched, job_at, at-job, job-there, job-done}
+use Rattle.stop_desk.proofs.Words.{PassView, ap, refl, ◌∙◌}
+use Rattle.stop_desk.proofs.Working.{watched, job_at, at-job, job-there, job-done}
 use Rattle.stop_desk.proofs.workers.do_job.Goals as goal
 
 pub invariant_of-look : goal.invariant_of-look
@@ -14,19 +12,10 @@ invariant_of-look g c =
           (c.connection-connection.ensures (job_at jobs c.args.job) (at-job jobs c.args.job c.requires.job));
     }
 
--- what the looks of the job left of the pass
-desk-watched : (due : List Asked → Option ℕ → Type 0) (s t : DeskLook) (upto : Option ℕ)
-    (h : Heeds {L = DeskLook}
-    (λ before found answer after. (after.connection ≡ before.connection) × (after.desk.now ≡ before.desk.now)
-    × IsLook before.connection before.pass answer after.pass) due s t upto) →
-    t.pass ≡ saw_more s.pass (answers_on s.connection h.asked)
-desk-watched due s t upto h =
-    watched _ (λ (u : DeskLook). u.pass) s.connection (λ u. u.connection ≡ s.connection)
-    (λ u found answer v on k. (k.0 ∙ on, subst (λ c. IsLook c u.pass answer v.pass) on k.2)) s h.asked t refl h.looked
-
 pub lower_stops-requires-clause-desk : goal.lower_stops-requires-clause-desk
 lower_stops-requires-clause-desk g c =
-    ap (λ (v : PassView). v.desk) (desk-watched _ _ _ _ c.in_ok-work.ensures.looks) ∙ c.requires.desk
+    let looks = c.in_ok-work.ensures.looks in
+    ap (λ (v : PassView). v.desk) (watched _ looks.asked _ looks.looked) ∙ c.requires.desk
 
 pub returns : goal.returns
 returns g c =
@@ -35,7 +24,7 @@ returns g c =
     let told = c.in_ok-work.ensures in
     let job = job_at jobs c.args.job in
     let at = at-job jobs c.args.job c.requires.job in
-    rw (c.lower_stops.ensures, c.as_slice.ensures.value, desk-watched _ _ _ _ told.looks)
+    rw (c.lower_stops.ensures, c.as_slice.ensures.value, watched _ told.looks.asked _ told.looks.looked)
     (job-done (g.P.Round.makes shift.plan.now) jobs shift.round _ c.requires.job c.args.pass
     (rw c.requires.desk shift.there) (c.connection-connection.ensures job at) (told.cut job at) told.made refl
     told.looks.asked told.looks.answered)

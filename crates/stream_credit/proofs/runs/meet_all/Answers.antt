@@ -1,16 +1,15 @@
-use Rattle.stream_credit.proofs.Words.{◌≡◌, ℕ, ◌<◌, ◌++◌, List, Option, length, slice_get, sym, ◌∙◌, option_to_list}
-use Rattle.stream_credit.proofs.Words.{OnTrue_at, OnFalse_at, OnTrue_from, OnFalse_from, flat_map-append, All-take}
-use Rattle.stream_credit.proofs.Words.{All-drop, Finding, Frame, Left, Walk, frames_at}
-use Rattle.stream_credit.proofs.RunLemmas.{MeetsFrames, last-changes}
-use Rattle.stream_credit.proofs.WalkLemmas.{nothing-left}
+use Rattle.stream_credit.proofs.Words.{◌≡◌, ℕ, ◌<◌, ◌++◌, [], List, Option, length, slice_get, sym, ◌∙◌, option_to_list}
+use Rattle.stream_credit.proofs.Words.{flat_map-append, nil_from_length, when_false, when_true, All-take, All-drop}
+use Rattle.stream_credit.proofs.Words.{eqb-true, Change, Finding, Frame, Walk, frames_at}
+use Rattle.stream_credit.proofs.RunLemmas.{MeetsFrames, sound-ends, match-more}
 use Rattle.stream_credit.proofs.runs.meet_all.Goals as goal
 
 -- the frames that are left are those that are near, and then the others
-turn : {L : Type 0} {answers : L → List Finding → Option ℕ → L → Type 0} {before now : L} {old walk : Walk}
-    {old_left left : Left} {all : List Frame} (frames : List Frame) (some later rest : List ℕ) (near : List Frame)
-    → rest ≡ some ++ later → near ≡ frames_at frames some
-    → MeetsFrames answers before old old_left all now walk left (frames_at frames rest)
-    → MeetsFrames answers before old old_left all now walk left (near ++ frames_at frames later)
+turn : {L : Type 0} {answers : L → List Finding → Option ℕ → L → Type 0} {changes : List Change} {before now : L}
+    {old walk : Walk} {old_met met : ℕ} {all : List Frame} (frames : List Frame) (some later rest : List ℕ)
+    (near : List Frame) → rest ≡ some ++ later → near ≡ frames_at frames some
+    → MeetsFrames answers changes before old old_met all now walk met (frames_at frames rest)
+    → MeetsFrames answers changes before old old_met all now walk met (near ++ frames_at frames later)
 turn frames some later rest near e n meets run h =
     rw (e, flat_map-append (λ position. option_to_list (slice_get frames position)) some later, ← n) at (meets run h)
 
@@ -31,39 +30,30 @@ meet_frames-requires g c =
           (c.as_slice.ensures.value ∙ c.in_ok-gather.ensures) c.loop-rest.invariant.meets run h,
     )
 
-pub returns-then-not-branch-clause-stops : goal.returns-then-not-branch-clause-stops
-returns-then-not-branch-clause-stops g c = λ run h.
-    OnFalse_at c.if-not-branch.true c.in_ok-meet_frames.ensures.stops run _
+pub returns-then-not-branch : goal.returns-then-not-branch
+returns-then-not-branch g c = λ run h.
+    when_false _ _ c.if-not-branch.true (c.in_ok-meet_frames.ensures run _
     (turn c.args.part.now.frames.now _ _ _ _ c.split_at.ensures.by_index.0
-    (c.as_slice.ensures.value ∙ c.in_ok-gather.ensures) c.loop-rest.invariant.meets run h)
+    (c.as_slice.ensures.value ∙ c.in_ok-gather.ensures) c.loop-rest.invariant.meets run h))
 
 pub loop-rest-preserved : goal.loop-rest-preserved
 loop-rest-preserved g c = record {
   within = rw c.split_at.ensures.back (All-drop (λ (position : ℕ). position < length c.args.part.now.frames.now) _ _
       c.loop-rest.invariant.within);
   meets = λ run h.
-      OnTrue_at c.if-not-branch.false c.in_ok-meet_frames.ensures.goes_on run _
+      when_true _ _ c.if-not-branch.false (c.in_ok-meet_frames.ensures run _
       (turn c.args.part.now.frames.now _ _ _ _ c.split_at.ensures.by_index.0
-      (c.as_slice.ensures.value ∙ c.in_ok-gather.ensures) c.loop-rest.invariant.meets run h);
+      (c.as_slice.ensures.value ∙ c.in_ok-gather.ensures) c.loop-rest.invariant.meets run h));
 }
 
-pub meet_changes-requires-clause-at : goal.meet_changes-requires-clause-at
-meet_changes-requires-clause-at g c =
+pub meet_changes-requires : goal.meet_changes-requires
+meet_changes-requires g c =
     let (run, h) = c.requires.sound in
-    let none = nothing-left c.loop-rest.rest.now (sym c.loop-rest-test.false ∙ c.is_empty.ensures) in
-    (run, _, _, last-changes (rw none at (c.loop-rest.invariant.meets run h)))
-
-pub meet_changes-requires-clause-in_force : goal.meet_changes-requires-clause-in_force
-meet_changes-requires-clause-in_force g c =
-    let (run, h) = c.requires.sound in (c.loop-rest.invariant.meets run h).in_force
+    let none = nil_from_length c.loop-rest.rest.now (eqb-true _ _ (sym c.is_empty.ensures ∙ c.loop-rest-test.false)) in
+    (run, _, tt, rw none at (c.loop-rest.invariant.meets run h))
 
 pub returns : goal.returns
-returns g c =
-    let none = nothing-left c.loop-rest.rest.now (sym c.loop-rest-test.false ∙ c.is_empty.ensures) in
-    let met = c.in_ok-is_met.ensures in
-    record {
-      goes_on = OnTrue_from c.in_ok-is_met.is_met _ (λ is. λ run h.
-          (_, OnTrue_at is met.goes_on run _ _ (last-changes (rw none at (c.loop-rest.invariant.meets run h)))));
-      stops = OnFalse_from c.in_ok-is_met.is_met _ (λ is. λ run h.
-          OnFalse_at is met.stops run _ _ (last-changes (rw none at (c.loop-rest.invariant.meets run h))));
-    }
+returns g c = λ run h.
+    let none = nil_from_length c.loop-rest.rest.now (eqb-true _ _ (sym c.is_empty.ensures ∙ c.loop-rest-test.false)) in
+    match-more c.in_ok-is_met.is_met _ _ _ (λ met. sound-ends met.0 met.1)
+    (c.in_ok-is_met.ensures run [] tt (rw none at (c.loop-rest.invariant.meets run h)))

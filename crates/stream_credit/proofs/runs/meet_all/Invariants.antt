@@ -7,7 +7,7 @@ use Rattle.stream_credit.proofs.runs.meet_all.Given as goal
 abbrev pub invariant-loop-rest : goal.invariant-loop-rest
 invariant-loop-rest g l = record {
   within : All (λ (position : ℕ). position < length l.part.frames.now) l.rest;
-  meets : MeetsFrames g.L.Look.answers l.fn.look l.fn.walk l.fn.left (part_frames l.part) l.look l.walk l.left
+  meets : MeetsFrames g.L.Look.answers l.changes l.fn.look l.fn.walk 0 (part_frames l.part) l.look l.walk l.met
       (frames_at l.part.frames.now l.rest);
 }
 

@@ -1,5 +1,5 @@
-use Rattle.audit_rounds.proofs.StreamJobs.{job-cut, job-ends, job-looks, job-makes, job-planned, job-ready, job-rows}
-use Rattle.audit_rounds.proofs.Whole.{if_ok-then}
+use Rattle.audit_rounds.proofs.StreamWork.{job-cut, job-ends, job-looks, job-makes, job-planned, job-ready, job-rows}
+use Rattle.audit_rounds.proofs.Lists.{if_ok-then}
 use Rattle.audit_rounds.proofs.stream_jobs.StreamsRoundRound.work.Goals as goal
 
 pub bounds-self-job-2 : goal.bounds-self-job-2

@@ -1,7 +1,6 @@
-use Rattle.audit_rounds.proofs.Words.{None, sym, subst, IsCut}
 use Rattle.audit_rounds.proofs.Jobs.{sum-cut}
 use Rattle.audit_rounds.proofs.sum_round.SumRoundRound.work.Goals as goal
 
 pub returns-clause-cut : goal.returns-clause-cut
-returns-clause-cut g c = λ one is. subst (IsCut one.findings None) (sym c.new.ensures.items)
+returns-clause-cut g c = λ one is. rw c.new.ensures.items
     (sum-cut c.args.self.now.blocks.now c.args.job one is)

@@ -1,7 +1,8 @@
-use Rattle.std.proofs.Common.{arith}
+use Rattle.std.proofs.Common.{ap, sym}
+use Rattle.stop_desk.specs.code.Board.{Job}
 use Rattle.h2audit.proofs.Flows.{flow_jobs-at}
 use Rattle.h2audit.proofs.flow_round.FlowRoundRound.connection.Goals as goal
 
 pub returns : goal.returns
-returns g c = λ one is. let at = flow_jobs-at 0 c.args.self.now.opened c.args.job one is in let number = at.0 in omega
-    arith
+returns g c = λ one is.
+    sym (ap (λ (job : Job). job.connection) (flow_jobs-at c.args.self.now.opened c.args.job one is))

@@ -1,37 +1,26 @@
-use Rattle.std.proofs.Common.{◌<◌, length, get_or, ap, sym, ◌∙◌, subst, arith}
+use Rattle.std.proofs.Common.{length, get_or, ap, ◌∙◌, subst, arith}
 use Rattle.std.proofs.lemmas.List.Elements.{All-get_or}
 use Rattle.std.proofs.lemmas.Option.{get_or_from_slice_get}
 use Rattle.std.specs.List.{slice_get}
 use Rattle.audit_terms.specs.declared.sides.Side.TheVariants.{Client, Server}
 use Rattle.tcp_streams.specs.Members.{initial_of, side_segments}
-use Rattle.tcp_streams.specs.declared.members.Connection.{Connection}
-use Rattle.tcp_streams.specs.code.Orderly.{AreMembers}
 use Rattle.tcp_streams.proofs.FlowLemmas.{sides-fit}
-use Rattle.h2audit.specs.code.Flows.{FlowView, IsToldFlows}
-use Rattle.h2audit.proofs.Flows.{flow_jobs-at, flow_jobs-length, nothing-cut, gap-at-end}
+use Rattle.h2audit.specs.code.Flows.{AreSources, FlowView, IsToldFlows}
+use Rattle.h2audit.proofs.Flows.{flow_jobs-at, gap-at-end, job-within, nothing-cut}
 use Rattle.h2audit.proofs.flow_round.FlowRoundRound.work.Goals as goal
 
 pub bounds-self-inside-job : goal.bounds-self-inside-job
-bounds-self-inside-job g c =
-    subst (λ n. c.args.job < n) (flow_jobs-length 0 c.args.self.now.opened
-    ∙ sym (ap (λ (v : FlowView). length v.opened) c.self.view_is)) c.requires
+bounds-self-inside-job g c = job-within _ c.args.self.now c.args.job c.self.view_is c.requires
 
 pub returns-clause-cut : goal.returns-clause-cut
-returns-clause-cut g c = λ one is. rw (c.new.ensures.items)
-    (nothing-cut one (flow_jobs-at 0 c.args.self.now.opened c.args.job one is).1)
+returns-clause-cut g c = λ one is.
+    rw (c.new.ensures.items, flow_jobs-at c.args.self.now.opened c.args.job one is) nothing-cut
 
 pub flows_of-requires : goal.flows_of-requires
-flows_of-requires g c = record {
-  size = c.self.invariant.size;
-  numbered = c.self.invariant.numbered;
-  payloads = c.self.invariant.payloads;
-  times = c.self.invariant.times;
-  members =
-      All-get_or (λ (one : Connection). AreMembers 0 c.self.inside.packets.now one.members.items)
-      c.self.inside.opened.now c.args.job c.index-self-job.result
-      (subst (λ n. c.args.job < n) (flow_jobs-length 0 c.args.self.now.opened
-      ∙ sym (ap (λ (v : FlowView). length v.opened) c.self.view_is)) c.requires) c.self.invariant.members;
-}
+flows_of-requires g c =
+    All-get_or (AreSources c.self.inside.capture.now c.self.inside.packets.now) c.self.inside.opened.now c.args.job
+    c.index-self-job.result (job-within _ c.args.self.now c.args.job c.self.view_is c.requires)
+    c.self.invariant.sources
 
 pub told_of-requires : goal.told_of-requires
 told_of-requires g c =
@@ -41,14 +30,8 @@ told_of-requires g c =
     let connection = get_or opened c.args.job c.index-self-job.result in
     let client = c.in_ok-flows.ensures.0 in
     let server = c.in_ok-flows.ensures.1 in
-    let within = subst (λ n. c.args.job < n) (flow_jobs-length 0 c.args.self.now.opened
-    ∙ sym (ap (λ (v : FlowView). length v.opened) c.self.view_is)) c.requires in
-    let fit = sides-fit packets (length capture) connection c.self.invariant.payloads
-    (All-get_or (λ (one : Connection). AreMembers 0 packets one.members.items) opened c.args.job
-    c.index-self-job.result within c.self.invariant.members) in
-    let size = c.self.invariant.size in
-    let shorter = client.within in
-    let short = server.within in
+    let sources = All-get_or (AreSources capture packets) opened c.args.job c.index-self-job.result
+    (job-within _ c.args.self.now c.args.job c.self.view_is c.requires) c.self.invariant.sources in
     record {
       client = client.orderly;
       server = server.orderly;
@@ -56,7 +39,13 @@ told_of-requires g c =
           c.in_ok-flows.flows.0 client.is;
       server_gap = gap-at-end (initial_of connection Server) capture (side_segments packets connection Server)
           c.in_ok-flows.flows.1 server.is;
-      together = omega (arith, fit, shorter, short, size);
+      together = omega (
+        arith,
+        sides-fit packets (length capture) connection sources.payloads sources.members,
+        client.within,
+        server.within,
+        sources.size,
+      );
     }
 
 pub returns-clause-made : goal.returns-clause-made
@@ -64,8 +53,8 @@ returns-clause-made g c = λ connection is.
     let view = c.self.view_is in
     let there = ap (λ (v : FlowView). slice_get v.opened c.args.job) view ∙ is in
     subst (λ (v : FlowView). IsToldFlows v.credits_shown v.capture v.packets connection c.in_ok-made.made) view
-    (subst (λ (one : Connection). IsToldFlows c.self.inside.credits_shown c.self.inside.capture.now
-    c.self.inside.packets.now one c.in_ok-made.made)
+    (subst (λ one. IsToldFlows c.self.inside.credits_shown c.self.inside.capture.now c.self.inside.packets.now one
+    c.in_ok-made.made)
     (get_or_from_slice_get c.self.inside.opened.now c.args.job connection c.index-self-job.result there)
     (record {
       flows = record { client = c.in_ok-flows.flows.0; server = c.in_ok-flows.flows.1 };

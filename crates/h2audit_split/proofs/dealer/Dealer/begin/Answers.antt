@@ -1,5 +1,4 @@
-use Rattle.std.proofs.Common.{◌≡◌, ◌+◌, ◌-◌, ℕ, min, arith}
-use Rattle.std.proofs.lemmas.List.{drop-take}
+use Rattle.h2audit_split.proofs.Terms.{arith, drop-take, min, ℕ, ◌+◌, ◌-◌, ◌≡◌}
 use Rattle.h2audit_split.proofs.Given.{take-min}
 use Rattle.h2audit_split.proofs.dealer.Dealer.begin.Goals as goal
 

@@ -1,6 +1,4 @@
-use Rattle.std.proofs.Common.{ℕ, List, take, append-nil, rules}
-use Rattle.std.proofs.Math.Seq.{take-add}
-use Rattle.std.proofs.lemmas.List.{take_rest}
+use Rattle.h2audit_split.proofs.Terms.{List, append-nil, rules, take, take-add, take_rest, ℕ}
 use Rattle.h2audit_split.proofs.Turns.{Deals-trans}
 use Rattle.h2audit_split.proofs.dealer.Dealer.deal.Goals as goal
 
@@ -8,14 +6,10 @@ pub loop-at-preserved : goal.loop-at-preserved
 loop-at-preserved g c =
     let unread : List ℕ = c.args.unread.now in
     let at : ℕ = c.loop-at.at in
-    let n : ℕ = c.in_ok-count.count in
     record {
-      within = search rules;
-      part = search rules;
-      link = search rules;
-      little = search rules;
-      dealt = rw (take-add at n unread, ← take_rest unread at) (Deals-trans g.W.Write.contents _ _ _ _ _ _ _ _
-          c.loop-at.invariant.dealt c.in_ok-count.ensures.dealt);
+      kept = search rules;
+      dealt = rw (take-add at c.in_ok-count.count unread, ← take_rest unread at) (Deals-trans g.W.Write.contents
+          _ _ _ _ _ _ _ _ c.loop-at.invariant.dealt c.in_ok-count.ensures.dealt);
     }
 
 pub returns-then-count-eq0-clause-dealt : goal.returns-then-count-eq0-clause-dealt

@@ -1,13 +1,10 @@
-use Rattle.std.proofs.Common.{◌≡◌, ◌-◌, ◌<◌, ◌≤◌, length, take}
-use Rattle.h2audit_split.specs.code.Dealing.{Deals}
+use Rattle.h2audit_split.proofs.Terms.{Deals, length, take, ◌-◌, ◌<◌, ◌≡◌, ◌≤◌}
 use Rattle.h2audit_split.proofs.dealer.Dealer.deal.Given as goal
 
 abbrev pub invariant-loop-at : goal.invariant-loop-at
 invariant-loop-at g l = record {
-  within : l.at ≤ length l.unread;
-  part : l.self.part < length l.parts;
-  link : l.self.link ≡ l.initial.self.link;
-  little : l.self.is_little ≡ l.initial.self.is_little;
+  kept : (l.at ≤ length l.unread) × (l.self.part < length l.parts) × (l.self.link ≡ l.initial.self.link)
+      × (l.self.is_little ≡ l.initial.self.is_little);
   dealt : Deals g.W.Write.contents l.initial.self l.self l.initial.parts l.parts (take l.at l.unread);
 }
 

@@ -1,4 +1,4 @@
-use Rattle.std.proofs.Common.{arith}
+use Rattle.h2audit_split.proofs.Terms.{arith}
 use Rattle.h2audit_split.proofs.Standing.{dealt_more}
 use Rattle.h2audit_split.proofs.dealer.Dealer.deal_some.Goals as goal
 

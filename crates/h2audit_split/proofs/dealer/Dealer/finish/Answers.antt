@@ -1,21 +1,18 @@
-use Rattle.std.proofs.Common.{◌≡◌, ◌-◌, ◌<◌, ◌∙◌, ℕ, List, length, take, drop, sym, ap, arith}
-use Rattle.std.proofs.Common.{append-nil}
-use Rattle.std.proofs.lemmas.Bool.{eqb-true, eqb-false}
-use Rattle.std.proofs.lemmas.List.{drop_min, nil_from_length, take_min, take_rest}
+use Rattle.h2audit_split.proofs.Terms.{List, ap, append-nil, arith, drop, drop_min, length}
+use Rattle.h2audit_split.proofs.Terms.{nil_from_length, take, take_min, take_rest, ℕ, ◌-◌, ◌<◌, ◌∙◌, ◌≡◌}
 use Rattle.h2audit_split.proofs.Standing.{dealt_all, dealt_rest}
+use Rattle.std.proofs.lemmas.Bool.Decides.{nat_tests}
 use Rattle.h2audit_split.proofs.dealer.Dealer.finish.Goals as goal
 
 pub returns-then-is_empty-clause-split : goal.returns-then-is_empty-clause-split
 returns-then-is_empty-clause-split g c = λ first bytes cut was.
-    let none : length c.args.rest.now ≡ 0 = eqb-true _ _ (sym c.is_empty.ensures ∙ c.if-is_empty.true) in
+    let none : length c.args.rest.now ≡ 0 = grind (arith, nat_tests) in
     rw (nil_from_length c.args.rest.now none, append-nil bytes) (dealt_all g.W.Write.contents was)
 
 pub returns-clause-split : goal.returns-clause-split
 returns-clause-split g c = λ first bytes cut was.
     let rest : List ℕ = c.args.rest.now in
-    let some : 0 < length rest =
-    let not_none : length rest ≡ 0 → _ = eqb-false _ _ (sym c.is_empty.ensures ∙ c.if-is_empty.false) in
-    omega (arith, not_none) in
+    let some : 0 < length rest = grind (arith, nat_tests) in
     let packet : take (length rest - c.min-header.result) (drop c.min-header.result rest) ≡ drop 16 rest =
     take_rest rest c.min-header.result ∙ ap (λ (k : ℕ). drop k rest) c.min-header.ensures ∙ drop_min 16 rest in
     let held = cut some in

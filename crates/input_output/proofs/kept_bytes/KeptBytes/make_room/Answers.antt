@@ -1,30 +1,26 @@
-use Rattle.std.proofs.Common.{◌≡◌, ◌∙◌, ◌≤◌, ◌<◌, ℕ, List, [], ◌∷◌, ◌++◌, length, map, ap, arith, vec_len}
-use Rattle.std.specs.declared.vec.Vec.{Vec}
-use Rattle.std.specs.declared.alloc.Global.{Global}
-use Rattle.input_output.specs.Parts.{joined}
-use Rattle.input_output.proofs.Bytes.{kept_size, pushed_size, sizes}
+use Rattle.std.proofs.Common.{◌≡◌, ◌<◌, ap, arith, vec_len}
+use Rattle.std.specs.List.{All}
+use Rattle.std.proofs.lemmas.List.Elements.{All-push}
+use Rattle.input_output.proofs.Bytes.{kept_size, sizes}
 use Rattle.input_output.proofs.kept_bytes.KeptBytes.make_room.Goals as goal
 
 pub returns-then-self-len-clause-room : goal.returns-then-self-len-clause-room
 returns-then-self-len-clause-room g c =
-    let inside = c.self.inside in
-    omega (
-      arith,
-      sizes inside.full inside.last inside.filled c.args.self.now c.self.invariant.0 c.self.invariant.1
-          c.self.view_is,
-    )
+    omega (arith, sizes c.self.inside c.args.self.now c.self.invariant c.self.view_is)
 
 pub returns-then-len-lt-CAPTURE_PART-clause-room : goal.returns-then-len-lt-CAPTURE_PART-clause-room
 returns-then-len-lt-CAPTURE_PART-clause-room g c =
     let inside = c.self.inside in
-    let size = sizes inside.full inside.last inside.filled c.args.self.now c.self.invariant.0 c.self.invariant.1
-    c.self.view_is in
-    let grown : inside.filled < vec_len c.resize.new.self = omega
-    (arith, size, c.in_ok-resize.ensures.len, c.requires.limit.0) in
+    let last = c.resize.new.self in
+    let grown : inside.filled < vec_len last = omega (
+      arith,
+      sizes inside c.args.self.now c.self.invariant c.self.view_is,
+      c.in_ok-resize.ensures.len,
+      c.requires.limit.0,
+    ) in
     omega (
       arith,
-      kept_size inside.full.items c.resize.new.self.items inside.filled c.self.invariant.0
-          (omega (arith, grown, c.resize.new.self.ok.0)),
+      kept_size inside.full.items last.items inside.filled c.self.invariant.0 (omega (arith, grown, last.ok.0)),
       grown,
       inside.full.ok.0,
     )
@@ -32,26 +28,21 @@ returns-then-len-lt-CAPTURE_PART-clause-room g c =
 pub returns-clause-room : goal.returns-clause-room
 returns-clause-room g c =
     let inside = c.self.inside in
-    let size = sizes inside.full inside.last inside.filled c.args.self.now c.self.invariant.0 c.self.invariant.1
-    c.self.view_is in
-    let is : c.push_reserved.new.self.items ≡ inside.full.items ++ inside.last ∷ [] =
-    c.push_reserved.ensures.items
-    ∙ ap (λ (full : List (Vec ℕ Global)). full ++ c.replace.result ∷ []) c.reserve.ensures.items
-    ∙ ap (λ (last : Vec ℕ Global). inside.full.items ++ last ∷ []) c.replace.ensures.value in
+    let full = c.push_reserved.new.self in
+    let part = c.replace.new.dest in
     let whole : vec_len inside.last ≡ 1048576 = omega (arith, c.self.invariant.2) in
-    let all = ap (λ (full : List (Vec ℕ Global)). length
-    (joined (map (λ (part : Vec ℕ Global). part.items) full) ++ [])) is
-    ∙ pushed_size inside.full.items inside.last c.self.invariant.0 whole in
-    let part : vec_len c.replace.new.dest ≡ vec_len c.resize-2.new.self = ap vec_len c.replace.ensures.after in
+    let all : All (λ part. vec_len part ≡ 1048576) full.items =
+    rw (c.push_reserved.ensures.items, c.reserve.ensures.items, c.replace.ensures.value)
+    (All-push (λ part. vec_len part ≡ 1048576) inside.full.items inside.last c.self.invariant.0 whole) in
     omega (
       arith,
-      all,
-      part,
-      c.push_reserved.ensures.len,
-      c.reserve.ensures.len,
+      kept_size full.items part.items 0 all (omega arith),
+      full.ok.0,
+      ap vec_len c.replace.ensures.after,
       c.in_ok-resize-2.ensures.len,
-      size,
+      sizes inside c.args.self.now c.self.invariant c.self.view_is,
       whole,
       c.requires.limit.0,
-      inside.full.ok.0,
+      c.push_reserved.ensures.len,
+      c.reserve.ensures.len,
     )

@@ -5,7 +5,7 @@ use Rattle.input_output.proofs.parts.Parts.cut.Given as goal
 
 abbrev pub invariant-loop-rest : goal.invariant-loop-rest
 invariant-loop-rest g l =
-    AreFull g.row.N (map (λ part. part.now) l.all.items)
+    AreFull (λ part. part.now) g.row.N l.all.items
     × (joined (map (λ part. part.now) l.all.items) ++ l.rest ≡ l.fn.whole)
 
 abbrev pub decreases-loop-rest : goal.decreases-loop-rest

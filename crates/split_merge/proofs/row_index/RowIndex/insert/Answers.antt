@@ -7,13 +7,12 @@ pub returns-then-is_above : goal.returns-then-is_above
 returns-then-is_above c =
     let n = length-streams_in c.args.rows.now in
     let after : RowIndex = record { rising = c.args.self.now.rising + 1; others = c.args.self.now.others } in
-    row-above (streams_in c.args.rows.now) c.args.self.now after c.requires.index c.args.stream
-    (length c.args.rows.now) c.requires.above (c.if-is_above.ensures.rising ∙ sym n) c.if-is_above.ensures.above refl
-    refl (sym n)
+    row-above (streams_in c.args.rows.now) c.args.self.now after c.requires.index c.args.stream c.requires.above
+    (length c.args.rows.now) (c.if-is_above.ensures.rising ∙ sym n) c.if-is_above.ensures.above refl refl (sym n)
 
 pub returns : goal.returns
 returns c =
     let after : RowIndex = record { rising = c.args.self.now.rising; others = c.insert_full.new.self } in
-    row-in_table (streams_in c.args.rows.now) c.args.self.now after c.requires.index c.args.stream c.in_ok-place.place
-    c.requires.above c.in_default.ensures refl c.in_ok-place.ensures.keys c.in_ok-place.ensures.index
+    row-in_table (streams_in c.args.rows.now) c.args.self.now after c.requires.index c.args.stream c.requires.above
+    c.in_ok-place.place c.in_default.ensures refl c.in_ok-place.ensures.keys c.in_ok-place.ensures.index
     c.in_ok-place.ensures.stored c.in_ok-place.added c.in_ok-place.ensures.added

@@ -1,6 +1,7 @@
-use Rattle.split_merge.proofs.Terms.{length, ap, ◌∙◌, arith, length-set, slice_get_within, frames_of, streams_in}
-use Rattle.split_merge.proofs.Terms.{counted, total_of, with_next}
-use Rattle.split_merge.proofs.Visited.{row_inside, named-row, noted-listed, streams-counted, total-counted, total-row}
+use Rattle.split_merge.proofs.Terms.{set, ap, ◌∙◌, arith, slice_get_within, frames_of, streams_in, counted, total_of}
+use Rattle.split_merge.proofs.Terms.{with_next, IsAheadOf}
+use Rattle.std.proofs.lemmas.Slice.Zip.{AllZip-long}
+use Rattle.split_merge.proofs.Visited.{row_inside, named-row, streams-counted, table-visited, total-counted, total-row}
 use Rattle.split_merge.proofs.Ahead.{ahead-zero, ahead-next, ahead-met}
 use Rattle.split_merge.proofs.visits.Visits.note.Goals as goal
 
@@ -12,15 +13,17 @@ count-requires c =
     let same = ap total_of c.in_ok-row.ensures.rows in
     let total = total-row c.args.stream c.args.self.now.rows.items in
     let is = ap (λ x. x.count) c.index_mut.ensures.value in
-    omega (arith, low.1, same, total.0, is, c.requires.room.visits)
+    omega (arith, low.1, same, total.0, is, c.requires.table.1.visits, c.requires.table.2)
 
 pub index_mut-requires-2 : goal.index_mut-requires-2
 index_mut-requires-2 c =
     let l = slice_get_within (streams_in c.row_of.new.self.rows.items) c.in_ok-row.row c.args.stream
     c.in_ok-row.ensures.row in
-    let h = c.in_ok-row.ensures.ahead c.args.changes.now c.requires.next.all
-    (with_next c.args.stream c.args.frame.now c.requires.next.rest) c.requires.next.ahead in
-    omega (arith, l, h.long, c.row_of.new.self.quiets.ok.0)
+    let next = c.requires.next in
+    let rest = with_next c.args.stream c.args.frame.now next.rest in
+    let h = c.in_ok-row.ensures.ahead c.args.changes.now next.all rest next.ahead in
+    let long = AllZip-long (IsAheadOf c.args.changes.now next.all rest) _ _ h.ahead in
+    omega (arith, l, long, c.row_of.new.self.quiets.ok.0)
 
 pub meet-requires : goal.meet-requires
 meet-requires c =
@@ -30,15 +33,13 @@ meet-requires c =
       frames_of c.args.stream next.all,
       next.rest c.args.stream,
       rw c.index_mut-2.ensures.value
-          (ahead-next c.args.changes.now next.all next.rest (streams_in c.row_of.new.self.rows.items)
-          c.row_of.new.self.quiets.items c.args.stream c.args.frame.now c.in_ok-row.row h
-          c.in_ok-row.ensures.index.distinct c.in_ok-row.ensures.row c.index_mut-2.result.now),
+          (ahead-next next.rest c.args.stream c.args.frame.now c.in_ok-row.row h c.in_ok-row.ensures.index.distinct
+          c.in_ok-row.ensures.row c.index_mut-2.result.now),
     )
 
 pub returns-then-stream-eq0-clause-ahead : goal.returns-then-stream-eq0-clause-ahead
 returns-then-stream-eq0-clause-ahead c = λ all rest h.
-    ahead-zero c.args.changes.now all c.args.frame.now rest c.args.stream (streams_in c.args.self.now.rows.items)
-    c.args.self.now.quiets.items c.if-stream-eq0.true h
+    ahead-zero c.args.frame.now rest c.args.stream c.if-stream-eq0.true h
 
 pub returns : goal.returns
 returns c =
@@ -50,26 +51,12 @@ returns c =
     let is = c.count.ensures ∙ ap counted c.index_mut.ensures.value in
     record {
       named = rw (is, streams-counted, found.rows) (named-row stream before c.if-stream-eq0.false);
-      table = λ notes position h. record {
-        index = rw (is, streams-counted) found.index;
-        listed = rw is (noted-listed notes before rows stream position row c.index_mut.result.now
-            c.if-stream-eq0.false h.listed found.rows found.index.distinct found.row);
-      };
-      room = λ many h.
-          let more = total-counted rows row c.index_mut.result.now (row_inside rows row stream found.row) in
-          let total = total-row stream before in
-          let many_now = ap total_of found.rows in
-          let long_now = ap length found.rows in
-          record {
-            rows = rw length-set (omega (arith, long_now, total.1, h.rows));
-            visits = rw is (omega (arith, more.0, many_now, total.0, h.visits));
-          };
+      table = λ notes position h. table-visited rows stream position row c.index_mut.result.now h c.if-stream-eq0.false
+          found.rows found.row found.index (ap (λ one. set rows row one) is);
       ahead = λ all rest h.
           let ahead = found.ahead c.args.changes.now all (with_next stream c.args.frame.now rest) h in
-          let next = ahead-next c.args.changes.now all rest (streams_in rows) c.row_of.new.self.quiets.items stream
-          c.args.frame.now row ahead found.index.distinct found.row c.index_mut-2.result.now in
-          rw (is, streams-counted) (ahead-met c.args.changes.now all rest (streams_in rows)
-          c.row_of.new.self.quiets.items stream c.args.frame.now row ahead found.index.distinct found.row
-          c.meet.new.self (c.in_ok-meet.ensures (frames_of stream all) (rest stream)
-          (rw c.index_mut-2.ensures.value next)));
+          let next = ahead-next rest stream c.args.frame.now row ahead found.index.distinct found.row
+          c.index_mut-2.result.now in
+          rw (is, streams-counted) (ahead-met rest stream c.args.frame.now row ahead found.index.distinct found.row
+          c.meet.new.self (c.in_ok-meet.ensures _ _ (rw c.index_mut-2.ensures.value next)));
     }

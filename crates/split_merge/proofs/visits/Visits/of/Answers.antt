@@ -1,8 +1,8 @@
-use Rattle.split_merge.proofs.Terms.{◌+◌, ◌*◌, [], drop, take, refl, ◌∙◌, arith, take_more, drop_more, length-take-le}
+use Rattle.split_merge.proofs.Terms.{append_assoc, ◌+◌, ◌++◌, [], drop, refl, sym, ◌∙◌, arith, drop_more, append-nil}
 use Rattle.split_merge.proofs.Terms.{promised_by, first_of, streams_of, IsInRange, frames_of, streams_in, with_stream}
-use Rattle.split_merge.proofs.Terms.{with_next, at_drop_all}
-use Rattle.split_merge.proofs.Visited.{at-most, named-more, named-first}
-use Rattle.split_merge.proofs.Positions.{notes-push}
+use Rattle.split_merge.proofs.Terms.{with_next, at_drop_all, noted, notes_from}
+use Rattle.split_merge.proofs.Visited.{named-more, named-first}
+use Rattle.split_merge.proofs.Positions.{came-fits, came-more, notes-next}
 use Rattle.split_merge.proofs.Ahead.{ahead-none, ahead-frame, ahead-alike, promised-small, in_range_at}
 use Rattle.split_merge.proofs.visits.Visits.of.Goals as goal
 
@@ -10,19 +10,24 @@ pub loop-frame-init : goal.loop-frame-init
 loop-frame-init c =
     let none = c.new-rows.ensures.items in
     record {
+      came = [];
+      noted = refl;
       table = record {
         index = rw none c.new.ensures;
-        listed = rw none record {
-          counts = λ r d l. absurd (omega arith);
-          none = refl;
-          absent = λ s h. refl;
-        };
+        rows = rw none refl;
+        absent = λ s h. refl;
+        few = rw none (omega arith);
+        visits = rw none (omega arith);
       };
       named = rw none (named-first (streams_of c.args.frames.now));
-      room = record { rows = rw none (omega arith); visits = rw none (omega arith) };
-      ahead = rw (none, c.new-quiets.ensures.items) (ahead-none c.args.changes.now c.args.frames.now
-          c.requires.frames c.requires.changes c.requires.acknowledged);
+      ahead = rw (none, c.new-quiets.ensures.items) (ahead-none c.requires.frames c.requires.changes
+          c.requires.acknowledged);
     }
+
+pub note-requires-clause-table : goal.note-requires-clause-table
+note-requires-clause-table c =
+    let was = c.loop-frame.invariant in
+    (was.came, was.table, came-fits c.args.frames.now was.came _ was.noted c.requires.length)
 
 pub note-requires-clause-streamed : goal.note-requires-clause-streamed
 note-requires-clause-streamed c =
@@ -35,19 +40,19 @@ note-requires-clause-next c = record {
   all = c.args.frames.now;
   rest = with_next (promised_by c.frame-item.result) c.frame-item.result
       (λ s. frames_of s (drop (c.loop-frame.frame-index + 1) c.args.frames.now));
-  ahead = ahead-frame c.args.changes.now c.args.frames.now c.loop-frame.frame-index c.frame-item.result
-      (streams_in c.loop-frame.table.rows.items) c.loop-frame.table.quiets.items c.loop-frame-test.true c.frame-item.is
+  ahead = ahead-frame c.loop-frame.frame-index c.frame-item.result c.loop-frame-test.true c.frame-item.is
       c.loop-frame.invariant.ahead;
 }
 
-pub note-requires-in-loop-frame-clause-index : goal.note-requires-in-loop-frame-clause-index
-note-requires-in-loop-frame-clause-index c =
-    (c.in_ok-note.ensures.table _ c.loop-frame.frame-index c.loop-frame.invariant.table).index
-
-pub note-requires-in-loop-frame-clause-room : goal.note-requires-in-loop-frame-clause-room
-note-requires-in-loop-frame-clause-room c =
-    at-most (c.in_ok-note.ensures.room (2 * c.loop-frame.frame-index) c.loop-frame.invariant.room)
-    (omega (arith, c.loop-frame-test.true, c.requires.length))
+pub note-requires-in-loop-frame-clause-table : goal.note-requires-in-loop-frame-clause-table
+note-requires-in-loop-frame-clause-table c =
+    let was = c.loop-frame.invariant in
+    let i = c.loop-frame.frame-index in
+    let next = notes-next i i _ c.args.frames.now c.frame-item.result c.loop-frame-test.true c.frame-item.is refl
+    refl in
+    let own = noted c.frame-item.result.stream i in
+    let once = append_assoc was.came own _ ∙ (rw next at was.noted) in
+    (_, c.in_ok-note.ensures.table was.came i was.table, came-fits c.args.frames.now _ _ once c.requires.length)
 
 pub note-requires-in-loop-frame-clause-streamed : goal.note-requires-in-loop-frame-clause-streamed
 note-requires-in-loop-frame-clause-streamed c =
@@ -59,8 +64,7 @@ note-requires-in-loop-frame-clause-next c = record {
   all = c.args.frames.now;
   rest = λ s. frames_of s (drop (c.loop-frame.frame-index + 1) c.args.frames.now);
   ahead = rw c.promised_by.ensures (c.in_ok-note.ensures.ahead c.args.frames.now _
-      (ahead-frame c.args.changes.now c.args.frames.now c.loop-frame.frame-index c.frame-item.result
-      (streams_in c.loop-frame.table.rows.items) c.loop-frame.table.quiets.items c.loop-frame-test.true c.frame-item.is
+      (ahead-frame c.loop-frame.frame-index c.frame-item.result c.loop-frame-test.true c.frame-item.is
       c.loop-frame.invariant.ahead));
 }
 
@@ -72,31 +76,32 @@ loop-frame-preserved c =
     let frame = c.frame-item.result in
     let seen = streams_in c.loop-frame.table.rows.items in
     let rest = streams_of (drop (i + 1) frames) in
-    let long = length-take-le i frames (omega (arith, within)) in
     let was = c.loop-frame.invariant in
     let first = c.in_ok-note.ensures in
     let second = c.in_ok-note-2.ensures in
-    let once = first.room (2 * i) was.room in
+    let next = notes-next i i _ frames frame within c.frame-item.is refl c.promised_by.ensures in
     record {
-      table = rw (
-        take_more frames i frame within,
-        ← c.frame-item.is,
-        notes-push 0 i (take i frames) frame (omega (arith, long)),
-        ← c.promised_by.ensures,
-      ) (second.table _ i (first.table _ i was.table));
+      came = (was.came ++ noted frame.stream i) ++ noted c.promised_by.result i;
+      noted = came-more was.came _ _ _ _ (rw next at was.noted);
+      table = second.table _ i (first.table _ i was.table);
       named = rw (second.named, c.promised_by.ensures, first.named)
           (named-more (promised_by frame) (with_stream frame.stream seen) rest
           ∙ named-more frame.stream seen (first_of (promised_by frame) rest)
           ∙ (rw (drop_more frames i frame within, ← c.frame-item.is) at was.named));
-      room = at-most (second.room (2 * i + 1) once) (omega arith);
       ahead = second.ahead frames (λ s. frames_of s (drop (i + 1) frames)) (rw c.promised_by.ensures
-          (first.ahead frames _ (ahead-frame c.args.changes.now frames i frame seen c.loop-frame.table.quiets.items
-          within c.frame-item.is was.ahead)));
+          (first.ahead frames _ (ahead-frame i frame within c.frame-item.is was.ahead)));
     }
+
+pub returns-clause-table : goal.returns-clause-table
+returns-clause-table c =
+    let was = c.loop-frame.invariant in
+    let none = at_drop_all (notes_from c.loop-frame.frame-index) c.args.frames.now c.loop-frame.frame-index
+    c.loop-frame-test.false in
+    let came = sym (append-nil was.came) ∙ (rw none at was.noted) in
+    rw (← came) was.table
 
 pub returns-clause-ahead : goal.returns-clause-ahead
 returns-clause-ahead c =
-    ahead-alike c.args.changes.now c.args.frames.now _ (λ s. []) (streams_in c.loop-frame.table.rows.items)
-    c.loop-frame.table.quiets.items
+    ahead-alike _ (λ s. [])
     (λ s n. at_drop_all (λ l. frames_of s l) c.args.frames.now c.loop-frame.frame-index c.loop-frame-test.false)
     c.loop-frame.invariant.ahead

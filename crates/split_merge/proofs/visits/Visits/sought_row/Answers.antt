@@ -1,5 +1,5 @@
-use Rattle.split_merge.proofs.Terms.{[], streams_in}
-use Rattle.split_merge.proofs.Visited.{found_among, slice_get-last, streams_in-push, with_row-new, with_row-seen}
+use Rattle.split_merge.proofs.Terms.{[], refl, streams_in}
+use Rattle.split_merge.proofs.Visited.{found_among, slice_get-last, none_among, streams_in-push}
 use Rattle.split_merge.proofs.Ahead.{ahead-new}
 use Rattle.split_merge.proofs.visits.Visits.sought_row.Goals as goal
 
@@ -7,7 +7,7 @@ pub returns-then-not-added-clause-rows : goal.returns-then-not-added-clause-rows
 returns-then-not-added-clause-rows c =
     let rows = c.args.self.now.rows.items in
     let found = rw (c.as_slice.ensures.value, c.if-not-added.true) at c.in_ok-row.ensures in
-    with_row-seen c.args.stream rows (found_among c.args.stream (streams_in rows) c.in_ok-row.row found.0)
+    rw (found_among c.args.stream (streams_in rows) c.in_ok-row.row found.0) refl
 
 pub returns : goal.returns
 returns c =
@@ -17,9 +17,8 @@ returns c =
     record {
       index = rw (named, streams_in-push) new.2;
       row = rw (named, streams_in-push, new.0) (slice_get-last (streams_in rows) [] c.args.stream);
-      rows = rw named (with_row-new c.args.stream rows new.1);
+      rows = rw (named, none_among c.args.stream (streams_in rows) new.1) refl;
       ahead = λ changes all rest h.
           rw (named, streams_in-push, c.in_ok-push-2.ensures.items)
-          (ahead-new changes all rest (streams_in rows) c.args.self.now.quiets.items c.args.stream h c.requires.above
-          c.requires.streamed new.1 c.unmet.result c.unmet.ensures);
+          (ahead-new rest c.args.stream h c.requires.above c.requires.streamed new.1 c.unmet.result c.unmet.ensures);
     }

@@ -1,26 +1,24 @@
-use Rattle.stop_desk.proofs.Words.{DeskId, DeskView, PassView, ap, arith, length, refl, subst, sym, ◌+◌, ◌<◌, ◌∙◌}
-use Rattle.stop_desk.proofs.PassViews.{same_desk, looks, look-desk, same-fields}
+use Rattle.stop_desk.proofs.Words.{arith, refl}
+use Rattle.stop_desk.proofs.PassViews.{looks}
 use Rattle.stop_desk.proofs.Steps.{sees}
 use Rattle.stop_desk.proofs.passes.Pass.look.Goals as goal
 
 pub load-word-requires : goal.load-word-requires
 load-word-requires c =
-    let there = subst (λ (d : DeskView). c.args.connection + 1 < length d.id.opened)
-    (sym c.desk.view_is) c.requires.connection in (
-      ap (λ (d : DeskId). d.table) (same_desk _ _ _ _ c.self.view_is c.requires.desk c.desk.view_is),
+    let desk = rw (← c.self.view_is, ← c.desk.view_is) at c.requires.desk in
+    let there = rw (← c.desk.view_is) at c.requires.connection in (
+      λ i. (desk i).table,
       omega (arith, c.desk.invariant.0),
       sees c.desk.inside.table.shared.key _ _ _ _ c.self.invariant.2,
     )
 
 pub invariant_of-self : goal.invariant_of-self
-invariant_of-self c =
-    same-fields _ c.self.inside.seat.me _ _ _ (c.load-word.ensures.2 c.args.connection refl).added c.self.invariant
+invariant_of-self c = rw (c.load-word.ensures.2 c.args.connection refl).added c.self.invariant
 
 pub returns-clause-desk : goal.returns-clause-desk
 returns-clause-desk c =
-    look-desk _ _ c.args.connection _ _ _ c.load-word.ensures.0 (c.load-word.ensures.2 c.args.connection refl)
-    ∙ ap (λ (v : PassView). v.desk) c.self.view_is
+    rw (← c.self.view_is, c.load-word.ensures.0, (c.load-word.ensures.2 c.args.connection refl).added)
 
 pub returns-clause-seen : goal.returns-clause-seen
-returns-clause-seen c = rw (← c.self.view_is, c.stop_in.ensures)
-    (looks _ _ _ c.args.connection _ _ _ c.load-word.ensures.0 (c.load-word.ensures.2 c.args.connection refl))
+returns-clause-seen c = rw (← c.self.view_is, c.stop_in.ensures, c.load-word.ensures.0)
+    (looks _ _ c.args.connection _ _ _ (c.load-word.ensures.2 c.args.connection refl))

@@ -1,5 +1,5 @@
 use Rattle.stream_credit.proofs.Words.{length, ap, ◌∙◌, arith, initial_in_force}
-use Rattle.stream_credit.proofs.LeftLemmas.{length-each, initial-is}
+use Rattle.stream_credit.proofs.ChangeLemmas.{length-each, initial-is}
 use Rattle.stream_credit.proofs.changes.Changes.initial_at.Goals as goal
 
 pub index-requires : goal.index-requires

@@ -1,8 +1,7 @@
-use Rattle.stream_credit.proofs.Words.{◌≡◌, ℕ, ◌+◌, ◌-◌, ◌^◌, ◌<◌, ◌≤◌, List, length, take, drop, nat_lt, sym, ap, ◌∙◌}
-use Rattle.stream_credit.proofs.Words.{rules, arith, length-drop, length-take-le, take_rest}
-use Rattle.stream_credit.proofs.Words.{IsPartitionPoint-from_clause, Change, AreOrderly}
-use Rattle.stream_credit.proofs.LeftLemmas.{orderly-drop, orderly-parted, parts-at_point}
-use Rattle.stream_credit.proofs.QuietStreams.{few-changes}
+use Rattle.stream_credit.proofs.Words.{◌≡◌, ℕ, ◌+◌, ◌-◌, ◌^◌, ◌<◌, ◌≤◌, List, length, take, drop, nat_lt, ap, ◌∙◌}
+use Rattle.stream_credit.proofs.Words.{rules, arith, length-drop, take_rest, IsPartitionPoint-from_clause, Change}
+use Rattle.stream_credit.proofs.Words.{AreOrderly}
+use Rattle.stream_credit.proofs.ChangeLemmas.{few-changes, orderly-parted, passed-is}
 use Rattle.stream_credit.proofs.changes.Changes.passed.Goals as goal
 
 fits : (met count : ℕ) (all changes : List Change) → all ≡ changes → AreOrderly changes → met ≤ length changes
@@ -23,10 +22,8 @@ overflow_add-result c =
 pub returns : goal.returns
 returns c =
     let is = take_rest c.self.inside.all.now c.args.met ∙ ap (drop c.args.met) c.self.view_is in
-    let orderly = orderly-drop 0 c.args.met c.args.self.now c.requires.orderly in
     let point = IsPartitionPoint-from_clause (λ (change : Change). nat_lt change.number c.args.number) _ _
     (rw is at c.partition_point.ensures.partitioned)
-    (orderly-parted 0 c.args.number _ orderly) (λ a r q k. search rules) in
-    let bound = rw is at c.partition_point.ensures.bound in
-    let taken = (parts-at_point c.args.number c.partition_point.result _ bound point).0 in
-    ap (λ n. c.args.met + n) (sym (length-take-le _ _ bound) ∙ ap length taken)
+    (orderly-parted c.args.number c.args.met c.args.self.now c.requires.orderly) (λ a r q k. search rules) in
+    passed-is c.args.number c.args.met c.partition_point.result c.args.self.now c.requires.met
+    (rw is at c.partition_point.ensures.bound) point

@@ -1,5 +1,6 @@
 use Rattle.stream_credit.proofs.Words.{arith, slice_get_within}
-use Rattle.stream_credit.proofs.QuietStreams.{few-changes, ahead-change}
+use Rattle.stream_credit.proofs.ChangeLemmas.{few-changes}
+use Rattle.stream_credit.proofs.QuietStreams.{ahead-change}
 use Rattle.stream_credit.proofs.quiet_streams.QuietStream.meet_each.Goals as goal
 
 pub loop-change-init : goal.loop-change-init
@@ -16,8 +17,8 @@ meet_change-requires c =
 
 pub loop-change-smaller : goal.loop-change-smaller
 loop-change-smaller c =
-    let there = slice_get_within c.args.changes.now c.get.result c.in-Some.change
-    (c.before-in-loop-change.ensures.change c.in-Some.change c.in-Some.is) in
+    let due = c.before-in-loop-change.ensures.change _ c.in-Some.is in
+    let there = slice_get_within c.args.changes.now c.get.result c.in-Some.change due.at in
     let met = c.get.ensures in
     let next = c.if-not-meet_change.ensures in
     let more = next.met in
@@ -25,11 +26,9 @@ loop-change-smaller c =
 
 pub loop-change-preserved : goal.loop-change-preserved
 loop-change-preserved c = λ stream all rest s h.
-    let before = c.before-in-loop-change.ensures in
-    let change = c.in-Some.change in
+    let due = c.before-in-loop-change.ensures.change _ c.in-Some.is in
     let initial = rw c.get-in-Some.ensures at c.initial_at-initial.ensures in
-    ahead-change (c.loop-change.invariant stream all rest s h) c.args.number s
-    (rw c.get.ensures at (before.change change c.in-Some.is)) (before.below change c.in-Some.is)
+    ahead-change (c.loop-change.invariant stream all rest s h) c.args.number s (rw c.get.ensures at due.at) due.below
     (rw initial at c.initial_after.ensures) (rw initial at c.if-not-meet_change.ensures)
 
 pub returns : goal.returns

@@ -4,12 +4,12 @@ use Rattle.stream_credit.proofs.quiet_streams.QuietStream.meet_frame.Goals as go
 
 pub returns-then-moves : goal.returns-then-moves
 returns-then-moves c = λ all rest h.
-    ahead-frame h ((rw c.get.ensures at c.if-is_at.ensures) c.requires.passed) (c.if-moves.ensures.moved _)
+    ahead-frame h ((rw c.get.ensures at c.in_default.ensures) c.requires.passed) (c.if-moves.ensures.moved _)
 
 pub returns : goal.returns
 returns c =
     let initial = rw c.get-2.ensures at c.initial_at-initial.ensures in
     OnTrue_from c.in_ok-is_quiet.is_quiet _ (λ quiet. λ all rest h.
     ahead-frame (rw (← c.if-moves.ensures.kept) at h)
-    (rw c.if-moves.ensures.kept ((rw c.get.ensures at c.if-is_at.ensures) c.requires.passed))
+    (rw c.if-moves.ensures.kept ((rw c.get.ensures at c.in_default.ensures) c.requires.passed))
     (rw initial at (OnTrue_at quiet c.in_ok-is_quiet.ensures)))

@@ -1,11 +1,14 @@
 use Rattle.stream_credit.proofs.Words.{sym, ◌∙◌}
-use Rattle.stream_credit.proofs.WalkLemmas.{nothing-left, changes-end, changes-passed}
+use Rattle.stream_credit.proofs.RunLemmas.{sound-passed}
 use Rattle.stream_credit.proofs.walks.Walk.meet_changes.Goals as goal
 
-pub returns-then-is_empty-clause-goes_on : goal.returns-then-is_empty-clause-goes_on
-returns-then-is_empty-clause-goes_on g c = λ run number rest h.
-    changes-end (rw (nothing-left c.args.passed.changes.now c.if-is_empty.ensures) at h)
+pub passed-requires : goal.passed-requires
+passed-requires g c =
+    let (run, rest, starts, h) = c.requires in record { orderly = h.rise; met = h.within }
 
-pub returns-clause-goes_on : goal.returns-clause-goes_on
-returns-clause-goes_on g c = λ run number rest h.
-    rw c.pass.ensures (changes-passed (sym c.is_live.ensures ∙ c.if-is_live.false) h)
+pub returns : goal.returns
+returns g c = λ run rest starts h. (
+  rw (c.pass.ensures, c.initial_at.ensures)
+      (sound-passed h starts (sym c.is_live.ensures ∙ c.if-is_live.false) c.passed.ensures),
+  c.passed.ensures.from,
+)

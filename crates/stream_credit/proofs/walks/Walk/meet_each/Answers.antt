@@ -1,55 +1,63 @@
-use Rattle.stream_credit.proofs.Words.{Client, Change, after_changes, None, ◌≤◌, ◌∙◌, ap, length, slice_index_or, sym}
-use Rattle.stream_credit.proofs.Words.{arith, OnTrue_at, OnFalse_at, drop_all, drop_more}
-use Rattle.stream_credit.proofs.WalkLemmas.{changes-next, changes-after, changes-end, live-on}
+use Rattle.stream_credit.proofs.Words.{Some, refl, ◌∙◌, arith, slice_get_within}
+use Rattle.stream_credit.proofs.ChangeLemmas.{few-changes}
+use Rattle.stream_credit.proofs.WalkLemmas.{step-room, step-due, step-on, step-stops, live-on}
+use Rattle.stream_credit.proofs.RunLemmas.{change-at, sound-next}
 use Rattle.stream_credit.proofs.walks.Walk.meet_each.Goals as goal
 
--- what an index past the end reads
-abbrev no_change : Change
-no_change = record { number = 0; side = Client; initial = None; max_frame = None; push = None }
+pub loop-change-init : goal.loop-change-init
+loop-change-init g c = record { live = c.requires.live; meets = λ rest starts run h. h }
 
-pub meet-requires-clause-numbered : goal.meet-requires-clause-numbered
-meet-requires-clause-numbered g c =
-    let (run, number, rest, h) = c.requires.at in
-    let next = rw (drop_more c.args.changes.now c.loop-change.change-index no_change c.loop-change-test.true) at
-    (c.loop-change.invariant.meets run number rest h) in
-    omega (arith, next.before.2)
+pub goes_on-requires : goal.goes_on-requires
+goes_on-requires g c =
+    let (run, rest, starts, h) = c.requires.sound in
+    let due = c.before-in-loop-change.ensures.change _ c.in-Some.is in
+    step-due (change-at (c.loop-change.invariant.meets rest starts run h) starts due)
 
-pub meet-requires-clause-met : goal.meet-requires-clause-met
-meet-requires-clause-met g c = c.loop-change.invariant.live
+pub returns-then-not-goes_on : goal.returns-then-not-goes_on
+returns-then-not-goes_on g c = λ run rest starts h.
+    let due = c.before-in-loop-change.ensures.change _ c.in-Some.is in
+    step-stops (change-at (c.loop-change.invariant.meets rest starts run h) starts due) c.loop-change.invariant.live
+    c.if-not-goes_on.ensures.kept c.if-not-goes_on.ensures.stops
 
-pub meet-requires-clause-at : goal.meet-requires-clause-at
-meet-requires-clause-at g c =
-    let (run, number, rest, h) = c.requires.at in
-    let next = rw (drop_more c.args.changes.now c.loop-change.change-index no_change c.loop-change-test.true) at
-    (c.loop-change.invariant.meets run number rest h) in
-    (run, _, changes-next next)
+pub count-requires : goal.count-requires
+count-requires g c =
+    let (run, rest, starts, h) = c.requires.sound in
+    let due = c.before-in-loop-change.ensures.change _ c.in-Some.is in
+    let at = change-at (c.loop-change.invariant.meets rest starts run h) starts due in
+    rw c.if-not-goes_on.ensures.kept record {
+      numbered = at.order.1;
+      streamed = at.streamed;
+      acknowledged = λ change is frame none. cc;
+      room = step-room at;
+    }
 
-pub returns-then-not-branch-clause-stops : goal.returns-then-not-branch-clause-stops
-returns-then-not-branch-clause-stops g c = λ run number rest h.
-    let next = rw (drop_more c.args.changes.now c.loop-change.change-index no_change c.loop-change-test.true) at
-    (c.loop-change.invariant.meets run number rest h) in
-    OnFalse_at c.if-not-branch.true c.in_ok-meet.ensures.stops run _ (changes-next next)
+pub overflow_add-met : goal.overflow_add-met
+overflow_add-met g c =
+    let (run, rest, starts, h) = c.requires.sound in
+    let sound = c.loop-change.invariant.meets rest starts run h in
+    omega (arith, sound.within, few-changes c.args.changes.now sound.rise)
+
+pub loop-change-smaller : goal.loop-change-smaller
+loop-change-smaller g c =
+    let due = c.before-in-loop-change.ensures.change _ c.in-Some.is in
+    let there = slice_get_within c.args.changes.now c.loop-change.met c.in-Some.change due.at in
+    omega arith
 
 pub loop-change-preserved : goal.loop-change-preserved
 loop-change-preserved g c =
     let old = c.loop-change.self in
-    let met = c.in_ok-meet.ensures in
+    let change = c.in-Some.change in
+    let due = c.before-in-loop-change.ensures.change _ c.in-Some.is in
+    let counted = rw c.if-not-goes_on.ensures.kept at c.in_ok-count.ensures.counted in
     record {
-      live = rw (OnTrue_at c.if-not-branch.false met.entry)
-          (live-on old.stream old.initial old.entry
-          (slice_index_or c.args.changes.now c.loop-change.change-index no_change)
-          ∙ c.loop-change.invariant.live);
-      meets = λ run number rest h.
-          let next = rw (drop_more c.args.changes.now c.loop-change.change-index no_change c.loop-change-test.true) at
-          (c.loop-change.invariant.meets run number rest h) in
-          changes-after next (OnTrue_at c.if-not-branch.false met.goes_on run _ (changes-next next));
-      initial = rw (OnTrue_at c.if-not-branch.false met.initial)
-          (ap (after_changes old.initial)
-          (sym (drop_more c.args.changes.now c.loop-change.change-index no_change c.loop-change-test.true))
-          ∙ c.loop-change.invariant.initial);
+      live = rw counted.entry (live-on old.stream old.initial old.entry change ∙ c.loop-change.invariant.live);
+      meets = λ rest starts run h.
+          let sound = c.loop-change.invariant.meets rest starts run h in
+          sound-next sound change.number (Some change) (due.at, refl) sound.acknowledged counted.initial
+          (step-on (change-at sound starts due) c.loop-change.invariant.live c.if-not-goes_on.ensures.kept
+          c.if-not-goes_on.ensures.goes_on c.in_ok-count.ensures.counted c.in_ok-count.ensures.room);
     }
 
-pub returns-clause-goes_on : goal.returns-clause-goes_on
-returns-clause-goes_on g c = λ run number rest h.
-    let past : length c.args.changes.now ≤ c.loop-change.change-index = omega arith in
-    changes-end (rw drop_all at (c.loop-change.invariant.meets run number rest h))
+pub returns : goal.returns
+returns g c = λ run rest starts h.
+    (c.loop-change.invariant.meets rest starts run h, c.before-in-loop-change.ensures.none c.in_default.is)

@@ -1,43 +1,51 @@
-use Rattle.stream_credit.proofs.Words.{ap, ◌∙◌, initial_after, OnTrue_at, OnFalse_at, OnTrue_from, OnFalse_from}
-use Rattle.stream_credit.proofs.RunLemmas.{frame-changes, frame-acknowledged, frame-sound}
+use Rattle.stream_credit.proofs.Words.{refl, arith, when_false, when_true}
+use Rattle.stream_credit.proofs.ChangeLemmas.{few-changes}
+use Rattle.stream_credit.proofs.WalkLemmas.{step-room, step-due, step-on, step-stops}
+use Rattle.stream_credit.proofs.RunLemmas.{frame-at, frame-acknowledged, sound-next}
 use Rattle.stream_credit.proofs.walks.Walk.meet_frame.Goals as goal
 
-pub meet_changes-requires-clause-at : goal.meet_changes-requires-clause-at
-meet_changes-requires-clause-at g c =
+pub meet_changes-requires : goal.meet_changes-requires
+meet_changes-requires g c = let (run, frames, h) = c.requires in (run, _, refl, h)
+
+pub returns-then-not-branch : goal.returns-then-not-branch
+returns-then-not-branch g c = λ run frames h.
+    when_false _ _ c.if-not-branch.true (c.in_ok-meet_changes.ensures run _ refl h)
+
+pub goes_on-requires : goal.goes_on-requires
+goes_on-requires g c =
     let (run, frames, h) = c.requires in
-    (run, _, _, frame-changes h c.pass-passed.ensures.left c.pass-passed.ensures.passed)
+    let (sound, from) = when_true _ _ c.if-not-branch.false (c.in_ok-meet_changes.ensures run _ refl h) in
+    step-due (frame-at sound c.at-change.ensures from)
 
-pub returns-then-not-branch-clause-stops : goal.returns-then-not-branch-clause-stops
-returns-then-not-branch-clause-stops g c = λ run frames h.
-    OnFalse_at c.if-not-branch.true c.in_ok-meet_changes.ensures.stops run _ _
-    (frame-changes h c.pass-passed.ensures.left c.pass-passed.ensures.passed)
+pub returns-then-not-goes_on : goal.returns-then-not-goes_on
+returns-then-not-goes_on g c = λ run frames h.
+    let (sound, from) = when_true _ _ c.if-not-branch.false (c.in_ok-meet_changes.ensures run _ refl h) in
+    step-stops (frame-at sound c.at-change.ensures from) refl c.if-not-goes_on.ensures.kept
+    c.if-not-goes_on.ensures.stops
 
-pub meet_with-requires-clause-acknowledged : goal.meet_with-requires-clause-acknowledged
-meet_with-requires-clause-acknowledged g c =
-    let (run, frames, h) = c.requires in frame-acknowledged h c.pass-passed.ensures.left c.take-change.ensures.change
-
-pub meet_with-requires-clause-at : goal.meet_with-requires-clause-at
-meet_with-requires-clause-at g c =
+pub count_frame-requires : goal.count_frame-requires
+count_frame-requires g c =
     let (run, frames, h) = c.requires in
-    let at = OnTrue_at c.if-not-branch.false c.in_ok-meet_changes.ensures.goes_on run _ _
-    (frame-changes h c.pass-passed.ensures.left c.pass-passed.ensures.passed) in
-    (run, _, rw (← c.take-change.ensures.change) at at)
+    let (sound, from) = when_true _ _ c.if-not-branch.false (c.in_ok-meet_changes.ensures run _ refl h) in
+    let at = frame-at sound c.at-change.ensures from in
+    rw c.if-not-goes_on.ensures.kept record {
+      numbered = at.order.1;
+      streamed = at.streamed;
+      acknowledged = frame-acknowledged sound c.at-change.ensures;
+      room = step-room at;
+    }
 
-pub returns-clause-goes_on : goal.returns-clause-goes_on
-returns-clause-goes_on g c =
-    OnTrue_from c.in_ok-is_met.is_met _ (λ is. λ run frames h.
-    let at = OnTrue_at c.if-not-branch.false c.in_ok-meet_changes.ensures.goes_on run _ _
-    (frame-changes h c.pass-passed.ensures.left c.pass-passed.ensures.passed) in
-    let in_force = c.take-change.ensures.in_force _
-    (c.pass-passed.ensures.in_force_after c.args.self.now.initial h.in_force) in
-    let now = OnTrue_at is c.in_ok-is_met.ensures.initial ∙ ap (initial_after c.take-change.result)
-    (OnTrue_at c.if-not-branch.false c.in_ok-meet_changes.ensures.initial) in
-    frame-sound h c.pass-passed.ensures.left c.take-change.ensures.left (rw now in_force)
-    (OnTrue_at is c.in_ok-is_met.ensures.goes_on run _ (rw (← c.take-change.ensures.change) at at)))
+pub met_after-requires : goal.met_after-requires
+met_after-requires g c =
+    let (run, frames, h) = c.requires in
+    let (sound, from) = when_true _ _ c.if-not-branch.false (c.in_ok-meet_changes.ensures run _ refl h) in
+    omega (arith, sound.within, few-changes c.args.changes.now sound.rise)
 
-pub returns-clause-stops : goal.returns-clause-stops
-returns-clause-stops g c =
-    OnFalse_from c.in_ok-is_met.is_met _ (λ is. λ run frames h.
-    let at = OnTrue_at c.if-not-branch.false c.in_ok-meet_changes.ensures.goes_on run _ _
-    (frame-changes h c.pass-passed.ensures.left c.pass-passed.ensures.passed) in
-    OnFalse_at is c.in_ok-is_met.ensures.stops run _ (rw (← c.take-change.ensures.change) at at))
+pub returns : goal.returns
+returns g c = λ run frames h.
+    let (sound, from) = when_true _ _ c.if-not-branch.false (c.in_ok-meet_changes.ensures run _ refl h) in
+    let counted = rw c.if-not-goes_on.ensures.kept at c.in_ok-count_frame.ensures.counted in
+    let step = step-on (frame-at sound c.at-change.ensures from) refl c.if-not-goes_on.ensures.kept
+    c.if-not-goes_on.ensures.goes_on c.in_ok-count_frame.ensures.counted c.in_ok-count_frame.ensures.room in
+    rw c.met_after.ensures (sound-next sound c.args.frame.now.number c.at-change.result c.at-change.ensures
+    sound.acknowledged.1 counted.initial step)

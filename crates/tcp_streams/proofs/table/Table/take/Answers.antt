@@ -4,7 +4,7 @@ use Rattle.std.proofs.lemmas.List.{map-set}
 use Rattle.std.proofs.lemmas.Result.{on_ok_weaker}
 use Rattle.tcp_streams.proofs.Lists.{on_ok_3}
 use Rattle.tcp_streams.proofs.Steps.{shown-begins, shown-counts, shown-joins, shown-opens}
-use Rattle.tcp_streams.proofs.Turns.{counted-few, stands-opened, stands-unopened}
+use Rattle.tcp_streams.proofs.Steps.{counted-few, stands-opened, stands-unopened}
 use Rattle.tcp_streams.proofs.table.Table.take.Goals as goal
 
 pub returns-in-Opens : goal.returns-in-Opens

@@ -1,5 +1,5 @@
 use Rattle.tcp_streams.proofs.Words.{not, Some, sym, ◌∙◌, ap}
-use Rattle.tcp_streams.proofs.Turns.{decides, stands_so}
+use Rattle.tcp_streams.proofs.Steps.{decides, stands_so}
 use Rattle.tcp_streams.proofs.table.Table.turn.Goals as goal
 use Rattle.tcp_streams.proofs.table.Table.turn.Goals.{else-is_request-3-via-then-is_request-3+else-not-is_reopened_by}
 use Rattle.tcp_streams.proofs.table.Table.turn.Goals.{else-is_request-3-via-else-is_request-3}

@@ -1,0 +1,10 @@
+use Rattle.audit_rounds.proofs.Batches.{batch-parts}
+use Rattle.audit_rounds.proofs.connections.in_halves.Goals as goal
+
+pub returns-clause-one : goal.returns-clause-one
+returns-clause-one c =
+    rw c.split_at.ensures.front (batch-parts c.args.connections.now c.loop-count.count c.requires.batch).0
+
+pub returns-clause-other : goal.returns-clause-other
+returns-clause-other c =
+    rw c.split_at.ensures.back (batch-parts c.args.connections.now c.loop-count.count c.requires.batch).1

@@ -1,8 +1,0 @@
-use Rattle.std.proofs.Common.{◌≡◌, ◌++◌, map}
-use Rattle.block_scan.specs.code.List.{items_of}
-use Rattle.block_scan.proofs.scans.joined.Given as goal
-
-abbrev pub invariant-loop-part : goal.invariant-loop-part
-invariant-loop-part g l =
-    l.all.items ++ items_of (map (λ part. part.items) l.part-iterator.rest.items)
-    ≡ items_of (map (λ part. part.items) l.fn.parts.items)

@@ -1,7 +1,0 @@
-use Rattle.std.proofs.Common.{◌≡◌, take}
-use Rattle.block_scan.specs.code.Summary.{summary_of}
-use Rattle.block_scan.proofs.scans.sum_of.Given as goal
-
-abbrev pub invariant-loop-item : goal.invariant-loop-item
-invariant-loop-item g l =
-    let s = g.S.Summary in l.sum ≡ summary_of s.empty s.of s.join (take l.item-index l.items)

@@ -1,2 +1,0 @@
-pub mod StreamCuts
-pub mod WholePart
