@@ -1,4 +1,5 @@
 mod Words
+pub mod Promised
 pub mod SettingsRead
 pub mod SettingsRanges
 pub mod Arriving

@@ -5,6 +5,7 @@ use Rattle.h2_frames.proofs.Words.{AllByRecursion, Arrival, Side, Frame, Spelled
 use Rattle.h2_frames.proofs.Words.{byte_arrival, captured, captured_from, arrivals_from, IsReadable}
 use Rattle.h2_frames.proofs.Words.{AreAhead, IsOneTaken, IsPlaced, Pieces}
 use Rattle.h2_frames.specs.code.Pieces.{bytes_of}
+use Rattle.h2_frames.proofs.Promised.{promised-fits}
 use Rattle.h2_frames.proofs.Arriving.{captured_from-from, get_or-arrivals_from, arrivals_from-not_empty}
 use Rattle.h2_frames.proofs.Arriving.{arrivals_from-rise, arrivals_from-timely, first_timely}
 
@@ -58,7 +59,7 @@ pub frame_readable : (frame : Frame) (side : Side) (number last : ℕ) (arrivals
 frame_readable frame side number last arrivals to_come d s old new one frame_is to_come_is timely there =
     rw frame_is (record {
       stream = one.stream_fits;
-      promised = one.promised_fits;
+      promised = promised-fits s one.makes;
       length = one.length_fits;
       nanos = first_timely to_come d (rw to_come_is (arrivals_from-timely last arrivals timely)) there;
     })

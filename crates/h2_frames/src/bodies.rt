@@ -3,7 +3,6 @@ ghost use Rattle.std.specs.Prelude.{IsTrue};
 ghost use Rattle.audit_terms.specs.declared.frames.Body.TheVariants.{Content, GoAway, Headers, Priority, PushPromise};
 ghost use Rattle.audit_terms.specs.declared.frames.Body.TheVariants.{Unreadable, WindowUpdate};
 ghost use Rattle.audit_terms.specs.declared.kinds.Kind.TheVariants.{BadPriority};
-ghost use Rattle.audit_terms.specs.Frame.{promised_in};
 ghost use Rattle.audit_terms.specs.FrameType.{has_flag};
 ghost use Rattle.h2_frames.specs.Body.{body_of, is_padded, of_length, padded_body, priority_flag, settings_body};
 ghost use Rattle.h2_frames.specs.Body.{wrong_size};
@@ -49,18 +48,15 @@ fn has_flag(flags: u8, flag: u8) -> bool
 
 fn wrong_size(payload: &[u8]) -> Body
     requires { length payload.now < 2 ^ 24 }
-    ensures exact { result ≡ wrong_size payload.now }
-    ensures promised { promised_in result < 2 ^ 31 }
+    ensures { result ≡ wrong_size payload.now }
 {
     Body::Unreadable(Kind::WrongSize, Word::of(payload.len() as u32))
 }
 
 /// A payload that has to be `size` bytes long.
 fn of_length(size: usize, payload: &[u8], body: Body) -> Body
-    requires payload { length payload.now < 2 ^ 24 }
-    requires promised { promised_in body < 2 ^ 31 }
-    ensures exact { result ≡ of_length size payload.now body }
-    ensures promised { promised_in result < 2 ^ 31 }
+    requires { length payload.now < 2 ^ 24 }
+    ensures { result ≡ of_length size payload.now body }
 {
     if payload.len() == size {
         body
@@ -73,9 +69,7 @@ fn of_length(size: usize, payload: &[u8], body: Body) -> Body
 fn padded_body(flags: u8, payload: &[u8], fields: usize, body: Body) -> Body
     requires payload { length payload.now < 2 ^ 24 }
     requires fields { fields < 2 ^ 24 }
-    requires promised { promised_in body < 2 ^ 31 }
-    ensures exact { result ≡ padded_body flags payload.now fields body }
-    ensures promised { promised_in result < 2 ^ 31 }
+    ensures { result ≡ padded_body flags payload.now fields body }
 {
     if !has_flag(flags, PADDED_FLAG) {
         return if payload.len() < fields {
@@ -96,8 +90,7 @@ fn padded_body(flags: u8, payload: &[u8], fields: usize, body: Body) -> Body
 /// HEADERS (RFC 9113, 6.2).
 fn headers_body(flags: u8, payload: &[u8]) -> Body
     requires { length payload.now < 2 ^ 24 }
-    ensures exact { result ≡ padded_body flags payload.now (if has_flag flags priority_flag then 5 else 0) Headers }
-    ensures promised { promised_in result < 2 ^ 31 }
+    ensures { result ≡ padded_body flags payload.now (if has_flag flags priority_flag then 5 else 0) Headers }
 {
     let fields = if has_flag(flags, PRIORITY_FLAG) { 5 } else { 0 };
     padded_body(flags, payload, fields, Body::Headers)
@@ -106,9 +99,8 @@ fn headers_body(flags: u8, payload: &[u8]) -> Body
 /// PRIORITY (RFC 9113, 6.3).
 fn priority_body(payload: &[u8]) -> Body
     requires { length payload.now < 2 ^ 24 }
-    ensures exact { result ≡ (if length payload.now == 5 then Priority
+    ensures { result ≡ (if length payload.now == 5 then Priority
         else Unreadable BadPriority (length payload.now)) }
-    ensures promised { promised_in result < 2 ^ 31 }
 {
     if payload.len() == 5 {
         Body::Priority
@@ -121,8 +113,7 @@ fn priority_body(payload: &[u8]) -> Body
 #[tactic(auto, using(crate::proofs::SettingsRanges::bad_settings))]
 fn settings_body(flags: u8, payload: &[u8]) -> Body
     requires { length payload.now < 2 ^ 24 }
-    ensures exact { result ≡ settings_body flags payload.now }
-    ensures promised { promised_in result < 2 ^ 31 }
+    ensures { result ≡ settings_body flags payload.now }
 {
     if has_flag(flags, ACK_FLAG) {
         of_length(0, payload, Body::SettingsAck)
@@ -136,9 +127,8 @@ fn settings_body(flags: u8, payload: &[u8]) -> Body
 /// PUSH_PROMISE (RFC 9113, 6.6).
 fn push_promise_body(flags: u8, payload: &[u8]) -> Body
     requires { length payload.now < 2 ^ 24 }
-    ensures exact { result ≡ padded_body flags payload.now 4
+    ensures { result ≡ padded_body flags payload.now 4
         (PushPromise (number_of_31_bits (drop (if is_padded flags then 1 else 0) payload.now))) }
-    ensures promised { promised_in result < 2 ^ 31 }
 {
     let padding = if has_flag(flags, PADDED_FLAG) { 1 } else { 0 };
     if payload.len() < padding + 4 {
@@ -151,8 +141,7 @@ fn push_promise_body(flags: u8, payload: &[u8]) -> Body
 /// GOAWAY (RFC 9113, 6.8).
 fn go_away_body(payload: &[u8]) -> Body
     requires { length payload.now < 2 ^ 24 }
-    ensures exact { result ≡ (if nat_lt (length payload.now) 8 then wrong_size payload.now else GoAway) }
-    ensures promised { promised_in result < 2 ^ 31 }
+    ensures { result ≡ (if nat_lt (length payload.now) 8 then wrong_size payload.now else GoAway) }
 {
     if payload.len() < 8 {
         wrong_size(payload)
@@ -164,8 +153,7 @@ fn go_away_body(payload: &[u8]) -> Body
 /// WINDOW_UPDATE (RFC 9113, 6.9).
 fn window_update_body(payload: &[u8]) -> Body
     requires { length payload.now < 2 ^ 24 }
-    ensures exact { result ≡ of_length 4 payload.now (WindowUpdate (number_of_31_bits payload.now)) }
-    ensures promised { promised_in result < 2 ^ 31 }
+    ensures { result ≡ of_length 4 payload.now (WindowUpdate (number_of_31_bits payload.now)) }
 {
     if payload.len() == 4 {
         Body::WindowUpdate(Word::of(number_of_31_bits(payload)))
@@ -186,8 +174,7 @@ pub(crate) fn is_content(code: u8, flags: u8) -> bool
 #[inline(always)]
 pub(crate) fn body_of(code: u8, flags: u8, payload: &[u8]) -> Body
     requires { length payload.now < 2 ^ 24 }
-    ensures exact { result ≡ body_of code flags payload.now }
-    ensures promised { promised_in result < 2 ^ 31 }
+    ensures { result ≡ body_of code flags payload.now }
 {
     match code {
         DATA => padded_body(flags, payload, 0, Body::Content),

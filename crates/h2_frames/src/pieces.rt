@@ -1,5 +1,4 @@
 ghost use Rattle.std.specs.Prelude.{◌≡◌, ◌<◌, ◌≤◌, ◌^◌, ◌++◌, ◌∷◌, ℕ, List, length, IfOk, IfSome, IfNone};
-ghost use Rattle.audit_terms.specs.Frame.{promised_in};
 ghost use Rattle.h2_frames.specs.Body.{body_of};
 ghost use Rattle.h2_frames.specs.code.Pieces.{bytes_of, joined, IsCounted, IsFrameTaken, IsTaken};
 
@@ -133,9 +132,8 @@ impl<'a> Pieces<'a> {
         requires counted { IsCounted self.old }
         requires short { header.length < 2 ^ 24 }
         requires there { header.length ≤ length (bytes_of self.old) }
-        ensures body { IfOk result (λ body. (payload : List ℕ) × IsTaken header.length self.old self.new payload
+        ensures { IfOk result (λ body. (payload : List ℕ) × IsTaken header.length self.old self.new payload
             × (body ≡ body_of header.code header.flags payload)) }
-        ensures promised { IfOk result (λ body. promised_in body < 2 ^ 31) }
     {
         let length = header.length as usize;
         if is_content(header.code, header.flags) {

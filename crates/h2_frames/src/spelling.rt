@@ -1,5 +1,4 @@
 ghost use Rattle.std.specs.Prelude.{◌≡◌, ◌<◌, ◌^◌, ◌++◌, ℕ, List, length, IfSome, IfNone};
-ghost use Rattle.audit_terms.specs.Frame.{promised_in};
 ghost use Rattle.h2_frames.specs.Spelling.{HoldsNoFrame, Makes};
 
 use crate::bodies::body_of;
@@ -17,8 +16,7 @@ pub struct Spelled {
 pub(crate) fn first_frame(bytes: &[u8]) -> Option<(Spelled, &[u8])>
     ensures found { IfSome result (λ found. (header : List ℕ) × (payload : List ℕ)
         × (bytes.now ≡ header ++ payload ++ found.1.now) × Makes header payload found.0) }
-    ensures ranges { IfSome result (λ found. (found.0.header.length < 2 ^ 24)
-        × (found.0.header.stream < 2 ^ 31) × (promised_in found.0.body < 2 ^ 31)) }
+    ensures ranges { IfSome result (λ found. (found.0.header.length < 2 ^ 24) × (found.0.header.stream < 2 ^ 31)) }
     ensures none { IfNone result (HoldsNoFrame bytes.now) }
 {
     let (start, rest) = bytes.split_first_chunk::<HEADER_LENGTH>()?;

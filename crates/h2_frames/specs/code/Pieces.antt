@@ -2,7 +2,6 @@
 use Rattle.std.specs.Prelude.{◌≡◌, ℕ, ◌<◌, ◌^◌, List, ◌++◌, length, map, Option, Some, None}
 use Rattle.std.specs.List.{concat}
 use Rattle.std.specs.Borrow.{Bor}
-use Rattle.audit_terms.specs.Frame.{promised_in}
 use Rattle.h2_frames.specs.declared.pieces.Pieces.{Pieces}
 use Rattle.h2_frames.specs.declared.spelling.Spelled.{Spelled}
 use Rattle.h2_frames.specs.Spelling.{HoldsNoFrame, Makes}
@@ -33,7 +32,6 @@ pub record IsOneTaken (frame : Spelled) (old new : Pieces) : Type 0 where
   pub makes : Makes header payload frame
   pub length_fits : frame.header.length < 2 ^ 24
   pub stream_fits : frame.header.stream < 2 ^ 31
-  pub promised_fits : promised_in frame.body < 2 ^ 31
   pub counted : IsCounted new
 
 -- a frame was taken from the front; where there is none, the bytes are what they were and hold no whole one

@@ -24,6 +24,6 @@ returns-clause-found c =
         nine = ap length first.0 ∙ length-take-le 9 c.args.bytes.now (omega (arith, first.2));
         whole = second.3;
         header_is = c.read-header.ensures.exact;
-        body_is = c.body_of-body.ensures.exact;
+        body_is = c.body_of-body.ensures;
       },
     )
