@@ -28,14 +28,14 @@
 mod connections;
 mod counts;
 mod frame_faults;
-mod shares;
 mod previous;
+mod shares;
 mod spots;
 mod streams;
 mod windows;
 
 pub use connections::say_connection;
 pub use frame_faults::say_local;
-pub use shares::local_faults;
 pub use previous::keep_last;
+pub use shares::local_faults;
 pub use streams::say_stream;

@@ -1,5 +1,6 @@
 ghost use Rattle.std.specs.Prelude.{◌≡◌, ◌+◌, ◌-◌, ◌<◌, ◌≤◌, ◌^◌, [], ◌∷◌, ◌++◌, false, All, length, drop, IfOk, OnOk};
-ghost use Rattle.tcp_streams.specs.code.Interval.{HasPassed, IsInterval, AreSetApart, Spans, clipped, lie_apart, overlay};
+ghost use Rattle.tcp_streams.specs.code.Interval.{AreSetApart, HasPassed, IsInterval, Spans, clipped};
+ghost use Rattle.tcp_streams.specs.code.Interval.{lie_apart, overlay};
 
 use crate::interval::{END_OF_OFFSETS, Interval};
 use std::alloc::{AllocError, Global};
