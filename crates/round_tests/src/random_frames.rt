@@ -109,8 +109,8 @@ fn shows_the_pass(rt: &(impl Sync + Threads), alloc: Global, frames: &[Frame]) -
 
 pub fn random_frames(rt: &(impl Sync + Threads), alloc: Global) -> Answer {
     let mut rng = Pcg32::new(1, 1);
-    for _ in 0..12 {
-        let frames = script(alloc, &mut rng, 12)?;
+    for count in 0..120 {
+        let frames = script(alloc, &mut rng, count)?;
         if !shows_the_pass(rt, alloc, &frames)? {
             return Ok(false);
         }
