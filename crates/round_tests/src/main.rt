@@ -1,8 +1,8 @@
 //! Tests of the crates from frames to findings, as a program that prints a line for each: its name, and `Ok(true)`
 //! where what it compares is the same. No contract gives these: that a look answers what another pass of the desk
-//! lowered; that a later job sees the stop which an earlier one lowered; and that `findings_of_each` and `one_pass` have
-//! an answer, where there is memory, and the same one, of random frames. How often runs over 1,000 frames look, and
-//! what they are handed and keep, stands in their contracts; here it stands in numbers that a reader can check.
+//! lowered; that a later job sees the stop which an earlier one lowered; and that `findings_of_each` and `one_pass`
+//! have an answer, where there is memory, and the same one, of random frames. How often runs over 1,000 frames look,
+//! and what they are handed and keep, stands in their contracts; here it stands in numbers that a reader can check.
 //!
 //! It stands on the crates of the rounds alone, and links neither those of the bytes nor `h2audit`: their tests are the
 //! lines of `crate_tests`.
