@@ -6,8 +6,8 @@ ghost use Rattle.split_merge.specs.code.Visits.{AreBelow, IsIndex, IsRowOf, NotA
 
 use crate::visits::Visited;
 use indexmap::IndexSet;
+use input_output::TableHash;
 use std::alloc::{AllocError, Global};
-use table_hash::TableHash;
 
 /// Tells the row of a stream. Streams are numbered upwards (RFC 9113, 5.1.1): as long as they are met in that order,
 /// their rows are found by halving, and nothing is kept beside them. From the first stream on that is met out of order,
