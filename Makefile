@@ -78,7 +78,7 @@ deb: $(PROGRAM) $(SPLIT)
 		ZSHDIR=/usr/share/zsh/vendor-completions > /dev/null && \
 		tools/package/build_deb.sh "$$stage" "$(abspath $(PACKAGES))"
 
-# What tells in some two minutes whether a change holds together, and proves nothing: layout, types of Python, the front
+# What tells in some three minutes whether a change holds together, and proves nothing: layout, types of Python, the front
 # end on every crate, the tests of calls, and the definitions to believe. With CRATE=NAME it proves that crate.
 check:
 ifdef CRATE
