@@ -47,14 +47,14 @@ fn is_plain(alloc: Global, flow: &Flow, plain: &PlainFlow) -> Answer {
 
 /// Whether the client's flow in the first connection is that of the plain program.
 fn has_plain_flow(alloc: Global, capture: &[u8]) -> Answer {
-    let parts = input_output::Capture::cut(alloc, capture)?;
-    let Ok(read) = records(alloc, &parts) else {
+    let chunks = input_output::Capture::cut(alloc, capture)?;
+    let Ok(read) = records(alloc, &chunks) else {
         return Ok(false);
     };
     let Ok(walk) = PacketWalk::begin(alloc, capture) else {
         return Ok(false);
     };
-    let Ok(found) = walk.finish(alloc, &parts) else {
+    let Ok(found) = walk.finish(alloc, &chunks) else {
         return Ok(false);
     };
     let packets = Packets::of(alloc, &found.packets)?;
@@ -66,7 +66,7 @@ fn has_plain_flow(alloc: Global, capture: &[u8]) -> Answer {
         return Ok(false);
     }
     let connection = &streams.opened[0];
-    let flow = assemble(alloc, &parts, &packets, connection, Side::Client)?;
+    let flow = assemble(alloc, &chunks, &packets, connection, Side::Client)?;
     let segments = client_segments(alloc, &packets, connection)?;
     let plain = plain::assemble(alloc, capture, segments.as_slice(), connection.client_isn)?;
     is_plain(alloc, &flow, &plain)

@@ -60,7 +60,7 @@ fn is_read(alloc: Global, reader: &CaptureReader<Pieces>, whole: &[u8], at_most:
     reader.passed() == read - kept && has_kept(alloc, reader, &whole[..kept])
 }
 
-/// Whether these few bytes, of one part, are what is kept.
+/// Whether these few bytes, of one chunk, are what is kept.
 fn has_kept(alloc: Global, reader: &CaptureReader<Pieces>, bytes: &[u8]) -> bool {
     match reader.capture(alloc) {
         Ok(kept) if kept.len() == 0 => bytes.is_empty(),

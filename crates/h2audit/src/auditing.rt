@@ -32,19 +32,19 @@ pub fn audit(
         (λ r. IsReport capture.now options.now.frames_shown r.0.items r.1) }
     ensures refused { IfErr result (λ e. IsNoReport capture.now e) }
 {
-    // A refusal takes no memory, so it comes before the parts.
+    // A refusal takes no memory, so it comes before the chunks.
     let walk = match PacketWalk::begin(alloc, capture) {
         Ok(walk) => walk,
         Err(refusal) => return Err(AuditFault::Pcap(refusal)),
     };
     match Capture::cut(alloc, capture) {
-        Ok(parts) => audit_parts(rt, alloc, options, walk, &parts, gate),
+        Ok(chunks) => audit_chunks(rt, alloc, options, walk, &chunks, gate),
         Err(_) => Err(AuditFault::OutOfMemory),
     }
 }
 
-/// The report of a capture that is held in parts, and its verdict. The walk made a front of the capture's packets.
-pub(crate) fn audit_parts(
+/// The report of a capture that is held in chunks, and its verdict. The walk made a front of the capture's packets.
+pub(crate) fn audit_chunks(
     rt: &(impl Threads + Sync + RandomSource),
     alloc: Global,
     options: &Options,

@@ -6,7 +6,7 @@ ghost use Rattle.input_output.specs.code.Reading as accounted;
 ghost use Rattle.h2audit.specs.code.Reading.{HasReadCapture, IsHeaderOf, IsReadingFault};
 
 use crate::fault::AuditFault;
-use input_output::{CaptureReader, PartsAhead, ReadFault, keep_and_walk, keep_up_to, pass_over};
+use input_output::{CaptureReader, ChunksAhead, ReadFault, keep_and_walk, keep_up_to, pass_over};
 use packet_heads::PacketWalk;
 use pcap_records::PcapFault;
 use std::alloc::Global;
@@ -39,8 +39,8 @@ pub(crate) fn read_capture<R: Read>(
     ensures read { IfOk result (HasReadCapture (R.remaining reader.old.reader) reader.new) }
     ensures err { IfErr result (λ e. IsReadingFault e reader.new) }
 {
-    let mut ahead = PartsAhead::new(rt, alloc, workers);
-    let read = read_in_parts(alloc, &mut ahead, reader);
+    let mut ahead = ChunksAhead::new(rt, alloc, workers);
+    let read = read_in_chunks(alloc, &mut ahead, reader);
     ahead.finish();
     match read {
         Ok(read) => Ok(read),
@@ -49,10 +49,10 @@ pub(crate) fn read_capture<R: Read>(
     }
 }
 
-/// The same, into parts that are made ahead.
-fn read_in_parts<T: Threads, R: Read>(
+/// The same, into chunks that are made ahead.
+fn read_in_chunks<T: Threads, R: Read>(
     alloc: Global,
-    ahead: &mut PartsAhead<'_, T>,
+    ahead: &mut ChunksAhead<'_, T>,
     reader: &mut CaptureReader<R>,
 ) -> Result<FileHeader, ReadFault>
     requires { IsUnread reader.old }

@@ -6,7 +6,7 @@ ghost use Rattle.h2audit.specs.Report.{IsReport};
 ghost use Rattle.h2audit.specs.code.Reading.{IsAuditingFault, IsHeaderOf};
 ghost use Rattle.h2audit.specs.code.Writing.{IsWritten};
 
-use crate::auditing::audit_parts;
+use crate::auditing::audit_chunks;
 use crate::command_line::Options;
 use crate::fault::AuditFault;
 use crate::reading::{FileHeader, read_capture};
@@ -66,7 +66,7 @@ pub(crate) fn write_out<W: Write>(
 }
 
 /// Audits what is kept of a capture, or answers the refusal that was read. Where there is no memory for the list of its
-/// parts, the account has that.
+/// chunks, the account has that.
 fn audit_kept<R: Read>(
     rt: &(impl Threads + Sync + RandomSource),
     alloc: Global,
@@ -83,7 +83,7 @@ fn audit_kept<R: Read>(
     match header {
         FileHeader::Taken(walk) => {
             if let Ok(capture) = reader.capture(alloc) {
-                return audit_parts(rt, alloc, options, walk, &capture, gate);
+                return audit_chunks(rt, alloc, options, walk, &capture, gate);
             }
             reader.lack_memory();
             Err(AuditFault::OutOfMemory)

@@ -1,3 +1,3 @@
-pub mod PartLemmas
+pub mod ChunkLemmas
 mod Bytes
 pub mod Kept

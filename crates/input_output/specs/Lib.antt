@@ -1,4 +1,4 @@
-pub mod Parts
+pub mod Chunks
 pub mod Bytes
 pub mod Account
 pub mod code

@@ -6,10 +6,10 @@ ghost use Rattle.input_output.specs.code.Front.{Lasts};
 ghost use Rattle.input_output.specs.code.Reading.{HasReadOnce, IsReadingFault};
 ghost use Rattle.input_output.specs.code.Reads.{HasRead, IsStateAfter};
 
+use crate::chunks_ahead::ChunksAhead;
 use crate::fault::ReadFault;
 use crate::front::{Capture, FrontWalk};
 use crate::kept_bytes::KeptBytes;
-use crate::parts_ahead::PartsAhead;
 use std::alloc::{AllocError, Global};
 use std::io::Read;
 use std::thread::Threads;
@@ -26,7 +26,7 @@ pub enum ReadState {
     Ended,
     /// The last one failed.
     Failed,
-    /// Memory was wanting, for bytes or for the list of their parts.
+    /// Memory was wanting, for bytes or for the list of their chunks.
     LackedMemory,
 }
 
@@ -68,7 +68,7 @@ impl<R> CaptureReader<R> {
         self.bytes.capture(alloc)
     }
 
-    /// The same, where there is room for less than a part of a capture.
+    /// The same, where there is room for less than a chunk of a capture.
     pub fn together(&self) -> &[u8]
         requires { self.now.bytes.room < 1048576 }
         ensures { result.now ≡ kept self.now }
@@ -112,7 +112,7 @@ impl<R> CaptureReader<R> {
         LIMIT <= self.bytes.len() + self.passed
     }
 
-    /// Enters that there was no memory for the list of the parts.
+    /// Enters that there was no memory for the list of the chunks.
     pub fn lack_memory(&mut self)
         ensures { self.new ≡ record self.old { state = ReadState.LackedMemory } }
     {
@@ -126,7 +126,7 @@ impl<R: Read> CaptureReader<R> {
     pub(crate) fn read_once<T: Threads>(
         &mut self,
         limit: usize,
-        ahead: &mut PartsAhead<'_, T>,
+        ahead: &mut ChunksAhead<'_, T>,
     ) -> Result<usize, ReadFault>
         requires limit { length (kept self.old) < limit }
         requires room { (self.old.bytes.room ≤ limit) × (limit ≤ 2 ^ 31) }
@@ -156,10 +156,10 @@ impl<R: Read> CaptureReader<R> {
         }
     }
 
-    /// The same, up to [`LIMIT`], while a walk goes on over what is kept, part by part.
+    /// The same, up to [`LIMIT`], while a walk goes on over what is kept, chunk by chunk.
     pub(crate) fn read_and_walk<T: Threads, W: FrontWalk + Send>(
         &mut self,
-        ahead: &mut PartsAhead<'_, T>,
+        ahead: &mut ChunksAhead<'_, T>,
         walk: &mut W,
     ) -> Result<usize, ReadFault>
         requires limit { length (kept self.old) < 2 ^ 31 }

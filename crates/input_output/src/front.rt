@@ -3,18 +3,18 @@
 ghost use Rattle.std.specs.Prelude.{◌≤◌, ◌^◌, List, ℕ, OnOk, length};
 ghost use Rattle.input_output.specs.code.Front.{Lasts};
 
-use crate::parts::Parts;
+use crate::chunks::Chunks;
 use std::alloc::{AllocError, Global};
 
-/// How many bytes a part of a capture has: 1 MiB.
-pub const CAPTURE_PART: usize = 1_048_576;
+/// How many bytes a chunk of a capture has: 1 MiB.
+pub const CAPTURE_CHUNK: usize = 1_048_576;
 
-/// The bytes of a capture, held in parts.
-pub type Capture<'a> = Parts<'a, u8, CAPTURE_PART>;
+/// The bytes of a capture, held in chunks.
+pub type Capture<'a> = Chunks<'a, u8, CAPTURE_CHUNK>;
 
 /// A walk over the front of a capture, behind which more bytes may come.
 ///
-/// Who reads a capture lets the walk go on over each part while the part is hot, and need not know what it is for.
+/// Who reads a capture lets the walk go on over each chunk while the chunk is hot, and need not know what it is for.
 pub trait FrontWalk {
     /// The walk is right of a capture with these bytes.
     ghost stands: { List ℕ → Self → Type 0 };

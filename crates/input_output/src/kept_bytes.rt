@@ -1,29 +1,29 @@
-//! The bytes that are kept of a capture, in parts of one length.
+//! The bytes that are kept of a capture, in chunks of one length.
 
 ghost use Rattle.std.specs.Prelude.{◌≡◌, ◌*◌, ◌^◌, ◌<◌, ◌≤◌, [], length, map, take, drop, vec_len, IfOk, OnOk};
 ghost use Rattle.std.specs.Io.{appended_bytes};
 ghost use Rattle.std.specs.List.{All};
-ghost use Rattle.input_output.specs.Parts.{joined};
+ghost use Rattle.input_output.specs.Chunks.{joined};
 ghost use Rattle.input_output.specs.code.Front.{Lasts};
 ghost use Rattle.input_output.specs.code.Reads.{HasRead, IsGrown};
 
-use crate::front::{CAPTURE_PART, Capture, FrontWalk};
-use crate::parts_ahead::PartsAhead;
+use crate::chunks_ahead::ChunksAhead;
+use crate::front::{CAPTURE_CHUNK, Capture, FrontWalk};
 use std::alloc::{AllocError, Global};
 use std::io::Read;
 use std::marker::Model;
 use std::thread::{Threads, join_mut};
 use std::{io, mem};
 
-/// The number of bytes for which room is made at a time in the first part.
+/// The number of bytes for which room is made at a time in the first chunk.
 const PIECE: usize = 262_144;
 
-/// Bytes in parts of `CAPTURE_PART`, with room for more in the last of them.
+/// Bytes in chunks of `CAPTURE_CHUNK`, with room for more in the last of them.
 #[derive(Drop)]
 pub(crate) struct KeptBytes {
-    /// The parts before the last, each of them full.
+    /// The chunks before the last, each of them full.
     full: Vec<Vec<u8>>,
-    /// Of the last part the first `filled` bytes are kept.
+    /// Of the last chunk the first `filled` bytes are kept.
     last: Vec<u8>,
     filled: usize,
 }
@@ -31,17 +31,17 @@ pub(crate) struct KeptBytes {
 impl Model for KeptBytes {
     ghost use Rattle.std.specs.Prelude.{◌≡◌, ◌+◌, ◌*◌, ◌++◌, ◌^◌, ◌≤◌, map, take, vec_len};
     ghost use Rattle.std.specs.List.{All};
-    ghost use Rattle.input_output.specs.Parts.{joined};
-    ghost use Rattle.input_output.specs.Bytes.{InParts};
+    ghost use Rattle.input_output.specs.Chunks.{joined};
+    ghost use Rattle.input_output.specs.Bytes.{InChunks};
 
-    ghost Value = { InParts };
+    ghost Value = { InChunks };
 
     ghost view = { λ b. record {
-      kept = joined (map (λ part. part.items) b.full.items) ++ take b.filled b.last.items;
+      kept = joined (map (λ chunk. chunk.items) b.full.items) ++ take b.filled b.last.items;
       room = vec_len b.full * 1048576 + vec_len b.last;
     } };
 
-    ghost invariant = { λ b. All (λ part. vec_len part ≡ 1048576) b.full.items
+    ghost invariant = { λ b. All (λ chunk. vec_len chunk ≡ 1048576) b.full.items
         × (b.filled ≤ vec_len b.last)
         × (vec_len b.last ≤ 1048576)
         × (vec_len b.full * 1048576 + vec_len b.last ≤ 2 ^ 31) };
@@ -64,10 +64,10 @@ impl KeptBytes {
     pub(crate) fn len(&self) -> usize
         ensures { result ≡ length self.now.kept }
     {
-        self.full.len() * CAPTURE_PART + self.filled
+        self.full.len() * CAPTURE_CHUNK + self.filled
     }
 
-    /// The bytes, where there is room for less than a part.
+    /// The bytes, where there is room for less than a chunk.
     pub(crate) fn together(&self) -> &[u8]
         requires { self.now.room < 1048576 }
         ensures { result.now ≡ self.now.kept }
@@ -75,7 +75,7 @@ impl KeptBytes {
         &self.last[..self.filled]
     }
 
-    /// The bytes, as they lie in parts.
+    /// The bytes, as they lie in chunks.
     pub(crate) fn capture(&self, alloc: Global) -> Result<Capture<'_>, AllocError>
         ensures { IfOk result (λ capture. capture ≡ self.now.kept) }
     {
@@ -84,11 +84,11 @@ impl KeptBytes {
 
     /// Makes room for at least one byte more, and for no more than `limit` in all.
     ///
-    /// The first part grows by pieces, so that a short capture takes little; while it grows, later parts are begun.
+    /// The first chunk grows by pieces, so that a short capture takes little; while it grows, later chunks are begun.
     pub(crate) fn make_room<T: Threads>(
         &mut self,
         limit: usize,
-        ahead: &mut PartsAhead<'_, T>,
+        ahead: &mut ChunksAhead<'_, T>,
     ) -> Result<(), AllocError>
         requires limit { (length self.old.kept < limit) × (limit ≤ 2 ^ 31) }
         requires room { self.old.room ≤ limit }
@@ -99,17 +99,17 @@ impl KeptBytes {
         if self.filled < self.last.len() {
             return Ok(());
         }
-        let rest = limit - self.full.len() * CAPTURE_PART;
-        if self.last.len() < CAPTURE_PART {
+        let rest = limit - self.full.len() * CAPTURE_CHUNK;
+        if self.last.len() < CAPTURE_CHUNK {
             ahead.begin(self.last.len() / PIECE);
-            let wanted = CAPTURE_PART.min(self.filled + PIECE).min(rest);
+            let wanted = CAPTURE_CHUNK.min(self.filled + PIECE).min(rest);
             self.last.resize(wanted, 0)?;
             return Ok(());
         }
-        let mut part = ahead.part();
-        part.resize(CAPTURE_PART.min(rest - CAPTURE_PART), 0)?;
+        let mut chunk = ahead.chunk();
+        chunk.resize(CAPTURE_CHUNK.min(rest - CAPTURE_CHUNK), 0)?;
         self.full.reserve(1)?;
-        self.full.push_reserved(mem::replace(&mut self.last, part));
+        self.full.push_reserved(mem::replace(&mut self.last, chunk));
         self.filled = 0;
         Ok(())
     }
@@ -126,11 +126,11 @@ impl KeptBytes {
         Ok(count)
     }
 
-    /// The same, while a walk goes on over the parts that are full: where a part begins, on another thread, and where
-    /// there is one worker, on the thread at hand as soon as a part is full.
+    /// The same, while a walk goes on over the chunks that are full: where a chunk begins, on another thread, and where
+    /// there is one worker, on the thread at hand as soon as a chunk is full.
     pub(crate) fn read_and_walk<T: Threads, R: Read, W: FrontWalk + Send>(
         &mut self,
-        ahead: &PartsAhead<'_, T>,
+        ahead: &ChunksAhead<'_, T>,
         reader: &mut R,
         walk: &mut W,
     ) -> (io::Result<usize>, Result<(), AllocError>)
@@ -174,57 +174,57 @@ impl KeptBytes {
     }
 }
 
-/// Reads once into an empty part, while another thread lets a walk go on over the parts before it.
+/// Reads once into an empty chunk, while another thread lets a walk go on over the chunks before it.
 fn read_beside<T: Threads, R: Read, W: FrontWalk + Send>(
-    ahead: &PartsAhead<'_, T>,
+    ahead: &ChunksAhead<'_, T>,
     reader: &mut R,
-    part: &mut Vec<u8>,
+    chunk: &mut Vec<u8>,
     full: &[Vec<u8>],
     walk: &mut W,
 ) -> (io::Result<usize>, Result<(), AllocError>)
-    requires room { 0 < vec_len part.old }
-    requires full { All (λ part. vec_len part ≡ 1048576) full.now }
+    requires room { 0 < vec_len chunk.old }
+    requires full { All (λ chunk. vec_len chunk ≡ 1048576) full.now }
     requires length { length full.now * 1048576 ≤ 2 ^ 31 }
-    requires walk { Lasts W.stands (joined (map (λ part. part.items) full.now)) walk.old }
-    ensures length { vec_len part.new ≡ vec_len part.old }
+    requires walk { Lasts W.stands (joined (map (λ chunk. chunk.items) full.now)) walk.old }
+    ensures length { vec_len chunk.new ≡ vec_len chunk.old }
     ensures read { IfOk result.0 (λ n. HasRead (R.remaining reader.old) (R.remaining reader.new)
-        (take n part.new.items) n) }
-    ensures walk { OnOk result.1 (Lasts W.stands (joined (map (λ part. part.items) full.now)) walk.new) }
+        (take n chunk.new.items) n) }
+    ensures walk { OnOk result.1 (Lasts W.stands (joined (map (λ chunk. chunk.items) full.now)) walk.new) }
 {
     let alloc = ahead.alloc;
     let (walked, read) = join_mut(
         ahead.rt,
         &mut || -> Result<(), AllocError>
-            requires { All (λ part. vec_len part ≡ 1048576) full.now × (length full.now * 1048576 ≤ 2 ^ 31)
-                × Lasts W.stands (joined (map (λ part. part.items) full.now)) walk.now }
+            requires { All (λ chunk. vec_len chunk ≡ 1048576) full.now × (length full.now * 1048576 ≤ 2 ^ 31)
+                × Lasts W.stands (joined (map (λ chunk. chunk.items) full.now)) walk.now }
             ensures { OnOk result
-                (Lasts W.stands (joined (map (λ part. part.items) full.entry.now)) walk.exit.now) }
+                (Lasts W.stands (joined (map (λ chunk. chunk.items) full.entry.now)) walk.exit.now) }
         { walk_over(alloc, full, walk) },
-        &mut || read_into(reader, part, 0),
+        &mut || read_into(reader, chunk, 0),
     );
     (read, walked)
 }
 
-/// Lets a walk go on over these parts.
+/// Lets a walk go on over these chunks.
 fn walk_over<W: FrontWalk>(alloc: Global, full: &[Vec<u8>], walk: &mut W) -> Result<(), AllocError>
-    requires full { All (λ part. vec_len part ≡ 1048576) full.now }
+    requires full { All (λ chunk. vec_len chunk ≡ 1048576) full.now }
     requires length { length full.now * 1048576 ≤ 2 ^ 31 }
-    requires walk { Lasts W.stands (joined (map (λ part. part.items) full.now)) walk.old }
-    ensures { OnOk result (Lasts W.stands (joined (map (λ part. part.items) full.now)) walk.new) }
+    requires walk { Lasts W.stands (joined (map (λ chunk. chunk.items) full.now)) walk.old }
+    ensures { OnOk result (Lasts W.stands (joined (map (λ chunk. chunk.items) full.now)) walk.new) }
 {
     let capture = Capture::with_last(alloc, full, &[])?;
     walk.advance(alloc, &capture)
 }
 
-/// Reads once into a part, behind the bytes with which it is filled.
-fn read_into<R: Read>(reader: &mut R, part: &mut Vec<u8>, filled: usize) -> io::Result<usize>
-    requires { filled < vec_len part.old }
-    ensures front { take filled part.new.items ≡ take filled part.old.items }
-    ensures length { vec_len part.new ≡ vec_len part.old }
+/// Reads once into a chunk, behind the bytes with which it is filled.
+fn read_into<R: Read>(reader: &mut R, chunk: &mut Vec<u8>, filled: usize) -> io::Result<usize>
+    requires { filled < vec_len chunk.old }
+    ensures front { take filled chunk.new.items ≡ take filled chunk.old.items }
+    ensures length { vec_len chunk.new ≡ vec_len chunk.old }
     ensures read { IfOk result (λ n. HasRead (R.remaining reader.old) (R.remaining reader.new)
-        (take n (drop filled part.new.items)) n) }
+        (take n (drop filled chunk.new.items)) n) }
 {
-    match reader.read(&mut part[filled..]) {
+    match reader.read(&mut chunk[filled..]) {
         Ok(count) => Ok(count),
         Err(error) => Err(error),
     }

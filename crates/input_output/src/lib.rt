@@ -1,4 +1,4 @@
-//! What the program takes in and gives out: the bytes of a capture, held in parts, those of a report, and the random
+//! What the program takes in and gives out: the bytes of a capture, held in chunks, those of a report, and the random
 //! bytes under which its tables hash. The accounts tell what reads gave and writes took.
 //!
 //! A [`CaptureReader`] keeps account of what the reads gave, a [`ReportWriter`] of what the writes took, for every
@@ -8,14 +8,14 @@
 //! bytes that are read and not kept the account has the number, and the clauses hold whatever they are. Reading stops
 //! at 2^31 bytes ([`LIMIT`]).
 //!
-//! What is kept stands in parts of one length, and is read as one list, a [`Capture`]. [`Parts`] is such a list over
-//! parts that stand elsewhere: each has `N` elements, and the last may have fewer. Contracts see the one list that they
-//! make together, so a function over it says what it would say of a slice. It finds the part of an index by a division
-//! by `N`, so a power of two is best. The first part of a capture grows by pieces, and may be moved as it does; no byte
-//! behind it is moved once it was read. Later parts are made ahead by other threads ([`PartsAhead`]), since most of the
+//! What is kept stands in chunks of one length, and is read as one list, a [`Capture`]. [`Chunks`] is such a list over
+//! chunks that stand elsewhere: each has `N` elements, and the last may have fewer. Contracts see the one list that they
+//! make together, so a function over it says what it would say of a slice. It finds the chunk of an index by a division
+//! by `N`, so a power of two is best. The first chunk of a capture grows by pieces, and may be moved as it does; no byte
+//! behind it is moved once it was read. Later chunks are made ahead by other threads ([`ChunksAhead`]), since most of the
 //! time of reading goes into memory that is used for the first time; where no thread can be had, the one that reads
-//! makes them. [`keep_and_walk`] has a [`FrontWalk`] go on over each part that was filled, on another thread while the
-//! next part is read, and knows no more of it.
+//! makes them. [`keep_and_walk`] has a [`FrontWalk`] go on over each chunk that was filled, on another thread while the
+//! next chunk is read, and knows no more of it.
 //!
 //! The accounts are as honest as the code that enters them: their fields are private. `read_once`, `read_and_walk` and
 //! `pass_once` of [`CaptureReader`] enter what a read gave, over `read_once`, `read_and_walk`, `read_beside` and
@@ -29,26 +29,26 @@
 //! so no answer depends on the key: no contract of a table names it.
 //!
 //! Wrong bodies that the prover refuses: a read or a write that is told to have filled or taken all; a reading that
-//! ends at half of 2^31 bytes; a capture without half of its last part; a range that ends with its first part. Tested,
+//! ends at half of 2^31 bytes; a capture without half of its last chunk; a range that ends with its first chunk. Tested,
 //! in `crate_tests`: which calls readers and writers get. Trusted: that a file or a pipe gives and keeps its bytes.
 #![tactic(auto)]
 
 mod capture_reader;
+mod chunks;
+mod chunks_ahead;
 mod fault;
 mod front;
 mod kept_bytes;
-mod parts;
-mod parts_ahead;
 mod reading;
 mod report_writer;
 mod table_hash;
 mod writing;
 
 pub use capture_reader::{CaptureReader, LIMIT, ReadState};
+pub use chunks::Chunks;
+pub use chunks_ahead::ChunksAhead;
 pub use fault::{ReadFault, WriteFault};
-pub use front::{CAPTURE_PART, Capture, FrontWalk};
-pub use parts::Parts;
-pub use parts_ahead::PartsAhead;
+pub use front::{CAPTURE_CHUNK, Capture, FrontWalk};
 pub use reading::{keep_and_walk, keep_up_to, pass_over};
 pub use report_writer::ReportWriter;
 pub use table_hash::TableHash;

@@ -6,9 +6,9 @@ ghost use Rattle.input_output.specs.Account.{kept};
 ghost use Rattle.input_output.specs.code.Reading.{HasConsumed, HasPassed, IsReadingFault, IsSound};
 
 use crate::capture_reader::{CaptureReader, LIMIT, ReadState};
+use crate::chunks_ahead::ChunksAhead;
 use crate::fault::ReadFault;
 use crate::front::FrontWalk;
-use crate::parts_ahead::PartsAhead;
 use std::io::Read;
 use std::thread::Threads;
 
@@ -19,7 +19,7 @@ const PASSED: usize = 65_536;
 ///
 /// Each turn reads at least one byte or ends the reading, so there are no more than 2^31 turns.
 pub fn keep_up_to<T: Threads, R: Read>(
-    ahead: &mut PartsAhead<'_, T>,
+    ahead: &mut ChunksAhead<'_, T>,
     reader: &mut CaptureReader<R>,
     limit: usize,
 ) -> Result<(), ReadFault>
@@ -46,10 +46,10 @@ pub fn keep_up_to<T: Threads, R: Read>(
 
 /// Reads to the end, or until there are 2^31 bytes, and keeps them, while a walk goes on over them.
 ///
-/// The thread that reads walks over each part that it has filled: another one would have to fetch it first. What is
+/// The thread that reads walks over each chunk that it has filled: another one would have to fetch it first. What is
 /// read last is left to the end of the walk.
 pub fn keep_and_walk<T: Threads, R: Read, W: FrontWalk + Send>(
-    ahead: &mut PartsAhead<'_, T>,
+    ahead: &mut ChunksAhead<'_, T>,
     reader: &mut CaptureReader<R>,
     walk: &mut W,
 ) -> Result<(), ReadFault>

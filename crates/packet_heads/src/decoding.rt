@@ -77,7 +77,7 @@ fn decision_on(link: u16, number: u32, row: &Record, packet: &[u8]) -> Packet
 ///
 /// `link` is the link type of the capture, 1 (Ethernet) or 101 (raw IP); `number` is the record's. The captured
 /// bytes of `row` are to lie in `capture`, as those of `pcap_records::records` do. They are read where they lie;
-/// those in which parts of the capture meet are gathered first.
+/// those in which chunks of the capture meet are gathered first.
 #[tactic(auto, using(crate::proofs::Headers::in_front), unfolding(crate::specs::Decision::packet_decision))]
 pub fn decode(
     alloc: Global,
@@ -103,7 +103,7 @@ pub fn decode(
     decode_gathered(alloc, link, number, row, capture)
 }
 
-/// The same of captured bytes in which parts of the capture meet: they are gathered first.
+/// The same of captured bytes in which chunks of the capture meet: they are gathered first.
 #[cold]
 #[tactic(auto, unfolding(crate::specs::Decision::packet_decision))]
 fn decode_gathered(

@@ -1,17 +1,17 @@
-//! A list that grows in parts.
+//! A list that grows in chunks.
 
 ghost use Rattle.std.specs.Prelude.{◌≡◌, ◌<◌, ◌^◌, [], ◌∷◌, ◌++◌, IfOk, OnOk, length};
 
-use crate::packets::PACKET_PART;
-use input_output::Parts;
+use crate::packets::PACKET_CHUNK;
+use input_output::Chunks;
 use std::alloc::{AllocError, Global};
 use std::marker::Model;
 use std::mem;
 
-/// A list in parts of `PACKET_PART`, the last of which grows. A part that is full is not moved any more.
+/// A list in chunks of `PACKET_CHUNK`, the last of which grows. A chunk that is full is not moved any more.
 #[derive(Drop)]
 pub struct Growing<T> {
-    /// The parts before the last, each of them full.
+    /// The chunks before the last, each of them full.
     full: Vec<Vec<T>>,
     last: Vec<T>,
 }
@@ -19,13 +19,13 @@ pub struct Growing<T> {
 impl<T> Model for Growing<T> {
     ghost use Rattle.std.specs.Prelude.{◌≡◌, ◌+◌, ◌*◌, ◌<◌, ◌≤◌, ◌^◌, ◌++◌, List, length, map, vec_len};
     ghost use Rattle.std.specs.List.{All};
-    ghost use Rattle.input_output.specs.Parts.{joined};
+    ghost use Rattle.input_output.specs.Chunks.{joined};
 
     ghost Value = { List T };
 
-    ghost view = { λ g. joined (map (λ part. part.items) g.full.items) ++ g.last.items };
+    ghost view = { λ g. joined (map (λ chunk. chunk.items) g.full.items) ++ g.last.items };
 
-    ghost invariant = { λ g. All (λ part. vec_len part ≡ 8192) g.full.items × (vec_len g.last ≤ 8192)
+    ghost invariant = { λ g. All (λ chunk. vec_len chunk ≡ 8192) g.full.items × (vec_len g.last ≤ 8192)
         × (length g.full.items * 8192 + vec_len g.last < 2 ^ 32) };
 }
 
@@ -45,7 +45,7 @@ impl<T: Copy> Growing<T> {
     pub(crate) fn len(&self) -> u32
         ensures { result ≡ length self.now }
     {
-        (self.full.len() * PACKET_PART + self.last.len()) as u32
+        (self.full.len() * PACKET_CHUNK + self.last.len()) as u32
     }
 
     /// One item more.
@@ -54,20 +54,20 @@ impl<T: Copy> Growing<T> {
         requires { length self.old < 2 ^ 31 }
         ensures { OnOk result (self.new ≡ self.old ++ item ∷ []) }
     {
-        if self.last.len() < PACKET_PART {
+        if self.last.len() < PACKET_CHUNK {
             self.last.push(item)?;
             return Ok(());
         }
-        let mut next = Vec::with_capacity(alloc, PACKET_PART)?;
+        let mut next = Vec::with_capacity(alloc, PACKET_CHUNK)?;
         next.push(item)?;
         self.full.push(mem::replace(&mut self.last, next))?;
         Ok(())
     }
 
     /// The list, to be read.
-    pub(crate) fn lent(&self, alloc: Global) -> Result<Parts<'_, T, PACKET_PART>, AllocError>
+    pub(crate) fn lent(&self, alloc: Global) -> Result<Chunks<'_, T, PACKET_CHUNK>, AllocError>
         ensures { IfOk result (λ list. list ≡ self.now) }
     {
-        Parts::with_last(alloc, self.full.as_slice(), self.last.as_slice())
+        Chunks::with_last(alloc, self.full.as_slice(), self.last.as_slice())
     }
 }

@@ -17,18 +17,18 @@
 //!   hold no segment take 4 bytes each. A mark counts through the eleven packets that are passed over, and then through
 //!   the segments (`specs/code/Marks.antt`). [`Packets`] reads both as the one list that contracts speak of, and a
 //!   segment where it lies.
-//! - Marks and segments are made in parts of [`PACKET_PART`], 8,192. The first part grows, and may be moved as it does;
-//!   nothing is copied from one part into another, and no record is kept beside its packet. A record is read where it
-//!   lies in the capture; only one in which parts of the capture meet is gathered first, and freed at once.
+//! - Marks and segments are made in chunks of [`PACKET_CHUNK`], 8,192. The first chunk grows, and may be moved as it does;
+//!   nothing is copied from one chunk into another, and no record is kept beside its packet. A record is read where it
+//!   lies in the capture; only one in which chunks of the capture meet is gathered first, and freed at once.
 //! - What a walk has made of a front stands whatever bytes come behind it, since it makes a packet only where all of
 //!   its record has come (`specs/code/Walk.antt`). So the packets are the same however the capture came.
 //!
 //! Checksums have no effect, since a sender's own capture has them unfilled where the network card computes them. FIN,
 //! RST, windows, options and urgent pointers have none, since sequence numbers alone tell a flow. Bytes past the total
-//! length are no part of a datagram; a total length of 0, which segmentation offload leaves in a capture, stands for
+//! length are no chunk of a datagram; a total length of 0, which segmentation offload leaves in a capture, stands for
 //! all bytes that were captured.
 //!
-//! Wrong bodies that the prover refuses: records numbered afresh in each part, a full part that is forgotten, a
+//! Wrong bodies that the prover refuses: records numbered afresh in each chunk, a full chunk that is forgotten, a
 //! fragment judged before its end, a segment marked by its record's index, a mark that two refusals have. Tested by
 //! whole reports: that a walk succeeds where there is memory.
 #![tactic(auto)]
@@ -46,5 +46,5 @@ mod walk;
 pub mod worked_examples;
 
 pub use made::MadePackets;
-pub use packets::{Endpoint, PACKET_PART, Packet, Packets, Refusal, Segment, Skip};
+pub use packets::{Endpoint, PACKET_CHUNK, Packet, Packets, Refusal, Segment, Skip};
 pub use walk::{CapturePackets, PacketWalk};

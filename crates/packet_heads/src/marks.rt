@@ -6,12 +6,12 @@ ghost use Rattle.packet_heads.specs.code.Standing.{IsPassedOver};
 ghost use Rattle.packet_heads.specs.declared.packets.Packet.TheVariants.{Skipped, Refused};
 ghost use Rattle.packet_heads.specs.declared.packets.Skip.TheVariants.{NotIpv4};
 
-use crate::packets::{PACKET_PART, Packet, Refusal, Segment, Skip};
+use crate::packets::{PACKET_CHUNK, Packet, Refusal, Segment, Skip};
 
 /// Counts through the packets that are passed over, in the order below, and then through the segments of a capture.
 pub type Mark = u32;
 
-use input_output::Parts;
+use input_output::Chunks;
 
 const _: () = prove!(size_of::<Mark>() == 4);
 
@@ -70,7 +70,7 @@ fn passed_over(mark: Mark) -> Packet
 #[inline]
 #[tactic(auto, using(crate::proofs::Marking::marks))]
 pub(crate) fn segment_of<'a>(
-    segments: &Parts<'a, Segment, PACKET_PART>,
+    segments: &Chunks<'a, Segment, PACKET_CHUNK>,
     mark: Mark,
 ) -> Option<&'a Segment>
     ensures some { IfSome result (λ s. packet_of segments.now mark ≡ Packet.Segment s.now) }
@@ -84,10 +84,10 @@ pub(crate) fn segment_of<'a>(
 
 /// What a mark stands for among these segments.
 ///
-/// In line, so that a caller who looks at a part of a packet copies that part.
+/// In line, so that a caller who looks at a chunk of a packet copies that chunk.
 #[inline(always)]
 #[tactic(auto, using(crate::proofs::Marking::marks))]
-pub(crate) fn packet_of(segments: &Parts<'_, Segment, PACKET_PART>, mark: Mark) -> Packet
+pub(crate) fn packet_of(segments: &Chunks<'_, Segment, PACKET_CHUNK>, mark: Mark) -> Packet
     ensures { result ≡ packet_of segments.now mark }
 {
     if mark < FIRST_SEGMENT {

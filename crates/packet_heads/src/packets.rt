@@ -1,6 +1,6 @@
 use crate::made::MadePackets;
 use crate::marks::{Mark, packet_of, segment_of};
-use input_output::Parts;
+use input_output::Chunks;
 use pcap_records::Nanos;
 use std::alloc::{AllocError, Global};
 use std::marker::Model;
@@ -96,14 +96,14 @@ pub enum Packet {
 
 const _: () = prove!(size_of::<Segment>() == 44);
 
-/// How many marks, or segments, a part of a capture's packets has.
-pub const PACKET_PART: usize = 8_192;
+/// How many marks, or segments, a chunk of a capture's packets has.
+pub const PACKET_CHUNK: usize = 8_192;
 
-/// What the records of a capture hold, in order: a mark for each, and the segments that marks name, both in parts.
+/// What the records of a capture hold, in order: a mark for each, and the segments that marks name, both in chunks.
 #[derive(Drop)]
 pub struct Packets<'a> {
-    marks: Parts<'a, Mark, PACKET_PART>,
-    segments: Parts<'a, Segment, PACKET_PART>,
+    marks: Chunks<'a, Mark, PACKET_CHUNK>,
+    segments: Chunks<'a, Segment, PACKET_CHUNK>,
 }
 
 impl<'a> Model for Packets<'a> {

@@ -9,7 +9,7 @@ use crate::decoding::decode;
 use crate::made::MadePackets;
 use input_output::{Capture, FrontWalk};
 use pcap_records::laws::more_bytes_keep_a_walk;
-use pcap_records::{PcapFault, RecordWalk, refusal_in_parts};
+use pcap_records::{PcapFault, RecordWalk, refusal_in_chunks};
 use std::alloc::{AllocError, Global};
 
 /// What a capture holds.
@@ -23,7 +23,7 @@ pub struct CapturePackets {
 
 /// The packets of a front of a capture, behind which more bytes may come.
 ///
-/// A program that reads a capture lets the walk go on over each part as it has come. No record is kept beside its
+/// A program that reads a capture lets the walk go on over each chunk as it has come. No record is kept beside its
 /// packet.
 #[derive(Drop)]
 pub struct PacketWalk {
@@ -52,7 +52,7 @@ impl PacketWalk {
 
     /// Makes the packet of each record that the capture has by now.
     ///
-    /// Memory can be wanting for the packets, or for a record in which parts of the capture meet.
+    /// Memory can be wanting for the packets, or for a record in which chunks of the capture meet.
     fn go_on(&mut self, alloc: Global, capture: &Capture<'_>) -> Result<(), AllocError>
         requires walk { HasMade capture.now self.old }
         requires short { length capture.now ≤ 2 ^ 31 }
@@ -71,7 +71,7 @@ impl PacketWalk {
     ///
     /// Refusals are tested in the order of their numbers, from the header and the length alone. A capture that is not
     /// refused is read whole: bytes at its end that hold no whole record are the cut record, and all before it is kept.
-    /// [`PcapFault::OutOfMemory`] comes only where memory for packets, or for a record in which parts of the capture
+    /// [`PcapFault::OutOfMemory`] comes only where memory for packets, or for a record in which chunks of the capture
     /// meet, was wanting.
     pub fn finish(self, alloc: Global, capture: &Capture<'_>) -> Result<CapturePackets, PcapFault>
         requires walk { IsPacketWalkIn capture.now self }
@@ -86,7 +86,7 @@ impl PacketWalk {
         ensures order { IfOk result (AreInOrder (length capture.now)) }
         ensures short { OnOk result (length capture.now < 2 ^ 31) }
     {
-        if let Some(fault) = refusal_in_parts(capture) {
+        if let Some(fault) = refusal_in_chunks(capture) {
             return Err(fault);
         }
         match self.completed(alloc, capture) {

@@ -18,7 +18,7 @@ pub enum PcapFault {
     /// More than 2^31 - 1 bytes.
     #[error("fault 5")]
     TooLarge,
-    /// No memory for the table of records, or for a record's header in which parts of the capture meet.
+    /// No memory for the table of records, or for a record's header in which chunks of the capture meet.
     #[error("fault 6")]
     OutOfMemory,
 }

@@ -50,8 +50,8 @@ pub fn header(capture: &[u8]) -> &[u8]
     &capture[..capture.len().min(FILE_HEADER)]
 }
 
-/// The same of a capture in parts, the first of which has room for it.
-pub fn header_in_parts<'a>(capture: &Capture<'a>) -> &'a [u8]
+/// The same of a capture in chunks, the first of which has room for it.
+pub fn header_in_chunks<'a>(capture: &Capture<'a>) -> &'a [u8]
     ensures { result.now ≡ header_of capture.now }
 {
     if capture.len() == 0 {

@@ -3,8 +3,8 @@
 //! [`records`] reads a capture forward once, by offsets, and touches no byte of a packet. It takes the four magics of
 //! the format (either order of bytes, microseconds or nanoseconds), and answers either each whole record in the order
 //! of the file, with the number of the record that the end of the capture cuts off, or the first refusal that applies,
-//! in the order of the numbers of [`PcapFault`]. A capture is held in parts (`input_output::Capture`); a record's
-//! header is read where it lies, and only one in which two parts meet is copied.
+//! in the order of the numbers of [`PcapFault`]. A capture is held in chunks (`input_output::Capture`); a record's
+//! header is read where it lies, and only one in which two chunks meet is copied.
 //!
 //! [`RecordWalk`] does the same in steps, and keeps no record: a program that reads a capture piece by piece is handed
 //! each record that has come. `records` is such a walk that keeps them.
@@ -44,5 +44,5 @@ pub mod worked_examples;
 pub use capture::{ETHERNET, RAW_IP, Record, Records};
 pub use faults::PcapFault;
 pub use nanos::Nanos;
-pub use reading::{records, refusal, refusal_in_parts};
+pub use reading::{records, refusal, refusal_in_chunks};
 pub use walk::RecordWalk;

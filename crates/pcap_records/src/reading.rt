@@ -8,7 +8,7 @@ ghost use Rattle.pcap_records.specs.Refusal.{refusal};
 
 use crate::capture::Records;
 use crate::faults::PcapFault;
-use crate::header::{format_or_refusal, header, header_in_parts};
+use crate::header::{format_or_refusal, header, header_in_chunks};
 use crate::walk::RecordWalk;
 use input_output::Capture;
 use std::alloc::{AllocError, Global};
@@ -20,12 +20,12 @@ pub fn refusal(capture: &[u8]) -> Option<PcapFault>
     format_or_refusal(header(capture), capture.len()).err()
 }
 
-/// The same of a capture in parts.
-pub fn refusal_in_parts(capture: &Capture<'_>) -> Option<PcapFault>
+/// The same of a capture in chunks.
+pub fn refusal_in_chunks(capture: &Capture<'_>) -> Option<PcapFault>
     ensures is { result ≡ refusal capture.now }
     ensures short { IfNone result (length capture.now < 2 ^ 31) }
 {
-    format_or_refusal(header_in_parts(capture), capture.len()).err()
+    format_or_refusal(header_in_chunks(capture), capture.len()).err()
 }
 
 /// The records of a capture (file format version 2.4), or the first refusal that applies.
@@ -34,7 +34,7 @@ pub fn refusal_in_parts(capture: &Capture<'_>) -> Option<PcapFault>
 /// that is not refused is read whole: bytes at its end that hold no whole record are the cut record,
 /// and all before it is kept. Times are in nanoseconds; a fraction above its usual range is used as
 /// it is. [`PcapFault::OutOfMemory`] comes only where the table of records could not grow, or a record's
-/// header, in which parts of the capture meet, could not be gathered.
+/// header, in which chunks of the capture meet, could not be gathered.
 #[tactic(auto, using(crate::proofs::Sizes::whole_header))]
 pub fn records(alloc: Global, capture: &Capture<'_>) -> Result<Records, PcapFault>
     // Nothing refuses the capture, and this is all that it holds.
@@ -51,7 +51,7 @@ pub fn records(alloc: Global, capture: &Capture<'_>) -> Result<Records, PcapFaul
     ensures linked { IfOk result (λ found. IsTrue (is_read found.link)) }
     ensures short { OnOk result (length capture.now < 2 ^ 31) }
 {
-    let header = header_in_parts(capture);
+    let header = header_in_chunks(capture);
     let format = format_or_refusal(header, capture.len())?;
     match passed(alloc, RecordWalk::of(format, header), capture) {
         Ok(found) => Ok(found),

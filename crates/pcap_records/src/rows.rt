@@ -41,7 +41,7 @@ fn record_behind<T: ByteOrder>(front: &[u8], at: usize, size: usize, unit: u64) 
 
 /// The record that begins at an offset, if a whole one stands there.
 ///
-/// Its header is read where it lies; one in which parts of the capture meet is gathered first.
+/// Its header is read where it lies; one in which chunks of the capture meet is gathered first.
 pub fn next_record<T: ByteOrder>(
     alloc: Global,
     capture: &Capture<'_>,

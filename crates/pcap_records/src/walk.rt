@@ -69,7 +69,7 @@ impl RecordWalk {
 
     /// The next record, where the capture has all of it by now.
     ///
-    /// Memory can be wanting for a record's header in which parts of the capture meet.
+    /// Memory can be wanting for a record's header in which chunks of the capture meet.
     pub fn next(
         &mut self,
         alloc: Global,

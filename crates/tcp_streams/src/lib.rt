@@ -9,7 +9,7 @@
 //!   that cover an offset the first wins (`source` of `specs/Sequence.antt`), as a receiver that took it discards the
 //!   others. A side whose initial number was not captured has an empty flow, which is always answered.
 //!   No byte is copied: a flow's pieces point at the capture, and its bytes (`bytes_of` of `specs/Bytes.antt`) are
-//!   theirs, one piece after the other. A payload over the border of two parts of the capture is two pieces.
+//!   theirs, one piece after the other. A payload over the border of two chunks of the capture is two pieces.
 //! - A flow is orderly, as the cut into frames asks: shorter than 2^31, its arrivals rising in offset and record, times
 //!   below 2^63. It is no longer than the payloads of its side.
 //! - [`laws`]: there is one flow for a source; each payload byte is brought to the offset that the RFC's arithmetic

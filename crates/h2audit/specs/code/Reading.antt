@@ -37,7 +37,7 @@ pub record HasReadCapture {R : Type 0} (left : Option (List ℕ)) (reader : Capt
   pub brief : IsBrief reader
   pub header : IsHeaderOf (kept reader) gives
 
--- the faults of an audit of what is kept: it has no report, or there was no memory for the list of its parts
+-- the faults of an audit of what is kept: it has no report, or there was no memory for the list of its chunks
 abbrev pub IsAuditingFault : {R : Type 0} → AuditFault → (old new : CaptureReader R) → Type 0
 IsAuditingFault e old new = ((new ≡ old) × IsNoReport old.bytes.kept e)
     ⊎ ((new ≡ record old { state = LackedMemory }) × (e ≡ fault.OutOfMemory))

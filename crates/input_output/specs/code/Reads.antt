@@ -2,7 +2,7 @@
 use Rattle.std.specs.Prelude.{◌≡◌, ℕ, ◌<◌, ◌≤◌, List, Option, length}
 use Rattle.std.specs.Io.{StartsWith}
 use Rattle.std.specs.Io.KnownBytes.{Consumes, IsAtEnd}
-use Rattle.input_output.specs.Bytes.{InParts}
+use Rattle.input_output.specs.Bytes.{InChunks}
 use Rattle.input_output.specs.declared.capture_reader.ReadState.{ReadState}
 use Rattle.input_output.specs.declared.capture_reader.ReadState.TheVariants.{Open, Ended}
 
@@ -13,7 +13,7 @@ pub record HasRead (before after : Option (List ℕ)) (given : List ℕ) (n : �
   pub end : n ≡ 0 → IsAtEnd after
 
 -- what was kept stands in front of what is kept now, in the same room
-pub record IsGrown (old new : InParts) : Type 0 where
+pub record IsGrown (old new : InChunks) : Type 0 where
   pub front : StartsWith new.kept old.kept
   pub room : new.room ≡ old.room
   pub within : length new.kept ≤ new.room

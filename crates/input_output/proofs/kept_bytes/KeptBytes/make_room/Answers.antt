@@ -8,8 +8,8 @@ pub returns-then-self-len-clause-room : goal.returns-then-self-len-clause-room
 returns-then-self-len-clause-room g c =
     omega (arith, sizes c.self.inside c.args.self.now c.self.invariant c.self.view_is)
 
-pub returns-then-len-lt-CAPTURE_PART-clause-room : goal.returns-then-len-lt-CAPTURE_PART-clause-room
-returns-then-len-lt-CAPTURE_PART-clause-room g c =
+pub returns-then-len-lt-CAPTURE_CHUNK-clause-room : goal.returns-then-len-lt-CAPTURE_CHUNK-clause-room
+returns-then-len-lt-CAPTURE_CHUNK-clause-room g c =
     let inside = c.self.inside in
     let last = c.resize.new.self in
     let grown : inside.filled < vec_len last = omega (
@@ -29,14 +29,14 @@ pub returns-clause-room : goal.returns-clause-room
 returns-clause-room g c =
     let inside = c.self.inside in
     let full = c.push_reserved.new.self in
-    let part = c.replace.new.dest in
+    let chunk = c.replace.new.dest in
     let whole : vec_len inside.last ≡ 1048576 = omega (arith, c.self.invariant.2) in
-    let all : All (λ part. vec_len part ≡ 1048576) full.items =
+    let all : All (λ chunk. vec_len chunk ≡ 1048576) full.items =
     rw (c.push_reserved.ensures.items, c.reserve.ensures.items, c.replace.ensures.value)
-    (All-push (λ part. vec_len part ≡ 1048576) inside.full.items inside.last c.self.invariant.0 whole) in
+    (All-push (λ chunk. vec_len chunk ≡ 1048576) inside.full.items inside.last c.self.invariant.0 whole) in
     omega (
       arith,
-      kept_size full.items part.items 0 all (omega arith),
+      kept_size full.items chunk.items 0 all (omega arith),
       full.ok.0,
       ap vec_len c.replace.ensures.after,
       c.in_ok-resize-2.ensures.len,

@@ -1,7 +1,7 @@
 use Rattle.std.proofs.Common.{◌≡◌, ◌-◌, ◌≤◌, ◌++◌, map}
 use Rattle.std.specs.List.{slice_range}
-use Rattle.input_output.specs.Parts.{joined}
-use Rattle.input_output.proofs.parts.Parts.pieces.Given as goal
+use Rattle.input_output.specs.Chunks.{joined}
+use Rattle.input_output.proofs.chunks.Chunks.pieces.Given as goal
 
 abbrev pub invariant-loop-at : goal.invariant-loop-at
 invariant-loop-at g l =

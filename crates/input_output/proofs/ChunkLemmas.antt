@@ -1,4 +1,4 @@
--- Where an element of a list in parts stands.
+-- Where an element of a list in chunks stands.
 use Rattle.std.proofs.Common.{◌≡◌, ◌∙◌, ℕ, zero, suc, ◌+◌, ◌-◌, ◌*◌, ◌/◌, ◌%◌, ◌<◌, ◌≤◌, List, [], ◌∷◌, ◌++◌, length}
 use Rattle.std.proofs.Common.{take, drop, length-append, map, get_or, inl, inr, refl, sym, ap, subst, arith}
 use Rattle.std.specs.Prelude.{min}
@@ -9,13 +9,13 @@ use Rattle.std.proofs.lemmas.Bool.{cases_lt}
 use Rattle.std.proofs.lemmas.List.{drop-append-le, drop-drop, flat_map_more, length-drop, length-take}
 use Rattle.std.proofs.lemmas.List.{length-take-le, take-take}
 use Rattle.std.proofs.lemmas.List.Elements.{All-head, All-tail}
-use Rattle.input_output.specs.Parts.{joined}
-use Rattle.input_output.specs.code.Sizes.{ArePartsOf, IsPartAt}
+use Rattle.input_output.specs.Chunks.{joined}
+use Rattle.input_output.specs.code.Sizes.{AreChunksOf, IsChunkAt}
 
--- one part more
-pub joined-push : {T : Type 0} (parts : List (List T)) (part : List T)
-    → joined (parts ++ part ∷ []) ≡ joined parts ++ part
-joined-push parts part = sym (flat_map_more (λ xs. xs) [] parts part)
+-- one chunk more
+pub joined-push : {T : Type 0} (chunks : List (List T)) (chunk : List T)
+    → joined (chunks ++ chunk ∷ []) ≡ joined chunks ++ chunk
+joined-push chunks chunk = sym (flat_map_more (λ xs. xs) [] chunks chunk)
 
 -- a range goes on by the front of what lies together at its end
 pub range_more : {T : Type 0} (all rest : List T) (start at most count : ℕ) → rest ≡ take most (drop at all)
@@ -33,42 +33,42 @@ range_more all rest start at most count whole within from =
     ∙ ap (λ l. take (at - start) (drop start all) ++ l) (sym (ap (take count) whole ∙ take-take count most _ fits))
     )
 
--- parts with these elements
+-- chunks with these elements
 module _ {T X : Type 0} (items : X → List T) (size : ℕ) where
   abbrev pub AreFull : List X → Type 0
-  AreFull full = All (λ part. length (items part) ≡ size) full
+  AreFull full = All (λ chunk. length (items chunk) ≡ size) full
 
-  -- parts that are full, and a last one
+  -- chunks that are full, and a last one
   pub full_and_last : (full : List X) (last : List T) → AreFull full → length last ≤ size
-      → ArePartsOf size (map items full ++ last ∷ [])
+      → AreChunksOf size (map items full ++ last ∷ [])
   full_and_last [] last all short = (short, (λ some. absurd (omega (arith, some))), tt)
-  full_and_last (part ∷ full) last all short =
-      let is = All-head (λ part. length (items part) ≡ size) part full all in
-      let later = All-tail (λ part. length (items part) ≡ size) part full all in
+  full_and_last (chunk ∷ full) last all short =
+      let is = All-head (λ chunk. length (items chunk) ≡ size) chunk full all in
+      let later = All-tail (λ chunk. length (items chunk) ≡ size) chunk full all in
       (omega (arith, is), (λ some. is), full_and_last full last later short)
 
-  -- how many elements full parts hold
+  -- how many elements full chunks hold
   pub full_count : (full : List X) → AreFull full → length (joined (map items full)) ≡ length full * size
   full_count [] all = omega arith
-  full_count (part ∷ full) all = omega (
+  full_count (chunk ∷ full) all = omega (
     arith,
-    length-append (items part) (joined (map items full)),
-    All-head (λ part. length (items part) ≡ size) part full all,
-    full_count full (All-tail (λ part. length (items part) ≡ size) part full all),
+    length-append (items chunk) (joined (map items full)),
+    All-head (λ chunk. length (items chunk) ≡ size) chunk full all,
+    full_count full (All-tail (λ chunk. length (items chunk) ≡ size) chunk full all),
     suc-mul (length full) size,
   )
 
-  -- what lies in a part from an offset on, and in those after it
-  record Lies (parts : List X) (at offset : ℕ) (part : X) : Type 0 where
-    pub inside : offset < length (items part)
-    pub short : length (items part) ≤ size
+  -- what lies in a chunk from an offset on, and in those after it
+  record Lies (chunks : List X) (at offset : ℕ) (chunk : X) : Type 0 where
+    pub inside : offset < length (items chunk)
+    pub short : length (items chunk) ≤ size
     pub later : List T
-    pub full : 0 < length later → length (items part) ≡ size
-    pub front : drop at (joined (map items parts)) ≡ drop offset (items part) ++ later
+    pub full : 0 < length later → length (items chunk) ≡ size
+    pub front : drop at (joined (map items chunks)) ≡ drop offset (items chunk) ++ later
 
-  lies : (parts : List X) (place offset at : ℕ) → ArePartsOf size (map items parts) → offset < size
-      → at ≡ place * size + offset → at < length (joined (map items parts))
-      → (place < length parts) × ((part : X) → part ≡ get_or parts place part → Lies parts at offset part)
+  lies : (chunks : List X) (place offset at : ℕ) → AreChunksOf size (map items chunks) → offset < size
+      → at ≡ place * size + offset → at < length (joined (map items chunks))
+      → (place < length chunks) × ((chunk : X) → chunk ≡ get_or chunks place chunk → Lies chunks at offset chunk)
   lies [] place offset at are low is within = absurd (omega (arith, within))
   lies (first ∷ later) zero offset at are low is within =
       let all = length-append (items first) (joined (map items later)) in
@@ -77,7 +77,7 @@ module _ {T X : Type 0} (items : X → List T) (size : ℕ) where
         | inr none ↦ omega (arith, none, within, is, all)
       ] in (
         omega arith,
-        (λ part here. subst (λ part. Lies (first ∷ later) at offset part) (sym here)
+        (λ chunk here. subst (λ chunk. Lies (first ∷ later) at offset chunk) (sym here)
             (record {
               inside = inside;
               short = are.0;
@@ -94,8 +94,8 @@ module _ {T X : Type 0} (items : X → List T) (size : ℕ) where
       let rest = lies later place offset (place * size + offset) are.2 low refl
       (omega (arith, all, within, is, full, step)) in (
         omega (arith, rest.0),
-        (λ part here.
-            let found = rest.1 part here in
+        (λ chunk here.
+            let found = rest.1 chunk here in
             record {
               inside = found.inside;
               short = found.short;
@@ -106,24 +106,24 @@ module _ {T X : Type 0} (items : X → List T) (size : ℕ) where
             }),
       )
 
-  -- the part in which an index of the whole list stands, and what lies there from it on
-  pub part_from : (at : ℕ) (parts : List X) (all : List T) → joined (map items parts) ≡ all → 0 < size
-      → ArePartsOf size (map items parts) → at < length all
-      → (at / size < length parts)
-      × ((part : X) → part ≡ get_or parts (at / size) part → IsPartAt size at all (items part))
-  part_from at parts all is some are within =
+  -- the chunk in which an index of the whole list stands, and what lies there from it on
+  pub chunk_from : (at : ℕ) (chunks : List X) (all : List T) → joined (map items chunks) ≡ all → 0 < size
+      → AreChunksOf size (map items chunks) → at < length all
+      → (at / size < length chunks)
+      × ((chunk : X) → chunk ≡ get_or chunks (at / size) chunk → IsChunkAt size at all (items chunk))
+  chunk_from at chunks all is some are within =
       let place : (at / size) * size + at % size ≡ at = omega (arith, some) in
-      let found = lies parts (at / size) (at % size) at are (omega (arith, some)) (sym place)
+      let found = lies chunks (at / size) (at % size) at are (omega (arith, some)) (sym place)
       (omega (arith, ap length is, within)) in (
         found.0,
-        (λ part here.
-            let lies = found.1 part here in
-            let left : List T = drop (at % size) (items part) in
+        (λ chunk here.
+            let lies = found.1 chunk here in
+            let left : List T = drop (at % size) (items chunk) in
             let front : drop at all ≡ left ++ lies.later =
             ap (drop at) (sym is) ∙ lies.front in
             let count : length left ≡ min (size - at % size) (length all - at) = grind (
               arith,
-              length-drop (at % size) (items part),
+              length-drop (at % size) (items chunk),
               length-drop at all,
               ap length front,
               length-append left lies.later,

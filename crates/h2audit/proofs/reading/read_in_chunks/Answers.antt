@@ -5,7 +5,7 @@ use Rattle.input_output.specs.Account.{kept}
 use Rattle.input_output.specs.declared.capture_reader.ReadState.TheVariants.{Open}
 use Rattle.input_output.proofs.Kept.{gave_front, gave_kept, read_to_end}
 use Rattle.h2audit.proofs.Kept.{header_answers, header_stays, whole_answers}
-use Rattle.h2audit.proofs.reading.read_in_parts.Goals as goal
+use Rattle.h2audit.proofs.reading.read_in_chunks.Goals as goal
 
 pub returns-then-has_ended-clause-read : goal.returns-then-has_ended-clause-read
 returns-then-has_ended-clause-read g c =

@@ -1,6 +1,6 @@
 use Rattle.std.proofs.Common.{◌≡◌, ◌-◌, ◌≤◌}
 use Rattle.std.specs.List.{slice_range}
-use Rattle.input_output.proofs.parts.Parts.gathered.Given as goal
+use Rattle.input_output.proofs.chunks.Chunks.gathered.Given as goal
 
 abbrev pub invariant-loop-at : goal.invariant-loop-at
 invariant-loop-at g l =

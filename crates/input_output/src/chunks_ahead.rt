@@ -1,11 +1,11 @@
-//! Parts for the bytes of a capture, made by other threads before they are needed.
+//! Chunks for the bytes of a capture, made by other threads before they are needed.
 
-use crate::front::CAPTURE_PART;
+use crate::front::CAPTURE_CHUNK;
 use std::alloc::Global;
 use std::collections::VecDeque;
 use std::thread::{JoinHandle, Threads, spawn};
 
-/// How many parts are in the making at once, at most: to use a page for the first time takes two to three times as long
+/// How many chunks are in the making at once, at most: to use a page for the first time takes two to three times as long
 /// as to read into it.
 const MAKERS: usize = 4;
 
@@ -13,23 +13,23 @@ const MAKERS: usize = 4;
 /// idle.
 const PAGE: usize = 4096;
 
-/// Makes parts ahead, each by a thread of its own, beside the thread that reads.
+/// Makes chunks ahead, each by a thread of its own, beside the thread that reads.
 ///
 /// Most of the time of reading goes into memory that is used for the first time. The threads here take that over; they
 /// know nothing of a capture, so no byte that is read depends on them.
 #[derive(Drop)]
-pub struct PartsAhead<'a, T: Threads> {
+pub struct ChunksAhead<'a, T: Threads> {
     pub(crate) rt: &'a T,
     pub(crate) alloc: Global,
-    /// How many parts may be in the making.
+    /// How many chunks may be in the making.
     most: usize,
     making: VecDeque<JoinHandle<Vec<u8>>>,
 }
 
-impl<'a, T: Threads> PartsAhead<'a, T> {
-    /// No part yet. One worker makes none ahead.
-    pub fn new(rt: &'a T, alloc: Global, workers: u32) -> PartsAhead<'a, T> {
-        PartsAhead {
+impl<'a, T: Threads> ChunksAhead<'a, T> {
+    /// No chunk yet. One worker makes none ahead.
+    pub fn new(rt: &'a T, alloc: Global, workers: u32) -> ChunksAhead<'a, T> {
+        ChunksAhead {
             rt,
             alloc,
             most: if workers > 1 {
@@ -46,20 +46,20 @@ impl<'a, T: Threads> PartsAhead<'a, T> {
         self.most == 0
     }
 
-    /// Begins a part, where fewer than `count` are in the making and there is a worker for it.
+    /// Begins a chunk, where fewer than `count` are in the making and there is a worker for it.
     pub(crate) fn begin(&mut self, count: usize) {
         if self.making.len() < self.most.min(count) {
             let alloc = self.alloc;
-            if let Ok(maker) = spawn(self.rt, move || whole_part(alloc)) {
+            if let Ok(maker) = spawn(self.rt, move || whole_chunk(alloc)) {
                 let _ = self.making.push_back(maker);
             }
         }
     }
 
-    /// The part that was begun first. It is empty where none was begun, or where there was no memory for it.
+    /// The chunk that was begun first. It is empty where none was begun, or where there was no memory for it.
     ///
     /// One more is begun, since the thread that asks makes none while it waits.
-    pub(crate) fn part(&mut self) -> Vec<u8> {
+    pub(crate) fn chunk(&mut self) -> Vec<u8> {
         self.begin(MAKERS);
         match self.making.pop_front() {
             Some(maker) => maker.join(self.rt),
@@ -67,26 +67,26 @@ impl<'a, T: Threads> PartsAhead<'a, T> {
         }
     }
 
-    /// Waits for the parts that are in the making, and frees them: a thread that nobody waits for keeps what it made.
+    /// Waits for the chunks that are in the making, and frees them: a thread that nobody waits for keeps what it made.
     pub fn finish(self) {
-        let PartsAhead { rt, making, .. } = self;
+        let ChunksAhead { rt, making, .. } = self;
         for maker in making {
             maker.join(rt);
         }
     }
 }
 
-/// A part with all of its bytes, or an empty one where there was no memory for that.
+/// A chunk with all of its bytes, or an empty one where there was no memory for that.
 ///
 /// Memory for zeros may be handed out unused, and then the read would be the first to use it. So a byte of each page is
 /// written here.
-fn whole_part(alloc: Global) -> Vec<u8> {
-    let Ok(mut part) = Vec::with_capacity(alloc, CAPTURE_PART) else {
+fn whole_chunk(alloc: Global) -> Vec<u8> {
+    let Ok(mut chunk) = Vec::with_capacity(alloc, CAPTURE_CHUNK) else {
         return Vec::new(alloc);
     };
-    let _ = part.resize(CAPTURE_PART, 0);
-    for byte in part.iter_mut().step_by(PAGE) {
+    let _ = chunk.resize(CAPTURE_CHUNK, 0);
+    for byte in chunk.iter_mut().step_by(PAGE) {
         *byte = 1;
     }
-    part
+    chunk
 }

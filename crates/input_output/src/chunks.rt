@@ -1,33 +1,33 @@
 ghost use Rattle.std.specs.Prelude.{◌≡◌, ◌+◌, ◌++◌, ◌-◌, ◌*◌, ◌%◌, ◌<◌, ◌≤◌, ◌^◌, IfOk, IfSome, IfNone, OnOk, Some, ℕ};
 ghost use Rattle.std.specs.Prelude.{drop, length, map, min, slice_get, take, vec_len};
 ghost use Rattle.std.specs.List.{All, slice_range};
-ghost use Rattle.input_output.specs.Parts.{joined};
-ghost use Rattle.input_output.specs.code.Sizes.{IsPartAt};
+ghost use Rattle.input_output.specs.Chunks.{joined};
+ghost use Rattle.input_output.specs.code.Sizes.{IsChunkAt};
 
 use std::alloc::{AllocError, Global};
 use std::marker::Model;
 
-/// A list that is held in parts of `N` elements each, of which the last may be shorter.
+/// A list that is held in chunks of `N` elements each, of which the last may be shorter.
 #[derive(Drop)]
-pub struct Parts<'a, T, const N: usize> {
-    parts: Vec<&'a [T]>,
+pub struct Chunks<'a, T, const N: usize> {
+    chunks: Vec<&'a [T]>,
     count: usize,
 }
 
-impl<'a, T, const N: usize> Model for Parts<'a, T, N> {
+impl<'a, T, const N: usize> Model for Chunks<'a, T, N> {
     ghost use Rattle.std.specs.Prelude.{◌≡◌, ◌<◌, List, length, map};
-    ghost use Rattle.input_output.specs.Parts.{joined};
-    ghost use Rattle.input_output.specs.code.Sizes.{ArePartsOf};
+    ghost use Rattle.input_output.specs.Chunks.{joined};
+    ghost use Rattle.input_output.specs.code.Sizes.{AreChunksOf};
 
     ghost Value = { List T };
 
-    ghost view = { λ p. joined (map (λ part. part.now) p.parts.items) };
+    ghost view = { λ p. joined (map (λ chunk. chunk.now) p.chunks.items) };
 
-    ghost invariant = { λ p. (0 < N) × ArePartsOf N (map (λ part. part.now) p.parts.items)
-        × (p.count ≡ length (joined (map (λ part. part.now) p.parts.items))) };
+    ghost invariant = { λ p. (0 < N) × AreChunksOf N (map (λ chunk. chunk.now) p.chunks.items)
+        × (p.count ≡ length (joined (map (λ chunk. chunk.now) p.chunks.items))) };
 }
 
-impl<'a, T, const N: usize> Parts<'a, T, N> {
+impl<'a, T, const N: usize> Chunks<'a, T, N> {
     /// The number of elements.
     pub fn len(&self) -> usize
         ensures { result ≡ length self.now }
@@ -41,16 +41,16 @@ impl<'a, T, const N: usize> Parts<'a, T, N> {
         ensures front { result.now ≡ take (min (N - start % N) (length self.now - start)) (drop start self.now) }
         ensures some { 0 < length result.now }
     {
-        &self.part_of(start)[start % N..]
+        &self.chunk_of(start)[start % N..]
     }
 
-    /// The part in which an index stands.
-    fn part_of(&self, index: usize) -> &'a [T]
+    /// The chunk in which an index stands.
+    fn chunk_of(&self, index: usize) -> &'a [T]
         requires { index < length self.now }
         ensures size { 0 < N }
-        ensures is { IsPartAt N index self.now result.now }
+        ensures is { IsChunkAt N index self.now result.now }
     {
-        self.parts[index / N]
+        self.chunks[index / N]
     }
 
     /// The elements from one index on and before another, as many as lie together.
@@ -115,26 +115,26 @@ impl<'a, T, const N: usize> Parts<'a, T, N> {
         Ok(together)
     }
 
-    /// The list that these full parts hold, and a last part behind them.
+    /// The list that these full chunks hold, and a last chunk behind them.
     pub fn with_last(alloc: Global, full: &'a [Vec<T>], last: &'a [T]) -> Result<Self, AllocError>
         requires size { 0 < N }
-        requires full { All (λ part. vec_len part ≡ N) full.now }
+        requires full { All (λ chunk. vec_len chunk ≡ N) full.now }
         requires last { length last.now ≤ N }
         requires length { length full.now * N + length last.now < 2 ^ 64 }
-        ensures { IfOk result (λ all. all ≡ joined (map (λ part. part.items) full.now) ++ last.now) }
+        ensures { IfOk result (λ all. all ≡ joined (map (λ chunk. chunk.items) full.now) ++ last.now) }
     {
         let mut all = Vec::with_capacity(alloc, full.len())?;
-        for part in full {
-            all.extend_from_slice(&[part.as_slice()])?;
+        for chunk in full {
+            all.extend_from_slice(&[chunk.as_slice()])?;
         }
         all.extend_from_slice(&[last])?;
-        Ok(Parts {
-            parts: all,
+        Ok(Chunks {
+            chunks: all,
             count: full.len() * N + last.len(),
         })
     }
 
-    /// A list that lies together, in parts.
+    /// A list that lies together, in chunks.
     pub fn cut(alloc: Global, whole: &'a [T]) -> Result<Self, AllocError>
         requires { 0 < N }
         ensures { IfOk result (λ all. all ≡ whole.now) }
@@ -142,13 +142,13 @@ impl<'a, T, const N: usize> Parts<'a, T, N> {
         let mut all = Vec::new(alloc);
         let mut rest = whole;
         while N < rest.len() {
-            let (part, later) = rest.split_at(N);
-            all.extend_from_slice(&[part])?;
+            let (chunk, later) = rest.split_at(N);
+            all.extend_from_slice(&[chunk])?;
             rest = later;
         }
         all.extend_from_slice(&[rest])?;
-        Ok(Parts {
-            parts: all,
+        Ok(Chunks {
+            chunks: all,
             count: whole.len(),
         })
     }
