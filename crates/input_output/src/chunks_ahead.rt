@@ -5,8 +5,8 @@ use std::alloc::Global;
 use std::collections::VecDeque;
 use std::thread::{JoinHandle, Threads, spawn};
 
-/// How many chunks are in the making at once, at most: to use a page for the first time takes two to three times as long
-/// as to read into it.
+/// How many chunks are in the making at once, at most: to use a page for the first time takes two to three times as
+/// long as to read into it.
 const MAKERS: usize = 4;
 
 /// The bytes of a page of memory, which is what a system hands out at a time. Where pages are larger, some writes are

@@ -9,13 +9,13 @@
 //! at 2^31 bytes ([`LIMIT`]).
 //!
 //! What is kept stands in chunks of one length, and is read as one list, a [`Capture`]. [`Chunks`] is such a list over
-//! chunks that stand elsewhere: each has `N` elements, and the last may have fewer. Contracts see the one list that they
-//! make together, so a function over it says what it would say of a slice. It finds the chunk of an index by a division
-//! by `N`, so a power of two is best. The first chunk of a capture grows by pieces, and may be moved as it does; no byte
-//! behind it is moved once it was read. Later chunks are made ahead by other threads ([`ChunksAhead`]), since most of the
-//! time of reading goes into memory that is used for the first time; where no thread can be had, the one that reads
-//! makes them. [`keep_and_walk`] has a [`FrontWalk`] go on over each chunk that was filled, on another thread while the
-//! next chunk is read, and knows no more of it.
+//! chunks that stand elsewhere: each has `N` elements, and the last may have fewer. Contracts see the one list that
+//! they make together, so a function over it says what it would say of a slice. It finds the chunk of an index by a
+//! division by `N`, so a power of two is best. The first chunk of a capture grows by pieces, and may be moved as it
+//! does; no byte behind it is moved once it was read. Later chunks are made ahead by other threads ([`ChunksAhead`]),
+//! since most of the time of reading goes into memory that is used for the first time; where no thread can be had, the
+//! one that reads makes them. [`keep_and_walk`] has a [`FrontWalk`] go on over each chunk that was filled, on another
+//! thread while the next chunk is read, and knows no more of it.
 //!
 //! The accounts are as honest as the code that enters them: their fields are private. `read_once`, `read_and_walk` and
 //! `pass_once` of [`CaptureReader`] enter what a read gave, over `read_once`, `read_and_walk`, `read_beside` and
@@ -29,8 +29,9 @@
 //! so no answer depends on the key: no contract of a table names it.
 //!
 //! Wrong bodies that the prover refuses: a read or a write that is told to have filled or taken all; a reading that
-//! ends at half of 2^31 bytes; a capture without half of its last chunk; a range that ends with its first chunk. Tested,
-//! in `crate_tests`: which calls readers and writers get. Trusted: that a file or a pipe gives and keeps its bytes.
+//! ends at half of 2^31 bytes; a capture without half of its last chunk; a range that ends with its first chunk.
+//! Tested, in `crate_tests`: which calls readers and writers get. Trusted: that a file or a pipe gives and keeps its
+//! bytes.
 #![tactic(auto)]
 
 mod capture_reader;

@@ -1,4 +1,4 @@
--- The table of the packet decision, in three chunks.
+-- The table of the packet decision, in three parts.
 use Rattle.std.proofs.Common.{◌≡◌, Bool, true, false, List, [], ◌∷◌, ◌++◌, unwrap_or, refl}
 use Rattle.std.specs.Option.{option_map_or}
 use Rattle.std.specs.Prelude.{ℕ, if◌then◌else◌, find}

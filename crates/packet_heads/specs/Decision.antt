@@ -38,7 +38,7 @@ segment_of number row at datagram =
       snapped = ipv4.is_snapped (is_partial row) datagram;
     }
 
--- the packet decision: the first of these lines that applies, of raw IP or an Ethernet frame, captured in chunk or whole
+-- the packet decision: the first of these lines that applies, of raw IP or an Ethernet frame, captured in part or whole
 abbrev pub decision_lines : (raw partial : Bool) → (packet datagram segment : List ℕ) → List (Bool × Packet)
 decision_lines raw partial packet datagram segment =
     (if raw then length packet == 0 else nat_lt (length packet) (ethernet.header_length packet), Refused (if raw then ShortIpv4 else ShortEthernet))

@@ -16,7 +16,7 @@ header_words datagram = slice_index datagram 0 % 2 ^ 4
 unfoldable pub total_length : List ℕ → ℕ
 total_length datagram = big_number 2 (drop 2 datagram)
 
--- a chunk of a datagram, and no whole one: More Fragments or the Fragment Offset, the low 14 bits, is not 0
+-- a part of a datagram, and no whole one: More Fragments or the Fragment Offset, the low 14 bits, is not 0
 unfoldable pub is_fragment : List ℕ → Bool
 is_fragment datagram = not (big_number 2 (drop 6 datagram) % 2 ^ 14 == 0)
 
@@ -36,7 +36,7 @@ destination_address datagram = big_number 4 (drop 16 datagram)
 abbrev pub header_length : List ℕ → ℕ
 header_length datagram = 4 * header_words datagram
 
--- Where the datagram's captured bytes end: bytes past the total length are not chunk of it. A total
+-- Where the datagram's captured bytes end: bytes past the total length are not part of it. A total
 -- length of 0, which a sender with segmentation offload leaves, stands for all bytes: this profile's choice.
 abbrev pub datagram_end : List ℕ → ℕ
 datagram_end datagram =

@@ -84,7 +84,7 @@ pub(crate) fn segment_of<'a>(
 
 /// What a mark stands for among these segments.
 ///
-/// In line, so that a caller who looks at a chunk of a packet copies that chunk.
+/// In line, so that a caller who looks at a part of a packet copies that part.
 #[inline(always)]
 #[tactic(auto, using(crate::proofs::Marking::marks))]
 pub(crate) fn packet_of(segments: &Chunks<'_, Segment, PACKET_CHUNK>, mark: Mark) -> Packet

@@ -8,8 +8,8 @@ AreChunksOf size [] = Unit {0}
 AreChunksOf size (chunk ∷ later) =
     (length chunk ≤ size) × (0 < length (joined later) → length chunk ≡ size) × AreChunksOf size later
 
--- the chunk in which an index of the whole list stands: from its place there on it is what the list has at the index, as
--- far as the chunk goes
+-- the chunk in which an index of the whole list stands: from its place there on it is what the list has at the index,
+-- as far as the chunk goes
 pub record IsChunkAt {T : Type 0} (size at : ℕ) (all chunk : List T) : Type 0 where
   pub inside : at % size < length chunk
   pub front : drop (at % size) chunk ≡ take (min (size - at % size) (length all - at)) (drop at all)
