@@ -20,16 +20,16 @@ decide-append ((true, a) ∷ xs) ys d = refl
 decide-append ((false, a) ∷ xs) ys d = decide-append xs ys d
 
 -- the lines of the packet decision are those of link, datagram and segment, one after the other
-pub by_chunks : (raw partial : Bool) (packet datagram segment : List ℕ) (d : Packet)
+pub by_parts : (raw partial : Bool) (packet datagram segment : List ℕ) (d : Packet)
     → decide (decision_lines raw partial packet datagram segment) d
     ≡ unwrap_or (first_answer (if raw then raw_lines packet else ethernet_lines packet))
     (unwrap_or (first_answer (ipv4_lines partial datagram)) (unwrap_or (first_answer (tcp_lines segment)) d))
-by_chunks true partial packet datagram segment d = rw (
+by_parts true partial packet datagram segment d = rw (
   decide-append (raw_lines packet) (ipv4_lines partial datagram ++ tcp_lines segment) d,
   decide-append (ipv4_lines partial datagram) (tcp_lines segment) d,
   decide-append (tcp_lines segment) [] d,
 )
-by_chunks false partial packet datagram segment d = rw (
+by_parts false partial packet datagram segment d = rw (
   decide-append (ethernet_lines packet) (ipv4_lines partial datagram ++ tcp_lines segment) d,
   decide-append (ipv4_lines partial datagram) (tcp_lines segment) d,
   decide-append (tcp_lines segment) [] d,

@@ -10,7 +10,7 @@ use Rattle.packet_heads.specs.code.Ipv4.{ipv4_lines}
 use Rattle.packet_heads.specs.code.Lines.{first_answer}
 use Rattle.packet_heads.specs.code.Link.{link_lines}
 use Rattle.packet_heads.specs.code.Tcp.{tcp_lines}
-use Rattle.packet_heads.proofs.Table.{by_chunks}
+use Rattle.packet_heads.proofs.Table.{by_parts}
 use Rattle.packet_heads.proofs.decoding.decision_on.Goals as goal
 
 -- the decision by the three answers, where the datagram begins there
@@ -21,12 +21,12 @@ by_answers : (link number : ℕ) (row : Record) (packet : List ℕ) (start : ℕ
     (unwrap_or (first_answer (tcp_lines (segment_bytes datagram)))
     (Segment (segment_of number row (row.start + start) datagram))))
 by_answers link number row packet start datagram start_is datagram_is =
-    rw (datagram_is, start_is) (by_chunks (link == raw_ip) (is_partial row) packet
+    rw (datagram_is, start_is) (by_parts (link == raw_ip) (is_partial row) packet
     (drop (datagram_start link packet) packet) (segment_bytes (drop (datagram_start link packet) packet)) _)
 
 pub returns-in-Some-clause-decided : goal.returns-in-Some-clause-decided
 returns-in-Some-clause-decided c =
-    rw (by_chunks (c.args.link == raw_ip) (is_partial c.args.row.now) c.args.packet.now, ← c.in-Some.ensures.answer)
+    rw (by_parts (c.args.link == raw_ip) (is_partial c.args.row.now) c.args.packet.now, ← c.in-Some.ensures.answer)
 
 pub returns-in-Some-answer-clause-decided : goal.returns-in-Some-answer-clause-decided
 returns-in-Some-answer-clause-decided c =
