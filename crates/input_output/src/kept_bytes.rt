@@ -15,8 +15,9 @@ use std::marker::Model;
 use std::thread::{Threads, join_mut};
 use std::{io, mem};
 
-/// The number of bytes for which room is made at a time in the first chunk.
-const PIECE: usize = 262_144;
+/// The number of bytes for which room is made at a time in a chunk that was not made ahead: its last piece alone may be
+/// used in vain.
+const PIECE: usize = 131_072;
 
 /// Bytes in chunks of `CAPTURE_CHUNK`, with room for more in the last of them.
 #[derive(Drop)]
@@ -84,7 +85,8 @@ impl KeptBytes {
 
     /// Makes room for at least one byte more, and for no more than `limit` in all.
     ///
-    /// The first chunk grows by pieces, so that a short capture takes little; while it grows, later chunks are begun.
+    /// A chunk grows by pieces where it was not made ahead. The first one may be moved as it grows, so that a short
+    /// capture takes little; while it grows, later ones are begun.
     pub(crate) fn make_room<T: Threads>(
         &mut self,
         limit: usize,
@@ -106,8 +108,7 @@ impl KeptBytes {
             self.last.resize(wanted, 0)?;
             return Ok(());
         }
-        let mut chunk = ahead.chunk();
-        chunk.resize(CAPTURE_CHUNK.min(rest - CAPTURE_CHUNK), 0)?;
+        let chunk = next_chunk(ahead, rest - CAPTURE_CHUNK)?;
         self.full.reserve(1)?;
         self.full.push_reserved(mem::replace(&mut self.last, chunk));
         self.filled = 0;
@@ -172,6 +173,28 @@ impl KeptBytes {
         let capture = self.capture(alloc)?;
         walk.advance(alloc, &capture)
     }
+}
+
+/// A chunk behind full ones, with room for one byte at least and `most` at most: whole where it was made ahead, and else
+/// with its first piece. It is not moved as it grows.
+fn next_chunk<T: Threads>(
+    ahead: &mut ChunksAhead<'_, T>,
+    most: usize,
+) -> Result<Vec<u8>, AllocError>
+    requires { 0 < most }
+    ensures some { IfOk result (λ chunk. 0 < vec_len chunk) }
+    ensures most { IfOk result (λ chunk. vec_len chunk ≤ most) }
+    ensures within { IfOk result (λ chunk. vec_len chunk ≤ 1048576) }
+{
+    let whole = CAPTURE_CHUNK.min(most);
+    let mut chunk = ahead.chunk();
+    if chunk.is_empty() {
+        chunk.reserve(CAPTURE_CHUNK)?;
+        chunk.resize(PIECE.min(whole), 0)?;
+    } else {
+        chunk.resize(whole, 0)?;
+    }
+    Ok(chunk)
 }
 
 /// Reads once into an empty chunk, while another thread lets a walk go on over the chunks before it.

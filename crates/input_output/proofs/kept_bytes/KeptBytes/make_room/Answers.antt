@@ -25,6 +25,10 @@ returns-then-len-lt-CAPTURE_CHUNK-clause-room g c =
       inside.full.ok.0,
     )
 
+pub next_chunk-requires : goal.next_chunk-requires
+next_chunk-requires g c =
+    omega (arith, sizes c.self.inside c.args.self.now c.self.invariant c.self.view_is, c.requires.limit.0)
+
 pub returns-clause-room : goal.returns-clause-room
 returns-clause-room g c =
     let inside = c.self.inside in
@@ -39,7 +43,7 @@ returns-clause-room g c =
       kept_size full.items chunk.items 0 all (omega arith),
       full.ok.0,
       ap vec_len c.replace.ensures.after,
-      c.in_ok-resize-2.ensures.len,
+      c.in_ok-chunk.ensures.some,
       sizes inside c.args.self.now c.self.invariant c.self.view_is,
       whole,
       c.requires.limit.0,
