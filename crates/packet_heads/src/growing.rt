@@ -30,13 +30,14 @@ impl<T> Model for Growing<T> {
 }
 
 impl<T: Copy> Growing<T> {
-    /// No item.
+    /// No item. Where there is memory, the first chunk has its whole room, so that it is not moved as it grows: what it
+    /// left behind would lie idle.
     pub(crate) fn new(alloc: Global) -> Growing<T>
         ensures { result ≡ [] }
     {
         Growing {
             full: Vec::new(alloc),
-            last: Vec::new(alloc),
+            last: Vec::with_capacity(alloc, PACKET_CHUNK).unwrap_or_else(|_| Vec::new(alloc)),
         }
     }
 
