@@ -1,8 +1,7 @@
-use Rattle.tcp_streams.proofs.Words.{[], sym, ◌∙◌, arith, take, take_all, past_of}
-use Rattle.tcp_streams.proofs.Belongings.{shown-connections, strays-of-past}
-use Rattle.tcp_streams.proofs.Numbered.{Falls-next, connections-members, past_of-few, past_of-more, past_of-passed}
-use Rattle.tcp_streams.proofs.membership.connections.Goals as goal
-use Rattle.tcp_streams.proofs.membership.connections.Goals.{in-Some+in_ok-add, in_default}
+use Rattle.tcp_streams.proofs.Words.{[], arith, take, take_all, past_of}
+use Rattle.tcp_streams.proofs.Numbered.{Falls-next, past_of-few, past_of-more, past_of-passed}
+use Rattle.tcp_streams.proofs.membership.take_in.Goals as goal
+use Rattle.tcp_streams.proofs.membership.take_in.Goals.{in-Some+in_ok-add, in_default}
 
 pub add-requires : goal.add-requires
 add-requires c =
@@ -23,12 +22,4 @@ loop-index-preserved c =
     ]
 
 pub returns : goal.returns
-returns c =
-    let packets = c.args.packets.now in
-    let shown = rw (take_all c.loop-index.index packets (omega arith)) at c.loop-index.invariant in
-    let found = c.into_connections.ensures in
-    record {
-      opened = shown-connections packets _ (rw found.opened shown.opened_are);
-      strays = found.strays ∙ shown.strays_are ∙ sym (strays-of-past packets);
-      members = connections-members packets _ c.requires.numbered (rw found.opened shown.opened_are);
-    }
+returns c = rw (take_all c.loop-index.index c.args.packets.now (omega arith)) at c.loop-index.invariant
