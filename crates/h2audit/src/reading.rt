@@ -1,17 +1,20 @@
 ghost use Rattle.std.specs.Prelude.{◌≡◌, List, ℕ, IfErr, IfOk, Some};
 ghost use Rattle.pcap_records.specs.Refusal.{refusal};
-ghost use Rattle.packet_heads.specs.code.Walk.{IsPacketWalkIn};
+ghost use Rattle.tcp_streams.specs.code.Walk.{IsConnectionWalkIn};
 ghost use Rattle.input_output.specs.Account.{IsUnread};
 ghost use Rattle.input_output.specs.code.Reading as accounted;
 ghost use Rattle.h2audit.specs.code.Reading.{HasReadCapture, IsHeaderOf, IsReadingFault};
 
 use crate::fault::AuditFault;
-use input_output::{CaptureReader, ChunksAhead, ReadFault, keep_and_walk, keep_up_to, pass_over};
-use packet_heads::PacketWalk;
+use input_output::{
+    CaptureReader, ChunksAhead, ReadFault, TableHash, keep_and_walk, keep_up_to, pass_over,
+};
 use pcap_records::PcapFault;
 use std::alloc::Global;
 use std::io::Read;
+use std::random::RandomSource;
 use std::thread::Threads;
+use tcp_streams::ConnectionWalk;
 
 /// The number of bytes in a file header.
 const HEADER: usize = 24;
@@ -19,18 +22,19 @@ const HEADER: usize = 24;
 /// What the file header of a capture gives.
 #[derive(Drop)]
 pub(crate) enum FileHeader {
-    /// It is taken: the walk has made the packets so far.
-    Taken(PacketWalk),
+    /// It is taken: the walk has made the packets so far, and found their connections.
+    Taken(ConnectionWalk),
     /// Why it is refused.
     Refused(PcapFault),
 }
 
 /// Reads to the end, or until there are 2^31 bytes, and keeps what its answer can depend on: all of it, or the file
-/// header alone where that refuses it. Answers that refusal, or a walk that has made the packets so far.
+/// header alone where that refuses it. Answers that refusal, or a walk that has made the packets so far and found their
+/// connections, by a table whose hash is drawn here.
 ///
 /// Other workers make room ahead of the reads.
 pub(crate) fn read_capture<R: Read>(
-    rt: &(impl Threads + Sync),
+    rt: &(impl Threads + Sync + RandomSource),
     alloc: Global,
     workers: u32,
     reader: &mut CaptureReader<R>,
@@ -40,7 +44,7 @@ pub(crate) fn read_capture<R: Read>(
     ensures err { IfErr result (λ e. IsReadingFault e reader.new) }
 {
     let mut ahead = ChunksAhead::new(rt, alloc, workers);
-    let read = read_in_chunks(alloc, &mut ahead, reader);
+    let read = read_in_chunks(alloc, TableHash::drawn(rt), &mut ahead, reader);
     ahead.finish();
     match read {
         Ok(read) => Ok(read),
@@ -52,6 +56,7 @@ pub(crate) fn read_capture<R: Read>(
 /// The same, into chunks that are made ahead.
 fn read_in_chunks<T: Threads, R: Read>(
     alloc: Global,
+    hash: TableHash,
     ahead: &mut ChunksAhead<'_, T>,
     reader: &mut CaptureReader<R>,
 ) -> Result<FileHeader, ReadFault>
@@ -60,7 +65,7 @@ fn read_in_chunks<T: Threads, R: Read>(
     ensures err { IfErr result (λ e. accounted.IsReadingFault e reader.new) }
 {
     keep_up_to(ahead, reader, HEADER)?;
-    let begun = PacketWalk::begin(alloc, reader.together());
+    let begun = ConnectionWalk::begin(alloc, hash, reader.together());
     if reader.has_ended() {
         return Ok(header_by(begun));
     }
@@ -77,8 +82,8 @@ fn read_in_chunks<T: Threads, R: Read>(
 }
 
 /// The walk or the refusal that the beginning of a capture gives.
-fn header_by(begun: Result<PacketWalk, PcapFault>) -> FileHeader
-    ensures { (kept : List ℕ) → IfOk begun (IsPacketWalkIn kept) → IfErr begun (λ e. refusal kept ≡ Some e)
+fn header_by(begun: Result<ConnectionWalk, PcapFault>) -> FileHeader
+    ensures { (kept : List ℕ) → IfOk begun (IsConnectionWalkIn kept) → IfErr begun (λ e. refusal kept ≡ Some e)
         → IsHeaderOf kept result }
 {
     match begun {

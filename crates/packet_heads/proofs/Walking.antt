@@ -3,7 +3,7 @@ use denote.RawPtr.{null_ptr}
 use Rattle.std.proofs.Common.{◌≡◌, ℕ, ◌+◌, ◌-◌, ◌^◌, ◌<◌, ◌≤◌, List, [], ◌∷◌, ◌++◌, length, map, drop, refl, Option}
 use Rattle.std.proofs.Common.{Global, append-nil, length-drop, sym, ap, subst, ◌∙◌, arith}
 use Rattle.std.specs.List.{enumerate_from}
-use Rattle.std.proofs.lemmas.List.{drop-append-le, length-map, take-append-le}
+use Rattle.std.proofs.lemmas.List.{drop-append-le, length-map, length-take, take-append-le, take_all}
 use Rattle.pcap_records.specs.code.Place.{RiseFrom}
 use Rattle.pcap_records.specs.code.Walk.{AreAll, IsThrough}
 use Rattle.pcap_records.specs.laws.Readings.{MoreBytesKeepAWalk}
@@ -12,9 +12,9 @@ use Rattle.pcap_records.specs.declared.capture.Records.{Records}
 use Rattle.packet_heads.specs.declared.packets.Packet.{Packet}
 use Rattle.packet_heads.specs.declared.walk.PacketWalk.{PacketWalk}
 use Rattle.packet_heads.specs.Decision.{decision_on, packet_decision}
-use Rattle.packet_heads.specs.code.Marks.{packet_of, packets_of}
+use Rattle.packet_heads.specs.code.Marks.{packet_of}
 use Rattle.packet_heads.specs.code.Standing.{decisions_from, StandsIn, AreDecided}
-use Rattle.packet_heads.specs.code.Walk.{AreInOrder, ArePacketsOf, HasMade, IsPacketWalkIn}
+use Rattle.packet_heads.specs.code.Walk.{AreInOrder, ArePacketsOf, HasMade, IsFrontOf, IsPacketWalkIn, made_by}
 use Rattle.packet_heads.proofs.Rows.{AreAlong, RiseFrom-le, along}
 
 -- the decision on a record is by its captured bytes, whatever bytes come behind them
@@ -100,7 +100,7 @@ records_of alloc link rows cut few = record {
 
 -- the packets of a walk stand along its records
 walked : (capture : List ℕ) (walk : PacketWalk) (is : HasMade capture walk)
-    → AreAlong 1 0 (length capture) is.rows (packets_of walk.packets.marks walk.packets.segments)
+    → AreAlong 1 0 (length capture) is.rows (made_by walk)
 walked capture walk is =
     let read = is.passed.read in
     along 1 24 0 walk.records.at (length capture) is.rows _ (omega arith) read.high read.placed read.timely
@@ -121,9 +121,9 @@ packets_of_walk alloc capture walk cut is through all short =
     }
 
 -- and they are in order
-pub in_order : (capture : List ℕ) (walk : PacketWalk) (cut : Option ℕ) → HasMade capture walk
-    → length capture < 2 ^ 31 → AreInOrder (length capture) (record { packets = walk.packets; cut = cut })
-in_order capture walk cut is short =
+pub in_order : (capture : List ℕ) (walk : PacketWalk) → HasMade capture walk → length capture ≤ 2 ^ 31
+    → AreInOrder (length capture) (made_by walk)
+in_order capture walk is short =
     let along = walked capture walk is in
     record {
       few = omega (arith, along.count, is.passed.read.few, is.passed.read.high, short);
@@ -144,3 +144,12 @@ few_marks capture walk is short =
       is.passed.read.high,
       short,
     )
+
+-- packets stand in front of themselves, and of one more
+pub front-same : (packets : List Packet) → IsFrontOf packets packets
+front-same packets = take_all (length packets) packets (omega arith)
+
+pub front-push : (front all : List Packet) (packet : Packet) → IsFrontOf front all
+    → IsFrontOf front (all ++ packet ∷ [])
+front-push front all packet is =
+    take-append-le (length front) all (packet ∷ []) (omega (arith, ap length is, length-take (length front) all)) ∙ is

@@ -1,14 +1,15 @@
 //! What the records of a capture hold: IPv4 and TCP headers (RFC 791, RFC 9293), in Ethernet frames with one VLAN tag
 //! or none (RFC 894, IEEE 802.1Q) or in raw IP, as the link type of the capture says.
 //!
-//! [`PacketWalk`] answers for each record of a capture in order, while the capture is read: each time that it goes on
-//! (`input_output::FrontWalk`), it makes the packets of the records that have come, and [`PacketWalk::finish`] answers
-//! those of the whole capture, or the first refusal that applies. A record holds a TCP segment, or something that is
-//! passed over and named ([`Skip`]), or a packet that cannot be read ([`Refusal`]). Twelve lines in a fixed order
-//! decide, of which the first that applies counts. `specs/Decision.antt` lists them, the twelfth being the segment;
-//! `specs/Ethernet.antt`, `specs/Ipv4.antt` (RFC 791, 3.1) and `specs/Tcp.antt` (RFC 9293, 3.1) have the fields of
-//! which they speak. The contract says that each answer is exactly this decision, field by field; [`worked_examples`]
-//! computes it for headers at each bound, one less and one more, and has the names of the refusals byte for byte.
+//! [`PacketWalk`] answers for each record of a capture in order, while the capture is read: each time that it advances,
+//! it makes the packets of the records that have come, behind those that it had made; these can be read then. In the
+//! end [`PacketWalk::finish`] answers those of the whole capture, or the first refusal that applies. A record holds a
+//! TCP segment, or something that is passed over and named ([`Skip`]), or a packet that cannot be read ([`Refusal`]).
+//! Twelve lines in a fixed order decide, of which the first that applies counts. `specs/Decision.antt` lists them, the
+//! twelfth being the segment; `specs/Ethernet.antt`, `specs/Ipv4.antt` (RFC 791, 3.1) and `specs/Tcp.antt` (RFC 9293,
+//! 3.1) have the fields of which they speak. The contract says that each answer is exactly this decision, field by
+//! field; [`worked_examples`] computes it for headers at each bound, one less and one more, and has the names of the
+//! refusals byte for byte.
 //!
 //! - Packet n is record n's, there are fewer than 2^32 of them, and times are below 2^63 nanoseconds.
 //! - Payloads lie in the capture in order and apart. Of one packet it is said only that it lies in its record, which is

@@ -1,13 +1,16 @@
 //! The packets of a capture, made while it is read.
 
-ghost use Rattle.std.specs.Prelude.{◌≡◌, ◌<◌, ◌≤◌, ◌^◌, ◌⊎◌, IfErr, IfOk, IfSome, None, OnOk, Some, length};
+ghost use Rattle.std.specs.Prelude.{◌≡◌, ◌<◌, ◌≤◌, ◌^◌, ◌⊎◌, [], IfErr, IfOk, IfSome, None, OnOk, Some};
+ghost use Rattle.std.specs.Prelude.{length};
 ghost use Rattle.pcap_records.specs.Refusal.{refusal};
 ghost use Rattle.pcap_records.specs.code.Walk.{IsThrough};
-ghost use Rattle.packet_heads.specs.code.Walk.{AreInOrder, ArePacketsOf, HasMade, IsPacketWalkIn};
+ghost use Rattle.packet_heads.specs.code.Walk.{AreInOrder, ArePacketsOf, HasMade, IsFrontOf, IsPacketWalkIn, made_by};
+ghost use Rattle.packet_heads.specs.code.Walk.{packets_in};
 
 use crate::decoding::decode;
 use crate::made::MadePackets;
-use input_output::{Capture, FrontWalk};
+use crate::packets::Packets;
+use input_output::Capture;
 use pcap_records::laws::more_bytes_keep_a_walk;
 use pcap_records::{PcapFault, RecordWalk, refusal_in_chunks};
 use std::alloc::{AllocError, Global};
@@ -23,8 +26,7 @@ pub struct CapturePackets {
 
 /// The packets of a front of a capture, behind which more bytes may come.
 ///
-/// A program that reads a capture lets the walk go on over each chunk as it has come. No record is kept beside its
-/// packet.
+/// Who reads a capture lets the walk advance over each chunk as it has come. No record is kept beside its packet.
 #[derive(Drop)]
 pub struct PacketWalk {
     records: RecordWalk,
@@ -37,6 +39,7 @@ impl PacketWalk {
     /// A walk that stands behind the file header, or the refusal of these bytes.
     pub fn begin(alloc: Global, front: &[u8]) -> Result<PacketWalk, PcapFault>
         ensures ok { IfOk result (IsPacketWalkIn front.now) }
+        ensures none { IfOk result (λ walk. made_by walk ≡ []) }
         ensures taken { OnOk result (refusal front.now ≡ None) }
         ensures whole { OnOk result (24 ≤ length front.now) }
         ensures err { IfErr result (λ e. refusal front.now ≡ Some e) }
@@ -50,14 +53,42 @@ impl PacketWalk {
         })
     }
 
-    /// Makes the packet of each record that the capture has by now.
+    /// How many packets were made so far.
+    #[tactic(auto, using(crate::proofs::Marking::marks))]
+    pub fn count(&self) -> usize
+        ensures { result ≡ length (made_by self.now) }
+    {
+        self.packets.marks.len() as usize
+    }
+
+    /// The packets that were made so far, to be read.
+    pub fn made(&self, alloc: Global) -> Result<Packets<'_>, AllocError>
+        ensures { IfOk result (λ all. all ≡ made_by self.now) }
+    {
+        Packets::of(alloc, &self.packets)
+    }
+
+    /// Makes the packet of each record that the capture has by now, behind those that were made before.
     ///
     /// Memory can be wanting for the packets, or for a record in which chunks of the capture meet.
+    pub fn advance(&mut self, alloc: Global, capture: &Capture<'_>) -> Result<(), AllocError>
+        requires walk { IsPacketWalkIn capture.now self.old }
+        requires short { length capture.now ≤ 2 ^ 31 }
+        ensures walk { OnOk result (IsPacketWalkIn capture.now self.new) }
+        ensures front { OnOk result (IsFrontOf (made_by self.old) (made_by self.new)) }
+        ensures order { OnOk result (AreInOrder (length capture.now) (made_by self.new)) }
+    {
+        more_bytes_keep_a_walk();
+        self.go_on(alloc, capture)
+    }
+
+    /// The same, where it is not asked what stands whatever bytes come behind the capture.
     fn go_on(&mut self, alloc: Global, capture: &Capture<'_>) -> Result<(), AllocError>
         requires walk { HasMade capture.now self.old }
         requires short { length capture.now ≤ 2 ^ 31 }
         ensures made { OnOk result (HasMade capture.now self.new) }
         ensures through { OnOk result (IsThrough capture.now self.new.records) }
+        ensures front { OnOk result (IsFrontOf (made_by self.old) (made_by self.new)) }
     {
         while let Some(row) = self.records.next(alloc, capture)? {
             self.count += 1;
@@ -83,7 +114,8 @@ impl PacketWalk {
         ensures err { IfErr result (λ e. (e ≡ PcapFault.OutOfMemory) ⊎ (refusal capture.now ≡ Some e)) }
 
         // For those who go on from the packets.
-        ensures order { IfOk result (AreInOrder (length capture.now)) }
+        ensures front { IfOk result (λ found. IsFrontOf (made_by self) (packets_in found)) }
+        ensures order { IfOk result (λ found. AreInOrder (length capture.now) (packets_in found)) }
         ensures short { OnOk result (length capture.now < 2 ^ 31) }
     {
         if let Some(fault) = refusal_in_chunks(capture) {
@@ -104,7 +136,8 @@ impl PacketWalk {
         requires walk { IsPacketWalkIn capture.now self }
         requires short { length capture.now < 2 ^ 31 }
         ensures packets { IfOk result (ArePacketsOf capture.now) }
-        ensures order { IfOk result (AreInOrder (length capture.now)) }
+        ensures front { IfOk result (λ found. IsFrontOf (made_by self) (packets_in found)) }
+        ensures order { IfOk result (λ found. AreInOrder (length capture.now) (packets_in found)) }
     {
         self.go_on(alloc, capture)?;
         let cut = self.records.cut(capture, self.count);
@@ -112,14 +145,5 @@ impl PacketWalk {
             packets: self.packets,
             cut,
         })
-    }
-}
-
-impl FrontWalk for PacketWalk {
-    ghost stands = { HasMade };
-
-    fn advance(&mut self, alloc: Global, capture: &Capture<'_>) -> Result<(), AllocError> {
-        more_bytes_keep_a_walk();
-        self.go_on(alloc, capture)
     }
 }

@@ -1,5 +1,6 @@
 pub mod Belongings
 pub mod FlowLemmas
+pub mod Fronts
 pub mod IntervalLemmas
 pub mod Lists
 pub mod Numbered

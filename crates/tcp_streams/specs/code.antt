@@ -5,3 +5,4 @@ pub mod Past
 pub mod Standings
 pub mod Table
 pub mod Orderly
+pub mod Walk

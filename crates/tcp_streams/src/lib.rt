@@ -3,6 +3,9 @@
 //! - [`connections`] says which SYNs open a connection, which segments belong to which opening (RFC 9293, 3.5), and
 //!   which are strays. `specs/Membership.antt` gives each segment the opening that it belongs to in one fold over the
 //!   capture, and reads connections and strays from there; `specs/code/Past.antt` has what the table keeps of it.
+//! - [`ConnectionWalk`] answers the same of a capture while it is read: each time that it advances
+//!   (`input_output::FrontWalk`), packets are made of what has come, and the table takes them in. Its `finish` has the
+//!   clauses of `packet_heads::PacketWalk::finish` and of [`connections`].
 //! - [`assemble`] gives a side's bytes from its initial sequence number on (RFC 9293, 3.4), whatever order, loss or
 //!   repetition the capture shows: `IsFlow` of `specs/Flow.antt` is the longest covered run from offset 0, its bytes,
 //!   the record at which each byte was there, and a gap where bytes are missing before later ones. Of several records
@@ -21,9 +24,10 @@
 //! capture can foresee (`TableHash`); the contract of [`connections`] holds for every key, so no answer depends on it.
 //!
 //! Wrong bodies that the prover refuses: the last retransmission wins, a SYN of any number opens again, a pair is known
-//! by one end. [`worked_examples`] goes from packets to a flow; worked examples of openings, strays and offsets are
-//! proved in `crate_tests`. Tested there: random segments beside a slow program that goes offset by offset, and that
-//! keys are drawn. Tested by whole reports: interleaved connections.
+//! by one end, a packet is left out where a walk goes on, packets are taken in twice. [`worked_examples`] goes from
+//! packets to a flow; worked examples of openings, strays and offsets are proved in `crate_tests`. Tested there: random
+//! segments beside a slow program that goes offset by offset, and that keys are drawn. Tested by whole reports:
+//! interleaved connections.
 #![tactic(auto)]
 
 mod assembly;
@@ -39,9 +43,11 @@ mod pieces;
 mod standings;
 mod streams;
 mod table;
+mod walk;
 pub mod worked_examples;
 
 pub use assembly::assemble;
 pub use members::{Connection, Connections, Stray};
 pub use membership::connections;
 pub use streams::{Arrival, Flow};
+pub use walk::ConnectionWalk;

@@ -1,5 +1,7 @@
-ghost use Rattle.std.specs.Prelude.{◌≡◌, ◌<◌, ◌^◌, length, All, IfOk};
+ghost use Rattle.std.specs.Prelude.{◌≡◌, ◌<◌, ◌≤◌, ◌^◌, length, take, All, IfOk, OnOk};
 ghost use Rattle.tcp_streams.specs.code.Orderly.{AreMembers};
+ghost use Rattle.tcp_streams.specs.code.Past.{past_of};
+ghost use Rattle.tcp_streams.specs.code.Table.{IsTableOf};
 ghost use Rattle.tcp_streams.specs.Membership.{AreConnections, strays_of};
 ghost use Rattle.packet_heads.specs.code.Order.{AreNumberedFrom};
 
@@ -27,11 +29,43 @@ pub fn connections(
     ensures strays { IfOk result (λ found. found.strays.items ≡ strays_of packets.now) }
     ensures members { IfOk result (λ found. All (λ c. AreMembers 0 packets.now c.members.items) found.opened.items) }
 {
-    let mut table = Table::new(alloc, hash);
-    for index in 0..packets.len() {
+    connections_from(Table::new(alloc, hash), packets, 0)
+}
+
+/// The same, where a table has taken in the packets before this index.
+pub(crate) fn connections_from(
+    mut table: Table,
+    packets: &Packets<'_>,
+    start: usize,
+) -> Result<Connections, AllocError>
+    requires few { length packets.now < 2 ^ 32 }
+    requires numbered { AreNumberedFrom 1 packets.now }
+    requires start { start ≤ length packets.now }
+    requires table { IsTableOf (past_of (take start packets.now)) table }
+    ensures opened { IfOk result (λ found. AreConnections packets.now found.opened.items) }
+    ensures strays { IfOk result (λ found. found.strays.items ≡ strays_of packets.now) }
+    ensures members { IfOk result (λ found. All (λ c. AreMembers 0 packets.now c.members.items) found.opened.items) }
+{
+    take_in(&mut table, packets, start)?;
+    Ok(table.into_connections())
+}
+
+/// Takes the packets from this index on into a table that has taken in those before it.
+pub(crate) fn take_in(
+    table: &mut Table,
+    packets: &Packets<'_>,
+    start: usize,
+) -> Result<(), AllocError>
+    requires few { length packets.now < 2 ^ 32 }
+    requires numbered { AreNumberedFrom 1 packets.now }
+    requires start { start ≤ length packets.now }
+    requires table { IsTableOf (past_of (take start packets.now)) table.old }
+    ensures { OnOk result (IsTableOf (past_of packets.now) table.new) }
+{
+    for index in start..packets.len() {
         if let Some(segment) = packets.segment(index) {
             table.add(segment)?;
         }
     }
-    Ok(table.into_connections())
+    Ok(())
 }

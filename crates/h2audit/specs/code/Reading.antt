@@ -10,7 +10,7 @@ use Rattle.h2audit.specs.declared.fault.AuditFault.TheVariants as fault
 use Rattle.h2audit.specs.declared.reading.FileHeader.{FileHeader}
 use Rattle.h2audit.specs.declared.reading.FileHeader.TheVariants as header
 use Rattle.h2audit.specs.Report.{IsNoReport}
-use Rattle.packet_heads.specs.code.Walk.{IsPacketWalkIn}
+use Rattle.tcp_streams.specs.code.Walk.{IsConnectionWalkIn}
 
 -- what is kept of a capture answers for it: both have the same refusal, and where they have none they are the same
 abbrev pub AnswersFor : (kept given : List ℕ) → Type 0
@@ -24,7 +24,7 @@ IsReadingFault _ _ = ⊥
 
 -- what the file header of these bytes gives: a walk over them, or their refusal
 abbrev pub IsHeaderOf : List ℕ → FileHeader → Type 0
-IsHeaderOf kept (header.Taken walk) = IsPacketWalkIn kept walk
+IsHeaderOf kept (header.Taken walk) = IsConnectionWalkIn kept walk
 IsHeaderOf kept (header.Refused e) = refusal kept ≡ Some e
 
 -- a capture was read to its end, of a reader that had these bytes left, where they are known: what is kept answers for

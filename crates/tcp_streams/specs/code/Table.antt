@@ -1,4 +1,5 @@
--- The table that `connections` keeps, against the past that it has seen. No public clause cites these.
+-- The table that `connections` and a walk keep, against the past that it has seen. No public clause cites these, but
+-- that on a walk (`Walk`).
 use Rattle.std.specs.Prelude.{◌≡◌, ℕ, ◌+◌, ◌<◌, ◌^◌, Bool, true, false, ◌&&◌, not, if◌then◌else◌, List, [], ◌∷◌, ◌++◌}
 use Rattle.std.specs.Prelude.{length, map, Option, None, Some, slice_get}
 use Rattle.std.specs.List.{list_any}

@@ -35,14 +35,10 @@ decisions-length link rows capture =
 
 pub flows_each-requires-clause-few : goal.flows_each-requires-clause-few
 flows_each-requires-clause-few g c κs within =
-    let packets = c.in_ok-packets.packets in
-    let few = opened-few packets c.in_ok-connections.connections.opened.items c.in_ok-connections.ensures.opened in
-    let same : length packets ≡ length (packets_in c.args.found) =
-    ap length c.in_ok-packets.ensures in
-    let lent : length c.as_slice-lent.result.now ≡ length c.in_ok-connections.connections.opened.items =
+    let few = opened-few (packets_in c.args.found) c.args.connections.opened.items c.requires.opened in
+    let lent : length c.as_slice-lent.result.now ≡ length c.args.connections.opened.items =
     ap length c.as_slice-lent.ensures.value in
-    let all = c.requires.order.few in
-    omega (arith, few, same, lent, all)
+    omega (arith, few, lent, c.requires.order.few)
 
 pub flows_each-requires-clause-sources : goal.flows_each-requires-clause-sources
 flows_each-requires-clause-sources g c κs within = λ k d low. record {
@@ -50,7 +46,7 @@ flows_each-requires-clause-sources g c κs within = λ k d low. record {
   numbered = rw c.in_ok-packets.ensures c.requires.order.numbered;
   payloads = rw c.in_ok-packets.ensures c.requires.order.payloads;
   times = rw c.in_ok-packets.ensures c.requires.order.times;
-  members = (rw (← c.as_slice-lent.ensures.value) at c.in_ok-connections.ensures.members) k d low;
+  members = (rw (← c.as_slice-lent.ensures.value, ← c.in_ok-packets.ensures) at c.requires.members) k d low;
 }
 
 pub audit_each-requires-after_bounds : goal.audit_each-requires-after_bounds
@@ -63,7 +59,7 @@ report-requires-clause-each g c =
     let credits = c.args.options.now.frames_shown in
     let packets = c.in_ok-packets.packets in
     let lent = c.as_slice-lent.result.now in
-    let opened = c.in_ok-connections.connections.opened.items in
+    let opened = c.args.connections.opened.items in
     let audits = found-audits credits c.args.capture.now packets lent c.in_ok-parts.parts.items
     c.in_ok-told.told.items c.in_ok-parts.ensures c.in_ok-told.ensures in
     ap length c.as_slice-2.ensures.value
@@ -88,8 +84,8 @@ returns g c =
     let capture = c.args.capture.now in
     let found = c.requires.packets.records in
     let packets = packets_of capture found in
-    let opened = c.in_ok-connections.connections.opened.items in
-    let strays = c.in_ok-connections.connections.strays.items in
+    let opened = c.args.connections.opened.items in
+    let strays = c.args.connections.strays.items in
     let told = c.in_ok-told.told.items in
     let given : c.in_ok-packets.packets ≡ packets = c.in_ok-packets.ensures ∙ c.requires.packets.exact in
     let lent = c.as_slice-lent.ensures.value in
@@ -110,7 +106,7 @@ returns g c =
       report = record {
         opened = opened;
         audited = audited;
-        connections = subst (λ (p : List Packet). AreConnections p opened) given c.in_ok-connections.ensures.opened;
+        connections = subst (λ (p : List Packet). AreConnections p opened) c.requires.packets.exact c.requires.opened;
         audits = audits.audits;
         spelled = c.in_ok-text.ensures opened audited (c.as_slice.ensures.value ∙ c.in_ok-headings.ensures)
             (subst (λ (l : List Told). AreToldOf l audited) (sym c.as_slice-2.ensures.value) audits.stands)
@@ -122,7 +118,7 @@ returns g c =
             ++ sections_text credits 1 opened audited) given
             ∙ ap (λ (s : List Stray). capture_text found packets s
             ++ sections_text credits 1 opened audited)
-            (c.in_ok-connections.ensures.strays ∙ ap strays_of given);
+            (c.requires.strays ∙ ap strays_of c.requires.packets.exact);
         judged = c.verdict_on-verdict.ensures audited
             (subst (λ (l : List Told). AreToldOf l audited) (sym c.as_slice-3.ensures.value) audits.stands);
       };

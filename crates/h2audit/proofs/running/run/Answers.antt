@@ -1,4 +1,5 @@
 use Rattle.std.proofs.Common.{rules, ◌^◌, take, subst, sym}
+use Rattle.std.proofs.KnownBytes.{Appends-nil}
 use Rattle.std.proofs.lemmas.Option.{IfSome_then}
 use Rattle.h2audit.specs.Account.{Tells}
 use Rattle.h2audit.proofs.Leaving.{given_fault, report_of_given, tells_fault, tells_written}
@@ -17,6 +18,9 @@ returns-in_err-text-clause-given g c =
     IfSome_then (g.R.Read.remaining c.args.reader.now.reader) c.in_ok-header.ensures.read.bytes (λ all is read.
     given_fault c.read_capture.new.reader c.audit_kept.new.reader c.in_err-text.field-0.0 (take (2 ^ 31) all)
     c.in_err-text.ensures.fault is)
+
+pub returns-in_err-text-clause-taken : goal.returns-in_err-text-clause-taken
+returns-in_err-text-clause-taken g c = rw c.requires.unwritten.written (Appends-nil (g.W.Write.contents c.args.writer.now.writer))
 
 pub returns-clause-tells : goal.returns-clause-tells
 returns-clause-tells g c =

@@ -1,4 +1,5 @@
 use Rattle.packet_heads.proofs.Walking.{in_order, packets_of_walk, stands_now}
+use Rattle.std.proofs.Common.{arith}
 use Rattle.packet_heads.proofs.walk.PacketWalk.completed.Goals as goal
 
 pub go_on-requires-clause-walk : goal.go_on-requires-clause-walk
@@ -11,4 +12,4 @@ returns-clause-packets c =
 
 pub returns-clause-order : goal.returns-clause-order
 returns-clause-order c =
-    in_order c.args.capture.now c.go_on.new.self c.cut-cut.result c.in_ok-go_on.ensures.made c.requires.short
+    in_order c.args.capture.now c.go_on.new.self c.in_ok-go_on.ensures.made (omega (arith, c.requires.short))

@@ -1,5 +1,5 @@
 use Rattle.tcp_streams.proofs.Words.{take, past_of, IsTableOf}
-use Rattle.tcp_streams.proofs.membership.connections.Given as goal
+use Rattle.tcp_streams.proofs.membership.take_in.Given as goal
 
 -- the table shows the segments of the packets so far
 abbrev pub invariant-loop-index : goal.invariant-loop-index

@@ -1,0 +1,119 @@
+//! The connections of a capture, found while it is read.
+
+ghost use Rattle.std.specs.Prelude.{◌≡◌, ◌<◌, ◌≤◌, ◌^◌, ◌⊎◌, All, IfErr, IfOk, IfSome, None, OnOk, Some, length, take};
+ghost use Rattle.pcap_records.specs.Refusal.{refusal};
+ghost use Rattle.packet_heads.specs.code.Order.{AreNumberedFrom};
+ghost use Rattle.packet_heads.specs.code.Walk.{AreInOrder, ArePacketsOf, packets_in};
+ghost use Rattle.tcp_streams.specs.Membership.{AreConnections, strays_of};
+ghost use Rattle.tcp_streams.specs.code.Orderly.{AreMembers};
+ghost use Rattle.tcp_streams.specs.code.Past.{past_of};
+ghost use Rattle.tcp_streams.specs.code.Table.{IsTableOf};
+ghost use Rattle.tcp_streams.specs.code.Walk.{HasTakenIn, IsConnectionWalkIn};
+
+use crate::members::Connections;
+use crate::membership::{connections_from, take_in};
+use crate::table::Table;
+use input_output::{Capture, FrontWalk, TableHash};
+use packet_heads::{CapturePackets, PacketWalk, Packets};
+use pcap_records::PcapFault;
+use std::alloc::{AllocError, Global};
+
+/// The packets of a front of a capture and the connections that they show, behind which more bytes may come.
+///
+/// Each time that the walk advances, the table takes in the packets that were just made, while they are hot.
+#[derive(Drop)]
+pub struct ConnectionWalk {
+    packets: PacketWalk,
+    hash: TableHash,
+    /// It has taken in all packets that were made.
+    table: Table,
+}
+
+impl ConnectionWalk {
+    /// A walk that stands behind the file header, or the refusal of these bytes.
+    pub fn begin(alloc: Global, hash: TableHash, front: &[u8]) -> Result<ConnectionWalk, PcapFault>
+        ensures ok { IfOk result (IsConnectionWalkIn front.now) }
+        ensures taken { OnOk result (refusal front.now ≡ None) }
+        ensures whole { OnOk result (24 ≤ length front.now) }
+        ensures err { IfErr result (λ e. refusal front.now ≡ Some e) }
+    {
+        let packets = PacketWalk::begin(alloc, front)?;
+        Ok(ConnectionWalk {
+            packets,
+            hash,
+            table: Table::new(alloc, hash),
+        })
+    }
+
+    /// The hash of the table in which pairs of endpoints are looked up.
+    pub fn hash(&self) -> TableHash
+        ensures { result ≡ self.now.hash }
+    {
+        self.hash
+    }
+
+    /// What the capture holds, of which this walk took in a front, with its connections and strays, or the first
+    /// refusal that applies.
+    ///
+    /// Refusals are those of [`PacketWalk::finish`]; memory can be wanting for the table too.
+    pub fn finish(
+        self,
+        alloc: Global,
+        capture: &Capture<'_>,
+    ) -> Result<(CapturePackets, Connections), PcapFault>
+        requires walk { IsConnectionWalkIn capture.now self }
+        // Nothing refuses the capture, and there is a packet for each of its records: the decision on it.
+        ensures ok { IfOk result (λ found. (refusal capture.now ≡ None) × ArePacketsOf capture.now found.0) }
+        // The connections and the strays are those of these packets.
+        ensures opened { IfOk result (λ found. AreConnections (packets_in found.0) found.1.opened.items) }
+        ensures strays { IfOk result (λ found. found.1.strays.items ≡ strays_of (packets_in found.0)) }
+        // What is refused is refused by the first refusal that applies, whatever memory there is.
+        ensures refused { IfSome (refusal capture.now) (λ e. result ≡ Err e) }
+        // Each fault other than want of memory is that refusal.
+        ensures err { IfErr result (λ e. (e ≡ PcapFault.OutOfMemory) ⊎ (refusal capture.now ≡ Some e)) }
+
+        // For those who go on from the packets and the connections.
+        ensures order { IfOk result (λ found. AreInOrder (length capture.now) (packets_in found.0)) }
+        ensures members { IfOk result (λ found.
+            All (λ c. AreMembers 0 (packets_in found.0) c.members.items) found.1.opened.items) }
+        ensures short { OnOk result (length capture.now < 2 ^ 31) }
+    {
+        let ConnectionWalk { packets, table, .. } = self;
+        let known = packets.count();
+        let found = packets.finish(alloc, capture)?;
+        match completed(alloc, table, &found, known) {
+            Ok(connections) => Ok((found, connections)),
+            Err(_) => Err(PcapFault::OutOfMemory),
+        }
+    }
+}
+
+/// The connections of a capture that holds these packets, so many of which a table has taken in.
+fn completed(
+    alloc: Global,
+    table: Table,
+    found: &CapturePackets,
+    known: usize,
+) -> Result<Connections, AllocError>
+    requires few { length (packets_in found.now) < 2 ^ 32 }
+    requires numbered { AreNumberedFrom 1 (packets_in found.now) }
+    requires known { known ≤ length (packets_in found.now) }
+    requires table { IsTableOf (past_of (take known (packets_in found.now))) table }
+    ensures opened { IfOk result (λ c. AreConnections (packets_in found.now) c.opened.items) }
+    ensures strays { IfOk result (λ c. c.strays.items ≡ strays_of (packets_in found.now)) }
+    ensures members { IfOk result (λ c. All (λ c. AreMembers 0 (packets_in found.now) c.members.items) c.opened.items) }
+{
+    let packets = Packets::of(alloc, &found.packets)?;
+    connections_from(table, &packets, known)
+}
+
+impl FrontWalk for ConnectionWalk {
+    ghost stands = { HasTakenIn };
+
+    fn advance(&mut self, alloc: Global, capture: &Capture<'_>) -> Result<(), AllocError> {
+        let known = self.packets.count();
+        self.packets.advance(alloc, capture)?;
+        let packets = self.packets.made(alloc)?;
+        take_in(&mut self.table, &packets, known)
+    }
+}
