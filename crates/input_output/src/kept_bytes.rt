@@ -161,13 +161,13 @@ impl KeptBytes {
         }
     }
 
-    /// Lets a walk go on over the bytes, where there is no room for one more.
+    /// Lets a walk go on over the bytes, where the last chunk is full.
     fn walk_where_filled<W: FrontWalk>(&self, alloc: Global, walk: &mut W) -> Result<(), AllocError>
         requires walk { Lasts W.stands self.now.kept walk.old }
         requires short { length self.now.kept ≤ 2 ^ 31 }
         ensures { OnOk result (Lasts W.stands self.now.kept walk.new) }
     {
-        if self.filled < self.last.len() {
+        if self.filled < CAPTURE_CHUNK {
             return Ok(());
         }
         let capture = self.capture(alloc)?;
