@@ -7,7 +7,7 @@ use crate::command_line::Options;
 use crate::connection::{audit_each, flows_each, verdict_on};
 use crate::fault::AuditFault;
 use crate::verdict::Verdict;
-use audit_report::{capture_lines, headings_of, report};
+use audit_report::{Telling, capture_lines, headings_of, report};
 use audit_rounds::Division;
 use input_output::{Capture, TableHash};
 use packet_heads::{CapturePackets, PacketWalk, Packets};
@@ -107,13 +107,12 @@ fn audit_records(
     drop(made);
     let headings = headings_of(alloc, opened)?;
     let told = audit_each(rt, alloc, options, &division, parts, gate)?;
-    let text = report(
+    let telling = Telling {
         alloc,
-        begun,
-        headings.as_slice(),
-        told.as_slice(),
-        options.frames_shown(),
-    )?;
+        workers: options.workers(),
+        frames_shown: options.frames_shown(),
+    };
+    let text = report(rt, telling, begun, headings.as_slice(), told.as_slice())?;
     let verdict = verdict_on(told.as_slice());
     Ok((text, verdict))
 }
