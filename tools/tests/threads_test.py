@@ -79,7 +79,12 @@ ROWS = [
         "blocks of each are summed": 2}),
     ("--workers 4", connections(5000, UNMATCHED), {
         "parts ahead": 4, "one more at the second MiB": 1, "packets of two MiB": 2, "flows": 3,
-        "halves of one batch, and halves of these": 3}),
+        "halves of one batch, and halves of these": 3, "halves of the text on two batches, and halves of these": 6}),
+    ("--workers 4", connections(255), {"flows": 3, "a text of so few is one worker's": 0}),
+    ("--workers 4", connections(256), {"flows": 3, "halves of the text, from 256 connections on": 1}),
+    ("--workers 4", connections(8193), {
+        "parts ahead": 4, "one more at the second and the third MiB": 2, "packets of three MiB": 3, "flows": 3,
+        "halves of the text on 8,192 connections, and halves of these; the last one is a batch of its own": 3}),
 ]
 
 

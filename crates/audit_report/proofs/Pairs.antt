@@ -1,6 +1,6 @@
 -- Going down the connections and what is told of them, side by side.
-use Rattle.std.proofs.Common.{◌≡◌, ℕ, ◌+◌, ◌<◌, Bool, List, ◌∷◌, ◌++◌, drop, length, get_or, ◌∙◌, ap, sym, append_assoc}
-use Rattle.std.proofs.Common.{refl}
+use Rattle.std.proofs.Common.{◌≡◌, ℕ, zero, suc, ◌+◌, ◌<◌, Bool, List, [], ◌∷◌, ◌++◌, take, drop, length, get_or, ◌∙◌}
+use Rattle.std.proofs.Common.{refl, ap, sym, append_assoc, arith}
 use Rattle.std.proofs.lemmas.List.{drop_more}
 use Rattle.audit_report.specs.code.Contents.{contents_in, opening_text}
 use Rattle.audit_report.specs.code.Reported.{extents_in, outcome_text, told_text}
@@ -12,19 +12,46 @@ from_here : {X : Type 0} (xs : List X) (i : ℕ) (x : X) → i < length xs → x
     → drop i xs ≡ x ∷ drop (i + 1) xs
 from_here xs i x l here = drop_more xs i x l ∙ ap (λ y. y ∷ drop (i + 1) xs) (sym here)
 
--- the lines from the index of a connection
-pub sections_from_here : (shown : Bool) (k i : ℕ) (headings : List Heading) (told : List Told)
+-- the lines from the index of a connection, of which the next one has this number
+pub sections_from_here : (shown : Bool) (k next i : ℕ) (headings : List Heading) (told : List Told)
     (other : Heading) (t : Told)
-    → i < length headings → i < length told → t ≡ get_or told i t
+    → k + 1 ≡ next → i < length headings → i < length told → t ≡ get_or told i t
     → told_text shown k (drop i headings) (drop i told)
     ≡ (opening_text k (get_or headings i other) (extents_in t.reach) (contents_in t.outcome)
     ++ outcome_text shown t.outcome)
-    ++ told_text shown (k + 1) (drop (i + 1) headings) (drop (i + 1) told)
-sections_from_here shown k i headings told other t lc la there =
-    rw (drop_more headings i other lc, from_here told i t la there) refl
+    ++ told_text shown next (drop (i + 1) headings) (drop (i + 1) told)
+sections_from_here shown k next i headings told other t on lc la there =
+    rw (← on, drop_more headings i other lc, from_here told i t la there) refl
 
 -- one piece more of a text of which the rest is to come
 pub written_more : (o o' piece rest all whole : List ℕ) → o' ≡ o ++ piece → all ≡ piece ++ rest → o ++ all ≡ whole
     → o' ++ rest ≡ whole
 written_more o o' piece rest all whole pushed split so_far =
     ap (λ l. l ++ rest) pushed ∙ append_assoc o piece rest ∙ ap (λ l. o ++ l) (sym split) ∙ so_far
+
+none-told : (shown : Bool) (k : ℕ) (headings : List Heading) → told_text shown k headings [] ≡ []
+none-told shown k [] = refl
+none-told shown k (h ∷ hs) = refl
+
+-- the lines of the first connections, and those of all others
+pub told_parts : (shown : Bool) (k n : ℕ) (headings : List Heading) (told : List Told)
+    → told_text shown k (take n headings) (take n told) ++ told_text shown (k + n) (drop n headings) (drop n told)
+    ≡ told_text shown k headings told
+told_parts shown k zero headings told = let same : k + zero ≡ k = omega arith in rw same refl
+told_parts shown k (suc n) [] told = refl
+told_parts shown k (suc n) (h ∷ hs) [] = none-told shown (k + suc n) (drop n hs)
+told_parts shown k (suc n) (h ∷ hs) (t ∷ ts) =
+    let piece = opening_text k h (extents_in t.reach) (contents_in t.outcome) ++ outcome_text shown t.outcome in
+    let on : k + suc n ≡ k + 1 + n = omega arith in
+    rw on (append_assoc piece (told_text shown (k + 1) (take n hs) (take n ts)) _
+    ∙ ap (λ l. piece ++ l) (told_parts shown (k + 1) n hs ts))
+
+-- the lines of connections that lie in two parts, behind a text
+pub told_joined : (shown : Bool) (k next n : ℕ) (headings front back : List Heading)
+    (told told_front told_back : List Told) (text : List ℕ) → k + n ≡ next
+    → front ≡ take n headings → back ≡ drop n headings → told_front ≡ take n told → told_back ≡ drop n told
+    → (text ++ told_text shown k front told_front) ++ told_text shown next back told_back
+    ≡ text ++ told_text shown k headings told
+told_joined shown k next n headings front back told told_front told_back text on f b tf tb =
+    rw (← on, f, b, tf, tb) (append_assoc text (told_text shown k (take n headings) (take n told)) _
+    ∙ ap (λ l. text ++ l) (told_parts shown k n headings told))

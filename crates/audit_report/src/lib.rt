@@ -7,6 +7,9 @@
 //! - Which stalls findings tell of, the definition (`specs/Stalls.antt`) says by looking forward from each beginning
 //!   for the first end of the same side and stream; the code goes over the list once, from the back, with the nearest
 //!   end of each window in a table.
+//! - Of several workers each writes its share of the connections: of a batch halves are written side by side, the back
+//!   as a text of its own, which goes behind the front's. The contract of [`report`] knows no workers. No more than a
+//!   batch's text is in memory twice. [`Telling`] is what goes along.
 //! - [`Told`] is what is kept of a connection from its flows on. Of a flow that is its [`Reach`], length and gap. Of
 //!   frames it is their number where nothing is shown of them ([`QuietConnection`]), and else the frames and what was
 //!   found in them ([`AuditedFrames`]). It stands for an [`Audited`], which the definitions are over, and of which it
@@ -18,17 +21,19 @@
 //!
 //! Asked of the caller: one outcome for each connection, and orderly frames; nothing of the findings. A finding whose
 //! frame is not there would have record 0 and time 0, which no report meets. A finding's frame is looked for at its own
-//! number first, since frame n stands at n - 1, then by halving; lines go onto one growing text.
+//! number first, since frame n stands at n - 1, then by halving; lines go onto one growing text, or a worker's own.
 //!
 //! [`worked_examples`] shows stalls: of both sides, of several windows, without an end, by a clock that went back.
 //!
 //! Wrong bodies that the prover refuses: the cut record left out, tails exchanged, frames not counted, a sign left out,
-//! no connections, a frame looked up by its record, an end of a stall that was withdrawn. Tested: in `crate_tests` the
-//! lines on one packet of each kind, and by whole reports that the calls succeed where there is memory. Trusted: std's
-//! statement of what `write!` of a number writes.
+//! a half whose connections are numbered afresh, a frame looked up by its record, an end of a stall that was withdrawn.
+//! Tested: in `crate_tests` the lines on one packet of each kind, and by whole reports that the calls succeed where
+//! there is memory; by `threads_test.py` that several workers write. Trusted: what `itoa` states of the digits that it
+//! writes of a number, and std of `join`.
 #![tactic(auto)]
 
 mod audited;
+mod batches;
 mod capture;
 mod connections;
 mod contents;
@@ -41,8 +46,10 @@ mod headings;
 mod lookup;
 mod numbered;
 mod reports;
+mod sections;
 mod stalls;
 mod tally;
+mod telling;
 mod told;
 mod unopened;
 mod words;
@@ -53,4 +60,5 @@ pub use capture::capture_lines;
 pub use extents::{Extent, Reach};
 pub use headings::{Heading, headings_of};
 pub use reports::report;
+pub use telling::Telling;
 pub use told::{AuditedFrames, Outcome, QuietConnection, Told};

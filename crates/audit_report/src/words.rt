@@ -3,6 +3,7 @@ ghost use Rattle.std.specs.Fmt.{decimal, signed_decimal};
 ghost use Rattle.std.specs.String.{string_bytes};
 ghost use Rattle.audit_report.specs.Line.{field};
 
+use itoa::Buffer;
 use std::alloc::AllocError;
 
 /// Adds a word to the text.
@@ -16,14 +17,16 @@ pub fn push_word(out: &mut String, word: &str) -> Result<(), AllocError>
 pub fn push_number(out: &mut String, n: u64) -> Result<(), AllocError>
     ensures { OnOk result (string_bytes out.new ≡ string_bytes out.old ++ decimal n) }
 {
-    write!(out, "{n}")
+    let mut buffer = Buffer::new();
+    out.push_str(buffer.format(n))
 }
 
 /// Adds a number in decimal, with `-` before it where it is below zero.
 pub fn push_signed(out: &mut String, n: i64) -> Result<(), AllocError>
     ensures { OnOk result (string_bytes out.new ≡ string_bytes out.old ++ signed_decimal n) }
 {
-    write!(out, "{n}")
+    let mut buffer = Buffer::new();
+    out.push_str(buffer.format(n))
 }
 
 /// Adds a name and the number that it names.
@@ -31,5 +34,5 @@ pub fn push_field(out: &mut String, name: &str, n: u64) -> Result<(), AllocError
     ensures { OnOk result (string_bytes out.new ≡ string_bytes out.old ++ field name.now n) }
 {
     push_word(out, name)?;
-    write!(out, "{n}")
+    push_number(out, n)
 }

@@ -10,7 +10,7 @@ use crate::command_line::Options;
 use crate::connection::{audit_each, flows_each, verdict_on};
 use crate::fault::AuditFault;
 use crate::verdict::Verdict;
-use audit_report::{capture_lines, headings_of, report};
+use audit_report::{Telling, capture_lines, headings_of, report};
 use audit_rounds::Division;
 use input_output::{Capture, TableHash};
 use packet_heads::{CapturePackets, Packets};
@@ -116,13 +116,12 @@ fn audit_records<R: Threads + Sync, G: Gate>(
         hash,
     };
     let told = audit_each(team.rt, alloc, options, &division, parts, team.gate)?;
-    let text = report(
+    let telling = Telling {
         alloc,
-        begun,
-        headings.as_slice(),
-        told.as_slice(),
-        options.frames_shown(),
-    )?;
+        workers: options.workers(),
+        frames_shown: options.frames_shown(),
+    };
+    let text = report(team.rt, telling, begun, headings.as_slice(), told.as_slice())?;
     let verdict = verdict_on(told.as_slice());
     Ok((text, verdict))
 }

@@ -5,9 +5,9 @@ use Rattle.audit_report.proofs.Standing.{told-same}
 use Rattle.audit_report.proofs.reports.report.Goals as goal
 
 pub returns : goal.returns
-returns c = λ connections audited headed stand.
+returns g c = λ connections audited headed stand.
     let before = string_bytes c.args.capture_lines in
-    let shown = c.args.frames_shown in
+    let shown = c.args.telling.frames_shown in
     c.in_ok-text.ensures
     ∙ ap (λ headings. before ++ told_text shown 1 headings c.args.told.now) headed
     ∙ ap (λ (l : List ℕ). before ++ l) (told-same shown 1 connections c.args.told.now audited stand)

@@ -55,7 +55,7 @@ audit_each-requires-after_bounds g c κs within =
     c.as_slice-lent.result.now c.in_ok-parts.parts.items c.in_ok-parts.ensures
 
 pub report-requires-clause-each : goal.report-requires-clause-each
-report-requires-clause-each g c =
+report-requires-clause-each g c κs within =
     let credits = c.args.options.now.frames_shown in
     let packets = c.in_ok-packets.packets in
     let lent = c.as_slice-lent.result.now in
@@ -71,7 +71,7 @@ report-requires-clause-each g c =
     ∙ sym (ap length c.as_slice.ensures.value)
 
 pub report-requires-clause-orderly : goal.report-requires-clause-orderly
-report-requires-clause-orderly g c =
+report-requires-clause-orderly g c κs within =
     let audits = found-audits c.args.options.now.frames_shown c.args.capture.now c.in_ok-packets.packets
     c.as_slice-lent.result.now c.in_ok-parts.parts.items c.in_ok-told.told.items c.in_ok-parts.ensures
     c.in_ok-told.ensures in
