@@ -15,9 +15,9 @@ use std::marker::Model;
 use std::thread::{Threads, join_mut};
 use std::{io, mem};
 
-/// The number of bytes for which room is made at a time in a chunk that was not made ahead: its last piece alone may be
-/// used in vain.
-const PIECE: usize = 131_072;
+/// The number of bytes for which room is made at a time in a chunk that was not made ahead. Its last piece alone may be
+/// used in vain, and what was read into a piece is still near the processor when a walk goes over it.
+const PIECE: usize = 262_144;
 
 /// Bytes in chunks of `CAPTURE_CHUNK`, with room for more in the last of them.
 #[derive(Drop)]
@@ -128,7 +128,7 @@ impl KeptBytes {
     }
 
     /// The same, while a walk goes on over the chunks that are full: where a chunk begins, on another thread, and where
-    /// there is one worker, on the thread at hand as soon as a chunk is full.
+    /// there is one worker, on the thread at hand as soon as a piece is full.
     pub(crate) fn read_and_walk<T: Threads, R: Read, W: FrontWalk + Send>(
         &mut self,
         ahead: &ChunksAhead<'_, T>,
@@ -161,13 +161,13 @@ impl KeptBytes {
         }
     }
 
-    /// Lets a walk go on over the bytes, where the last chunk is full.
+    /// Lets a walk go on over the bytes, where there is no room for one more.
     fn walk_where_filled<W: FrontWalk>(&self, alloc: Global, walk: &mut W) -> Result<(), AllocError>
         requires walk { Lasts W.stands self.now.kept walk.old }
         requires short { length self.now.kept ≤ 2 ^ 31 }
         ensures { OnOk result (Lasts W.stands self.now.kept walk.new) }
     {
-        if self.filled < CAPTURE_CHUNK {
+        if self.filled < self.last.len() {
             return Ok(());
         }
         let capture = self.capture(alloc)?;
