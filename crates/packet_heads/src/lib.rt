@@ -25,7 +25,7 @@
 //!
 //! Checksums have no effect, since a sender's own capture has them unfilled where the network card computes them. FIN,
 //! RST, windows, options and urgent pointers have none, since sequence numbers alone tell a flow. Bytes past the total
-//! length are no chunk of a datagram; a total length of 0, which segmentation offload leaves in a capture, stands for
+//! length are not of the datagram; a total length of 0, which segmentation offload leaves in a capture, stands for
 //! all bytes that were captured.
 //!
 //! Wrong bodies that the prover refuses: records numbered afresh in each chunk, a full chunk that is forgotten, a
