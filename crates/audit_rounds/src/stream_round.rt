@@ -4,6 +4,7 @@ ghost use Rattle.std.specs.Prelude.{IfOk};
 ghost use Rattle.audit_rounds.specs.code.Batch.{AreReady};
 ghost use Rattle.audit_rounds.specs.code.AfterStreams.{AreAfterStreams, HaveSettledOver};
 
+use crate::audit_round::AuditRound;
 use crate::beginnings::{changes_each, opening_stops, streams_each};
 use crate::crew::Crew;
 use crate::gathering::gathered;
@@ -15,9 +16,6 @@ use audit_terms::{Finding, Place};
 use std::alloc::AllocError;
 use std::thread::Threads;
 use stop_desk::{Gate, Settled, settle};
-
-/// The number of the round over streams.
-const STREAM_ROUND: u8 = 1;
 
 /// What the round over streams leaves, connection by connection.
 #[derive(Drop)]
@@ -50,7 +48,12 @@ fn settled_over<R: Threads + Sync, G: Gate>(
         plan: plan.as_slice(),
         credits_shown: crew.setup.credits_shown,
     };
-    settle(&crew.team(), STREAM_ROUND, stops.as_slice(), &round)
+    settle(
+        &crew.team(),
+        AuditRound::Streams.number(),
+        stops.as_slice(),
+        &round,
+    )
 }
 
 /// Goes through the streams of all connections, of each of which this was found before.

@@ -17,7 +17,7 @@ use crate::command_line::Options;
 use crate::flow_round::FlowRound;
 use crate::verdict::Verdict;
 use audit_report::{Outcome, Told};
-use audit_rounds::{Division, findings_of_each};
+use audit_rounds::{AuditRound, Division, findings_of_each};
 use audit_terms::{Finding, Frame, Place};
 use input_output::Capture;
 use packet_heads::Packets;
@@ -52,12 +52,9 @@ pub(crate) fn flows_each<R: Threads + Sync, G: Gate>(
         packets,
         opened,
     };
-    let settled = settle(team, FLOWS, stops.as_slice(), &round)?;
+    let settled = settle(team, AuditRound::Flows.number(), stops.as_slice(), &round)?;
     Ok(settled.parts)
 }
-
-/// The number of the round over connections.
-const FLOWS: u8 = 0;
 
 /// What is told of each connection, in order, from what its flows hold.
 pub(crate) fn audit_each(
