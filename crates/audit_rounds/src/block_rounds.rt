@@ -11,7 +11,6 @@ ghost use Rattle.audit_rounds.specs.code.Few.{RestsAreFew};
 ghost use Rattle.audit_rounds.specs.code.Plans.{IsPlan, shown_at};
 ghost use Rattle.audit_rounds.specs.code.Remaining.{AreGoneThrough, AreRemaining};
 
-use crate::audit_round::AuditRound;
 use crate::block_plans::{ReadyBlock, plan_of};
 use crate::block_round::BlockRound;
 use crate::blocks::{ConnectionBlock, in_blocks};
@@ -23,7 +22,7 @@ use audit_terms::{Finding, Place};
 use conn_scan::{Block, ConnSum};
 use std::alloc::{AllocError, Global};
 use std::thread::Threads;
-use stop_desk::{Gate, settle};
+use stop_desk::{AuditRound, Gate, settle};
 
 /// The summary of each block.
 fn sums_of<R: Threads + Sync, G: Gate>(
@@ -38,7 +37,7 @@ fn sums_of<R: Threads + Sync, G: Gate>(
     ensures { IfOk result (λ sums. AreSums blocks.now sums.items) }
 {
     let round = SumRound { blocks };
-    let settled = settle(&crew.team(), AuditRound::Sums.number(), stops, &round)?;
+    let settled = settle(&crew.team(), AuditRound::Sums, stops, &round)?;
     settled
         .parts
         .into_iter()
@@ -84,7 +83,7 @@ pub(crate) fn rounds_over_blocks<R: Threads + Sync, G: Gate>(
         plan: plan.as_slice(),
         credits_shown: crew.setup.credits_shown,
     };
-    let settled = settle(&crew.team(), AuditRound::Blocks.number(), stops, &round)?;
+    let settled = settle(&crew.team(), AuditRound::Blocks, stops, &round)?;
     let none = none_of_each(crew.setup.alloc, connections.len())?;
     let own = gathered(none, settled.parts)?;
     merged_each(crew.setup.alloc, found, own)

@@ -1,9 +1,9 @@
 //! The audit of connections, divided over workers: [`findings_of_each`] shows of each connection what one pass over its
 //! frames does (RFC 9113, 5.4.1), for every [`Division`] and every interleaving of the workers.
 //!
-//! The work is done in rounds ([`AuditRound`]), each over all connections of a batch, and each of jobs that workers
-//! draw. As a job goes on, it looks where its connection stops by now, each time that a look is due, and goes no further
-//! than it has to; where it finds a connection error, it lowers the stop.
+//! The work is done in rounds, each over all connections of a batch, and each of jobs that workers draw. As a job goes
+//! on, it looks where its connection stops by now, each time that a look is due, and goes no further than it has to;
+//! where it finds a connection error, it lowers the stop.
 //!
 //! 1. In the round over streams, a job is a group of those of a connection, but for the quiet ones, of which nothing is
 //!    shown: those are told when the connection is split. With what the split tells of them, this tells which frames
@@ -43,7 +43,6 @@
 //! lengths: that the call succeeds where there is memory. Trusted: the port of `itertools`.
 #![tactic(auto)]
 
-mod audit_round;
 mod beginnings;
 mod block_plans;
 mod block_round;
@@ -66,5 +65,4 @@ mod stream_round;
 mod streams;
 mod sum_round;
 
-pub use audit_round::AuditRound;
 pub use divisions::{Division, findings_of_each};

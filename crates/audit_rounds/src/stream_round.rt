@@ -4,7 +4,6 @@ ghost use Rattle.std.specs.Prelude.{IfOk};
 ghost use Rattle.audit_rounds.specs.code.Batch.{AreReady};
 ghost use Rattle.audit_rounds.specs.code.AfterStreams.{AreAfterStreams, HaveSettledOver};
 
-use crate::audit_round::AuditRound;
 use crate::beginnings::{changes_each, opening_stops, streams_each};
 use crate::crew::Crew;
 use crate::gathering::gathered;
@@ -15,7 +14,7 @@ use crate::stream_plan::stream_plan;
 use audit_terms::{Finding, Place};
 use std::alloc::AllocError;
 use std::thread::Threads;
-use stop_desk::{Gate, Settled, settle};
+use stop_desk::{AuditRound, Gate, Settled, settle};
 
 /// What the round over streams leaves, connection by connection.
 #[derive(Drop)]
@@ -48,12 +47,7 @@ fn settled_over<R: Threads + Sync, G: Gate>(
         plan: plan.as_slice(),
         credits_shown: crew.setup.credits_shown,
     };
-    settle(
-        &crew.team(),
-        AuditRound::Streams.number(),
-        stops.as_slice(),
-        &round,
-    )
+    settle(&crew.team(), AuditRound::Streams, stops.as_slice(), &round)
 }
 
 /// Goes through the streams of all connections, of each of which this was found before.

@@ -17,14 +17,14 @@ use crate::command_line::Options;
 use crate::flow_round::FlowRound;
 use crate::verdict::Verdict;
 use audit_report::{Outcome, Told};
-use audit_rounds::{AuditRound, Division, findings_of_each};
+use audit_rounds::{Division, findings_of_each};
 use audit_terms::{Finding, Frame, Place};
 use input_output::Capture;
 use packet_heads::Packets;
 use std::alloc::{AllocError, Global};
 use std::thread::Threads;
 use std::vec::IntoIter;
-use stop_desk::{Gate, Part, Team, settle};
+use stop_desk::{AuditRound, Gate, Part, Team, settle};
 use tcp_streams::Connection;
 
 /// What the flows of each connection hold, in order.
@@ -52,7 +52,7 @@ pub(crate) fn flows_each<R: Threads + Sync, G: Gate>(
         packets,
         opened,
     };
-    let settled = settle(team, AuditRound::Flows.number(), stops.as_slice(), &round)?;
+    let settled = settle(team, AuditRound::Flows, stops.as_slice(), &round)?;
     Ok(settled.parts)
 }
 

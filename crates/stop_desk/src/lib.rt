@@ -1,6 +1,7 @@
 //! Jobs, the places at which connections stop, and the workers that draw the jobs.
 //!
-//! Any program may use it that deals numbered jobs to threads, where what one job finds can end others early.
+//! It deals numbered jobs to threads, where what one job finds can end others early. What the jobs are, it does not
+//! know; of the rounds of an audit it has the names ([`AuditRound`]).
 //!
 //! # The round
 //!
@@ -76,6 +77,7 @@
 //! not proved.
 #![tactic(auto)]
 
+mod audit_round;
 mod claims;
 mod closing;
 mod crews;
@@ -93,6 +95,7 @@ mod teams;
 pub mod worked_rounds;
 mod workers;
 
+pub use audit_round::AuditRound;
 pub use claims::Claim;
 pub use closing::Closed;
 pub use crews::crew;

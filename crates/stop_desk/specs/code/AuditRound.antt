@@ -1,7 +1,7 @@
 -- The numbers of the rounds of an audit.
 use Rattle.std.specs.Prelude.{ℕ}
-use Rattle.audit_rounds.specs.declared.audit_round.AuditRound.{AuditRound}
-use Rattle.audit_rounds.specs.declared.audit_round.AuditRound.TheVariants.{Flows, Streams, Sums, Blocks}
+use Rattle.stop_desk.specs.declared.audit_round.AuditRound.{AuditRound}
+use Rattle.stop_desk.specs.declared.audit_round.AuditRound.TheVariants.{Flows, Streams, Sums, Blocks}
 
 abbrev pub number_of : AuditRound → ℕ
 number_of Flows = 0

@@ -3,7 +3,7 @@ ghost use Rattle.std.specs.Prelude.{◌≡◌};
 /// The rounds of an audit, in the order in which they begin. A gate knows each by its number.
 #[derive(Clone, Copy)]
 pub enum AuditRound {
-    /// A job for each connection: its flows, and what they hold. It is over before [`crate::findings_of_each`].
+    /// A job for each connection: its flows, and what they hold.
     Flows,
     /// A job for each group of streams: what is shown of them, and which frames open them.
     Streams,
@@ -14,7 +14,7 @@ pub enum AuditRound {
 }
 
 impl AuditRound {
-    ghost use Rattle.audit_rounds.specs.code.AuditRound.{number_of};
+    ghost use Rattle.stop_desk.specs.code.AuditRound.{number_of};
 
     /// The number, from 0 to 3.
     pub fn number(self) -> u8
