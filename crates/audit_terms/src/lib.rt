@@ -8,7 +8,8 @@
 //! say, as credit in closed form. The contracts of the program's calls rest on neither of the two.
 //!
 //! - [`Frame`], [`Change`], [`Item`] and [`Step`] are what an audit reads: frames, what they bring, and tests of one.
-//!   [`frame_types`] has the type bytes and the flags, [`new_initial`] and its neighbours what a change brings into force.
+//!   [`frame_types`] has the type bytes and the flags; [`change_by`], [`new_initial`] and their neighbours say what an
+//!   acknowledgement brings into force.
 //! - [`Stream`], [`StreamLife`] and [`ConnectionState`] are a stream and a connection between two frames. What a frame
 //!   shows of them, and makes of them, is said by the calls of `fault_rules`; a life goes on by itself.
 //! - [`PackedSettings`], [`Word`] and [`Length`] need no alignment, so that a frame takes 40 bytes; contracts see the
@@ -24,7 +25,8 @@
 //! value, so it is total, and putting in order asks for no condition.
 //!
 //! Wrong bodies that the prover refuses: a cut by the frame, an order with the server first, padding that does not
-//! count. That calls succeed where there is memory is tested by those above them.
+//! count, a RST_STREAM that ends its sender's window alone, a misplaced promise that is passed over, a place with four
+//! bits for the rank. That calls succeed where there is memory is tested by those above them.
 #![tactic(auto)]
 
 mod connections;

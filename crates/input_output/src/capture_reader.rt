@@ -119,7 +119,7 @@ impl<R> CaptureReader<R> {
         self.state = ReadState::LackedMemory;
     }
 
-    /// Enters what a read answered: how many bytes it gave, of which none tells that it found the end, or that it failed.
+    /// Enters what a read answered: that it failed, or how many bytes it gave, where none is the end.
     fn enter_read(&mut self, read: io::Result<usize>) -> Result<usize, ReadFault>
         requires { self.old.state ≡ ReadState.Open }
         ensures ok { IfOk result (λ n. read ≡ Ok n) }

@@ -8,8 +8,8 @@
 //!   order of first frames, promises of it included. A second walk finds them, where there are such streams. [`groups`]
 //!   deals the rows out in consecutive ranges. A row names a range of one list of positions, so no frame is copied,
 //!   and a stream of three frames costs no list of its own.
-//! - [`merge`] puts lists of findings into one, up to the least connection error (5.4.1). It asks for
-//!   neither sorted nor distinct findings, since their order is total.
+//! - [`merge`] puts lists of findings into one, up to the least connection error (5.4.1). It asks for neither sorted
+//!   nor distinct findings, since their order is total.
 //!
 //! [`worked_examples`] shows splits, quiet streams, groups, and where a merge ends.
 //!
