@@ -68,12 +68,13 @@ impl Looked {
         found: usize,
     ) -> Looked {
         let upto = if before < looks { Some(stop) } else { None };
+        let last_look = upto;
         Looked {
             calls: looks,
             handed,
             looks,
             upto,
-            last_look: upto,
+            last_look,
             found,
         }
     }
