@@ -63,10 +63,10 @@ ROWS = [
     ("--workers 4 --block 64", pings(4096, "S WINDOW_UPDATE 9 1"), {
         "a part ahead": 1, "one side's flow": 1, "nothing behind an error in the front": 0}),
     ("--workers 4", LONGER, {
-        "parts ahead, one at each 256 KiB of the first MiB": 4, "packets of that MiB while the next one is read": 1,
+        "chunks ahead, one at each 256 KiB of the first MiB": 4, "packets of that MiB while the next one is read": 1,
         "one side's flow": 1, "faults beside the split": 1, "faults in three pieces": 2, "five blocks are summed": 3}),
     ("--workers 4", pings(70_000), {
-        "parts ahead": 4, "one more at each MiB from the second on": 4, "packets of each of five MiB": 5,
+        "chunks ahead": 4, "one more at each MiB from the second on": 4, "packets of each of five MiB": 5,
         "one side's flow": 1,
         "each of eight batches of 8,192 frames is met while the next one is taken": 8}),
     ("--workers 2", connections(2), {"flows of one": 1, "nothing is shown, so there is no round": 0}),
@@ -78,12 +78,12 @@ ROWS = [
         "flows": 3, "halves, from 64 connections on": 1, "each is made ready by halves": 2,
         "blocks of each are summed": 2}),
     ("--workers 4", connections(5000, UNMATCHED), {
-        "parts ahead": 4, "one more at the second MiB": 1, "packets of two MiB": 2, "flows": 3,
+        "chunks ahead": 4, "one more at the second MiB": 1, "packets of two MiB": 2, "flows": 3,
         "halves of one batch, and halves of these": 3, "halves of the text on two batches, and halves of these": 6}),
     ("--workers 4", connections(255), {"flows": 3, "a text of so few is one worker's": 0}),
     ("--workers 4", connections(256), {"flows": 3, "halves of the text, from 256 connections on": 1}),
     ("--workers 4", connections(8193), {
-        "parts ahead": 4, "one more at the second and the third MiB": 2, "packets of three MiB": 3, "flows": 3,
+        "chunks ahead": 4, "one more at the second and the third MiB": 2, "packets of three MiB": 3, "flows": 3,
         "halves of the text on 8,192 connections, and halves of these; the last one is a batch of its own": 3}),
 ]
 

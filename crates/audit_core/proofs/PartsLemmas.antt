@@ -128,7 +128,7 @@ full-sorts streams state (frame ∷ frames) =
     _ _ (full-sorts streams rest frames) (streams-apart _ (λ stream. alone stream rest frames) streams)
 
 -- blocks, one after the other, are one block
-block_run-append : (now : ConnectionState) (xs ys : List Item)
+pub block_run-append : (now : ConnectionState) (xs ys : List Item)
     → block_run now (xs ++ ys) ≡ block_run now xs ++ block_run (connection_after_all now xs) ys
 block_run-append now [] ys = refl
 block_run-append now (x ∷ xs) ys =

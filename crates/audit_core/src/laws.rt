@@ -42,8 +42,8 @@ pub fn streams_are_those_met()
 ghost use Rattle.audit_core.specs.laws.Parts.{PartsMakeFull};
 
 /// All findings of a connection's frames are, put in order, the local faults, the unmatched acknowledgements, the
-/// findings of each stream alone and those of each block of frames, however the streams are grouped and the frames cut
-/// into blocks.
+/// findings of each stream alone and those of each block of frames, however the streams are grouped and the frames
+/// divided into blocks.
 #[tactic(auto, using(crate::proofs::PartsLemmas::parts_make_full_lem))]
 pub fn parts_make_full()
     ensures { PartsMakeFull }

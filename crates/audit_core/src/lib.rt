@@ -9,7 +9,7 @@
 //!   that its frames meet, each once, and the steps of a stream are its frames and the changes, in order. The pass ends
 //!   at its first error, which is the least; no two findings share place and side, and no two errors a place. All
 //!   findings are those of the local faults, the settings, the streams and the blocks, however streams are grouped and
-//!   frames cut.
+//!   frames divided into blocks.
 //! - [`worked_examples`] are equations, computed by proof, between what the pass gives for a script of frames and the
 //!   findings that a reader expects, typed from the rules; some go over all findings, past the stop. The table of kinds
 //!   is written out there.

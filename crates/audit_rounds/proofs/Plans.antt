@@ -1,12 +1,12 @@
--- Blocks that connections' frames are cut into, and what the jobs of a plan find.
+-- Blocks of connections' frames, and what the jobs of a plan find.
 use Rattle.audit_rounds.proofs.Words.{◌≡◌, ℕ, zero, suc, ◌+◌, ◌<◌, ◌≤◌, List, [], ◌∷◌, ◌++◌, append_assoc, append-nil}
 use Rattle.audit_rounds.proofs.Words.{map, take, drop, length, get_or, All, refl, sym, ap, ◌∙◌, arith, length-map}
 use Rattle.audit_rounds.proofs.Words.{length-take-le, take-append-drop, map-append, All-append, AllByRecursion, Frame}
 use Rattle.audit_rounds.proofs.Words.{Item, IsOrderly, IsOrderlyFrom, items_of, Block, item_with, items_in, IsBlock}
 use Rattle.audit_rounds.proofs.Words.{length-orderly, ConnSum, ConnectionBlock, IsShort, AreSums, blocks_of_connection}
 use Rattle.audit_rounds.proofs.Words.{wholes, AddsBlocks, ◌==◌, Bool, if◌then◌else◌, All-head, All-tail}
-use Rattle.audit_rounds.proofs.Words.{flat_map-append, ne_eqb, ConnectionState, Finding, in_order, connection_said}
-use Rattle.audit_rounds.proofs.Words.{connection_start, connection_after, connection_after_all, block_run, shown, Job}
+use Rattle.audit_rounds.proofs.Words.{flat_map-append, ne_eqb, ConnectionState, Finding}
+use Rattle.audit_rounds.proofs.Words.{connection_start, connection_after_all, block_run, shown, Job}
 use Rattle.audit_rounds.proofs.Words.{BlockFits, IsSum, findings_of_jobs, ReadyBlock, block_job, where_of, whole_shown}
 use Rattle.audit_rounds.proofs.Words.{shown_at, IsPlan, shown-append, drop-at, length-append}
 use Rattle.std.proofs.lemmas.List.{map_more}
@@ -21,6 +21,7 @@ use Rattle.conn_scan.specs.code.Each.{all-append}
 use Rattle.audit_rounds.specs.code.Blocks.{AreBlocksOf, laid_out, AreFit, IsReady, after_of, before_of}
 use Rattle.audit_rounds.specs.code.Plans.{AreReady, shown_from}
 use Rattle.audit_rounds.proofs.Lists.{some_of, differ_back}
+use Rattle.audit_core.proofs.PartsLemmas.{block_run-append}
 use Rattle.audit_rounds.proofs.Parts.{orderly-take, orderly-drop}
 
 -- ---- one block more
@@ -133,12 +134,6 @@ where-append connection n xs ys = grind arith
 
 where-none : (connection n : ℕ) → where_of connection n [] ≡ []
 where-none connection n = grind arith
-
-block_run-append : (now : ConnectionState) (xs ys : List Item)
-    → block_run now (xs ++ ys) ≡ block_run now xs ++ block_run (connection_after_all now xs) ys
-block_run-append now [] ys = refl
-block_run-append now (x ∷ xs) ys =
-    rw (block_run-append (connection_after now x) xs ys) (sym (append_assoc (in_order (connection_said now x)) _ _))
 
 -- the same plan, whose jobs find the same
 pub plan-as : (c : Bool) (connections : ℕ) (f g : ℕ → List Finding) (plan : List ReadyBlock)

@@ -25,7 +25,8 @@ use Rattle.audit_terms.specs.code.Room.{HasRoom}
 use Rattle.audit_rounds.specs.laws.Settling.{blocks_within, RoundsSettle}
 use Rattle.audit_rounds.proofs.Jobs.{run-ordered}
 use Rattle.audit_rounds.proofs.Items.{items_are_found_lem}
-use Rattle.audit_rounds.proofs.Parts.{orderly-filter}
+use Rattle.audit_terms.proofs.Watching.{past-higher}
+use Rattle.split_merge.proofs.Ahead.{orderly-filter}
 use Rattle.audit_rounds.proofs.Rounds.{rounds_make_pass_lem}
 use Rattle.audit_rounds.proofs.Lists.{some_of}
 
@@ -46,11 +47,6 @@ late-left earlier late stop least past =
 
 abbrev frames_past : (stop : Option ℕ) → List Frame → List Frame
 frames_past stop frames = filter (λ (frame : Frame). is_past stop frame.number) frames
-
-past-higher : (stop : Option ℕ) (number higher : ℕ) → number ≤ higher → is_past stop number ≡ true →
-    is_past stop higher ≡ true
-past-higher None number higher l e = e
-past-higher (Some place) number higher l e = grind (arith, nat_tests)
 
 -- those up to the stop come first, since none comes after one past it
 divided : (stop : Option ℕ) (low : ℕ) (frames : List Frame) → IsOrderlyFrom low frames →

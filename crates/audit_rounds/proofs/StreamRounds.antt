@@ -25,7 +25,7 @@ use Rattle.split_merge.specs.code.Groups.{AreConsecutive}
 use Rattle.conn_scan.specs.code.Each.{all-append}
 use Rattle.split_merge.proofs.GroupRanges.{groups-consecutive, groups-joined}
 use Rattle.stop_desk.specs.code.Stop.{IsPlace}
-use Rattle.split_merge.specs.code.Split.{opening_of, part_of as positions_of}
+use Rattle.split_merge.specs.code.Split.{opening_of, row_positions}
 use Rattle.stop_desk.specs.code.Board.{stop_of}
 use Rattle.stop_desk.specs.code.Laid.{board_with}
 use Rattle.audit_rounds.specs.code.AfterStreams.{HaveSettledOver}
@@ -33,7 +33,7 @@ use Rattle.audit_rounds.specs.code.Streams.{row_frames, shown_of}
 use Rattle.audit_rounds.proofs.Lists.{items_in, all-alike, zip-all, as-many, zip-at, zip-get}
 use Rattle.audit_rounds.proofs.Batches.{length-rows}
 use Rattle.audit_rounds.proofs.Rounds.{local-each, settings-each}
-use Rattle.audit_rounds.proofs.Parts.{orderly-frames_of, acknowledged-frames_of}
+use Rattle.split_merge.proofs.Ahead.{orderly-of, acknowledged-of}
 use Rattle.audit_rounds.proofs.Jobs.{job-is}
 use Rattle.audit_rounds.proofs.Settles.{parts-within}
 use Rattle.audit_rounds.proofs.Openings.{agree-append, agree-parted, agree-reached}
@@ -126,7 +126,7 @@ module _ (streams : Streams) (o : IsOrderly streams.frames.now)
   rows-are k d l =
       let rows = streams.split.now.rows.items in
       let row = get_or rows k d in
-      let part = s.parts k d l in
+      let own = s.each k d l in
       let frames = streams.frames.now in
       let IsSmall = λ (stream : ℕ). stream < 2 ^ 31 in
       record {
@@ -134,9 +134,9 @@ module _ (streams : Streams) (o : IsOrderly streams.frames.now)
         in_range = all-alike (λ (row : StreamRow). row.stream) (λ stream. stream) IsSmall rows _
             (s.streams ∙ sym (map-id _)) (All-filter (λ stream. not (s.is_quiet stream)) IsSmall (streams_of frames)
             (All-from_recursion IsSmall (streams_of frames) (streams-streams_of 0 frames o))) k d l;
-        within = part.within;
-        orderly = rw part.frames (orderly-frames_of row.stream frames o);
-        acknowledged = rw part.frames (acknowledged-frames_of row.stream frames streams.changes.now a);
+        within = own.within;
+        orderly = rw own.frames (orderly-of row.stream frames o);
+        acknowledged = rw own.frames (acknowledged-of row.stream frames streams.changes.now a);
       }
 
   few-rows : length streams.split.now.rows.items < 2 ^ 32
@@ -343,11 +343,11 @@ module _ (credits_shown : Bool) (count : ℕ) (some : 1 ≤ count) (connections 
         let streamed : flat_map of_row rows
         ≡ flat_map (λ stream. said stream (frames_of stream frames) (changes_of frames)) row_streams =
         rw (is.frames, is.split, changes)
-        (flat_map-by (λ (row : StreamRow). said row.stream (frames_at frames (positions_of one.split row))
+        (flat_map-by (λ (row : StreamRow). said row.stream (frames_at frames (row_positions one.split row))
         (changes_of frames)) (λ stream. said stream (frames_of stream frames) (changes_of frames))
         (λ (row : StreamRow). row.stream) one.split.rows.items
         (λ k d l. ap (λ met. said (get_or one.split.rows.items k d).stream met (changes_of frames))
-        (is_prepared.split.parts k d l).frames)) in
+        (is_prepared.split.each k d l).frames)) in
         of-plan (of_rows each streams) n count 0 n streams own at (omega arith) ∙ joined ∙ streamed
 
     -- its jobs find what its streams show

@@ -14,9 +14,9 @@ use Rattle.std.proofs.lemmas.List.Elements.{All-contains_itself, Contains-append
 use Rattle.audit_terms.specs.code.runs.Look.{Looked}
 use Rattle.stop_desk.proofs.RoundMembers.{in_order-contains}
 use Rattle.stop_desk.proofs.RoundCuts.{cuts_join_lem}
-use Rattle.stream_credit.specs.declared.parts.StreamRun.{StreamRun}
+use Rattle.stream_credit.specs.declared.stream_frames.StreamRun.{StreamRun}
 use Rattle.stream_credit.specs.code.Looks.{step_numbers}
-use Rattle.split_merge.specs.code.Split.{part_of}
+use Rattle.split_merge.specs.code.Split.{row_positions}
 use Rattle.audit_rounds.specs.code.Streams.{RowLooks}
 use Rattle.audit_rounds.specs.code.StreamJobs.{JobLooks, Makes}
 use Rattle.audit_rounds.specs.declared.stream_jobs.StreamsRound.{StreamsRound}
@@ -179,7 +179,7 @@ module _ {L : Type 0} (answers : L → List Finding → Option ℕ → L → Typ
       opening = (stream_at_end row.stream frames streams.changes.now).life.opened
 
       pub row-work : {E : Type 0} (r : Result StreamRun E) → IsRow streams row
-          → positions ≡ part_of streams.split.now row
+          → positions ≡ row_positions streams.split.now row
           → IfOk r (λ run. IsRun answers before after (step_numbers row.stream frames streams.changes.now) whole
           run.findings.items run.upto run.last_look run.looks)
           → IfOk r (λ run. run.opened_at ≡ opened_up_to run.upto opening)

@@ -13,7 +13,7 @@ ghost use Rattle.audit_rounds.specs.code.Remaining.{AreGoneThrough, AreRemaining
 
 use crate::block_plans::{ReadyBlock, plan_of};
 use crate::block_round::BlockRound;
-use crate::blocks::{ConnectionBlock, cut_into_blocks};
+use crate::blocks::{ConnectionBlock, in_blocks};
 use crate::crew::Crew;
 use crate::gathering::{gathered, none_of_each};
 use crate::merging::merged_each;
@@ -22,13 +22,7 @@ use audit_terms::{Finding, Place};
 use conn_scan::{Block, ConnSum};
 use std::alloc::{AllocError, Global};
 use std::thread::Threads;
-use stop_desk::{Gate, settle};
-
-/// The number of the round in which blocks are summed.
-const SUM_ROUND: u8 = 2;
-
-/// The number of the round in which blocks are gone through.
-const BLOCK_ROUND: u8 = 3;
+use stop_desk::{AuditRound, Gate, settle};
 
 /// The summary of each block.
 fn sums_of<R: Threads + Sync, G: Gate>(
@@ -43,7 +37,7 @@ fn sums_of<R: Threads + Sync, G: Gate>(
     ensures { IfOk result (λ sums. AreSums blocks.now sums.items) }
 {
     let round = SumRound { blocks };
-    let settled = settle(&crew.team(), SUM_ROUND, stops, &round)?;
+    let settled = settle(&crew.team(), AuditRound::Sums, stops, &round)?;
     settled
         .parts
         .into_iter()
@@ -67,7 +61,7 @@ fn planned<'a, R: Threads + Sync, G: Gate>(
     ensures few { IfOk result (λ plan. length plan.items < 2 ^ 32) }
 {
     let setup = &crew.setup;
-    let blocks = cut_into_blocks(setup.alloc, setup.block as usize, connections)?;
+    let blocks = in_blocks(setup.alloc, setup.block as usize, connections)?;
     let blocks = blocks.as_slice();
     let sums = sums_of(crew, stops, blocks)?;
     plan_of(setup.alloc, setup.credits_shown, blocks, sums.as_slice())
@@ -89,7 +83,7 @@ pub(crate) fn rounds_over_blocks<R: Threads + Sync, G: Gate>(
         plan: plan.as_slice(),
         credits_shown: crew.setup.credits_shown,
     };
-    let settled = settle(&crew.team(), BLOCK_ROUND, stops, &round)?;
+    let settled = settle(&crew.team(), AuditRound::Blocks, stops, &round)?;
     let none = none_of_each(crew.setup.alloc, connections.len())?;
     let own = gathered(none, settled.parts)?;
     merged_each(crew.setup.alloc, found, own)

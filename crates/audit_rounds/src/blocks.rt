@@ -1,4 +1,4 @@
-//! The blocks that the frames of connections are cut into.
+//! The blocks of the frames of connections.
 
 ghost use Rattle.std.specs.Prelude.{◌≡◌, ◌^◌, ◌<◌, All, IfOk, OnOk, length};
 ghost use Rattle.conn_scan.specs.code.Items.{IsBlock};
@@ -43,7 +43,7 @@ fn add_blocks<'a>(
 }
 
 /// The frames of all connections in blocks of at most so many, one connection's after the other's.
-pub(crate) fn cut_into_blocks<'a>(
+pub(crate) fn in_blocks<'a>(
     alloc: Global,
     size: usize,
     connections: &[Block<'a>],

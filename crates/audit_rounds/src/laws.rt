@@ -6,7 +6,7 @@ ghost use Rattle.audit_rounds.specs.laws.Rounds.{RoundsMakePass};
 ghost use Rattle.audit_rounds.specs.laws.EarlyStop.{FrontsSettle};
 ghost use Rattle.audit_rounds.specs.laws.Settling.{RoundsSettle, OpeningsAreTold};
 
-/// What the rounds of a divided audit show makes what is shown of the pass, however the frames are cut into blocks.
+/// What the rounds of a divided audit show makes what is shown of the pass, however the frames are divided into blocks.
 pub fn rounds_make_the_pass()
     ensures { RoundsMakePass }
 {}

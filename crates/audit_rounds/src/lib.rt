@@ -24,8 +24,8 @@
 //! side by side, each with half of the workers.
 //!
 //! - [`laws::rounds_make_the_pass`]: local faults, unmatched acknowledgements, what is shown of the streams and of the
-//!   blocks make what is shown of the pass, for every cut of the frames into blocks. Credits that no line shows are
-//!   left out of each part first, which changes nothing, since a credit never stops an audit.
+//!   blocks make what is shown of the pass, for every division of the frames into blocks. Credits that no line shows
+//!   are left out of each of these first, which changes nothing, since a credit never stops an audit.
 //! - [`laws::rounds_settle`]: they do so as well where the round over streams left out what lies past the stop, and the
 //!   blocks are those of the frames up to it, that frame included ([`laws::openings_are_told`]: the openings up to it
 //!   are known). A job of several streams goes up to the least of the places of its runs; what it found past that may

@@ -14,10 +14,7 @@ use crate::stream_plan::stream_plan;
 use audit_terms::{Finding, Place};
 use std::alloc::AllocError;
 use std::thread::Threads;
-use stop_desk::{Gate, Settled, settle};
-
-/// The number of the round over streams.
-const STREAM_ROUND: u8 = 1;
+use stop_desk::{AuditRound, Gate, Settled, settle};
 
 /// What the round over streams leaves, connection by connection.
 #[derive(Drop)]
@@ -50,7 +47,7 @@ fn settled_over<R: Threads + Sync, G: Gate>(
         plan: plan.as_slice(),
         credits_shown: crew.setup.credits_shown,
     };
-    settle(&crew.team(), STREAM_ROUND, stops.as_slice(), &round)
+    settle(&crew.team(), AuditRound::Streams, stops.as_slice(), &round)
 }
 
 /// Goes through the streams of all connections, of each of which this was found before.

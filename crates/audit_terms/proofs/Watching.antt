@@ -45,7 +45,7 @@ past-lower : (stop : Option ℕ) (lower number : ℕ) → lower ≤ number → i
     → is_past stop lower ≡ false
 past-lower stop lower number order is = grind (arith, nat_tests)
 
-past-higher : (stop : Option ℕ) (number higher : ℕ) → number ≤ higher → is_past stop number ≡ true
+pub past-higher : (stop : Option ℕ) (number higher : ℕ) → number ≤ higher → is_past stop number ≡ true
     → is_past stop higher ≡ true
 past-higher stop number higher order is = grind (arith, nat_tests)
 

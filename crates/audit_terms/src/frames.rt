@@ -1,35 +1,13 @@
 ghost use Rattle.std.specs.Prelude.{◌≡◌, ℕ};
 
+use crate::frame_types::{
+    ACK_FLAG, CONTINUATION, DATA, END_HEADERS_FLAG, END_STREAM_FLAG, GOAWAY, HEADERS, PING,
+    PRIORITY, PUSH_PROMISE, RST_STREAM, SETTINGS,
+};
 use crate::kinds::Kind;
 use crate::settings::PackedSettings;
 use crate::sides::Side;
 use crate::widths::{Length, Word};
-
-/// The type bytes that rules of an audit name (RFC 9113, 6).
-const DATA: u8 = 0;
-
-const HEADERS: u8 = 1;
-
-const PRIORITY: u8 = 2;
-
-const RST_STREAM: u8 = 3;
-
-const SETTINGS: u8 = 4;
-
-pub const PUSH_PROMISE: u8 = 5;
-
-const PING: u8 = 6;
-
-const GOAWAY: u8 = 7;
-
-pub const CONTINUATION: u8 = 9;
-
-/// END_STREAM, of DATA and HEADERS (RFC 9113, 6.1 and 6.2).
-pub const END_STREAM: u8 = 0x1;
-/// ACK, of SETTINGS (6.5).
-const ACK: u8 = 0x1;
-/// END_HEADERS, of HEADERS, PUSH_PROMISE and CONTINUATION (6.2, 6.6, 6.10).
-const END_HEADERS: u8 = 0x4;
 
 /// What a frame carries, by its type (RFC 9113, 6.1 to 6.10).
 #[derive(Clone, Copy)]
@@ -190,7 +168,7 @@ impl Frame {
     {
         side == self.side
             && (self.body.is_content() || self.body.is_headers())
-            && self.flags & END_STREAM != 0
+            && self.flags & END_STREAM_FLAG != 0
     }
 
     /// Does a side reset the stream with this frame (6.4)?
@@ -268,7 +246,7 @@ impl Frame {
     pub fn is_settings(&self) -> bool
         ensures { result ≡ is_settings self.now }
     {
-        self.code == SETTINGS && self.flags & ACK == 0
+        self.code == SETTINGS && self.flags & ACK_FLAG == 0
     }
 
     /// Does a field block go on with CONTINUATION frames after this one (4.3)?
@@ -276,7 +254,7 @@ impl Frame {
         ensures { result ≡ leaves_block_open self.now }
     {
         (self.code == HEADERS || self.code == PUSH_PROMISE || self.code == CONTINUATION)
-            && self.flags & END_HEADERS == 0
+            && self.flags & END_HEADERS_FLAG == 0
     }
 
     /// Is it a frame of a stream on stream 0, or one of the connection on another?

@@ -8,6 +8,8 @@
 //! say, as credit in closed form. The contracts of the program's calls rest on neither of the two.
 //!
 //! - [`Frame`], [`Change`], [`Item`] and [`Step`] are what an audit reads: frames, what they bring, and tests of one.
+//!   [`frame_types`] has the type bytes and the flags; [`change_by`], [`new_initial`] and their neighbours say what an
+//!   acknowledgement brings into force.
 //! - [`Stream`], [`StreamLife`] and [`ConnectionState`] are a stream and a connection between two frames. What a frame
 //!   shows of them, and makes of them, is said by the calls of `fault_rules`; a life goes on by itself.
 //! - [`PackedSettings`], [`Word`] and [`Length`] need no alignment, so that a frame takes 40 bytes; contracts see the
@@ -23,12 +25,15 @@
 //! value, so it is total, and putting in order asks for no condition.
 //!
 //! Wrong bodies that the prover refuses: a cut by the frame, an order with the server first, padding that does not
-//! count. That calls succeed where there is memory is tested by those above them.
+//! count, a RST_STREAM that ends its sender's window alone, a misplaced promise that is passed over, a place with four
+//! bits for the rank. That calls succeed where there is memory is tested by those above them.
 #![tactic(auto)]
 
 mod connections;
 mod findings;
+pub mod frame_types;
 mod frames;
+mod in_force;
 mod items;
 mod kinds;
 pub mod laws;
@@ -43,7 +48,8 @@ mod windows;
 
 pub use connections::{ConnectionState, FIRST_LIMIT};
 pub use findings::{Finding, cut_at_stop, keep_shown, keep_up_to, put_in_order, say_if};
-pub use frames::{Body, CONTINUATION, END_STREAM, Frame, PUSH_PROMISE};
+pub use frames::{Body, Frame};
+pub use in_force::{change_by, initial_after, limit_after, new_initial, new_limit, new_push};
 pub use items::{Change, Item, Step};
 pub use kinds::Kind;
 pub use lives::StreamLife;
@@ -53,4 +59,4 @@ pub use settings::{PackedSettings, Settings};
 pub use sides::{Side, Sides};
 pub use streams::Stream;
 pub use widths::{Length, Word};
-pub use windows::{FIRST_WINDOW, LARGEST_WINDOW, initial_after, new_initial};
+pub use windows::{FIRST_WINDOW, LARGEST_WINDOW};

@@ -47,7 +47,7 @@ fn is_plain(alloc: Global, flow: &Flow, plain: &PlainFlow) -> Answer {
 
 /// Whether the client's flow in the first connection is that of the plain program.
 fn has_plain_flow(alloc: Global, capture: &[u8]) -> Answer {
-    let chunks = input_output::Capture::cut(alloc, capture)?;
+    let chunks = input_output::Capture::of_slice(alloc, capture)?;
     let Ok(read) = records(alloc, &chunks) else {
         return Ok(false);
     };

@@ -2,7 +2,7 @@
 
 use crate::Answer;
 use crate::captures::{Capture, data, headers, window_update};
-use h2audit::{Gate, Options, audit};
+use h2audit::{AuditRound, Gate, Options, audit};
 use std::alloc::{AllocError, Global};
 use std::random::RandomSource;
 use std::sync::atomic::{AtomicU32, Ordering};
@@ -40,20 +40,23 @@ impl CountingGate {
 
 impl Gate for CountingGate {
     fn enter(&self, round: u8, _job: u32) {
-        let count = match round {
-            0 => &self.flows,
-            1 => &self.streams,
-            2 => &self.sums,
-            _ => &self.blocks,
-        };
-        count.fetch_add(1, Ordering::SeqCst);
+        for (of, jobs) in [
+            (AuditRound::Flows, &self.flows),
+            (AuditRound::Streams, &self.streams),
+            (AuditRound::Sums, &self.sums),
+            (AuditRound::Blocks, &self.blocks),
+        ] {
+            if round == of.number() {
+                jobs.fetch_add(1, Ordering::SeqCst);
+            }
+        }
     }
 }
 
 /// Holds job 0 of some rounds until job 1 of the same round is entered, for so many turns at most.
 #[derive(Drop)]
 struct HoldingGate {
-    /// A bit for each of these rounds.
+    /// A bit for each of these rounds, by its number.
     rounds: u32,
     /// A bit for each round whose job 1 is entered.
     entered: AtomicU32,

@@ -4,7 +4,7 @@ ghost use Rattle.std.specs.Prelude.{◌≡◌, ℕ, ℤ, pos, ◌+◌, ◌-◌, 
 ghost use Rattle.std.specs.Prelude.{OnErr};
 ghost use Rattle.audit_terms.specs.Sides.{side_of, each_side};
 ghost use Rattle.audit_terms.specs.Frame.{content_by, promised_in};
-ghost use Rattle.audit_terms.specs.Change.{new_limit, new_push};
+ghost use Rattle.audit_terms.specs.Change.{new_limit};
 ghost use Rattle.audit_terms.specs.Connection.{connection_said, connection_after, connection_window_said};
 ghost use Rattle.audit_terms.specs.Connection.{connection_windows_said, credit_after, length_said, push_said};
 ghost use Rattle.audit_terms.specs.Connection.{opening_order_said, promise_order_said, is_opened_by_headers};
@@ -15,7 +15,9 @@ ghost use Rattle.audit_terms.specs.code.runs.Orderly.{IsInRange};
 use crate::counts::Count;
 use crate::frame_faults::say_fault;
 use crate::spots::{Spot, say_at, spot_of};
-use audit_terms::{Change, ConnectionState, Finding, Frame, Item, Kind, Side, Sides};
+use audit_terms::{
+    ConnectionState, Finding, Frame, Item, Kind, Side, Sides, limit_after, new_limit, new_push,
+};
 use std::alloc::AllocError;
 
 /// Adds what an item shows of the connection: its length, a promise that is not allowed, the order of openings and
@@ -174,36 +176,6 @@ fn is_opened_by_headers(item: &Item) -> bool
     ensures { result ≡ is_opened_by_headers item.now }
 {
     item.opens && item.frame.body.is_headers()
-}
-
-/// The greatest length in bytes of a frame that a side may send after a change, from the one before it (6.5.2).
-fn new_limit(change: &Option<Change>, side: Side, before: u32) -> u32
-    ensures { result ≡ new_limit change.now side before }
-{
-    match change {
-        Some(change) if change.side == side => change.max_frame.unwrap_or(before),
-        _ => before,
-    }
-}
-
-/// The same of both sides.
-fn limit_after(change: &Option<Change>, limit: &Sides<u32>) -> Sides<u32>
-    ensures { result ≡ each_side (λ d. new_limit change.now d (side_of d limit.now)) }
-{
-    Sides {
-        client: new_limit(change, Side::Client, limit.client),
-        server: new_limit(change, Side::Server, limit.server),
-    }
-}
-
-/// ENABLE_PUSH in force for the server after a change, from the one before it (6.5.2).
-fn new_push(change: &Option<Change>, before: u32) -> u32
-    ensures { result ≡ new_push change.now before }
-{
-    match change {
-        Some(change) if change.side == Side::Server => change.push.unwrap_or(before),
-        _ => before,
-    }
 }
 
 /// Adds a frame that is longer than its side's limit (4.2).

@@ -6,7 +6,8 @@ ghost use Rattle.audit_terms.specs.LocalFault.{breaks_block, reading_fault, body
 ghost use Rattle.audit_terms.specs.Finding.{say};
 
 use crate::spots::{say_at, spot_of};
-use audit_terms::{Body, CONTINUATION, Finding, Frame, Kind, PUSH_PROMISE, Side};
+use audit_terms::frame_types::{CONTINUATION, PUSH_PROMISE};
+use audit_terms::{Body, Finding, Frame, Kind, Side};
 use std::alloc::AllocError;
 
 /// Adds what a frame shows by itself and beside the frame of its side just before it (RFC 9113, 3.4, 4.3, 6): a side

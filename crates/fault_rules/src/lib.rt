@@ -15,10 +15,10 @@
 //! wraps; that bound is bookkeeping of code (`Room` of `audit_terms`).
 //!
 //! [`local_faults`] answers exactly `local_run` of `audit_terms`, one walk over the frames that knows no shares. The
-//! code cuts the frames into a share for each worker, of 4,096 frames at least. All that a share needs of those before
-//! it is the last frame of each side. That is carried from share to share first, by a look back from each share's end
-//! as far as the frame sought, so that no frame is looked at more than once for each side. The shares' findings are
-//! joined in order, whichever thread was done first.
+//! code divides the frames into a share for each worker, of 4,096 frames at least. All that a share needs of those
+//! before it is the last frame of each side. That is carried from share to share first, by a look back from each
+//! share's end as far as the frame sought, so that no frame is looked at more than once for each side. The shares'
+//! findings are joined in order, whichever thread was done first.
 //!
 //! Wrong bodies that the prover refuses: an overflowing grant that is added, a share that begins without the frames
 //! before it. Tested by whole reports: that the calls succeed where there is memory, once over several shares. Trusted:

@@ -10,35 +10,11 @@ ghost use Rattle.h2_frames.specs.Header.{number_of_31_bits};
 
 use crate::headers::number_of_31_bits;
 use crate::settings::{SETTING_LENGTH, settings_of};
+use audit_terms::frame_types::{
+    ACK_FLAG, CONTINUATION, DATA, GOAWAY, HEADERS, PADDED_FLAG, PING, PRIORITY, PRIORITY_FLAG,
+    PUSH_PROMISE, RST_STREAM, SETTINGS, WINDOW_UPDATE,
+};
 use audit_terms::{Body, Kind, PackedSettings, Word};
-
-// The types of frames (RFC 9113, 6.1 to 6.10).
-const DATA: u8 = 0;
-
-const HEADERS: u8 = 1;
-
-const PRIORITY: u8 = 2;
-
-const RST_STREAM: u8 = 3;
-
-const SETTINGS: u8 = 4;
-
-const PUSH_PROMISE: u8 = 5;
-
-const PING: u8 = 6;
-
-const GOAWAY: u8 = 7;
-
-const WINDOW_UPDATE: u8 = 8;
-
-const CONTINUATION: u8 = 9;
-
-// The flags that say what a payload holds.
-const ACK_FLAG: u8 = 1;
-
-const PADDED_FLAG: u8 = 8;
-
-const PRIORITY_FLAG: u8 = 32;
 
 fn has_flag(flags: u8, flag: u8) -> bool
     ensures { result ≡ has_flag flags flag }

@@ -30,9 +30,9 @@
 //! place; another's header and payload are put together in a buffer first, but for data with no padding, whose payload
 //! no one looks at.
 //!
-//! Wrong bodies that the prover refuses: padding as long as the payload, an order by first bytes, tails exchanged.
-//! Worked examples of bodies, headers and order are proved in `crate_tests`. Tested by whole reports: that `cut`
-//! succeeds where there is memory, on connections of each of the four kinds.
+//! Wrong bodies that the prover refuses: padding as long as the payload, settings left out behind one out of range, an
+//! order by first bytes, tails exchanged. Worked examples of bodies, headers and order are proved in `crate_tests`.
+//! Tested by whole reports: that `cut` succeeds where there is memory, on connections of each of the four kinds.
 #![tactic(auto)]
 
 mod beginning;

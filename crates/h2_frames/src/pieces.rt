@@ -82,7 +82,7 @@ impl<'a> Pieces<'a> {
     }
 
     /// Takes bytes out that lie together, as many as are wanted if the piece has them.
-    fn take_part(&mut self, wanted: usize) -> &'a [u8]
+    fn take_front(&mut self, wanted: usize) -> &'a [u8]
         requires counted { IsCounted self.old }
         requires some { 0 < wanted }
         requires there { wanted ≤ length (bytes_of self.old) }
@@ -92,10 +92,10 @@ impl<'a> Pieces<'a> {
         ensures counted { IsCounted self.new }
     {
         self.go_on();
-        let (part, later) = self.first.split_at(wanted.min(self.first.len()));
+        let (front, later) = self.first.split_at(wanted.min(self.first.len()));
         self.first = later;
-        self.length -= part.len();
-        part
+        self.length -= front.len();
+        front
     }
 
     /// Takes this many bytes out and puts them behind those gathered.
@@ -107,9 +107,9 @@ impl<'a> Pieces<'a> {
     {
         let mut wanted = count;
         while wanted > 0 {
-            let part = self.take_part(wanted);
-            gathered.extend_from_slice(part)?;
-            wanted -= part.len();
+            let front = self.take_front(wanted);
+            gathered.extend_from_slice(front)?;
+            wanted -= front.len();
         }
         Ok(())
     }
@@ -123,7 +123,7 @@ impl<'a> Pieces<'a> {
     {
         let mut wanted = count;
         while wanted > 0 {
-            wanted -= self.take_part(wanted).len();
+            wanted -= self.take_front(wanted).len();
         }
     }
 

@@ -40,7 +40,7 @@ pub fn audit(
         Ok(walk) => walk,
         Err(refusal) => return Err(AuditFault::Pcap(refusal)),
     };
-    match Capture::cut(alloc, capture) {
+    match Capture::of_slice(alloc, capture) {
         Ok(chunks) => audit_chunks(rt, alloc, options, walk, &chunks, gate),
         Err(_) => Err(AuditFault::OutOfMemory),
     }

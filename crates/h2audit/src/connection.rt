@@ -24,7 +24,7 @@ use packet_heads::Packets;
 use std::alloc::{AllocError, Global};
 use std::thread::Threads;
 use std::vec::IntoIter;
-use stop_desk::{Gate, Part, Team, settle};
+use stop_desk::{AuditRound, Gate, Part, Team, settle};
 use tcp_streams::Connection;
 
 /// What the flows of each connection hold, in order.
@@ -52,12 +52,9 @@ pub(crate) fn flows_each<R: Threads + Sync, G: Gate>(
         packets,
         opened,
     };
-    let settled = settle(team, FLOWS, stops.as_slice(), &round)?;
+    let settled = settle(team, AuditRound::Flows, stops.as_slice(), &round)?;
     Ok(settled.parts)
 }
-
-/// The number of the round over connections.
-const FLOWS: u8 = 0;
 
 /// What is told of each connection, in order, from what its flows hold.
 pub(crate) fn audit_each(

@@ -61,5 +61,5 @@ pub use input_output::{CaptureReader, ReportWriter};
 pub use program::{Outside, program_words, run_program};
 pub use running::run;
 pub use status::ending;
-pub use stop_desk::{Gate, NoGate};
+pub use stop_desk::{AuditRound, Gate, NoGate};
 pub use verdict::Verdict;

@@ -1,4 +1,4 @@
-ghost use Rattle.std.specs.Prelude.{◌≡◌, ◌+◌, ◌^◌, ◌<◌, ◌≤◌, length, take, IfErr, IfOk, OnOk};
+ghost use Rattle.std.specs.Prelude.{◌≡◌, ◌+◌, ◌^◌, ◌<◌, ◌≤◌, length, take, IfErr, IfOk, OnOk, Ok};
 ghost use Rattle.std.specs.Bool.{Decides};
 ghost use Rattle.std.specs.Io.{StartsWith};
 ghost use Rattle.input_output.specs.Account.{IsUnread, kept};
@@ -11,7 +11,7 @@ use crate::fault::ReadFault;
 use crate::front::{Capture, FrontWalk};
 use crate::kept_bytes::KeptBytes;
 use std::alloc::{AllocError, Global};
-use std::io::Read;
+use std::io::{self, Read};
 use std::thread::Threads;
 
 /// The number of bytes at which reading stops: a capture that has as many is refused.
@@ -33,9 +33,9 @@ pub enum ReadState {
 /// A reader of a capture, with an account of what its reads answered.
 ///
 /// A type of reader tells which bytes it will give, if any, and not whether a read failed; of a file or
-/// a pipe it tells nothing. The account does: `read_once`, `read_and_walk` and `pass_once` enter what a read answered.
-/// `pass_once` calls `read` itself, the others through `read_once`, `read_and_walk`, `read_beside` and `read_into` of
-/// `kept_bytes`, of which `read_into` calls it. `read_once`, `read_and_walk` and `lack_memory` enter want of memory.
+/// a pipe it tells nothing. The account does: `enter_read` enters what a read answered, for `read_once`,
+/// `read_and_walk` and `pass_once`. `pass_once` calls `read` itself, the others through `read_once`, `read_and_walk`,
+/// `read_beside` and `read_into` of `kept_bytes`, of which `read_into` calls it. `lack_memory` enters want of memory.
 /// Nothing else changes an account.
 #[derive(Drop)]
 pub struct CaptureReader<R> {
@@ -112,11 +112,33 @@ impl<R> CaptureReader<R> {
         LIMIT <= self.bytes.len() + self.passed
     }
 
-    /// Enters that there was no memory for the list of the chunks.
+    /// Enters that there was no memory, for bytes or for the list of the chunks.
     pub fn lack_memory(&mut self)
         ensures { self.new ≡ record self.old { state = ReadState.LackedMemory } }
     {
         self.state = ReadState::LackedMemory;
+    }
+
+    /// Enters what a read answered: that it failed, or how many bytes it gave, where none is the end.
+    fn enter_read(&mut self, read: io::Result<usize>) -> Result<usize, ReadFault>
+        requires { self.old.state ≡ ReadState.Open }
+        ensures ok { IfOk result (λ n. read ≡ Ok n) }
+        ensures state { IfOk result (λ n. IsStateAfter n self.new.state) }
+        ensures err { IfErr result (λ e. (e ≡ ReadFault.Failed) × (self.new.state ≡ ReadState.Failed)) }
+        ensures same { self.new ≡ record self.old { state = self.new.state } }
+    {
+        match read {
+            Ok(count) => {
+                if count == 0 {
+                    self.state = ReadState::Ended;
+                }
+                Ok(count)
+            }
+            Err(_) => {
+                self.state = ReadState::Failed;
+                Err(ReadFault::Failed)
+            }
+        }
     }
 }
 
@@ -139,21 +161,11 @@ impl<R: Read> CaptureReader<R> {
         ensures err { IfErr result (λ e. IsReadingFault e self.new) }
     {
         if self.bytes.make_room(limit, ahead).is_err() {
-            self.state = ReadState::LackedMemory;
+            self.lack_memory();
             return Err(ReadFault::OutOfMemory);
         }
-        match self.bytes.read_once(&mut self.reader) {
-            Ok(count) => {
-                if count == 0 {
-                    self.state = ReadState::Ended;
-                }
-                Ok(count)
-            }
-            Err(_) => {
-                self.state = ReadState::Failed;
-                Err(ReadFault::Failed)
-            }
-        }
+        let read = self.bytes.read_once(&mut self.reader);
+        self.enter_read(read)
     }
 
     /// The same, up to [`LIMIT`], while a walk goes on over what is kept, chunk by chunk.
@@ -175,19 +187,13 @@ impl<R: Read> CaptureReader<R> {
         ensures err { IfErr result (λ e. IsReadingFault e self.new) }
     {
         if self.bytes.make_room(LIMIT, ahead).is_err() {
-            self.state = ReadState::LackedMemory;
+            self.lack_memory();
             return Err(ReadFault::OutOfMemory);
         }
         let (read, walked) = self.bytes.read_and_walk(ahead, &mut self.reader, walk);
-        let Ok(count) = read else {
-            self.state = ReadState::Failed;
-            return Err(ReadFault::Failed);
-        };
-        if count == 0 {
-            self.state = ReadState::Ended;
-        }
+        let count = self.enter_read(read)?;
         if walked.is_err() {
-            self.state = ReadState::LackedMemory;
+            self.lack_memory();
             return Err(ReadFault::OutOfMemory);
         }
         Ok(count)
@@ -208,18 +214,9 @@ impl<R: Read> CaptureReader<R> {
         ensures err { IfErr result (λ e. (e ≡ ReadFault.Failed) × (self.new.state ≡ ReadState.Failed)) }
     {
         let most = piece.len().min(LIMIT - self.bytes.len() - self.passed);
-        match self.reader.read(&mut piece[..most]) {
-            Ok(count) => {
-                self.passed += count;
-                if count == 0 {
-                    self.state = ReadState::Ended;
-                }
-                Ok(count)
-            }
-            Err(_) => {
-                self.state = ReadState::Failed;
-                Err(ReadFault::Failed)
-            }
-        }
+        let read = self.reader.read(&mut piece[..most]);
+        let count = self.enter_read(read)?;
+        self.passed += count;
+        Ok(count)
     }
 }

@@ -134,8 +134,8 @@ impl<'a, T, const N: usize> Chunks<'a, T, N> {
         })
     }
 
-    /// A list that lies together, in chunks.
-    pub fn cut(alloc: Global, whole: &'a [T]) -> Result<Self, AllocError>
+    /// A list that lies together, in chunks. Nothing is copied.
+    pub fn of_slice(alloc: Global, whole: &'a [T]) -> Result<Self, AllocError>
         requires { 0 < N }
         ensures { IfOk result (λ all. all ≡ whole.now) }
     {

@@ -14,15 +14,14 @@
 //! division by `N`, so a power of two is best. The first chunk of a capture grows by pieces, and may be moved as it
 //! does; no byte behind it is moved once it was read. Later chunks are made ahead by other threads ([`ChunksAhead`]),
 //! since most of the time of reading goes into memory that is used for the first time; where no thread can be had, the
-//! one that reads makes them. [`keep_and_walk`] has a [`FrontWalk`] go on over each chunk that was filled, on another
-//! thread while the next chunk is read, and knows no more of it.
+//! one that reads makes them. [`keep_and_walk`] has a [`FrontWalk`] go on over each chunk that was filled, and knows no
+//! more of it: on another thread while the next chunk is read, or with one worker on the same thread before that.
 //!
-//! The accounts are as honest as the code that enters them: their fields are private. `read_once`, `read_and_walk` and
-//! `pass_once` of [`CaptureReader`] enter what a read gave, over `read_once`, `read_and_walk`, `read_beside` and
-//! `read_into` of `kept_bytes`; `write_once` and `flush_once` of [`ReportWriter`] enter what a write took; they ask
-//! that none follows one that failed. `read_into`, `pass_once`, `write_once` and `flush_once` alone call `read`,
-//! `write` and `flush`. `read_once`, `read_and_walk` and `lack_memory` enter want of memory. A reader sees this at
-//! once; no contract says it.
+//! The accounts are as honest as the code that enters them: their fields are private. `enter_read` of [`CaptureReader`]
+//! enters what a read gave, for `read_once`, `read_and_walk` and `pass_once`, over `read_once`, `read_and_walk`,
+//! `read_beside` and `read_into` of `kept_bytes`; `write_once` and `flush_once` of [`ReportWriter`] enter what a write
+//! took; they ask that none follows one that failed. `read_into`, `pass_once`, `write_once` and `flush_once` alone call
+//! `read`, `write` and `flush`. `lack_memory` enters want of memory. A reader sees this at once; no contract says it.
 //!
 //! A [`TableHash`] hashes by SipHash under a key that is drawn anew at each start, so which pairs or streams of a
 //! capture collide nobody can foresee. A table keeps its entries in the order of first sight and answers by equality,

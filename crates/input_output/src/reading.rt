@@ -46,8 +46,9 @@ pub fn keep_up_to<T: Threads, R: Read>(
 
 /// Reads to the end, or until there are 2^31 bytes, and keeps them, while a walk goes on over them.
 ///
-/// The thread that reads walks over each chunk that it has filled: another one would have to fetch it first. What is
-/// read last is left to the end of the walk.
+/// With one worker the thread that reads walks over each chunk as soon as it is full, while the bytes are near the
+/// processor. With several, another thread walks over the full chunks while the next one is read. What is read last is
+/// left to the end of the walk.
 pub fn keep_and_walk<T: Threads, R: Read, W: FrontWalk + Send>(
     ahead: &mut ChunksAhead<'_, T>,
     reader: &mut CaptureReader<R>,

@@ -26,12 +26,12 @@
 //!
 //! Checksums have no effect, since a sender's own capture has them unfilled where the network card computes them. FIN,
 //! RST, windows, options and urgent pointers have none, since sequence numbers alone tell a flow. Bytes past the total
-//! length are no chunk of a datagram; a total length of 0, which segmentation offload leaves in a capture, stands for
+//! length are not of the datagram; a total length of 0, which segmentation offload leaves in a capture, stands for
 //! all bytes that were captured.
 //!
 //! Wrong bodies that the prover refuses: records numbered afresh in each chunk, a full chunk that is forgotten, a
-//! fragment judged before its end, a segment marked by its record's index, a mark that two refusals have. Tested by
-//! whole reports: that a walk succeeds where there is memory.
+//! fragment judged before its end, a segment marked by its record's index, a mark that two refusals have, the segment
+//! of another packet. Tested by whole reports: that a walk succeeds where there is memory.
 #![tactic(auto)]
 
 mod decoding;

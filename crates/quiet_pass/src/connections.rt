@@ -5,12 +5,14 @@ ghost use Rattle.std.specs.Prelude.{◌≡◌, false, Option};
 ghost use Rattle.std.specs.Bool.{OnTrue};
 ghost use Rattle.std.specs.Option.{ForSome};
 ghost use Rattle.audit_terms.specs.Frame.{is_server_promise};
-ghost use Rattle.audit_terms.specs.Change.{new_limit, new_push};
 ghost use Rattle.audit_terms.specs.Connection.{connection_start};
 ghost use Rattle.quiet_pass.specs.code.Connection.{connection_of, IsConnectionAfter, IsCountedCredit, IsCreditAfter};
 ghost use Rattle.quiet_pass.specs.code.Connection.{IsOpenedAfter, IsPromisedAfter, IsUnmoved};
 
-use audit_terms::{Change, FIRST_LIMIT, FIRST_WINDOW, Frame, LARGEST_WINDOW, Side, Sides};
+use audit_terms::{
+    Change, FIRST_LIMIT, FIRST_WINDOW, Frame, LARGEST_WINDOW, Side, Sides, limit_after, new_limit,
+    new_push,
+};
 
 /// The connection between two frames (RFC 9113, 4.2, 5.1.1, 6.9).
 #[derive(Clone, Copy)]
@@ -167,35 +169,4 @@ fn credit_after(credit: u32, side: Side, frame: &Frame) -> Option<u32>
         return None;
     }
     counted(credit, side, frame)
-}
-
-/// The greatest length in bytes of a frame that a side may send after a change, from the one before it (6.5.2).
-fn new_limit(change: &Option<Change>, side: Side, before: u32) -> u32
-    ensures { result ≡ new_limit change.now side before }
-{
-    match change {
-        Some(change) if change.side == side => change.max_frame.unwrap_or(before),
-        _ => before,
-    }
-}
-
-/// The same of both sides.
-fn limit_after(change: &Option<Change>, limit: &Sides<u32>) -> Sides<u32>
-    ensures client { result.client ≡ new_limit change.now Side.Client limit.now.client }
-    ensures server { result.server ≡ new_limit change.now Side.Server limit.now.server }
-{
-    Sides {
-        client: new_limit(change, Side::Client, limit.client),
-        server: new_limit(change, Side::Server, limit.server),
-    }
-}
-
-/// ENABLE_PUSH in force for the server after a change, from the one before it (6.5.2).
-fn new_push(change: &Option<Change>, before: u32) -> u32
-    ensures { result ≡ new_push change.now before }
-{
-    match change {
-        Some(change) if change.side == Side::Server => change.push.unwrap_or(before),
-        _ => before,
-    }
 }

@@ -6,7 +6,8 @@ ghost use Rattle.audit_terms.specs.declared.frames.Frame.{Frame as FrameTerm};
 ghost use Rattle.audit_terms.specs.LocalFault.{body_said, local_said};
 ghost use Rattle.quiet_pass.specs.code.LastFrame.{last_of, breaks};
 
-use audit_terms::{Body, CONTINUATION, Frame, PUSH_PROMISE, Side};
+use audit_terms::frame_types::{CONTINUATION, PUSH_PROMISE};
+use audit_terms::{Body, Frame, Side};
 
 /// What is kept of the last frame of a side.
 #[derive(Clone, Copy)]

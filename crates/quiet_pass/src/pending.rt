@@ -5,11 +5,10 @@ ghost use Rattle.audit_terms.specs.declared.sides.Side.{Side as SideTerm};
 ghost use Rattle.audit_terms.specs.Side.{other};
 ghost use Rattle.audit_terms.specs.Sides.{side_of};
 ghost use Rattle.audit_terms.specs.Frame.{is_ack};
-ghost use Rattle.audit_terms.specs.Change.{change_by};
 ghost use Rattle.audit_terms.specs.InForce.{InForce};
 ghost use Rattle.quiet_pass.specs.code.Pending.{sent_by, IsPending, IsBrought};
 
-use audit_terms::{Body, Change, Frame, PackedSettings, Settings, Side, Sides};
+use audit_terms::{Body, Change, Frame, PackedSettings, Settings, Side, Sides, change_by};
 use std::alloc::{AllocError, Global};
 
 /// The SETTINGS of a connection so far: a few, as connections go.
@@ -82,18 +81,5 @@ impl Pending {
             Side::Server => self.taken.server += 1,
         }
         Some(change_by(frame, settings))
-    }
-}
-
-/// What an acknowledgement brings into force that answers these settings.
-fn change_by(frame: &Frame, settings: Settings) -> Change
-    ensures { result ≡ change_by frame.now settings }
-{
-    Change {
-        number: frame.number,
-        side: frame.side,
-        initial: settings.initial,
-        max_frame: settings.max_frame,
-        push: settings.push,
     }
 }

@@ -1,1 +1,1 @@
-pub mod WholePart
+pub mod WholeStream

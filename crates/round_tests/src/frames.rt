@@ -4,10 +4,10 @@ ghost use Rattle.std.specs.Prelude.{◌≡◌, ◌<◌, ◌^◌, true};
 ghost use Rattle.audit_terms.specs.Frame.{promised_in};
 ghost use Rattle.audit_terms.specs.code.runs.Orderly.{IsInRange, IsOrderly};
 
+use audit_terms::frame_types::{
+    DATA, END_HEADERS_FLAG, HEADERS, PUSH_PROMISE, RST_STREAM, SETTINGS, WINDOW_UPDATE,
+};
 use audit_terms::{Body, Frame, Length, PackedSettings, Settings, Side, Word};
-
-/// END_HEADERS of HEADERS and PUSH_PROMISE.
-const END_HEADERS: u8 = 4;
 
 /// A frame of a script, without flags.
 fn frame(number: u32, side: Side, code: u8, stream: u32, length: u32, body: Body) -> Frame
@@ -29,8 +29,8 @@ fn frame(number: u32, side: Side, code: u8, stream: u32, length: u32, body: Body
 /// HEADERS that end their block.
 pub fn headers(number: u32, side: Side, stream: u32) -> Frame {
     Frame {
-        flags: END_HEADERS,
-        ..frame(number, side, 1, stream, 0, Body::Headers)
+        flags: END_HEADERS_FLAG,
+        ..frame(number, side, HEADERS, stream, 0, Body::Headers)
     }
 }
 
@@ -38,7 +38,7 @@ pub fn headers(number: u32, side: Side, stream: u32) -> Frame {
 pub fn data(number: u32, side: Side, stream: u32, length: u32) -> Frame
     requires { length < 2 ^ 24 }
 {
-    frame(number, side, 0, stream, length, Body::Content)
+    frame(number, side, DATA, stream, length, Body::Content)
 }
 
 /// SETTINGS with an initial window, where there is one.
@@ -47,30 +47,30 @@ pub fn initial_window(number: u32, side: Side, initial: Option<u32>) -> Frame {
         initial,
         ..Settings::none()
     });
-    frame(number, side, 4, 0, 0, Body::Settings(values))
+    frame(number, side, SETTINGS, 0, 0, Body::Settings(values))
 }
 
 pub fn acknowledgement(number: u32, side: Side) -> Frame {
-    frame(number, side, 4, 0, 0, Body::SettingsAck)
+    frame(number, side, SETTINGS, 0, 0, Body::SettingsAck)
 }
 
 /// RST_STREAM.
 pub fn reset(number: u32, side: Side, stream: u32) -> Frame {
-    frame(number, side, 3, stream, 4, Body::RstStream)
+    frame(number, side, RST_STREAM, stream, 4, Body::RstStream)
 }
 
 /// WINDOW_UPDATE of some bytes.
 pub fn grant(number: u32, side: Side, stream: u32, amount: u32) -> Frame {
     let body = Body::WindowUpdate(Word::of(amount));
-    frame(number, side, 8, stream, 4, body)
+    frame(number, side, WINDOW_UPDATE, stream, 4, body)
 }
 
 /// PUSH_PROMISE of the server, which ends its block.
 pub fn promise(number: u32, stream: u32, promised: u32) -> Frame {
     let body = Body::PushPromise(Word::of(promised));
     Frame {
-        flags: END_HEADERS,
-        ..frame(number, Side::Server, 5, stream, 4, body)
+        flags: END_HEADERS_FLAG,
+        ..frame(number, Side::Server, PUSH_PROMISE, stream, 4, body)
     }
 }
 

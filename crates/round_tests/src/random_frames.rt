@@ -8,7 +8,8 @@ use crate::frames::{
 };
 use audit_core::one_pass;
 use audit_rounds::{Division, findings_of_each};
-use audit_terms::{END_STREAM, Frame, Side, keep_shown};
+use audit_terms::frame_types::END_STREAM_FLAG;
+use audit_terms::{Frame, Side, keep_shown};
 use input_output::TableHash;
 use rand_core::Rng;
 use rand_pcg::Pcg32;
@@ -21,7 +22,7 @@ fn one_of(rng: &mut Pcg32, numbers: &[u32; 4]) -> u32 {
     numbers[(rng.next_u32() % 4) as usize]
 }
 
-/// A frame of a side on a stream, with the bit of END_STREAM in one of eight.
+/// A frame of a side on a stream, with END_STREAM in one of eight.
 fn random_frame(rng: &mut Pcg32, number: u32) -> Frame {
     let side = if rng.next_u32() % 2 == 0 {
         Side::Client
@@ -54,7 +55,7 @@ fn random_frame(rng: &mut Pcg32, number: u32) -> Frame {
         _ => reset(number, side, stream),
     };
     let end = if rng.next_u32() % 8 == 0 {
-        END_STREAM
+        END_STREAM_FLAG
     } else {
         0
     };

@@ -7,7 +7,7 @@ use crate::Answer;
 use audit_terms::{Finding, Kind, Look, Place, Side};
 use std::alloc::{AllocError, Global};
 use std::thread::Threads;
-use stop_desk::{NoGate, Round, Team, Work, settle};
+use stop_desk::{AuditRound, NoGate, Round, Team, Work, settle};
 
 /// Two jobs of one connection, which both find this error, whatever their look answers.
 #[derive(Drop)]
@@ -62,7 +62,7 @@ pub fn later_job_sees_stop(rt: &(impl Sync + Threads), alloc: Global) -> Answer 
         workers: 1,
         gate: &NoGate,
     };
-    let settled = settle(&team, 1, &[None], &round)?;
+    let settled = settle(&team, AuditRound::Streams, &[None], &round)?;
     let stop = Some(Place::of(5, Kind::NotOpened.rank(), 9));
     match settled.parts.as_slice() {
         [first, second] => {

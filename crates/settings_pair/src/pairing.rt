@@ -1,7 +1,6 @@
 ghost use Rattle.std.specs.Prelude.{◌≡◌, [], ◌∷◌, ◌++◌, pos, is_none, IfOk, OnOk};
 ghost use Rattle.std.specs.Option.{option_to_list};
 ghost use Rattle.audit_terms.specs.code.runs.Orderly.{IsInRange, IsOrderly};
-ghost use Rattle.audit_terms.specs.Change.{change_by};
 ghost use Rattle.audit_terms.specs.InForce.{InForce, in_force_after, change_of, change_taking, settings_said};
 ghost use Rattle.audit_terms.specs.code.runs.Changes.{changes_of, settings_run};
 ghost use Rattle.audit_terms.specs.Finding.{finding_at, say};
@@ -9,7 +8,7 @@ ghost use Rattle.settings_pair.specs.code.Changes.{AreOrderly, AreAcknowledged};
 ghost use Rattle.settings_pair.specs.code.Waiting.{IsWaiting};
 
 use crate::waiting::Waiting;
-use audit_terms::{Change, Finding, Frame, Kind, Settings};
+use audit_terms::{Change, Finding, Frame, Kind, Settings, change_by};
 use std::alloc::{AllocError, Global};
 
 /// What the acknowledgements of a connection's frames bring into force, and which of them answer nothing.
@@ -78,19 +77,6 @@ fn add(pairs: &mut Pairs, frame: &Frame, taken: Option<Settings>) -> Result<(), 
         None => pairs.findings.push(unmatched(frame))?,
     }
     Ok(())
-}
-
-/// What an acknowledgement brings into force that answers these settings.
-fn change_by(frame: &Frame, settings: Settings) -> Change
-    ensures { result ≡ change_by frame.now settings }
-{
-    Change {
-        number: frame.number,
-        side: frame.side,
-        initial: settings.initial,
-        max_frame: settings.max_frame,
-        push: settings.push,
-    }
 }
 
 /// An acknowledgement with nothing to answer.

@@ -13,13 +13,14 @@ use Rattle.split_merge.proofs.Positions.{promised-is}
 
 -- ---- the frames of one stream
 
-orderly-earlier : (low high : ℕ) (frames : List Frame) → low ≤ high → IsOrderlyFrom high frames
+-- orderly from an earlier number on
+pub orderly-earlier : (low high : ℕ) (frames : List Frame) → low ≤ high → IsOrderlyFrom high frames
     → IsOrderlyFrom low frames
 orderly-earlier low high [] l h = tt
 orderly-earlier low high (frame ∷ frames) l h = (omega (arith, h.0), h.1, h.2)
 
-orderly-filter : (test : Frame → Bool) (low : ℕ) (frames : List Frame) → IsOrderlyFrom low frames →
-    IsOrderlyFrom low (filter test frames)
+pub orderly-filter : (test : Frame → Bool) (low : ℕ) (frames : List Frame) → IsOrderlyFrom low frames
+    → IsOrderlyFrom low (filter test frames)
 orderly-filter test low [] h = tt
 orderly-filter test low (frame ∷ frames) h =
     let rest = orderly-filter test (frame.number + 1) frames h.2 in
@@ -32,11 +33,12 @@ in_range_at low [] h i d l = absurd (omega arith)
 in_range_at low (x ∷ xs) h zero d l = h.1
 in_range_at low (x ∷ xs) h (suc i) d l = in_range_at (x.number + 1) xs h.2 i d (omega arith)
 
-orderly-of : (stream : ℕ) (frames : List Frame) → IsOrderly frames → IsOrderly (frames_of stream frames)
+pub orderly-of : (stream : ℕ) (frames : List Frame) → IsOrderly frames → IsOrderly (frames_of stream frames)
 orderly-of stream frames h = orderly-filter (meets stream) 0 frames h
 
-acknowledged-of : (stream : ℕ) (frames : List Frame) (changes : List Change) → AreAcknowledged frames changes →
-    AreAcknowledged (frames_of stream frames) changes
+-- among the frames of a stream changes are acknowledged too
+pub acknowledged-of : (stream : ℕ) (frames : List Frame) (changes : List Change) → AreAcknowledged frames changes
+    → AreAcknowledged (frames_of stream frames) changes
 acknowledged-of stream frames changes h =
     All-filter (meets stream) (λ (frame : Frame).
     All (λ (change : Change). frame.number ≡ change.number → is_ack frame.body ≡ true) changes) frames h

@@ -8,8 +8,8 @@ use Rattle.split_merge.proofs.Terms.{noted_positions, rows_of, total_of, laid_ou
 use Rattle.split_merge.proofs.Terms.{IsFilled, AreFilled, IsTableOf, IsPlacing, CanPlace, loud_of, places_from, IsKept}
 use Rattle.split_merge.proofs.Terms.{Bool, true, option_to_list, drop-drop, AllByRecursion, All-from_recursion, Frame}
 use Rattle.split_merge.proofs.Terms.{Change, shown, streams_of, frames_of, QuietStream, SplitFrames, notes_from}
-use Rattle.split_merge.proofs.Terms.{opened_in, quiet_in, stream_run, IsRange, IsPartOf, IsSplit, part_of, opening_of}
-use Rattle.split_merge.proofs.Terms.{AreHushed, IsHushedOf, IsLaid}
+use Rattle.split_merge.proofs.Terms.{opened_in, quiet_in, stream_run, IsRange, ArePositionsOf, IsSplit, row_positions}
+use Rattle.split_merge.proofs.Terms.{opening_of, AreHushed, IsHushedOf, IsLaid}
 use Rattle.split_merge.specs.declared.visits.Visits.{Visits}
 use Rattle.split_merge.proofs.Visited.{among-apart, length-streams_in, positions-own, positions-other}
 use Rattle.split_merge.proofs.Visited.{noted_positions-append}
@@ -204,7 +204,7 @@ split-rows : (split : SplitFrames) (frames : List Frame) (from : ℕ) (streams :
     → NotAmong 0 streams → from ≤ length split.positions.items
     → AreFilled from streams (notes_from 0 frames) (notes_from 0 frames) rows (drop from split.positions.items)
     → AllByRecursion (IsRange split) rows
-    × AllByRecursion (λ (row : StreamRow). IsPartOf frames row.stream (part_of split row)) rows
+    × AllByRecursion (λ (row : StreamRow). ArePositionsOf frames row.stream (row_positions split row)) rows
 split-rows split frames from [] rows above within h = rw h (tt, tt)
 split-rows split frames from (stream ∷ streams) [] rows within h = absurd h
 split-rows split frames from (stream ∷ streams) (row ∷ rows) above within h =
@@ -250,7 +250,8 @@ module _ (credits_shown : Bool) (changes : List Change) (frames : List Frame) (s
         streams = named ∙ rw (← all) (loud-filter streams quiets distinct
             (AllZip-long (IsHushedOf credits_shown changes frames) streams quiets hushed));
         ranges = All-from_recursion (IsRange split) _ rows.0;
-        parts = All-from_recursion (λ (row : StreamRow). IsPartOf frames row.stream (part_of split row)) _ rows.1;
+        each = All-from_recursion (λ (row : StreamRow). ArePositionsOf frames row.stream (row_positions split row)) _
+            rows.1;
         quiet = rw (← all) (All-from_recursion (λ s. quiet_in s streams quiets ≡ true → nothing s) streams
             (each-quiet nothing streams quiets distinct silent));
         opened = rw (laid.opened, ← all) (opened-filter (opening_of frames changes) streams quiets distinct told);

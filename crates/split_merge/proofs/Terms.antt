@@ -26,8 +26,8 @@ pub use Rattle.audit_terms.specs.declared.items.Change.{Change}
 pub use Rattle.split_merge.specs.code.Ahead.{AreAhead, AreHushed, IsAheadOf, IsHushedOf, with_next}
 pub use Rattle.split_merge.specs.code.Loud.{ArePlaces, CanPlace, IsKept, IsLaid, IsPlacing, loud_of, opened_in}
 pub use Rattle.split_merge.specs.code.Loud.{places_from, quiet_in}
-pub use Rattle.split_merge.specs.code.Split.{IsPartOf, IsRange, IsSplit, frames_at, opening_of, part_of, positions_from}
-pub use Rattle.split_merge.specs.code.Split.{positions_of}
+pub use Rattle.split_merge.specs.code.Split.{ArePositionsOf, IsRange, IsSplit, frames_at, opening_of, positions_from}
+pub use Rattle.split_merge.specs.code.Split.{positions_of, row_positions}
 pub use Rattle.split_merge.specs.code.Visits.{AreBelow, AreDistinct, AreFilled, IsFilled, IsIndex, IsRowOf, IsTableOf}
 pub use Rattle.split_merge.specs.code.Visits.{NotAmong, NotBefore, counted, is_among, laid_out, longer, noted}
 pub use Rattle.split_merge.specs.code.Visits.{noted_positions, notes_from, rows_of, streams_in, total_of, with_row}

@@ -11,13 +11,13 @@ pub fn groups(alloc: Global, count: usize, n: usize) -> Result<Vec<(usize, usize
     ensures value { IfOk result (λ all. all.items ≡ groups count n) }
     ensures consecutive { AreConsecutive 0 count (groups count n) }
 {
-    let parts = n.min(count);
-    (0..parts)
+    let number = n.min(count);
+    (0..number)
         .map(
             |group| -> (usize, usize)
-                requires { (group < parts) × (parts ≤ count) × (count < 2 ^ 32) }
-                ensures { result ≡ (group * count / parts, (group + 1) * count / parts) }
-            { (group * count / parts, (group + 1) * count / parts) },
+                requires { (group < number) × (number ≤ count) × (count < 2 ^ 32) }
+                ensures { result ≡ (group * count / number, (group + 1) * count / number) }
+            { (group * count / number, (group + 1) * count / number) },
         )
         .collect(alloc)
 }

@@ -6,10 +6,10 @@
 //!   they have to be opened (5.1.1), the row of one is found by halving; the others stand in a table.
 //! - To each other stream [`split`] gives its frames, as positions in the list of all frames: one row for each, in
 //!   order of first frames, promises of it included. A second walk finds them, where there are such streams. [`groups`]
-//!   deals the rows out in consecutive ranges. Parts are ranges of one list of positions, so no frame is copied, and a
-//!   stream of three frames costs no list of its own.
-//! - [`merge`] puts what was found part by part into one list, up to the least connection error (5.4.1). It asks for
-//!   neither sorted nor distinct findings, since their order is total.
+//!   deals the rows out in consecutive ranges. A row names a range of one list of positions, so no frame is copied,
+//!   and a stream of three frames costs no list of its own.
+//! - [`merge`] puts lists of findings into one, up to the least connection error (5.4.1). It asks for neither sorted
+//!   nor distinct findings, since their order is total.
 //!
 //! [`worked_examples`] shows splits, quiet streams, groups, and where a merge ends.
 //!

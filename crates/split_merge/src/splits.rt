@@ -1,7 +1,7 @@
 ghost use Rattle.std.specs.Prelude.{◌≡◌, ℕ, ◌^◌, ◌<◌, ◌++◌, IfOk, List, length, set};
 ghost use Rattle.audit_terms.specs.code.runs.Orderly.{IsOrderly};
 ghost use Rattle.settings_pair.specs.code.Changes.{AreOrderly, AreAcknowledged};
-ghost use Rattle.split_merge.specs.code.Split.{IsRange, IsSplit, part_of};
+ghost use Rattle.split_merge.specs.code.Split.{IsRange, IsSplit, row_positions};
 ghost use Rattle.split_merge.specs.code.Loud.{CanPlace, IsLaid, IsPlacing, loud_of};
 ghost use Rattle.split_merge.specs.code.Visits.{AreFilled, IsTableOf, laid_out, longer, noted, notes_from, streams_in};
 ghost use Rattle.split_merge.specs.code.Visits.{total_of};
@@ -36,7 +36,7 @@ impl SplitFrames {
     /// Where the frames of a row's stream stand in the list of all frames, in order.
     pub fn positions_of(&self, row: &StreamRow) -> &[u32]
         requires { IsRange self.now row.now }
-        ensures { result.now ≡ part_of self.now row.now }
+        ensures { result.now ≡ row_positions self.now row.now }
     {
         &self.positions[row.from as usize..row.to as usize]
     }

@@ -1,3 +1,4 @@
+pub mod AuditRound
 pub mod Rule
 pub mod Plays
 pub mod Counts

@@ -2,7 +2,8 @@
 ///
 /// A gate has no say in the report.
 pub trait Gate: Sync {
-    /// Called in round `round` before the work on job `job` begins. It has to return.
+    /// Called in the round of this number ([`crate::AuditRound`]) before the work on job `job` begins. It has to
+    /// return.
     fn enter(&self, round: u8, job: u32);
 }
 

@@ -1,6 +1,7 @@
 //! Jobs, the places at which connections stop, and the workers that draw the jobs.
 //!
-//! Any program may use it that deals numbered jobs to threads, where what one job finds can end others early.
+//! It deals numbered jobs to threads, where what one job finds can end others early. What the jobs are, it does not
+//! know; of the rounds of an audit it has the names ([`AuditRound`]).
 //!
 //! # The round
 //!
@@ -39,7 +40,7 @@
 //! The desk is one row of words: word 0 is the next number, and word c + 1 the stop of connection c, all ones where
 //! there is none. No call waits or takes a lock, and none but [`Desk::make`] allocates. What a pass drew, saw and
 //! lowered is known to contracts alone, as lists that add up where passes are divided or joined; at run time a pass is
-//! its allowance. A pass that is dropped keeps its part for ever, so after a failure nothing can be closed.
+//! its allowance. A pass that is dropped keeps what it holds for ever, so after a failure nothing can be closed.
 //!
 //! The steps of all threads stand in one order, and the desk's rule (`specs/code/Rule.antt`) holds between any two:
 //! each number below word 0 was drawn once, word 0 and what may still be drawn add up, each stop is the least of its
@@ -76,6 +77,7 @@
 //! not proved.
 #![tactic(auto)]
 
+mod audit_round;
 mod claims;
 mod closing;
 mod crews;
@@ -93,6 +95,7 @@ mod teams;
 pub mod worked_rounds;
 mod workers;
 
+pub use audit_round::AuditRound;
 pub use claims::Claim;
 pub use closing::Closed;
 pub use crews::crew;

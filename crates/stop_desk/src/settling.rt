@@ -1,11 +1,13 @@
 ghost use Rattle.std.specs.Prelude.{◌≡◌, ◌+◌, ◌<◌, All, Contains, IfOk, length};
 ghost use Rattle.std.specs.List.Sorted.{IsPermutation, IsNonDecreasingBy};
+ghost use Rattle.stop_desk.specs.code.AuditRound.{number_of};
 ghost use Rattle.stop_desk.specs.code.Stop.{IsStop};
 ghost use Rattle.stop_desk.specs.code.Board.{Job};
 ghost use Rattle.stop_desk.specs.declared.parts.Part.{Part as PartTerm};
 ghost use Rattle.stop_desk.specs.code.Crew.{last_stops};
 ghost use Rattle.stop_desk.specs.code.Settling.{HasSettled};
 
+use crate::audit_round::AuditRound;
 use crate::closing::Closed;
 use crate::crews::crew;
 use crate::desks::Desk;
@@ -54,7 +56,7 @@ fn stops_of(
 /// `Err` only where memory runs out. There are at most as many workers as jobs.
 pub fn settle<R: Threads + Sync, G: Gate, P: Round>(
     team: &Team<'_, R, G>,
-    round: u8,
+    round: AuditRound,
     stops: &[Option<Place>],
     plan: &P,
 ) -> Result<Settled<P::Made>, AllocError>
@@ -62,7 +64,7 @@ pub fn settle<R: Threads + Sync, G: Gate, P: Round>(
     requires connections { All (λ (job : Job). job.connection < length stops.now) (P.jobs plan.now) }
     ensures settled { IfOk result (λ settled. HasSettled (P.makes plan.now) (P.jobs plan.now) stops.now settled) }
     ensures round { IfOk result (λ settled. (part : PartTerm P.Made) → Contains settled.parts.items part
-        → part.round ≡ round) }
+        → part.round ≡ number_of round) }
 {
     let jobs = plan.count();
     let workers = team.workers.min(jobs).max(1);
@@ -73,7 +75,7 @@ pub fn settle<R: Threads + Sync, G: Gate, P: Round>(
         workers,
         gate: team.gate,
     };
-    let (mut parts, closed) = crew(&team, desk, pass, round, plan)?;
+    let (mut parts, closed) = crew(&team, desk, pass, round.number(), plan)?;
     put_in_order(&mut parts);
     let stops = stops_of(team.alloc, &closed, stops)?;
     Ok(Settled { parts, stops })

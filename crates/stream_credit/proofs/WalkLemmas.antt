@@ -3,7 +3,7 @@ use Rattle.std.proofs.Common.{length-append}
 use Rattle.stream_credit.proofs.Words.{◌≡◌, ℕ, ℤ, ◌+◌, ◌-◌, ◌*◌, ◌^◌, ◌<◌, ◌≤◌, inl, inr, Bool, true, false, ◌&&◌, ◌||◌}
 use Rattle.stream_credit.proofs.Words.{if◌then◌else◌, List, [], ◌∷◌, ◌++◌, append_assoc, length, Option, Some, None}
 use Rattle.stream_credit.proofs.Words.{is_some, is_none, refl, sym, ap, ◌∙◌, subst, arith, AllByRecursion}
-use Rattle.stream_credit.proofs.Words.{option_map_or, cases_Bool, nat_tests, ints, filter-append, Side, Client, Server}
+use Rattle.stream_credit.proofs.Words.{option_map_or, cases_Bool, ints, filter-append, Side, Client, Server}
 use Rattle.stream_credit.proofs.Words.{Sides, StreamLife, Frame, Change, Step, Stream, Finding, side_of, life_after}
 use Rattle.stream_credit.proofs.Words.{shown, is_shown, is_past, found_before, change_step, initial_after}
 use Rattle.stream_credit.proofs.Words.{stream_run_from, stream_after_all, stream_after, WindowHasRoom, Watches}
@@ -13,6 +13,7 @@ use Rattle.stream_credit.proofs.Words.{HasStopped, window_after, place_number, i
 use Rattle.stream_credit.proofs.Words.{steps_between}
 use Rattle.audit_terms.proofs.FindingLists.{each-append, each-filter, each-in_order, each-weaker}
 use Rattle.audit_terms.proofs.SaidPlaces.{before-front, at-stream, numbered-at}
+use Rattle.audit_terms.proofs.Watching.{past-higher}
 
 -- ---- room
 
@@ -50,11 +51,6 @@ fall-met low least stream initial entry (step ∷ steps) order h =
     ]
 
 -- ---- an opening
-
-past-higher : (stop : Option ℕ) (number higher : ℕ) → number ≤ higher → is_past stop number ≡ true
-    → is_past stop higher ≡ true
-past-higher None number higher order e = cc
-past-higher (Some place) number higher order e = grind (arith, nat_tests)
 
 -- a step past the stop opens no stream up to it
 opened-past : (stop : Option ℕ) (number stream : ℕ) (life : StreamLife) (frame : Option Frame)

@@ -1,7 +1,7 @@
 //! What one stream shows by itself (RFC 9113, 5.1, 5.2, 6.9): its use before the opening and after a side's end, grants
 //! of 0, and the credit, overruns, overflows and stalls of its two windows.
 //!
-//! A [`StreamPart`] points at the frames that one stream meets: those on it, and the server's promises of it. Settings
+//! [`StreamFrames`] points at the frames that one stream meets: those on it, and the server's promises of it. Settings
 //! change the windows of every stream, so [`stream_run`] takes all [`Changes`] of the connection beside them (RFC 9113,
 //! 6.9.2); a frame and a change of one number are one step.
 //!
@@ -32,22 +32,23 @@
 //!
 //! Wrong bodies that the prover refuses: settings that reach open streams only, a run that never looks, looks once or
 //! looks ahead of its work, one that leaves out all once it is stopped, one that counts a side's last DATA as any
-//! other, a quiet stream whose credit is used up. Tested, in `round_tests`: that `stream_run` succeeds where there is
-//! memory; in `threads_test.py` ("quiet streams are in no group"): that a stream which shows nothing stays quiet, which
-//! no contract says.
+//! other, a quiet stream whose credit is used up, initial windows that another setting puts back. Tested, in
+//! `round_tests`: that `stream_run` succeeds where there is memory, and, in numbers, when it looks and what it keeps;
+//! in `threads_test.py` ("quiet streams are in no group"): that a stream which shows nothing stays quiet, which no
+//! contract says.
 #![tactic(auto)]
 
 mod changes;
 mod ends;
-mod parts;
 mod quiet;
 mod quiet_streams;
 mod runs;
 mod silent;
+mod stream_frames;
 mod walks;
 pub mod worked_examples;
 
 pub use changes::Changes;
-pub use parts::{StreamPart, StreamRun};
 pub use quiet_streams::QuietStream;
 pub use runs::stream_run;
+pub use stream_frames::{StreamFrames, StreamRun};

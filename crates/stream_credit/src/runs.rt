@@ -8,12 +8,12 @@ ghost use Rattle.audit_terms.specs.code.runs.Look.{IsRun};
 ghost use Rattle.audit_terms.specs.code.runs.Streams.{stream_run, stream_at_end};
 ghost use Rattle.settings_pair.specs.code.Changes.{AreOrderly, AreAcknowledged};
 ghost use Rattle.stream_credit.specs.code.Looks.{step_numbers, opened_up_to};
-ghost use Rattle.stream_credit.specs.code.Part.{IsPart, frames_at, part_frames};
+ghost use Rattle.stream_credit.specs.code.StreamFrames.{IsStreamFrames, frames_at, frames_met};
 ghost use Rattle.stream_credit.specs.code.Walk.{WholeRun, IsSound, HasEnded, HasStopped};
 
 use crate::changes::Changes;
 use crate::ends::run_of;
-use crate::parts::{StreamPart, StreamRun};
+use crate::stream_frames::{StreamFrames, StreamRun};
 use crate::walks::Walk;
 use audit_terms::{Frame, Look};
 use std::alloc::{AllocError, Global};
@@ -57,26 +57,26 @@ fn meet_frames<L: Look>(
     Ok(true)
 }
 
-/// Meets all frames of a part, and all changes of its connection, and answers whether it met them all.
+/// Meets all frames of a stream, and all changes of its connection, and answers whether it met them all.
 fn meet_all<L: Look>(
     alloc: Global,
     walk: &mut Walk,
     look: &mut L,
-    part: &StreamPart<'_>,
+    own: &StreamFrames<'_>,
     changes: &Changes<'_>,
 ) -> Result<bool, AllocError>
-    requires part { IsPart part.now }
-    requires sound { (run : WholeRun L) × IsSound L.answers run look.old walk.old changes.now 0 (part_frames part.now) }
+    requires own { IsStreamFrames own.now }
+    requires sound { (run : WholeRun L) × IsSound L.answers run look.old walk.old changes.now 0 (frames_met own.now) }
     ensures { IfOk result (λ goes_on. (run : WholeRun L)
-        → IsSound L.answers run look.old walk.old changes.now 0 (part_frames part.now)
+        → IsSound L.answers run look.old walk.old changes.now 0 (frames_met own.now)
         → MatchBool goes_on (HasEnded L.answers run look.new walk.new) (HasStopped L.answers run look.new walk.new)) }
 {
     let mut met = 0;
-    let mut rest = part.positions;
+    let mut rest = own.positions;
     let mut near = Vec::with_capacity(alloc, rest.len().min(NEAR))?;
     while !rest.is_empty() {
         let (some, later) = rest.split_at(rest.len().min(NEAR));
-        gather(&mut near, part.frames, some)?;
+        gather(&mut near, own.frames, some)?;
         if !meet_frames(walk, look, changes, &mut met, near.as_slice())? {
             return Ok(false);
         }
@@ -96,24 +96,24 @@ fn meet_all<L: Look>(
 /// 2^60 in size.
 pub fn stream_run<L: Look>(
     alloc: Global,
-    part: &StreamPart<'_>,
+    own: &StreamFrames<'_>,
     changes: &Changes<'_>,
     credits_shown: bool,
     look: &mut L,
 ) -> Result<StreamRun, AllocError>
-    requires part { IsPart part.now }
+    requires own { IsStreamFrames own.now }
     requires changes { AreOrderly changes.now }
-    requires acknowledged { AreAcknowledged (part_frames part.now) changes.now }
+    requires acknowledged { AreAcknowledged (frames_met own.now) changes.now }
     ensures run { IfOk result (λ run. IsRun L.answers look.old look.new
-        (step_numbers part.now.stream (part_frames part.now) changes.now)
-        (shown credits_shown (stream_run part.now.stream (part_frames part.now) changes.now))
+        (step_numbers own.now.stream (frames_met own.now) changes.now)
+        (shown credits_shown (stream_run own.now.stream (frames_met own.now) changes.now))
         run.findings.items run.upto run.last_look run.looks) }
     ensures opened { IfOk result (λ run. run.opened_at ≡ opened_up_to run.upto
-        (stream_at_end part.now.stream (part_frames part.now) changes.now).life.opened) }
+        (stream_at_end own.now.stream (frames_met own.now) changes.now).life.opened) }
     ensures numbered { IfOk result (λ run.
         All (λ (found : Finding). place_number found.place ≤ 2 ^ 28 - 2) run.findings.items) }
 {
-    let mut walk = Walk::idle(alloc, part.stream, credits_shown, look);
-    let is_whole = meet_all(alloc, &mut walk, look, part, changes)?;
+    let mut walk = Walk::idle(alloc, own.stream, credits_shown, look);
+    let is_whole = meet_all(alloc, &mut walk, look, own, changes)?;
     Ok(run_of(walk, is_whole))
 }

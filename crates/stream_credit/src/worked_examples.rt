@@ -4,7 +4,7 @@ ghost use Rattle.stream_credit.specs.examples.Life.{BothSidesEnd, AfterReset, Op
 ghost use Rattle.stream_credit.specs.examples.Life.{PromiseOpens, PromiseOpensOnce, MisplacedPromise};
 ghost use Rattle.stream_credit.specs.examples.Run.{NegativeWindow, NegativeWindowUnshown, SettingsReachEachStream};
 ghost use Rattle.stream_credit.specs.examples.Run.{ChangesPassedOver, OpensAtZero, OverrunsAboveZero, OverflowingGrant};
-ghost use Rattle.stream_credit.specs.examples.Run.{SettingOverflows, PromisedStall, PartOfPromised, KeptUpToStop};
+ghost use Rattle.stream_credit.specs.examples.Run.{SettingOverflows, PromisedStall, PositionsOfPromised, KeptUpToStop};
 ghost use Rattle.stream_credit.specs.examples.Run.{StepNumbers};
 
 /// An opening, and the ends of both sides (RFC 9113, 5.1).
@@ -65,7 +65,7 @@ pub fn above_the_largest()
 /// A promised stream, its stall and its reset (5.1, 6.6), and where its frames stand.
 pub fn promised_stall()
     ensures run { PromisedStall }
-    ensures part { PartOfPromised }
+    ensures positions { PositionsOfPromised }
 {}
 
 /// What a run has found before a step, and what it keeps where it stops.

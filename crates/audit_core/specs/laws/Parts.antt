@@ -1,4 +1,4 @@
--- The pass is, in order, what its parts show by themselves, however streams are grouped and frames cut into blocks.
+-- The pass is, in order, what its parts show by themselves, however streams are grouped and frames divided.
 use Rattle.std.specs.Prelude.{◌≡◌, ℕ, List, ◌++◌}
 use Rattle.std.specs.List.{flat_map}
 use Rattle.audit_terms.specs.declared.frames.Frame.{Frame}

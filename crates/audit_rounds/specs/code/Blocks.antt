@@ -1,4 +1,4 @@
--- The blocks that connections' frames are cut into, and what is known of each.
+-- The blocks of connections' frames, and what is known of each.
 use Rattle.std.specs.Prelude.{◌≡◌, ℕ, ◌+◌, ◌<◌, ◌≤◌, ◌^◌, All, List, [], ◌∷◌, ◌++◌, length, map, slice_index_or}
 use Rattle.std.specs.Prelude.{◌==◌, if◌then◌else◌}
 use Rattle.std.specs.List.{AllByRecursion}
@@ -57,7 +57,7 @@ laid_out connection (blocks ∷ later) = blocks_of_connection connection blocks 
 abbrev pub wholes : List Block → List (List Item)
 wholes connections = map items_in connections
 
--- the items of connections, the first of number 0, cut into blocks
+-- the items of connections, the first of number 0, in blocks
 pub record AreBlocksOf (wholes : List (List Item)) (blocks : List ConnectionBlock) : Type 0 where
   pub cuts : List (List Block)
   pub laid : blocks ≡ laid_out 0 cuts

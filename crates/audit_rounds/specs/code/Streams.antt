@@ -13,7 +13,7 @@ use Rattle.audit_terms.specs.Place.{place_number}
 use Rattle.audit_terms.specs.code.runs.Streams.{frames_of, stream_run, stream_at_end}
 use Rattle.settings_pair.specs.code.Changes.{AreAcknowledged}
 use Rattle.split_merge.specs.declared.splits.StreamRow.{StreamRow}
-use Rattle.split_merge.specs.code.Split.{IsRange, part_of, frames_at}
+use Rattle.split_merge.specs.code.Split.{IsRange, row_positions, frames_at}
 use Rattle.stop_desk.specs.code.Board.{IsCut}
 use Rattle.stop_desk.specs.code.Heeding.{Heeds, RunLooks}
 use Rattle.stream_credit.specs.code.Looks.{step_numbers}
@@ -26,7 +26,7 @@ shown_of credits_shown frames stream =
 
 -- the frames of a row
 abbrev pub row_frames : Streams → StreamRow → List Frame
-row_frames streams row = frames_at streams.frames.now (part_of streams.split.now row)
+row_frames streams row = frames_at streams.frames.now (row_positions streams.split.now row)
 
 -- what is shown of the stream of a row
 abbrev pub row_shown : (credits_shown : Bool) → Streams → StreamRow → List Finding
@@ -49,7 +49,7 @@ rows_opened streams rows = flat_map (λ (row : StreamRow). option_to_list (row_o
 pub record IsRow (streams : Streams) (row : StreamRow) : Type 0 where
   pub range : IsRange streams.split.now row
   pub in_range : row.stream < 2 ^ 31
-  pub within : All (λ (position : ℕ). position < length streams.frames.now) (part_of streams.split.now row)
+  pub within : All (λ (position : ℕ). position < length streams.frames.now) (row_positions streams.split.now row)
   pub orderly : IsOrderly (row_frames streams row)
   pub acknowledged : AreAcknowledged (row_frames streams row) streams.changes.now
 

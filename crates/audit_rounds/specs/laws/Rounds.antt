@@ -12,7 +12,7 @@ use Rattle.audit_core.specs.laws.Parts.{joined}
 use Rattle.audit_rounds.specs.code.Shown.{streams_shown, blocks_shown}
 
 -- the local faults, the unmatched acknowledgements, what is shown of the streams and what is shown of the blocks, put
--- in order and cut at the first that stops, are what is shown of the pass, however the frames are cut into blocks
+-- in order and cut at the first that stops, are what is shown of the pass, however the frames are divided
 abbrev pub RoundsMakePass : Type 0
 RoundsMakePass = (credits_shown : Bool) (frames : List Frame) (blocks : List (List Item)) → IsOrderly frames →
     joined blocks ≡ items_of frames →

@@ -1,12 +1,8 @@
 -- A short way to the laws of a summary: a closed form of the summary of each list, which `join` keeps and which
 -- moves a state as the steps do.
-use Rattle.std.proofs.Common.{◌≡◌, List, [], ◌∷◌, ◌++◌, refl, sym, ap, ◌∙◌, append_assoc}
+use Rattle.std.proofs.Common.{◌≡◌, List, [], ◌∷◌, ◌++◌, refl, sym, ap, ◌∙◌, append_assoc, append-nil}
 use Rattle.block_scan.specs.code.Summary.{SummaryLaws, summary_of}
 use Rattle.block_scan.specs.code.List.{state_after}
-
-pub append_nil : {X : Type 0} (xs : List X) → xs ++ [] ≡ xs
-append_nil [] = refl
-append_nil (x ∷ xs) = ap (λ l. x ∷ l) (append_nil xs)
 
 pub state_after-append : {State Item : Type 0} (step : State → Item → State) (s : State) (a b : List Item)
     → state_after step s (a ++ b) ≡ state_after step (state_after step s a) b
@@ -46,7 +42,7 @@ module _ {Sum Item State : Type 0} {shown : List Item → Sum} {empty : Sum} {of
     rest_fits = is.rest_fits;
     one = λ s x f. summary-shown (x ∷ []) ∙ is.one x;
     left_unit = λ s a f. sym (append-shown [] a);
-    right_unit = λ s a f. sym (append-shown a []) ∙ ap (summary_of empty of join) (append_nil a);
+    right_unit = λ s a f. sym (append-shown a []) ∙ ap (summary_of empty of join) (append-nil a);
     associative = λ s a b c f.
         let sum = summary_of empty of join in
         ap (λ y. join y (sum c)) (sym (append-shown a b)) ∙ sym (append-shown (a ++ b) c) ∙ ap sum (append_assoc a b c)

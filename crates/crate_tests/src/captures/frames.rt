@@ -1,3 +1,6 @@
+use audit_terms::frame_types::{
+    ACK_FLAG, DATA, END_HEADERS_FLAG, HEADERS, SETTINGS, WINDOW_UPDATE,
+};
 use std::alloc::AllocError;
 
 /// The 24 bytes that a client begins with.
@@ -24,7 +27,7 @@ pub struct Frame {
 /// DATA of `length` zero bytes, with no flag.
 pub fn data(stream: u32, length: u32) -> Frame {
     Frame {
-        code: 0,
+        code: DATA,
         flags: 0,
         stream,
         payload: Payload::Zeros(length),
@@ -34,8 +37,8 @@ pub fn data(stream: u32, length: u32) -> Frame {
 /// HEADERS of length 0 that end their block.
 pub fn headers(stream: u32) -> Frame {
     Frame {
-        code: 1,
-        flags: 4,
+        code: HEADERS,
+        flags: END_HEADERS_FLAG,
         stream,
         payload: Payload::Zeros(0),
     }
@@ -44,7 +47,7 @@ pub fn headers(stream: u32) -> Frame {
 /// SETTINGS with no setting.
 pub fn settings() -> Frame {
     Frame {
-        code: 4,
+        code: SETTINGS,
         flags: 0,
         stream: 0,
         payload: Payload::Zeros(0),
@@ -54,7 +57,7 @@ pub fn settings() -> Frame {
 /// The acknowledgement of a SETTINGS.
 pub fn settings_ack() -> Frame {
     Frame {
-        flags: 1,
+        flags: ACK_FLAG,
         ..settings()
     }
 }
@@ -62,7 +65,7 @@ pub fn settings_ack() -> Frame {
 /// WINDOW_UPDATE of this increment.
 pub fn window_update(stream: u32, increment: u32) -> Frame {
     Frame {
-        code: 8,
+        code: WINDOW_UPDATE,
         flags: 0,
         stream,
         payload: Payload::Number(increment),

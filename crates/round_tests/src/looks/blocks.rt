@@ -34,16 +34,7 @@ pub fn looks_of_a_block(alloc: Global) -> Answer {
         (1, 100, [0, 255, 0, 0], 2, 99),
     ] {
         let stop = Place::of(number, Kind::ConnectionCredit.rank(), 0);
-        let upto = if before < looks { Some(stop) } else { None };
-        let last_look = upto;
-        let want = Looked {
-            calls: looks,
-            handed,
-            looks,
-            upto,
-            last_look,
-            found,
-        };
+        let want = Looked::wanted(before, stop, handed, looks, found);
         if looked(alloc, TestLook::after(before, Some(stop))) != Some(want) {
             return Ok(false);
         }

@@ -9,7 +9,7 @@ use super::test_look::{Looked, TestLook};
 use crate::Answer;
 use audit_terms::{Change, Finding, Kind, Place, Side};
 use std::alloc::{AllocError, Global};
-use stream_credit::{Changes, StreamPart, StreamRun, stream_run};
+use stream_credit::{Changes, StreamFrames, StreamRun, stream_run};
 
 /// The first numbers.
 fn numbers(alloc: Global, count: u32) -> Result<Vec<u32>, AllocError>
@@ -36,13 +36,13 @@ fn positions(alloc: Global, count: u32) -> Option<Vec<u32>>
 fn run_of_frames(alloc: Global, look: &mut TestLook) -> Option<StreamRun> {
     let frames = frames(alloc)?;
     let positions = positions(alloc, FRAMES)?;
-    let part = StreamPart {
+    let own = StreamFrames {
         stream: 1,
         frames: frames.as_slice(),
         positions: positions.as_slice(),
     };
     let changes = Changes::of(alloc, &[]).ok()?;
-    stream_run(alloc, &part, &changes, true, look).ok()
+    stream_run(alloc, &own, &changes, true, look).ok()
 }
 
 /// What a look and a run with it come to.
@@ -78,16 +78,7 @@ pub fn looks_of_a_stream(alloc: Global) -> Answer {
         (0, 0, [0; 4], 1, 0, None),
     ] {
         let stop = Place::of(number, 4, 0);
-        let upto = if before < looks { Some(stop) } else { None };
-        let last_look = upto;
-        let want = Looked {
-            calls: looks,
-            handed,
-            looks,
-            upto,
-            last_look,
-            found,
-        };
+        let want = Looked::wanted(before, stop, handed, looks, found);
         let mut look = TestLook::after(before, Some(stop));
         let Some(run) = run_of_frames(alloc, &mut look) else {
             return Ok(false);
@@ -133,13 +124,13 @@ fn looked_among_changes(alloc: Global, mut look: TestLook) -> Option<Looked> {
     if !are_orderly(brought.as_slice()) {
         return None;
     }
-    let part = StreamPart {
+    let own = StreamFrames {
         stream: 1,
         frames: &[],
         positions: &[],
     };
     let changes = Changes::of(alloc, brought.as_slice()).ok()?;
-    let run = stream_run(alloc, &part, &changes, true, &mut look).ok()?;
+    let run = stream_run(alloc, &own, &changes, true, &mut look).ok()?;
     Some(looked(&look, &run))
 }
 
@@ -147,14 +138,9 @@ fn looked_among_changes(alloc: Global, mut look: TestLook) -> Option<Looked> {
 pub fn looks_at_no_change(alloc: Global) -> Answer {
     for before in [0, 1] {
         let stop = Place::of(1, 4, 0);
-        let last_look = if before == 0 { Some(stop) } else { None };
         let want = Looked {
-            calls: 1,
-            handed: [0; 4],
-            looks: 1,
             upto: None,
-            last_look,
-            found: 0,
+            ..Looked::wanted(before, stop, [0; 4], 1, 0)
         };
         if looked_among_changes(alloc, TestLook::after(before, Some(stop))) != Some(want) {
             return Ok(false);

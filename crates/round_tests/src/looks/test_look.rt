@@ -56,3 +56,26 @@ pub struct Looked {
     /// How many findings it has.
     pub found: usize,
 }
+
+impl Looked {
+    /// What they are to come to where a look answers `stop` after so many calls, and the run ends by that if it makes
+    /// one more.
+    pub fn wanted(
+        before: u32,
+        stop: Place,
+        handed: [usize; 4],
+        looks: u32,
+        found: usize,
+    ) -> Looked {
+        let upto = if before < looks { Some(stop) } else { None };
+        let last_look = upto;
+        Looked {
+            calls: looks,
+            handed,
+            looks,
+            upto,
+            last_look,
+            found,
+        }
+    }
+}

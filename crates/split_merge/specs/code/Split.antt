@@ -32,15 +32,15 @@ pub record IsRange (split : SplitFrames) (row : StreamRow) : Type 0 where
   pub within : row.to ≤ length split.positions.items
 
 -- the positions in the range of a row
-abbrev pub part_of : SplitFrames → StreamRow → List ℕ
-part_of split row = between row.from row.to split.positions.items
+abbrev pub row_positions : SplitFrames → StreamRow → List ℕ
+row_positions split row = between row.from row.to split.positions.items
 
 -- the positions are those of the frames that the stream meets
-pub record IsPartOf (all : List Frame) (stream : ℕ) (part : List ℕ) : Type 0 where
+pub record ArePositionsOf (all : List Frame) (stream : ℕ) (own : List ℕ) : Type 0 where
   pub not_connection : 0 < stream
-  pub positions : part ≡ positions_of stream all
-  pub frames : frames_at all part ≡ frames_of stream all
-  pub within : All (λ position. position < length all) part
+  pub positions : own ≡ positions_of stream all
+  pub frames : frames_at all own ≡ frames_of stream all
+  pub within : All (λ position. position < length all) own
 
 -- the number of the frame that opens the stream, if one does (5.1)
 abbrev pub opening_of : List Frame → List Change → (stream : ℕ) → List ℕ
@@ -55,7 +55,7 @@ pub record IsSplit (credits_shown : Bool) (changes : List Change) (frames : List
   pub streams : map (λ (row : StreamRow). row.stream) split.rows.items
       ≡ filter (λ stream. not (is_quiet stream)) (streams_of frames)
   pub ranges : All (IsRange split) split.rows.items
-  pub parts : All (λ (row : StreamRow). IsPartOf frames row.stream (part_of split row)) split.rows.items
+  pub each : All (λ (row : StreamRow). ArePositionsOf frames row.stream (row_positions split row)) split.rows.items
   pub quiet : All (λ (stream : ℕ). is_quiet stream ≡ true →
       shown credits_shown (stream_run stream (frames_of stream frames) changes) ≡ []) (streams_of frames)
   pub opened : split.opened.items ≡ flat_map (opening_of frames changes) (filter is_quiet (streams_of frames))

@@ -16,7 +16,7 @@ use Rattle.audit_terms.specs.Place.{place_of}
 use Rattle.audit_terms.specs.code.runs.Look.{found_before, up_to, upto_of}
 use Rattle.audit_terms.specs.code.runs.Streams.{frames_of, stream_run}
 use Rattle.stream_credit.specs.code.Looks.{step_numbers, opened_up_to}
-use Rattle.stream_credit.specs.code.Part.{frames_at}
+use Rattle.stream_credit.specs.code.StreamFrames.{frames_at}
 use Rattle.stream_credit.specs.examples.Script.{scripted, data_frame, headers_frame, reset_frame, promise_frame}
 
 -- DATA of a length, and WINDOW_UPDATE of the server
@@ -130,8 +130,8 @@ PromisedStall =
     × (stream_run 1 (frames_of 1 promised_script) [] ≡ opened_with 5 1 65535 65535 [])
 
 -- the frames at the positions of a promised stream
-abbrev pub PartOfPromised : Type 0
-PartOfPromised = frames_at promised_script (1 ∷ 2 ∷ 3 ∷ 4 ∷ 5 ∷ 6 ∷ 7 ∷ 8 ∷ []) ≡ frames_of 2 promised_script
+abbrev pub PositionsOfPromised : Type 0
+PositionsOfPromised = frames_at promised_script (1 ∷ 2 ∷ 3 ∷ 4 ∷ 5 ∷ 6 ∷ 7 ∷ 8 ∷ []) ≡ frames_of 2 promised_script
 
 -- the findings of `NegativeWindow` up to frame 9
 abbrev pub negative_found : List Finding

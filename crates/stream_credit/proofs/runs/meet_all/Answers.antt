@@ -14,11 +14,11 @@ turn frames some later rest near e n meets run h =
     rw (e, flat_map-append (λ position. option_to_list (slice_get frames position)) some later, ← n) at (meets run h)
 
 pub loop-rest-init : goal.loop-rest-init
-loop-rest-init g c = record { within = c.requires.part.within; meets = λ run h. h }
+loop-rest-init g c = record { within = c.requires.own.within; meets = λ run h. h }
 
 pub gather-requires : goal.gather-requires
 gather-requires g c =
-    rw c.split_at.ensures.front (All-take (λ (position : ℕ). position < length c.args.part.now.frames.now) _ _
+    rw c.split_at.ensures.front (All-take (λ (position : ℕ). position < length c.args.own.now.frames.now) _ _
     c.loop-rest.invariant.within)
 
 pub meet_frames-requires : goal.meet_frames-requires
@@ -26,23 +26,23 @@ meet_frames-requires g c =
     let (run, h) = c.requires.sound in (
       run,
       _,
-      turn c.args.part.now.frames.now _ _ _ _ c.split_at.ensures.by_index.0
+      turn c.args.own.now.frames.now _ _ _ _ c.split_at.ensures.by_index.0
           (c.as_slice.ensures.value ∙ c.in_ok-gather.ensures) c.loop-rest.invariant.meets run h,
     )
 
 pub returns-then-not-branch : goal.returns-then-not-branch
 returns-then-not-branch g c = λ run h.
     when_false _ _ c.if-not-branch.true (c.in_ok-meet_frames.ensures run _
-    (turn c.args.part.now.frames.now _ _ _ _ c.split_at.ensures.by_index.0
+    (turn c.args.own.now.frames.now _ _ _ _ c.split_at.ensures.by_index.0
     (c.as_slice.ensures.value ∙ c.in_ok-gather.ensures) c.loop-rest.invariant.meets run h))
 
 pub loop-rest-preserved : goal.loop-rest-preserved
 loop-rest-preserved g c = record {
-  within = rw c.split_at.ensures.back (All-drop (λ (position : ℕ). position < length c.args.part.now.frames.now) _ _
+  within = rw c.split_at.ensures.back (All-drop (λ (position : ℕ). position < length c.args.own.now.frames.now) _ _
       c.loop-rest.invariant.within);
   meets = λ run h.
       when_true _ _ c.if-not-branch.false (c.in_ok-meet_frames.ensures run _
-      (turn c.args.part.now.frames.now _ _ _ _ c.split_at.ensures.by_index.0
+      (turn c.args.own.now.frames.now _ _ _ _ c.split_at.ensures.by_index.0
       (c.as_slice.ensures.value ∙ c.in_ok-gather.ensures) c.loop-rest.invariant.meets run h));
 }
 

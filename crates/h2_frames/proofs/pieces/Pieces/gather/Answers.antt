@@ -17,11 +17,11 @@ loop-wanted-init c = record {
 
 pub loop-wanted-preserved : goal.loop-wanted-preserved
 loop-wanted-preserved c =
-    let part = c.take_part-part in
+    let front = c.take_front-front in
     let before = c.loop-wanted.invariant in
     record {
-      taken = partly_taken-turn c.args.count c.loop-wanted.wanted c.args.self.now c.loop-wanted.self part.new.self
-          part.result.now before.taken part.ensures.bytes part.ensures.fits part.ensures.counted;
+      taken = partly_taken-turn c.args.count c.loop-wanted.wanted c.args.self.now c.loop-wanted.self front.new.self
+          front.result.now before.taken front.ensures.bytes front.ensures.fits front.ensures.counted;
       gathered_are = rw (c.in_ok-extend_from_slice.ensures.items, before.gathered_are)
-          (append_assoc c.args.gathered.now.items before.taken.front part.result.now);
+          (append_assoc c.args.gathered.now.items before.taken.front front.result.now);
     }

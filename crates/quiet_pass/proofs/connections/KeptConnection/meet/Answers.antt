@@ -1,4 +1,4 @@
-use Rattle.stream_credit.proofs.Words.{◌≡◌, nat_lt, false, ap, subst, ◌∙◌, arith, nat_tests}
+use Rattle.stream_credit.proofs.Words.{◌≡◌, ℕ, nat_lt, false, ap, subst, ◌∙◌, arith, nat_tests, Sides}
 use Rattle.audit_terms.specs.Change.{new_limit}
 use Rattle.quiet_pass.proofs.ConnectionLemmas.{connection-met}
 use Rattle.quiet_pass.proofs.connections.KeptConnection.meet.Goals as goal
@@ -18,4 +18,5 @@ returns c =
     (c.promised_after.ensures c.in-Some-Some.promised c.in-Some-Some.is-1)
     (c.credit_after.ensures c.in-Some-Some-2.client c.in-Some-Some-2.is-0)
     (c.credit_after-2.ensures c.in-Some-Some-2.server c.in-Some-Some-2.is-1)
-    c.new_push-self.ensures c.limit_after-self.ensures.client c.limit_after-self.ensures.server
+    c.new_push-self.ensures (ap (λ (both : Sides ℕ). both.client) c.limit_after-self.ensures)
+    (ap (λ (both : Sides ℕ). both.server) c.limit_after-self.ensures)

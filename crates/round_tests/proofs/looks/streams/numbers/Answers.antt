@@ -1,6 +1,6 @@
 use Rattle.std.proofs.Common.{◌++◌, ◌∷◌, [], refl, sym, ap, ◌∙◌}
 use Rattle.std.proofs.lemmas.Slice.{pushed}
-use Rattle.round_tests.proofs.WholePart.{one-more}
+use Rattle.round_tests.proofs.WholeStream.{one-more}
 use Rattle.round_tests.proofs.looks.streams.numbers.Goals as goal
 
 pub loop-at-preserved : goal.loop-at-preserved

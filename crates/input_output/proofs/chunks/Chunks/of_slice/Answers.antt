@@ -5,7 +5,7 @@ use Rattle.std.proofs.lemmas.List.Elements.{All-push}
 use Rattle.input_output.specs.Chunks.{joined}
 use Rattle.input_output.specs.code.Sizes.{AreChunksOf}
 use Rattle.input_output.proofs.ChunkLemmas.{full_and_last, joined-push}
-use Rattle.input_output.proofs.chunks.Chunks.cut.Goals as goal
+use Rattle.input_output.proofs.chunks.Chunks.of_slice.Goals as goal
 
 pub loop-rest-preserved : goal.loop-rest-preserved
 loop-rest-preserved g c =

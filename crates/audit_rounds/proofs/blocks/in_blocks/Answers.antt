@@ -1,6 +1,6 @@
 use Rattle.audit_rounds.proofs.Words.{length, ap, arith, sum_by_more, Block}
 use Rattle.audit_rounds.proofs.Plans.{cut-next}
-use Rattle.audit_rounds.proofs.blocks.cut_into_blocks.Goals as goal
+use Rattle.audit_rounds.proofs.blocks.in_blocks.Goals as goal
 
 pub loop-connection-preserved : goal.loop-connection-preserved
 loop-connection-preserved c =

@@ -7,8 +7,8 @@ use Rattle.std.proofs.lemmas.List.{append_assoc}
 use Rattle.std.proofs.lemmas.List.FromFn.{get_or-range_with_len, length-range_with_len, map-range_with_len_more}
 use Rattle.audit_terms.specs.declared.frames.Frame.{Frame}
 use Rattle.audit_terms.specs.code.runs.Orderly.{IsOrderly}
-use Rattle.stream_credit.specs.declared.parts.StreamPart.{StreamPart}
-use Rattle.stream_credit.specs.code.Part.{frames_at, IsPart}
+use Rattle.stream_credit.specs.declared.stream_frames.StreamFrames.{StreamFrames}
+use Rattle.stream_credit.specs.code.StreamFrames.{frames_at, IsStreamFrames}
 
 there : (before : List Frame) (frame : Frame) (frames : List Frame)
     → slice_get (before ++ frame ∷ frames) (length before) ≡ Some frame
@@ -34,16 +34,16 @@ within count k d l =
     let is = get_or-range_with_len 0 count k d short in
     omega (arith, is, short)
 
-pub whole-part : (part : StreamPart) (count : ℕ) → part.stream < 2 ^ 31 → IsOrderly part.frames.now
-    → length part.frames.now ≡ count → part.positions.now ≡ range_with_len 0 count → IsPart part
-whole-part part count small orderly long positions =
-    let same : part.positions.now ≡ range_with_len 0 (length part.frames.now) =
+pub whole-stream : (own : StreamFrames) (count : ℕ) → own.stream < 2 ^ 31 → IsOrderly own.frames.now
+    → length own.frames.now ≡ count → own.positions.now ≡ range_with_len 0 count → IsStreamFrames own
+whole-stream own count small orderly long positions =
+    let same : own.positions.now ≡ range_with_len 0 (length own.frames.now) =
     positions ∙ ap (range_with_len 0) (sym long) in
     record {
       in_range = small;
-      within = subst (λ l. All (λ (position : ℕ). position < length part.frames.now) l) (sym same)
-          (within (length part.frames.now));
-      orderly = subst IsOrderly (sym (ap (frames_at part.frames.now) same ∙ all-from [] part.frames.now)) orderly;
+      within = subst (λ l. All (λ (position : ℕ). position < length own.frames.now) l) (sym same)
+          (within (length own.frames.now));
+      orderly = subst IsOrderly (sym (ap (frames_at own.frames.now) same ∙ all-from [] own.frames.now)) orderly;
     }
 
 map-same : (numbers : List ℕ) → map (λ number. number) numbers ≡ numbers

@@ -1,7 +1,7 @@
 use Rattle.std.proofs.Common.{◌≡◌, length, map, ◌++◌}
 use Rattle.input_output.specs.Chunks.{joined}
 use Rattle.input_output.proofs.ChunkLemmas.{AreFull}
-use Rattle.input_output.proofs.chunks.Chunks.cut.Given as goal
+use Rattle.input_output.proofs.chunks.Chunks.of_slice.Given as goal
 
 abbrev pub invariant-loop-rest : goal.invariant-loop-rest
 invariant-loop-rest g l =

@@ -1,6 +1,6 @@
 use Rattle.audit_rounds.proofs.Words.{◌≤◌, length, take, sum_by, Block, AreShort, wholes}
 use Rattle.audit_rounds.specs.code.Blocks.{AreBlocksOf}
-use Rattle.audit_rounds.proofs.blocks.cut_into_blocks.Given as goal
+use Rattle.audit_rounds.proofs.blocks.in_blocks.Given as goal
 
 -- the connections so far are cut
 abbrev pub invariant-loop-connection : goal.invariant-loop-connection

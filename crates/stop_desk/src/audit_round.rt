@@ -1,0 +1,25 @@
+ghost use Rattle.std.specs.Prelude.{◌≡◌};
+
+/// The rounds of an audit, in the order in which they begin. A gate knows each by its number.
+#[derive(Clone, Copy)]
+pub enum AuditRound {
+    /// A job for each connection: its flows, and what they hold.
+    Flows,
+    /// A job for each group of streams: what is shown of them, and which frames open them.
+    Streams,
+    /// A job for each block of frames: its summary.
+    Sums,
+    /// A job for each block of which something may be shown: what is shown of it.
+    Blocks,
+}
+
+impl AuditRound {
+    ghost use Rattle.stop_desk.specs.code.AuditRound.{number_of};
+
+    /// The number, from 0 to 3.
+    pub fn number(self) -> u8
+        ensures { result ≡ number_of self }
+    {
+        self as u8
+    }
+}
