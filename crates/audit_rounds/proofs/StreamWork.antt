@@ -14,7 +14,7 @@ use Rattle.std.proofs.lemmas.List.Elements.{All-contains_itself, Contains-append
 use Rattle.audit_terms.specs.code.runs.Look.{Looked}
 use Rattle.stop_desk.proofs.RoundMembers.{in_order-contains}
 use Rattle.stop_desk.proofs.RoundCuts.{cuts_join_lem}
-use Rattle.stream_credit.specs.declared.stream_frames.StreamRun.{StreamRun}
+use Rattle.stream_credit.specs.declared.stream_parts.StreamRun.{StreamRun}
 use Rattle.stream_credit.specs.code.Looks.{step_numbers}
 use Rattle.split_merge.specs.code.Split.{row_positions}
 use Rattle.audit_rounds.specs.code.Streams.{RowLooks}

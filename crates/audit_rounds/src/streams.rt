@@ -10,7 +10,7 @@ use audit_terms::{Frame, Look, Place, put_in_order};
 use split_merge::{SplitFrames, StreamRow};
 use std::alloc::{AllocError, Global};
 use stop_desk::Work;
-use stream_credit::{Changes, StreamFrames, StreamRun, stream_run};
+use stream_credit::{Changes, StreamPart, StreamRun, stream_run};
 
 /// A connection's frames by stream, and the changes that settings bring to it.
 #[derive(Clone, Copy)]
@@ -34,7 +34,7 @@ fn run_of_row<L: Look>(
         (row_shown credits_shown streams.now row.now) (option_to_list (row_opened streams.now row.now)) run.upto
         run.findings.items (option_to_list run.opened_at)) }
 {
-    let own = StreamFrames {
+    let own = StreamPart {
         stream: row.stream,
         frames: streams.frames,
         positions: streams.split.positions_of(row),

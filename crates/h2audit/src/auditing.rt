@@ -121,7 +121,13 @@ fn audit_records<R: Threads + Sync, G: Gate>(
         workers: options.workers(),
         frames_shown: options.frames_shown(),
     };
-    let text = report(team.rt, telling, begun, headings.as_slice(), told.as_slice())?;
+    let text = report(
+        team.rt,
+        telling,
+        begun,
+        headings.as_slice(),
+        told.as_slice(),
+    )?;
     let verdict = verdict_on(told.as_slice());
     Ok((text, verdict))
 }

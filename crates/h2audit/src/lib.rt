@@ -32,8 +32,8 @@
 //! read, and their connections found, beside the reading where there are several workers. Round 0 has a job for each
 //! connection, which assembles both of its flows. Where credits are not shown, their frames are met one by one
 //! (`quiet_pass`), and where nothing is shown of them, as mostly, the number of frames and the tails are all that is
-//! kept. Else the flows are cut into a list of frames, and `audit_rounds` has the rounds that these go through. Last, the
-//! workers share out the text on connections (`audit_report`).
+//! kept. Else the flows are cut into a list of frames, and `audit_rounds` has the rounds that these go through. Last,
+//! the workers share out the text on connections (`audit_report`).
 //!
 //! Wrong bodies that the prover refuses: an empty report, a verdict by errors alone, words always refused, options not
 //! heeded, "read failed" whatever FILE gave, standard input read though FILE is named, credits left out where they are

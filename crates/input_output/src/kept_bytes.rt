@@ -175,8 +175,8 @@ impl KeptBytes {
     }
 }
 
-/// A chunk behind full ones, with room for one byte at least and `most` at most: whole where it was made ahead, and else
-/// with its first piece. It is not moved as it grows.
+/// A chunk behind full ones, with room for one byte at least and `most` at most: whole where it was made ahead, and
+/// else with its first piece. It is not moved as it grows.
 fn next_chunk<T: Threads>(
     ahead: &mut ChunksAhead<'_, T>,
     most: usize,

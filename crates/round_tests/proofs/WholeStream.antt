@@ -7,8 +7,8 @@ use Rattle.std.proofs.lemmas.List.{append_assoc}
 use Rattle.std.proofs.lemmas.List.FromFn.{get_or-range_with_len, length-range_with_len, map-range_with_len_more}
 use Rattle.audit_terms.specs.declared.frames.Frame.{Frame}
 use Rattle.audit_terms.specs.code.runs.Orderly.{IsOrderly}
-use Rattle.stream_credit.specs.declared.stream_frames.StreamFrames.{StreamFrames}
-use Rattle.stream_credit.specs.code.StreamFrames.{frames_at, IsStreamFrames}
+use Rattle.stream_credit.specs.declared.stream_parts.StreamPart.{StreamPart}
+use Rattle.stream_credit.specs.code.StreamPart.{frames_at, IsStreamPart}
 
 there : (before : List Frame) (frame : Frame) (frames : List Frame)
     → slice_get (before ++ frame ∷ frames) (length before) ≡ Some frame
@@ -34,8 +34,8 @@ within count k d l =
     let is = get_or-range_with_len 0 count k d short in
     omega (arith, is, short)
 
-pub whole-stream : (own : StreamFrames) (count : ℕ) → own.stream < 2 ^ 31 → IsOrderly own.frames.now
-    → length own.frames.now ≡ count → own.positions.now ≡ range_with_len 0 count → IsStreamFrames own
+pub whole-stream : (own : StreamPart) (count : ℕ) → own.stream < 2 ^ 31 → IsOrderly own.frames.now
+    → length own.frames.now ≡ count → own.positions.now ≡ range_with_len 0 count → IsStreamPart own
 whole-stream own count small orderly long positions =
     let same : own.positions.now ≡ range_with_len 0 (length own.frames.now) =
     positions ∙ ap (range_with_len 0) (sym long) in

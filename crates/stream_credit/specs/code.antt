@@ -5,4 +5,4 @@ pub mod QuietStream
 pub mod Silent
 pub mod Walk
 pub mod Looks
-pub mod StreamFrames
+pub mod StreamPart

@@ -4,7 +4,7 @@ ghost use Rattle.std.specs.Prelude.{◌≡◌, if◌then◌else◌, None};
 ghost use Rattle.audit_terms.specs.code.runs.Look.{up_to};
 ghost use Rattle.stream_credit.specs.code.Looks.{opened_up_to};
 
-use crate::stream_frames::StreamRun;
+use crate::stream_parts::StreamRun;
 use crate::walks::Walk;
 use audit_terms::{Place, Watch, keep_up_to};
 

@@ -1,7 +1,7 @@
 //! What one stream shows by itself (RFC 9113, 5.1, 5.2, 6.9): its use before the opening and after a side's end, grants
 //! of 0, and the credit, overruns, overflows and stalls of its two windows.
 //!
-//! [`StreamFrames`] points at the frames that one stream meets: those on it, and the server's promises of it. Settings
+//! [`StreamPart`] points at the frames that one stream meets: those on it, and the server's promises of it. Settings
 //! change the windows of every stream, so [`stream_run`] takes all [`Changes`] of the connection beside them (RFC 9113,
 //! 6.9.2); a frame and a change of one number are one step.
 //!
@@ -44,11 +44,11 @@ mod quiet;
 mod quiet_streams;
 mod runs;
 mod silent;
-mod stream_frames;
+mod stream_parts;
 mod walks;
 pub mod worked_examples;
 
 pub use changes::Changes;
 pub use quiet_streams::QuietStream;
 pub use runs::stream_run;
-pub use stream_frames::{StreamFrames, StreamRun};
+pub use stream_parts::{StreamPart, StreamRun};

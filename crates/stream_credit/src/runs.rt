@@ -8,12 +8,12 @@ ghost use Rattle.audit_terms.specs.code.runs.Look.{IsRun};
 ghost use Rattle.audit_terms.specs.code.runs.Streams.{stream_run, stream_at_end};
 ghost use Rattle.settings_pair.specs.code.Changes.{AreOrderly, AreAcknowledged};
 ghost use Rattle.stream_credit.specs.code.Looks.{step_numbers, opened_up_to};
-ghost use Rattle.stream_credit.specs.code.StreamFrames.{IsStreamFrames, frames_at, frames_met};
+ghost use Rattle.stream_credit.specs.code.StreamPart.{IsStreamPart, frames_at, frames_met};
 ghost use Rattle.stream_credit.specs.code.Walk.{WholeRun, IsSound, HasEnded, HasStopped};
 
 use crate::changes::Changes;
 use crate::ends::run_of;
-use crate::stream_frames::{StreamFrames, StreamRun};
+use crate::stream_parts::{StreamPart, StreamRun};
 use crate::walks::Walk;
 use audit_terms::{Frame, Look};
 use std::alloc::{AllocError, Global};
@@ -62,10 +62,10 @@ fn meet_all<L: Look>(
     alloc: Global,
     walk: &mut Walk,
     look: &mut L,
-    own: &StreamFrames<'_>,
+    own: &StreamPart<'_>,
     changes: &Changes<'_>,
 ) -> Result<bool, AllocError>
-    requires own { IsStreamFrames own.now }
+    requires own { IsStreamPart own.now }
     requires sound { (run : WholeRun L) × IsSound L.answers run look.old walk.old changes.now 0 (frames_met own.now) }
     ensures { IfOk result (λ goes_on. (run : WholeRun L)
         → IsSound L.answers run look.old walk.old changes.now 0 (frames_met own.now)
@@ -96,12 +96,12 @@ fn meet_all<L: Look>(
 /// 2^60 in size.
 pub fn stream_run<L: Look>(
     alloc: Global,
-    own: &StreamFrames<'_>,
+    own: &StreamPart<'_>,
     changes: &Changes<'_>,
     credits_shown: bool,
     look: &mut L,
 ) -> Result<StreamRun, AllocError>
-    requires own { IsStreamFrames own.now }
+    requires own { IsStreamPart own.now }
     requires changes { AreOrderly changes.now }
     requires acknowledged { AreAcknowledged (frames_met own.now) changes.now }
     ensures run { IfOk result (λ run. IsRun L.answers look.old look.new

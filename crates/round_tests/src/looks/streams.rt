@@ -9,7 +9,7 @@ use super::test_look::{Looked, TestLook};
 use crate::Answer;
 use audit_terms::{Change, Finding, Kind, Place, Side};
 use std::alloc::{AllocError, Global};
-use stream_credit::{Changes, StreamFrames, StreamRun, stream_run};
+use stream_credit::{Changes, StreamPart, StreamRun, stream_run};
 
 /// The first numbers.
 fn numbers(alloc: Global, count: u32) -> Result<Vec<u32>, AllocError>
@@ -36,7 +36,7 @@ fn positions(alloc: Global, count: u32) -> Option<Vec<u32>>
 fn run_of_frames(alloc: Global, look: &mut TestLook) -> Option<StreamRun> {
     let frames = frames(alloc)?;
     let positions = positions(alloc, FRAMES)?;
-    let own = StreamFrames {
+    let own = StreamPart {
         stream: 1,
         frames: frames.as_slice(),
         positions: positions.as_slice(),
@@ -124,7 +124,7 @@ fn looked_among_changes(alloc: Global, mut look: TestLook) -> Option<Looked> {
     if !are_orderly(brought.as_slice()) {
         return None;
     }
-    let own = StreamFrames {
+    let own = StreamPart {
         stream: 1,
         frames: &[],
         positions: &[],

@@ -16,7 +16,7 @@ use Rattle.audit_terms.specs.Place.{place_of}
 use Rattle.audit_terms.specs.code.runs.Look.{found_before, up_to, upto_of}
 use Rattle.audit_terms.specs.code.runs.Streams.{frames_of, stream_run}
 use Rattle.stream_credit.specs.code.Looks.{step_numbers, opened_up_to}
-use Rattle.stream_credit.specs.code.StreamFrames.{frames_at}
+use Rattle.stream_credit.specs.code.StreamPart.{frames_at}
 use Rattle.stream_credit.specs.examples.Script.{scripted, data_frame, headers_frame, reset_frame, promise_frame}
 
 -- DATA of a length, and WINDOW_UPDATE of the server

@@ -2,7 +2,7 @@ use audit_terms::{Finding, Frame, Place};
 
 /// The frames that one stream meets: a list of frames, and their positions in it, in order.
 #[derive(Clone, Copy)]
-pub struct StreamFrames<'a> {
+pub struct StreamPart<'a> {
     /// The stream identifier, from 1 to 2^31 - 1.
     pub stream: u32,
     /// All frames of the connection.
