@@ -20,7 +20,8 @@ returns-in_err-text-clause-given g c =
     c.in_err-text.ensures.fault is)
 
 pub returns-in_err-text-clause-taken : goal.returns-in_err-text-clause-taken
-returns-in_err-text-clause-taken g c = rw c.requires.unwritten.written (Appends-nil (g.W.Write.contents c.args.writer.now.writer))
+returns-in_err-text-clause-taken g c =
+    rw c.requires.unwritten.written (Appends-nil (g.W.Write.contents c.args.writer.now.writer))
 
 pub returns-clause-tells : goal.returns-clause-tells
 returns-clause-tells g c =
