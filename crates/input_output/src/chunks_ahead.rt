@@ -1,7 +1,9 @@
 //! Chunks for the bytes of a capture, made by other threads before they are needed.
 
+ghost use Rattle.std.specs.Prelude.{◌≡◌, ◌≤◌, OnOk, take, vec_len};
+
 use crate::front::CAPTURE_CHUNK;
-use std::alloc::Global;
+use std::alloc::{AllocError, Global};
 use std::collections::VecDeque;
 use std::thread::{JoinHandle, Threads, spawn};
 
@@ -9,9 +11,9 @@ use std::thread::{JoinHandle, Threads, spawn};
 /// long as to read into it.
 const MAKERS: usize = 4;
 
-/// The bytes of a page of memory, which is what a system hands out at a time. Where pages are larger, some writes are
-/// idle.
-const PAGE: usize = 4096;
+/// How many zeros are written at a time. The C library writes more of them in another way, which takes three times as
+/// long into memory that is used for the first time.
+const STRIDE: usize = 2048;
 
 /// Makes chunks ahead, each by a thread of its own, beside the thread that reads.
 ///
@@ -76,17 +78,26 @@ impl<'a, T: Threads> ChunksAhead<'a, T> {
     }
 }
 
-/// A chunk with all of its bytes, or an empty one where there was no memory for that.
-///
-/// Memory for zeros may be handed out unused, and then the read would be the first to use it. So a byte of each page is
-/// written here.
-fn whole_chunk(alloc: Global) -> Vec<u8> {
-    let Ok(mut chunk) = Vec::with_capacity(alloc, CAPTURE_CHUNK) else {
-        return Vec::new(alloc);
-    };
-    let _ = chunk.resize(CAPTURE_CHUNK, 0);
-    for byte in chunk.iter_mut().step_by(PAGE) {
-        *byte = 1;
+/// Makes a chunk so long, with zeros behind what it has.
+pub(crate) fn fill_up(chunk: &mut Vec<u8>, length: usize) -> Result<(), AllocError>
+    requires { vec_len chunk.old ≤ length }
+    ensures front { take (vec_len chunk.old) chunk.new.items ≡ chunk.old.items }
+    ensures grows { vec_len chunk.old ≤ vec_len chunk.new }
+    ensures within { vec_len chunk.new ≤ length }
+    ensures length { OnOk result (vec_len chunk.new ≡ length) }
+{
+    chunk.reserve(length - chunk.len())?;
+    while chunk.len() < length {
+        chunk.resize(length.min(chunk.len() + STRIDE), 0)?;
     }
-    chunk
+    Ok(())
+}
+
+/// A chunk with all of its bytes, which were all written, or an empty one where there was no memory for that.
+fn whole_chunk(alloc: Global) -> Vec<u8> {
+    let mut chunk = Vec::new(alloc);
+    match fill_up(&mut chunk, CAPTURE_CHUNK) {
+        Ok(()) => chunk,
+        Err(_) => Vec::new(alloc),
+    }
 }

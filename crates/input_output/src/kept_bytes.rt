@@ -7,7 +7,7 @@ ghost use Rattle.input_output.specs.Chunks.{joined};
 ghost use Rattle.input_output.specs.code.Front.{Lasts};
 ghost use Rattle.input_output.specs.code.Reads.{HasRead, IsGrown};
 
-use crate::chunks_ahead::ChunksAhead;
+use crate::chunks_ahead::{ChunksAhead, fill_up};
 use crate::front::{CAPTURE_CHUNK, Capture, FrontWalk};
 use std::alloc::{AllocError, Global};
 use std::io::Read;
@@ -105,7 +105,7 @@ impl KeptBytes {
         if self.last.len() < CAPTURE_CHUNK {
             ahead.begin(self.last.len() / PIECE);
             let wanted = CAPTURE_CHUNK.min(self.filled + PIECE).min(rest);
-            self.last.resize(wanted, 0)?;
+            fill_up(&mut self.last, wanted)?;
             return Ok(());
         }
         let chunk = next_chunk(ahead, rest - CAPTURE_CHUNK)?;
@@ -190,7 +190,7 @@ fn next_chunk<T: Threads>(
     let mut chunk = ahead.chunk();
     if chunk.is_empty() {
         chunk.reserve(CAPTURE_CHUNK)?;
-        chunk.resize(PIECE.min(whole), 0)?;
+        fill_up(&mut chunk, PIECE.min(whole))?;
     } else {
         chunk.resize(whole, 0)?;
     }

@@ -11,11 +11,11 @@ returns-then-self-len-clause-room g c =
 pub returns-then-len-lt-CAPTURE_CHUNK-clause-room : goal.returns-then-len-lt-CAPTURE_CHUNK-clause-room
 returns-then-len-lt-CAPTURE_CHUNK-clause-room g c =
     let inside = c.self.inside in
-    let last = c.resize.new.self in
+    let last = c.fill_up.new.chunk in
     let grown : inside.filled < vec_len last = omega (
       arith,
       sizes inside c.args.self.now c.self.invariant c.self.view_is,
-      c.in_ok-resize.ensures.len,
+      c.in_ok-fill_up.ensures.length,
       c.requires.limit.0,
     ) in
     omega (
