@@ -11,8 +11,8 @@ use std::thread::{JoinHandle, Threads, spawn};
 /// long as to read into it.
 const MAKERS: usize = 4;
 
-/// How many zeros are written at a time. The C library writes more of them in another way, which takes three times as
-/// long into memory that is used for the first time.
+/// How many zeros are written at a time. The C library writes more of them in another way, which is slower where memory
+/// is used for the first time.
 const STRIDE: usize = 2048;
 
 /// Makes chunks ahead, each by a thread of its own, beside the thread that reads.

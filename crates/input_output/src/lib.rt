@@ -13,9 +13,10 @@
 //! they make together, so a function over it says what it would say of a slice. It finds the chunk of an index by a
 //! division by `N`, so a power of two is best. The first chunk of a capture grows by pieces, and may be moved as it
 //! does; no byte behind it is moved once it was read. Later chunks are made ahead by other threads ([`ChunksAhead`]),
-//! since most of the time of reading goes into memory that is used for the first time; where no thread can be had, the
-//! one that reads makes them. [`keep_and_walk`] has a [`FrontWalk`] go on over each chunk that was filled, and knows no
-//! more of it: on another thread while the next chunk is read, or with one worker on the same thread before that.
+//! since most of the time of reading goes into memory that is used for the first time; with one worker, or where no
+//! thread can be had, the one that reads makes them, piece by piece. [`keep_and_walk`] has a [`FrontWalk`] go on over
+//! what was read, and knows no more of it: on another thread over each full chunk while the next one is read, or with
+//! one worker on the same thread after each piece.
 //!
 //! The accounts are as honest as the code that enters them: their fields are private. `enter_read` of [`CaptureReader`]
 //! enters what a read gave, for `read_once`, `read_and_walk` and `pass_once`, over `read_once`, `read_and_walk`,

@@ -18,9 +18,10 @@
 //!   hold no segment take 4 bytes each. A mark counts through the eleven packets that are passed over, and then through
 //!   the segments (`specs/code/Marks.antt`). [`Packets`] reads both as the one list that contracts speak of, and a
 //!   segment where it lies.
-//! - Marks and segments are made in chunks of [`PACKET_CHUNK`], 8,192. The first chunk grows, and may be moved as it
-//!   does; nothing is copied from one chunk into another, and no record is kept beside its packet. A record is read
-//!   where it lies in the capture; only one in which chunks of the capture meet is gathered first, and freed at once.
+//! - Marks and segments are made in chunks of [`PACKET_CHUNK`], 8,192. The first chunk has its whole room at once,
+//!   where there is memory for it; nothing is copied from one chunk into another, and no record is kept beside its
+//!   packet. A record is read where it lies in the capture; only one in which chunks of the capture meet is gathered
+//!   first, and freed at once.
 //! - What a walk has made of a front stands whatever bytes come behind it, since it makes a packet only where all of
 //!   its record has come (`specs/code/Walk.antt`). So the packets are the same however the capture came.
 //!
