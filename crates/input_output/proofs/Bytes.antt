@@ -1,6 +1,6 @@
 -- What stands in the chunks of a capture's bytes.
 use Rattle.std.proofs.Common.{◌≡◌, ◌∙◌, ℕ, ◌+◌, ◌*◌, ◌≤◌, List, ◌++◌, length, take, drop, map, length-append, Option}
-use Rattle.std.proofs.Common.{sym, ap, subst, arith, vec_len, slice_index_or}
+use Rattle.std.proofs.Common.{sym, ap, subst, arith, vec_len, slice_index_or, Bool, true, false, if◌then◌else◌}
 use Rattle.std.specs.Io.{appended_bytes}
 use Rattle.std.specs.List.{All}
 use Rattle.std.specs.declared.vec.Vec.{Vec}
@@ -8,6 +8,7 @@ use Rattle.std.specs.declared.alloc.Global.{Global}
 use Rattle.std.proofs.Math.Seq.{take-add}
 use Rattle.std.proofs.Transfers.{drop-appended, starts_with_of_append}
 use Rattle.std.proofs.lemmas.List.{append_assoc, length-drop, length-take, length-take-le}
+use Rattle.std.proofs.lemmas.List.Elements.{All-append}
 use Rattle.input_output.specs.Bytes.{InChunks}
 use Rattle.input_output.specs.Chunks.{joined}
 use Rattle.input_output.specs.code.Reads.{HasRead, IsGrown}
@@ -18,8 +19,21 @@ use Rattle.input_output.proofs.ChunkLemmas.{full_count}
 abbrev pub all_of : List (Vec ℕ Global) → List ℕ → (filled : ℕ) → List ℕ
 all_of full last filled = joined (map (λ (chunk : Vec ℕ Global). chunk.items) full) ++ take filled last
 
-abbrev AreFull : List (Vec ℕ Global) → Type 0
+abbrev pub AreFull : List (Vec ℕ Global) → Type 0
 AreFull full = All (λ (chunk : Vec ℕ Global). vec_len chunk ≡ 1048576) full
+
+pub full_size : (full : List (Vec ℕ Global)) → AreFull full
+    → length (joined (map (λ (chunk : Vec ℕ Global). chunk.items) full)) ≡ length full * 1048576
+full_size full all =
+    full_count (λ (chunk : Vec ℕ Global). chunk.items) 1048576 full
+    (λ k d here. omega (arith, all k d here, (slice_index_or full k d).ok.0))
+
+-- full chunks with others behind them, or without these where there was no memory
+pub put_full : (has : Bool) (full later now : List (Vec ℕ Global)) → now ≡ (if has then full ++ later else full)
+    → AreFull full → AreFull later → AreFull now
+put_full true full later now is all more =
+    subst AreFull (sym is) (All-append (λ (chunk : Vec ℕ Global). vec_len chunk ≡ 1048576) full later all more)
+put_full false full later now is all more = subst AreFull (sym is) all
 
 pub kept_size : (full : List (Vec ℕ Global)) (last : List ℕ) (filled : ℕ) → AreFull full → filled ≤ length last
     → length (all_of full last filled) ≡ length full * 1048576 + filled
@@ -27,7 +41,7 @@ kept_size full last filled all within =
     let items = λ (chunk : Vec ℕ Global). chunk.items in
     omega (
       arith,
-      full_count items 1048576 full (λ k d here. omega (arith, all k d here, (slice_index_or full k d).ok.0)),
+      full_size full all,
       length-append (joined (map items full)) (take filled last),
       length-take-le filled last within,
     )

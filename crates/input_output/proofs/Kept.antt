@@ -1,17 +1,18 @@
 -- What is kept of a capture, read by read.
-use Rattle.std.proofs.Common.{◌≡◌, ◌∙◌, ℕ, ◌+◌, ◌^◌, ◌<◌, ◌≤◌, List, [], ◌++◌, length, take, drop, length-append}
+use Rattle.std.proofs.Common.{◌≡◌, ◌≢◌, ◌∙◌, ℕ, ◌+◌, ◌^◌, ◌≤◌, List, [], ◌++◌, length, take, drop, length-append}
 use Rattle.std.proofs.Common.{take-append-drop, take_at, Option, Some, None, IfSome, inl, inr, refl, sym, ap, subst}
-use Rattle.std.proofs.Common.{arith}
-use Rattle.std.specs.Io.{StartsWith}
+use Rattle.std.proofs.Common.{arith, rules}
+use Rattle.std.specs.Io.{StartsWith, appended_bytes}
 use Rattle.std.specs.Io.KnownBytes.{Consumes, IsAtEnd}
 use Rattle.std.proofs.KnownBytes.{Consumes-more, Consumes-nil, Consumes-trans}
 use Rattle.std.proofs.Math.Seq.{drop-length}
-use Rattle.std.proofs.Transfers.{starts_with_of_eq, starts_with_trans}
-use Rattle.std.proofs.lemmas.List.{append-nil, append_assoc, nil_from_length, take_all}
+use Rattle.std.proofs.Transfers.{drop-appended, starts_with_of_eq, starts_with_trans}
+use Rattle.std.proofs.lemmas.Bool.{cases_lt}
+use Rattle.std.proofs.lemmas.List.{append-nil, append_assoc, length-drop, nil_from_length, take_all}
 use Rattle.input_output.specs.code.Front.{Lasts}
 use Rattle.input_output.specs.Account.{HaveGiven, IsReadToEnd, kept}
-use Rattle.input_output.specs.code.Reading.{HasConsumed, HasPassed, HasReadOnce, IsSound}
-use Rattle.input_output.specs.code.Reads.{HasRead}
+use Rattle.input_output.specs.code.Reading.{HasConsumed, HasGrown, HasPassed, HasReadOn, IsSound}
+use Rattle.input_output.specs.code.Reads.{HasRead, IsStateAfter}
 use Rattle.input_output.specs.declared.capture_reader.CaptureReader.{CaptureReader}
 use Rattle.input_output.specs.declared.capture_reader.ReadState.TheVariants.{Open, Ended}
 
@@ -30,8 +31,30 @@ module _ {R : Type 0} where
       → length given ≡ length (kept reader) + reader.passed
   given_size reader given gave = omega (arith, ap length gave.1, length-append (kept reader) gave.0, gave.2)
 
+  -- one read that is kept
+  pub read_one : (left : R → Option (List ℕ)) (old new : CaptureReader R) (n : ℕ) → StartsWith (kept new) (kept old)
+      → HasRead (left old.reader) (left new.reader) (appended_bytes (kept old) (kept new)) n → IsStateAfter n new.state
+      → IsSound new → HasReadOn left old new
+  read_one left old new n front read state sound = record {
+    bytes = read.bytes;
+    end = λ ended. elim (cases_lt 0 n) [
+      | inl some ↦ absurd (search (rules, state.unended some, ended))
+      | inr none ↦ read.end (omega (arith, none))
+    ];
+    more = λ unended. elim (cases_lt 0 n) [
+      | inl some ↦ omega (
+        arith,
+        read.count,
+        length-drop (length (kept old)) (kept new),
+        some,
+      )
+      | inr none ↦ absurd (search (rules, state.ended (omega (arith, none)), unended))
+    ];
+    sound = sound;
+  }
+
   -- reads that are kept, of which none found the end
-  pub record HasReadOn (left : R → Option (List ℕ)) (limit : ℕ) (first now : CaptureReader R) : Type 0 where
+  pub record IsReading (left : R → Option (List ℕ)) (limit : ℕ) (first now : CaptureReader R) : Type 0 where
     pub sound : IsSound now
     pub room : now.bytes.room ≤ limit
     pub passed : now.passed ≡ 0
@@ -40,7 +63,7 @@ module _ {R : Type 0} where
     pub bytes : HasConsumed left first now
 
   pub read_none : (left : R → Option (List ℕ)) (limit : ℕ) (first : CaptureReader R) → IsSound first
-      → first.bytes.room ≤ limit → first.passed ≡ 0 → first.state ≡ Open → HasReadOn left limit first first
+      → first.bytes.room ≤ limit → first.passed ≡ 0 → first.state ≡ Open → IsReading left limit first first
   read_none left limit first sound room passed state = record {
     sound = sound;
     room = room;
@@ -50,27 +73,61 @@ module _ {R : Type 0} where
     bytes = rw drop-length (Consumes-nil (left first.reader));
   }
 
-  -- and one read more
-  pub read_more : (left : R → Option (List ℕ)) (limit : ℕ) (first old new : CaptureReader R) (n : ℕ)
-      → HasReadOn left limit first old → StartsWith (kept new) (kept old) → HasReadOnce left old new n
+  -- and more of them
+  pub read_more : (left : R → Option (List ℕ)) (limit : ℕ) (first old new : CaptureReader R)
+      → IsReading left limit first old → HasGrown limit old new → HasReadOn left old new
       → StartsWith (kept new) (kept first) × HasConsumed left first new
-  read_more left limit first old new n on front once = (
-    starts_with_trans (kept new) (kept old) (kept first) front on.front,
-    Consumes-more _ _ _ (kept first) (kept old) (kept new) on.front front on.bytes once.read.bytes,
+  read_more left limit first old new on grown read = (
+    starts_with_trans (kept new) (kept old) (kept first) grown.front on.front,
+    Consumes-more _ _ _ (kept first) (kept old) (kept new) on.front grown.front on.bytes read.bytes,
   )
 
-  pub read_on : (left : R → Option (List ℕ)) (limit : ℕ) (first old new : CaptureReader R) (n : ℕ)
-      → HasReadOn left limit first old → StartsWith (kept new) (kept old) → HasReadOnce left old new n
-      → new.bytes.room ≤ limit → new.passed ≡ old.passed → 0 < n → HasReadOn left limit first new
-  read_on left limit first old new n on front once room passed some =
-      let (whole, bytes) = read_more left limit first old new n on front once in
+  pub read_on : (left : R → Option (List ℕ)) (limit : ℕ) (first old new : CaptureReader R)
+      → IsReading left limit first old → HasGrown limit old new → HasReadOn left old new → new.state ≢ Ended
+      → IsReading left limit first new
+  read_on left limit first old new on grown read unended =
+      let (whole, bytes) = read_more left limit first old new on grown read in
       record {
-        sound = once.sound;
-        room = room;
-        passed = passed ∙ on.passed;
-        state = once.state.unended some;
+        sound = read.sound;
+        room = grown.room;
+        passed = grown.unpassed;
+        state = elim read.sound.well [
+          | inl is ↦ is
+          | inr ended ↦ absurd (unended ended)
+        ];
         front = whole;
         bytes = bytes;
+      }
+
+  -- what was read while the bytes before it were taken out, once these stand in front again
+  pub read_behind : (left : R → Option (List ℕ)) (old rest now new : CaptureReader R) → HasReadOn left rest now
+      → kept rest ≡ [] → rest.reader ≡ old.reader → new ≡ record now { bytes = new.bytes }
+      → kept new ≡ kept old ++ kept now → new.bytes.room ≡ length (kept old) + now.bytes.room
+      → new.bytes.room ≤ 2 ^ 31 → now.passed ≡ 0 → HasReadOn left old new
+  read_behind left old rest now new read none first same whole room most unpassed =
+      let reader : new.reader ≡ now.reader = ap (λ (r : CaptureReader R). r.reader) same in
+      let state : new.state ≡ now.state = ap (λ (r : CaptureReader R). r.state) same in
+      let size : length (kept new) ≡ length (kept old) + length (kept now) =
+      ap length whole ∙ length-append (kept old) (kept now) in
+      let given : appended_bytes (kept old) (kept new) ≡ appended_bytes (kept rest) (kept now) =
+      drop-appended (kept old) (kept new) (kept now) whole ∙ sym (ap (λ l. drop (length l) (kept now)) none) in
+      record {
+        bytes = rw (given, reader, sym first) read.bytes;
+        end = λ ended. rw reader (read.end (sym state ∙ ended));
+        more = λ unended. omega (arith, size, read.more (sym state ∙ unended));
+        sound = record {
+          within = omega (arith, size, room, read.sound.within);
+          limit = omega (
+            arith,
+            size,
+            room,
+            most,
+            read.sound.within,
+            ap (λ (r : CaptureReader R). r.passed) same,
+            unpassed,
+          );
+          well = rw state read.sound.well;
+        };
       }
 
   -- nothing was passed over, and then one read more

@@ -1,21 +1,23 @@
-ghost use Rattle.std.specs.Prelude.{◌≡◌, ◌+◌, ◌^◌, ◌<◌, ◌≤◌, length, take, IfErr, IfOk, OnOk, Ok};
+ghost use Rattle.std.specs.Prelude.{◌≡◌, ◌+◌, ◌^◌, ◌<◌, ◌≤◌, length, take, IfErr, IfOk, IsOk, OnOk, Ok};
 ghost use Rattle.std.specs.Bool.{Decides};
-ghost use Rattle.std.specs.Io.{StartsWith};
 ghost use Rattle.input_output.specs.Account.{IsUnread, kept};
 ghost use Rattle.input_output.specs.code.Front.{Lasts};
-ghost use Rattle.input_output.specs.code.Reading.{HasReadOnce, IsReadingFault};
+ghost use Rattle.input_output.specs.code.Reading.{HasGrown, HasReadOn, IsOpenBelow, IsReadingFault};
 ghost use Rattle.input_output.specs.code.Reads.{HasRead, IsStateAfter};
 
 use crate::chunks_ahead::ChunksAhead;
 use crate::fault::ReadFault;
 use crate::front::{Capture, FrontWalk};
-use crate::kept_bytes::KeptBytes;
+use crate::kept_bytes::{FullChunks, KeptBytes};
 use std::alloc::{AllocError, Global};
 use std::io::{self, Read};
-use std::thread::Threads;
+use std::thread::{Threads, join_mut};
 
 /// The number of bytes at which reading stops: a capture that has as many is refused.
 pub const LIMIT: usize = 2_147_483_648;
+
+/// The number of bytes that are read beside one walk at most: where no thread can be had, the walk comes after them.
+const BESIDE: usize = 67_108_864;
 
 /// How the reads of a capture went so far.
 #[derive(Clone, Copy, PartialEq, Eq)]
@@ -119,6 +121,19 @@ impl<R> CaptureReader<R> {
         self.state = ReadState::LackedMemory;
     }
 
+    /// Enters whether there was memory.
+    fn enter_memory(&mut self, had: Result<(), AllocError>) -> Result<(), ReadFault>
+        ensures ok { OnOk result (IsOk had × (self.new ≡ self.old)) }
+        ensures err { IfErr result (λ e. (e ≡ ReadFault.OutOfMemory)
+            × (self.new ≡ record self.old { state = ReadState.LackedMemory })) }
+    {
+        if had.is_err() {
+            self.lack_memory();
+            return Err(ReadFault::OutOfMemory);
+        }
+        Ok(())
+    }
+
     /// Enters what a read answered: that it failed, or how many bytes it gave, where none is the end.
     fn enter_read(&mut self, read: io::Result<usize>) -> Result<usize, ReadFault>
         requires { self.old.state ≡ ReadState.Open }
@@ -149,54 +164,97 @@ impl<R: Read> CaptureReader<R> {
         &mut self,
         limit: usize,
         ahead: &mut ChunksAhead<'_, T>,
-    ) -> Result<usize, ReadFault>
-        requires limit { length (kept self.old) < limit }
-        requires room { (self.old.bytes.room ≤ limit) × (limit ≤ 2 ^ 31) }
-        requires unpassed { self.old.passed ≡ 0 }
-        requires state { self.old.state ≡ ReadState.Open }
-        ensures front { StartsWith (kept self.new) (kept self.old) }
-        ensures room { self.new.bytes.room ≤ limit }
-        ensures passed { self.new.passed ≡ self.old.passed }
-        ensures read { IfOk result (HasReadOnce R.remaining self.old self.new) }
+    ) -> Result<(), ReadFault>
+        requires { IsOpenBelow limit self.old }
+        ensures grown { HasGrown limit self.old self.new }
+        ensures read { OnOk result (HasReadOn R.remaining self.old self.new) }
         ensures err { IfErr result (λ e. IsReadingFault e self.new) }
     {
-        if self.bytes.make_room(limit, ahead).is_err() {
-            self.lack_memory();
-            return Err(ReadFault::OutOfMemory);
-        }
+        let room = self.bytes.make_room(limit, ahead);
+        self.enter_memory(room)?;
         let read = self.bytes.read_once(&mut self.reader);
-        self.enter_read(read)
+        self.enter_read(read)?;
+        Ok(())
     }
 
-    /// The same, up to [`LIMIT`], while a walk goes on over what is kept, chunk by chunk.
+    /// Reads, up to [`LIMIT`], while a walk goes on over what is kept.
+    ///
+    /// With one worker it reads once, and the thread at hand walks as soon as a piece is full. Else another thread
+    /// walks over the chunks that are full, and the one at hand reads on until that has ended.
     pub(crate) fn read_and_walk<T: Threads, W: FrontWalk + Send>(
         &mut self,
         ahead: &mut ChunksAhead<'_, T>,
         walk: &mut W,
-    ) -> Result<usize, ReadFault>
-        requires limit { length (kept self.old) < 2 ^ 31 }
-        requires room { self.old.bytes.room ≤ 2 ^ 31 }
-        requires unpassed { self.old.passed ≡ 0 }
-        requires state { self.old.state ≡ ReadState.Open }
+    ) -> Result<(), ReadFault>
+        requires reader { IsOpenBelow (2 ^ 31) self.old }
         requires walk { Lasts W.stands (kept self.old) walk.old }
-        ensures front { StartsWith (kept self.new) (kept self.old) }
-        ensures room { self.new.bytes.room ≤ 2 ^ 31 }
-        ensures passed { self.new.passed ≡ self.old.passed }
-        ensures read { IfOk result (HasReadOnce R.remaining self.old self.new) }
+        ensures grown { HasGrown (2 ^ 31) self.old self.new }
+        ensures read { OnOk result (HasReadOn R.remaining self.old self.new) }
         ensures walk { OnOk result (Lasts W.stands (kept self.new) walk.new) }
         ensures err { IfErr result (λ e. IsReadingFault e self.new) }
     {
-        if self.bytes.make_room(LIMIT, ahead).is_err() {
-            self.lack_memory();
-            return Err(ReadFault::OutOfMemory);
+        if ahead.is_alone() {
+            self.read_once(LIMIT, ahead)?;
+            let walked = self.bytes.walk_where_filled(ahead.alloc, walk);
+            return self.enter_memory(walked);
         }
-        let (read, walked) = self.bytes.read_and_walk(ahead, &mut self.reader, walk);
-        let count = self.enter_read(read)?;
-        if walked.is_err() {
-            self.lack_memory();
-            return Err(ReadFault::OutOfMemory);
+        let room = self.bytes.make_room(LIMIT, ahead);
+        self.enter_memory(room)?;
+        let Some(full) = self.bytes.take_full(ahead.alloc) else {
+            return self.read_once(LIMIT, ahead);
+        };
+        let limit = BESIDE.min(LIMIT - full.len());
+        let (walked, read) = self.read_beside(limit, ahead, &full, walk);
+        let whole = self.bytes.put_back(full);
+        self.enter_memory(whole)?;
+        read?;
+        self.enter_memory(walked)
+    }
+
+    /// Reads on up to `limit`, while another thread lets a walk go on over the chunks that are full, until that is
+    /// done. So neither thread sleeps for the other one.
+    fn read_beside<T: Threads, W: FrontWalk + Send>(
+        &mut self,
+        limit: usize,
+        ahead: &mut ChunksAhead<'_, T>,
+        full: &FullChunks,
+        walk: &mut W,
+    ) -> (Result<(), AllocError>, Result<(), ReadFault>)
+        requires reader { IsOpenBelow limit self.old }
+        requires walk { Lasts W.stands full.now walk.old }
+        ensures grown { HasGrown limit self.old self.new }
+        ensures read { OnOk result.1 (HasReadOn R.remaining self.old self.new) }
+        ensures walk { OnOk result.0 (Lasts W.stands full.now walk.new) }
+        ensures err { IfErr result.1 (λ e. IsReadingFault e self.new) }
+    {
+        let rt = ahead.rt;
+        let alloc = ahead.alloc;
+        join_mut(
+            rt,
+            &mut || full.walk(alloc, walk),
+            &mut || self.read_until(limit, ahead, full),
+        )
+    }
+
+    /// Reads once, and then on until a walk is done, the end is found, or so many bytes are kept.
+    fn read_until<T: Threads>(
+        &mut self,
+        limit: usize,
+        ahead: &mut ChunksAhead<'_, T>,
+        full: &FullChunks,
+    ) -> Result<(), ReadFault>
+        requires { IsOpenBelow limit self.old }
+        ensures grown { HasGrown limit self.old self.new }
+        ensures read { OnOk result (HasReadOn R.remaining self.old self.new) }
+        ensures err { IfErr result (λ e. IsReadingFault e self.new) }
+    {
+        while !self.has_kept(limit) {
+            self.read_once(limit, ahead)?;
+            if self.has_ended() || full.is_walked() {
+                return Ok(());
+            }
         }
-        Ok(count)
+        Ok(())
     }
 
     /// Reads once into the piece, and keeps nothing of it. No read comes after one that failed or found the end.

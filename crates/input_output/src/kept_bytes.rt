@@ -1,9 +1,8 @@
 //! The bytes that are kept of a capture, in chunks of one length.
 
-ghost use Rattle.std.specs.Prelude.{◌≡◌, ◌*◌, ◌^◌, ◌<◌, ◌≤◌, [], length, map, take, drop, vec_len, IfOk, OnOk};
-ghost use Rattle.std.specs.Io.{appended_bytes};
-ghost use Rattle.std.specs.List.{All};
-ghost use Rattle.input_output.specs.Chunks.{joined};
+ghost use Rattle.std.specs.Prelude.{◌≡◌, ◌+◌, ◌++◌, ◌^◌, ◌<◌, ◌≤◌, [], length, take, drop, vec_len, IfOk, OnOk};
+ghost use Rattle.std.specs.Prelude.{IfNone, IfSome};
+ghost use Rattle.std.specs.Io.{StartsWith, appended_bytes};
 ghost use Rattle.input_output.specs.code.Front.{Lasts};
 ghost use Rattle.input_output.specs.code.Reads.{HasRead, IsGrown};
 
@@ -12,7 +11,8 @@ use crate::front::{CAPTURE_CHUNK, Capture, FrontWalk};
 use std::alloc::{AllocError, Global};
 use std::io::Read;
 use std::marker::Model;
-use std::thread::{Threads, join_mut};
+use std::sync::atomic::{AtomicU64, Ordering};
+use std::thread::Threads;
 use std::{io, mem};
 
 /// The number of bytes for which room is made at a time in a chunk that was not made ahead. Its last piece alone may be
@@ -127,42 +127,43 @@ impl KeptBytes {
         Ok(count)
     }
 
-    /// The same, while a walk goes on over the chunks that are full: where a chunk begins, on another thread, and where
-    /// there is one worker, on the thread at hand as soon as a piece is full.
-    pub(crate) fn read_and_walk<T: Threads, R: Read, W: FrontWalk + Send>(
-        &mut self,
-        ahead: &ChunksAhead<'_, T>,
-        reader: &mut R,
-        walk: &mut W,
-    ) -> (io::Result<usize>, Result<(), AllocError>)
-        requires room { length self.old.kept < self.old.room }
-        requires short { self.old.room ≤ 2 ^ 31 }
-        requires walk { Lasts W.stands self.old.kept walk.old }
-        ensures grown { IsGrown self.old self.new }
-        ensures read { IfOk result.0 (HasRead (R.remaining reader.old) (R.remaining reader.new)
-            (appended_bytes self.old.kept self.new.kept)) }
-        ensures walk { OnOk result.1 (Lasts W.stands self.new.kept walk.new) }
+    /// Takes what is kept out, where it fills chunks behind which a new one begins. It has to be put back.
+    pub(crate) fn take_full(&mut self, alloc: Global) -> Option<FullChunks>
+        ensures kept { IfSome result (λ full. full ≡ self.old.kept) }
+        ensures rest { IfSome result (λ full. self.new.kept ≡ []) }
+        ensures room { IfSome result (λ full. length full + self.new.room ≡ self.old.room) }
+        ensures within { IfSome result (λ full. self.new.room ≤ 1048576) }
+        ensures none { IfNone result (self.new ≡ self.old) }
     {
-        if ahead.is_alone() {
-            let read = self.read_once(reader);
-            let walked = self.walk_where_filled(ahead.alloc, walk);
-            return (read, walked);
-        }
         if self.filled > 0 {
-            return (self.read_once(reader), Ok(()));
+            return None;
         }
-        let (read, walked) = read_beside(ahead, reader, &mut self.last, &self.full, walk);
-        match read {
-            Ok(count) => {
-                self.filled = count;
-                (Ok(count), walked)
-            }
-            Err(error) => (Err(error), walked),
-        }
+        let chunks = mem::replace(&mut self.full, Vec::new(alloc));
+        Some(FullChunks {
+            chunks,
+            is_walked: AtomicU64::new(0),
+        })
+    }
+
+    /// Puts full chunks in front of what is kept. Where there is no memory for that, some of what is kept is lost.
+    pub(crate) fn put_back(&mut self, full: FullChunks) -> Result<(), AllocError>
+        requires { length full + self.old.room ≤ 2 ^ 31 }
+        ensures front { StartsWith self.new.kept full }
+        ensures most { self.new.room ≤ length full + self.old.room }
+        ensures kept { OnOk result (self.new.kept ≡ full ++ self.old.kept) }
+        ensures room { OnOk result (self.new.room ≡ length full + self.old.room) }
+    {
+        let FullChunks { chunks, .. } = full;
+        let mut later = mem::replace(&mut self.full, chunks);
+        self.full.append(&mut later)
     }
 
     /// Lets a walk go on over the bytes, where there is no room for one more.
-    fn walk_where_filled<W: FrontWalk>(&self, alloc: Global, walk: &mut W) -> Result<(), AllocError>
+    pub(crate) fn walk_where_filled<W: FrontWalk>(
+        &self,
+        alloc: Global,
+        walk: &mut W,
+    ) -> Result<(), AllocError>
         requires walk { Lasts W.stands self.now.kept walk.old }
         requires short { length self.now.kept ≤ 2 ^ 31 }
         ensures { OnOk result (Lasts W.stands self.now.kept walk.new) }
@@ -172,6 +173,55 @@ impl KeptBytes {
         }
         let capture = self.capture(alloc)?;
         walk.advance(alloc, &capture)
+    }
+}
+
+/// Chunks of a capture, each of them full.
+#[derive(Drop)]
+pub(crate) struct FullChunks {
+    chunks: Vec<Vec<u8>>,
+    /// Above 0 once a walk over them is done.
+    is_walked: AtomicU64,
+}
+
+impl Model for FullChunks {
+    ghost use Rattle.std.specs.Prelude.{◌≡◌, ◌*◌, ◌^◌, ◌≤◌, List, ℕ, map, vec_len};
+    ghost use Rattle.std.specs.List.{All};
+    ghost use Rattle.input_output.specs.Chunks.{joined};
+
+    ghost Value = { List ℕ };
+
+    ghost view = { λ f. joined (map (λ chunk. chunk.items) f.chunks.items) };
+
+    ghost invariant = { λ f. All (λ chunk. vec_len chunk ≡ 1048576) f.chunks.items
+        × (vec_len f.chunks * 1048576 ≤ 2 ^ 31) };
+}
+
+impl FullChunks {
+    /// The number of bytes.
+    pub(crate) fn len(&self) -> usize
+        ensures { result ≡ length self.now }
+    {
+        self.chunks.len() * CAPTURE_CHUNK
+    }
+
+    /// Lets a walk go on over the bytes.
+    pub(crate) fn walk<W: FrontWalk>(&self, alloc: Global, walk: &mut W) -> Result<(), AllocError>
+        requires { Lasts W.stands self.now walk.old }
+        ensures { OnOk result (Lasts W.stands self.now walk.new) }
+    {
+        let Ok(capture) = Capture::with_last(alloc, self.chunks.as_slice(), &[]) else {
+            self.is_walked.store(1, Ordering::SeqCst);
+            return Err(AllocError);
+        };
+        let walked = walk.advance(alloc, &capture);
+        self.is_walked.store(1, Ordering::SeqCst);
+        walked
+    }
+
+    /// Whether a walk over them is done. Only when, and not what is read, depends on the answer.
+    pub(crate) fn is_walked(&self) -> bool {
+        self.is_walked.load(Ordering::SeqCst) > 0
     }
 }
 
@@ -195,48 +245,6 @@ fn next_chunk<T: Threads>(
         chunk.resize(whole, 0)?;
     }
     Ok(chunk)
-}
-
-/// Reads once into an empty chunk, while another thread lets a walk go on over the chunks before it.
-fn read_beside<T: Threads, R: Read, W: FrontWalk + Send>(
-    ahead: &ChunksAhead<'_, T>,
-    reader: &mut R,
-    chunk: &mut Vec<u8>,
-    full: &[Vec<u8>],
-    walk: &mut W,
-) -> (io::Result<usize>, Result<(), AllocError>)
-    requires room { 0 < vec_len chunk.old }
-    requires full { All (λ chunk. vec_len chunk ≡ 1048576) full.now }
-    requires length { length full.now * 1048576 ≤ 2 ^ 31 }
-    requires walk { Lasts W.stands (joined (map (λ chunk. chunk.items) full.now)) walk.old }
-    ensures length { vec_len chunk.new ≡ vec_len chunk.old }
-    ensures read { IfOk result.0 (λ n. HasRead (R.remaining reader.old) (R.remaining reader.new)
-        (take n chunk.new.items) n) }
-    ensures walk { OnOk result.1 (Lasts W.stands (joined (map (λ chunk. chunk.items) full.now)) walk.new) }
-{
-    let alloc = ahead.alloc;
-    let (walked, read) = join_mut(
-        ahead.rt,
-        &mut || -> Result<(), AllocError>
-            requires { All (λ chunk. vec_len chunk ≡ 1048576) full.now × (length full.now * 1048576 ≤ 2 ^ 31)
-                × Lasts W.stands (joined (map (λ chunk. chunk.items) full.now)) walk.now }
-            ensures { OnOk result
-                (Lasts W.stands (joined (map (λ chunk. chunk.items) full.entry.now)) walk.exit.now) }
-        { walk_over(alloc, full, walk) },
-        &mut || read_into(reader, chunk, 0),
-    );
-    (read, walked)
-}
-
-/// Lets a walk go on over these chunks.
-fn walk_over<W: FrontWalk>(alloc: Global, full: &[Vec<u8>], walk: &mut W) -> Result<(), AllocError>
-    requires full { All (λ chunk. vec_len chunk ≡ 1048576) full.now }
-    requires length { length full.now * 1048576 ≤ 2 ^ 31 }
-    requires walk { Lasts W.stands (joined (map (λ chunk. chunk.items) full.now)) walk.old }
-    ensures { OnOk result (Lasts W.stands (joined (map (λ chunk. chunk.items) full.now)) walk.new) }
-{
-    let capture = Capture::with_last(alloc, full, &[])?;
-    walk.advance(alloc, &capture)
 }
 
 /// Reads once into a chunk, behind the bytes with which it is filled.

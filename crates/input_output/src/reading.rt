@@ -37,7 +37,8 @@ pub fn keep_up_to<T: Threads, R: Read>(
     ensures err { IfErr result (λ e. IsReadingFault e reader.new) }
 {
     while !reader.has_kept(limit) {
-        if reader.read_once(limit, ahead)? == 0 {
+        reader.read_once(limit, ahead)?;
+        if reader.has_ended() {
             return Ok(());
         }
     }
@@ -69,7 +70,8 @@ pub fn keep_and_walk<T: Threads, R: Read, W: FrontWalk + Send>(
     ensures err { IfErr result (λ e. IsReadingFault e reader.new) }
 {
     while !reader.has_kept(LIMIT) {
-        if reader.read_and_walk(ahead, walk)? == 0 {
+        reader.read_and_walk(ahead, walk)?;
+        if reader.has_ended() {
             return Ok(());
         }
     }

@@ -1,9 +1,8 @@
 -- How the bytes of a capture are read, and how that fails.
-use Rattle.std.specs.Prelude.{◌≡◌, ℕ, ◌+◌, ◌^◌, ◌≤◌, ◌⊎◌, List, Option, length}
-use Rattle.std.specs.Io.{appended_bytes}
-use Rattle.std.specs.Io.KnownBytes.{Consumes}
+use Rattle.std.specs.Prelude.{◌≡◌, ℕ, ◌+◌, ◌^◌, ◌<◌, ◌≤◌, ◌⊎◌, List, Option, length}
+use Rattle.std.specs.Io.{StartsWith, appended_bytes}
+use Rattle.std.specs.Io.KnownBytes.{Consumes, IsAtEnd}
 use Rattle.input_output.specs.Account.{HasReadFailed, kept}
-use Rattle.input_output.specs.code.Reads.{HasRead, IsStateAfter}
 use Rattle.input_output.specs.declared.capture_reader.CaptureReader.{CaptureReader}
 use Rattle.input_output.specs.declared.capture_reader.ReadState.TheVariants.{Open, Ended, LackedMemory}
 use Rattle.input_output.specs.declared.fault.ReadFault.{ReadFault}
@@ -16,16 +15,33 @@ module _ {R : Type 0} where
     pub limit : length (kept reader) + reader.passed ≤ 2 ^ 31
     pub well : (reader.state ≡ Open) ⊎ (reader.state ≡ Ended)
 
-  -- one read that is kept: n bytes more; `left` says what a reader has left
-  pub record HasReadOnce (left : R → Option (List ℕ)) (old new : CaptureReader R) (n : ℕ) : Type 0 where
-    pub read : HasRead (left old.reader) (left new.reader) (appended_bytes (kept old) (kept new)) n
-    pub state : IsStateAfter n new.state
-    pub sound : IsSound new
+  -- a read can follow: the reads so far gave bytes, all of them kept, and fewer than the limit, to which the room goes
+  -- at most
+  pub record IsOpenBelow (limit : ℕ) (reader : CaptureReader R) : Type 0 where
+    pub sound : IsSound reader
+    pub state : reader.state ≡ Open
+    pub unpassed : reader.passed ≡ 0
+    pub below : length (kept reader) < limit
+    pub room : reader.bytes.room ≤ limit
+    pub most : limit ≤ 2 ^ 31
+
+  -- what was kept stands in front of what is kept now, in room up to the limit, and nothing was passed over
+  pub record HasGrown (limit : ℕ) (old new : CaptureReader R) : Type 0 where
+    pub front : StartsWith (kept new) (kept old)
+    pub room : new.bytes.room ≤ limit
+    pub unpassed : new.passed ≡ 0
 
   -- what the reads gave more is what the reader had left before, and has no longer
   abbrev pub HasConsumed : (left : R → Option (List ℕ)) (old new : CaptureReader R) → Type 0
   HasConsumed left old new =
       Consumes (left old.reader) (left new.reader) (appended_bytes (kept old) (kept new))
+
+  -- one read or more that are kept, of which none but the last found the end; `left` says what a reader has left
+  pub record HasReadOn (left : R → Option (List ℕ)) (old new : CaptureReader R) : Type 0 where
+    pub bytes : HasConsumed left old new
+    pub end : new.state ≡ Ended → IsAtEnd (left new.reader)
+    pub more : new.state ≡ Open → length (kept old) < length (kept new)
+    pub sound : IsSound new
 
   -- the same, where they were passed over
   abbrev pub HasPassed : (left : R → Option (List ℕ)) (old new : CaptureReader R) → Type 0

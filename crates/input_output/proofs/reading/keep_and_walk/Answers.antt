@@ -1,5 +1,4 @@
-use Rattle.std.proofs.Common.{arith}
-use Rattle.std.proofs.Transfers.{starts_with_trans}
+use Rattle.std.proofs.Common.{rules}
 use Rattle.input_output.proofs.Kept.{read_more, read_none, read_on}
 use Rattle.input_output.proofs.reading.keep_and_walk.Goals as goal
 
@@ -13,21 +12,11 @@ loop-reader-init g c = record {
 pub loop-reader-preserved : goal.loop-reader-preserved
 loop-reader-preserved g c = record {
   on = read_on g.R.Read.remaining 2147483648 c.args.reader.now c.loop-reader.reader c.read_and_walk.new.self
-      c.in_ok-read_and_walk.field-0 c.loop-reader.invariant.on c.read_and_walk.ensures.front
-      c.in_ok-read_and_walk.ensures.read c.read_and_walk.ensures.room c.read_and_walk.ensures.passed (omega arith);
+      c.loop-reader.invariant.on c.in_ok-read_and_walk.ensures.grown c.in_ok-read_and_walk.ensures.read (search rules);
   walk = c.in_ok-read_and_walk.ensures.walk;
 }
 
-pub returns-then-branch-eq0-clause-front : goal.returns-then-branch-eq0-clause-front
-returns-then-branch-eq0-clause-front g c =
-    starts_with_trans _ _ _ c.read_and_walk.ensures.front c.loop-reader.invariant.on.front
-
-pub returns-then-branch-eq0-clause-bytes : goal.returns-then-branch-eq0-clause-bytes
-returns-then-branch-eq0-clause-bytes g c =
+pub returns-then-has_ended-clause-bytes : goal.returns-then-has_ended-clause-bytes
+returns-then-has_ended-clause-bytes g c =
     (read_more g.R.Read.remaining 2147483648 c.args.reader.now c.loop-reader.reader c.read_and_walk.new.self
-    c.in_ok-read_and_walk.field-0 c.loop-reader.invariant.on c.read_and_walk.ensures.front
-    c.in_ok-read_and_walk.ensures.read).1
-
-pub returns-in_err-read_and_walk-clause-front : goal.returns-in_err-read_and_walk-clause-front
-returns-in_err-read_and_walk-clause-front g c =
-    starts_with_trans _ _ _ c.read_and_walk.ensures.front c.loop-reader.invariant.on.front
+    c.loop-reader.invariant.on c.in_ok-read_and_walk.ensures.grown c.in_ok-read_and_walk.ensures.read).1

@@ -1,12 +1,12 @@
 use Rattle.std.proofs.Common.{◌-◌, length}
 use Rattle.input_output.specs.Account.{kept}
 use Rattle.input_output.specs.code.Front.{Lasts}
-use Rattle.input_output.proofs.Kept.{HasReadOn}
+use Rattle.input_output.proofs.Kept.{IsReading}
 use Rattle.input_output.proofs.reading.keep_and_walk.Given as goal
 
 abbrev pub invariant-loop-reader : goal.invariant-loop-reader
 invariant-loop-reader g l = record {
-  on : HasReadOn g.R.Read.remaining 2147483648 l.initial.reader l.reader;
+  on : IsReading g.R.Read.remaining 2147483648 l.initial.reader l.reader;
   walk : Lasts g.W.FrontWalk.stands (kept l.reader) l.walk;
 }
 
