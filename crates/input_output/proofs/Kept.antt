@@ -1,18 +1,17 @@
 -- What is kept of a capture, read by read.
 use Rattle.std.proofs.Common.{◌≡◌, ◌≢◌, ◌∙◌, ℕ, ◌+◌, ◌^◌, ◌≤◌, List, [], ◌++◌, length, take, drop, length-append}
-use Rattle.std.proofs.Common.{take-append-drop, take_at, Option, Some, None, IfSome, inl, inr, refl, sym, ap, subst}
-use Rattle.std.proofs.Common.{arith, rules}
+use Rattle.std.proofs.Common.{take_at, Option, Some, None, IfSome, inl, inr, refl, sym, ap, subst}
+use Rattle.std.proofs.Common.{arith}
 use Rattle.std.specs.Io.{StartsWith, appended_bytes}
 use Rattle.std.specs.Io.KnownBytes.{Consumes, IsAtEnd}
-use Rattle.std.proofs.KnownBytes.{Consumes-more, Consumes-nil, Consumes-trans}
+use Rattle.std.proofs.KnownBytes.{Consumes-more, Consumes-nil, Consumes-trans, starts_with_rest}
 use Rattle.std.proofs.Math.Seq.{drop-length}
 use Rattle.std.proofs.Transfers.{drop-appended, starts_with_of_eq, starts_with_trans}
-use Rattle.std.proofs.lemmas.Bool.{cases_lt}
-use Rattle.std.proofs.lemmas.List.{append-nil, append_assoc, length-drop, nil_from_length, take_all}
+use Rattle.std.proofs.lemmas.List.{append-nil, append_assoc, nil_from_length, take_all}
 use Rattle.input_output.specs.code.Front.{Lasts}
 use Rattle.input_output.specs.Account.{HaveGiven, IsReadToEnd, kept}
 use Rattle.input_output.specs.code.Reading.{HasConsumed, HasGrown, HasPassed, HasReadOn, IsSound}
-use Rattle.input_output.specs.code.Reads.{HasRead, IsStateAfter}
+use Rattle.input_output.specs.code.Reads.{HasRead}
 use Rattle.input_output.specs.declared.capture_reader.CaptureReader.{CaptureReader}
 use Rattle.input_output.specs.declared.capture_reader.ReadState.TheVariants.{Open, Ended}
 
@@ -31,73 +30,48 @@ module _ {R : Type 0} where
       → length given ≡ length (kept reader) + reader.passed
   given_size reader given gave = omega (arith, ap length gave.1, length-append (kept reader) gave.0, gave.2)
 
-  -- one read that is kept
-  pub read_one : (left : R → Option (List ℕ)) (old new : CaptureReader R) (n : ℕ) → StartsWith (kept new) (kept old)
-      → HasRead (left old.reader) (left new.reader) (appended_bytes (kept old) (kept new)) n → IsStateAfter n new.state
-      → IsSound new → HasReadOn left old new
-  read_one left old new n front read state sound = record {
-    bytes = read.bytes;
-    end = λ ended. elim (cases_lt 0 n) [
-      | inl some ↦ absurd (search (rules, state.unended some, ended))
-      | inr none ↦ read.end (omega (arith, none))
-    ];
-    more = λ unended. elim (cases_lt 0 n) [
-      | inl some ↦ omega (
-        arith,
-        read.count,
-        length-drop (length (kept old)) (kept new),
-        some,
-      )
-      | inr none ↦ absurd (search (rules, state.ended (omega (arith, none)), unended))
-    ];
-    sound = sound;
-  }
-
   -- reads that are kept, of which none found the end
   pub record IsReading (left : R → Option (List ℕ)) (limit : ℕ) (first now : CaptureReader R) : Type 0 where
     pub sound : IsSound now
-    pub room : now.bytes.room ≤ limit
-    pub passed : now.passed ≡ 0
     pub state : now.state ≡ Open
-    pub front : StartsWith (kept now) (kept first)
+    pub grown : HasGrown limit first now
     pub bytes : HasConsumed left first now
 
   pub read_none : (left : R → Option (List ℕ)) (limit : ℕ) (first : CaptureReader R) → IsSound first
       → first.bytes.room ≤ limit → first.passed ≡ 0 → first.state ≡ Open → IsReading left limit first first
-  read_none left limit first sound room passed state = record {
+  read_none left limit first sound room unpassed state = record {
     sound = sound;
-    room = room;
-    passed = passed;
     state = state;
-    front = starts_with_of_eq (kept first) (kept first) refl;
+    grown = record {
+      front = starts_with_of_eq (kept first) (kept first) refl;
+      room = room;
+      unpassed = unpassed;
+    };
     bytes = rw drop-length (Consumes-nil (left first.reader));
   }
 
   -- and more of them
   pub read_more : (left : R → Option (List ℕ)) (limit : ℕ) (first old new : CaptureReader R)
-      → IsReading left limit first old → HasGrown limit old new → HasReadOn left old new
-      → StartsWith (kept new) (kept first) × HasConsumed left first new
-  read_more left limit first old new on grown read = (
-    starts_with_trans (kept new) (kept old) (kept first) grown.front on.front,
-    Consumes-more _ _ _ (kept first) (kept old) (kept new) on.front grown.front on.bytes read.bytes,
-  )
+      → IsReading left limit first old → HasGrown limit old new → HasReadOn left old new → HasConsumed left first new
+  read_more left limit first old new on grown read =
+      Consumes-more _ _ _ (kept first) (kept old) (kept new) on.grown.front grown.front on.bytes read.bytes
 
   pub read_on : (left : R → Option (List ℕ)) (limit : ℕ) (first old new : CaptureReader R)
       → IsReading left limit first old → HasGrown limit old new → HasReadOn left old new → new.state ≢ Ended
       → IsReading left limit first new
-  read_on left limit first old new on grown read unended =
-      let (whole, bytes) = read_more left limit first old new on grown read in
-      record {
-        sound = read.sound;
-        room = grown.room;
-        passed = grown.unpassed;
-        state = elim read.sound.well [
-          | inl is ↦ is
-          | inr ended ↦ absurd (unended ended)
-        ];
-        front = whole;
-        bytes = bytes;
-      }
+  read_on left limit first old new on grown read unended = record {
+    sound = read.sound;
+    state = elim read.sound.well [
+      | inl is ↦ is
+      | inr ended ↦ absurd (unended ended)
+    ];
+    grown = record {
+      front = starts_with_trans (kept new) (kept old) (kept first) grown.front on.grown.front;
+      room = grown.room;
+      unpassed = grown.unpassed;
+    };
+    bytes = read_more left limit first old new on grown read;
+  }
 
   -- what was read while the bytes before it were taken out, once these stand in front again
   pub read_behind : (left : R → Option (List ℕ)) (old rest now new : CaptureReader R) → HasReadOn left rest now
@@ -166,18 +140,11 @@ module _ {R : Type 0} where
     | inr ended ↦ inl ended
   ]
 
--- a walk that stands of some bytes stands of more
-pub walk_lasts : {W : Type 0} (stands : List ℕ → W → Type 0) (whole first later : List ℕ) (walk : W) → whole ≡ first
-    → Lasts stands whole walk → Lasts stands (first ++ later) walk
-walk_lasts stands whole first later walk same is more =
-    subst (λ bytes. stands bytes walk) (ap (λ l. l ++ (later ++ more)) same ∙ sym (append_assoc first later more))
-    (is (later ++ more))
-
 -- a walk that stands of what was kept stands of what is kept, where that has it in front
 pub walk_stays : {W : Type 0} (stands : List ℕ → W → Type 0) (first new : List ℕ) (walk : W)
     → StartsWith new first → Lasts stands first walk → Lasts stands new walk
-walk_stays stands first new walk front is =
+walk_stays stands first new walk front is more =
     let later : List ℕ = drop (length first) new in
-    let whole : first ++ later ≡ new =
-    ap (λ l. l ++ later) (sym front) ∙ take-append-drop (length first) new in
-    subst (λ bytes. Lasts stands bytes walk) whole (walk_lasts stands first first later walk refl is)
+    let whole : new ++ more ≡ first ++ (later ++ more) =
+    ap (λ l. l ++ more) (starts_with_rest new first front) ∙ append_assoc first later more in
+    subst (λ bytes. stands bytes walk) (sym whole) (is (later ++ more))

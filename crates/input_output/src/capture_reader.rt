@@ -16,7 +16,7 @@ use std::thread::{Threads, join_mut};
 /// The number of bytes at which reading stops: a capture that has as many is refused.
 pub const LIMIT: usize = 2_147_483_648;
 
-/// The number of bytes that are read beside one walk at most: where no thread can be had, the walk comes after them.
+/// The number of bytes that are read beside one walk, at most. Where no thread can be had, the walk comes after them.
 const BESIDE: usize = 67_108_864;
 
 /// How the reads of a capture went so far.
@@ -35,10 +35,11 @@ pub enum ReadState {
 /// A reader of a capture, with an account of what its reads answered.
 ///
 /// A type of reader tells which bytes it will give, if any, and not whether a read failed; of a file or
-/// a pipe it tells nothing. The account does: `enter_read` enters what a read answered, for `read_once`,
-/// `read_and_walk` and `pass_once`. `pass_once` calls `read` itself, the others through `read_once`, `read_and_walk`,
-/// `read_beside` and `read_into` of `kept_bytes`, of which `read_into` calls it. `lack_memory` enters want of memory.
-/// Nothing else changes an account.
+/// a pipe it tells nothing. The account does: `enter_read` enters what a read answered, for `read_once` and `pass_once`.
+/// `pass_once` calls `read` itself, `read_once` through `read_once` and `read_into` of `kept_bytes`, of which
+/// `read_into` calls it. `read_and_walk` takes what is kept out of it while a walk goes on over that, and puts it back
+/// in front of what was read meanwhile. `lack_memory` enters want of memory, also for `enter_memory`. Nothing else
+/// changes an account.
 #[derive(Drop)]
 pub struct CaptureReader<R> {
     reader: R,
@@ -177,10 +178,10 @@ impl<R: Read> CaptureReader<R> {
         Ok(())
     }
 
-    /// Reads, up to [`LIMIT`], while a walk goes on over what is kept.
+    /// Reads once or more, up to [`LIMIT`], while a walk goes on over what is kept.
     ///
-    /// With one worker it reads once, and the thread at hand walks as soon as a piece is full. Else another thread
-    /// walks over the chunks that are full, and the one at hand reads on until that has ended.
+    /// With one worker the thread at hand reads once, and walks as soon as a piece is full. With several, where a chunk
+    /// begins, another thread walks over those before it, and the one at hand reads on until that walk is done.
     pub(crate) fn read_and_walk<T: Threads, W: FrontWalk + Send>(
         &mut self,
         ahead: &mut ChunksAhead<'_, T>,
@@ -211,8 +212,9 @@ impl<R: Read> CaptureReader<R> {
         self.enter_memory(walked)
     }
 
-    /// Reads on up to `limit`, while another thread lets a walk go on over the chunks that are full, until that is
-    /// done. So neither thread sleeps for the other one.
+    /// Reads on, up to `limit`, until a walk over full chunks is done, which another thread lets go on. So neither
+    /// sleeps until the other one is done. A reader need not be fit for another thread, so it is the walk that goes
+    /// there; where no thread can be had, it comes after the reads.
     fn read_beside<T: Threads, W: FrontWalk + Send>(
         &mut self,
         limit: usize,
@@ -236,7 +238,7 @@ impl<R: Read> CaptureReader<R> {
         )
     }
 
-    /// Reads once, and then on until a walk is done, the end is found, or so many bytes are kept.
+    /// Reads once, and then on until the walk over these chunks is done, the end is found, or `limit` bytes are kept.
     fn read_until<T: Threads>(
         &mut self,
         limit: usize,

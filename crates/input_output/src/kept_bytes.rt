@@ -127,7 +127,7 @@ impl KeptBytes {
         Ok(count)
     }
 
-    /// Takes what is kept out, where it fills chunks behind which a new one begins. It has to be put back.
+    /// Takes out what is kept, where it fills chunks and nothing stands in the last one. It is to be put back.
     pub(crate) fn take_full(&mut self, alloc: Global) -> Option<FullChunks>
         ensures kept { IfSome result (λ full. full ≡ self.old.kept) }
         ensures rest { IfSome result (λ full. self.new.kept ≡ []) }
@@ -145,7 +145,7 @@ impl KeptBytes {
         })
     }
 
-    /// Puts full chunks in front of what is kept. Where there is no memory for that, some of what is kept is lost.
+    /// Puts full chunks in front of what is kept. Where there is no memory for their list, bytes behind them are lost.
     pub(crate) fn put_back(&mut self, full: FullChunks) -> Result<(), AllocError>
         requires { length full + self.old.room ≤ 2 ^ 31 }
         ensures front { StartsWith self.new.kept full }
@@ -153,9 +153,10 @@ impl KeptBytes {
         ensures kept { OnOk result (self.new.kept ≡ full ++ self.old.kept) }
         ensures room { OnOk result (self.new.room ≡ length full + self.old.room) }
     {
-        let FullChunks { chunks, .. } = full;
-        let mut later = mem::replace(&mut self.full, chunks);
-        self.full.append(&mut later)
+        let FullChunks { mut chunks, .. } = full;
+        let put = chunks.append(&mut self.full);
+        self.full = chunks;
+        put
     }
 
     /// Lets a walk go on over the bytes, where there is no room for one more.
@@ -176,7 +177,7 @@ impl KeptBytes {
     }
 }
 
-/// Chunks of a capture, each of them full.
+/// Chunks of a capture, each of them full, and whether a walk over them is done.
 #[derive(Drop)]
 pub(crate) struct FullChunks {
     chunks: Vec<Vec<u8>>,
@@ -205,7 +206,7 @@ impl FullChunks {
         self.chunks.len() * CAPTURE_CHUNK
     }
 
-    /// Lets a walk go on over the bytes.
+    /// Lets a walk go on over the bytes, and then tells that it is done.
     pub(crate) fn walk<W: FrontWalk>(&self, alloc: Global, walk: &mut W) -> Result<(), AllocError>
         requires { Lasts W.stands self.now walk.old }
         ensures { OnOk result (Lasts W.stands self.now walk.new) }
@@ -219,7 +220,7 @@ impl FullChunks {
         walked
     }
 
-    /// Whether a walk over them is done. Only when, and not what is read, depends on the answer.
+    /// Whether a walk over them is done. When another walk begins depends on the answer, and nothing that is proved.
     pub(crate) fn is_walked(&self) -> bool {
         self.is_walked.load(Ordering::SeqCst) > 0
     }

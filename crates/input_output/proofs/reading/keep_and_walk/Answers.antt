@@ -18,5 +18,5 @@ loop-reader-preserved g c = record {
 
 pub returns-then-has_ended-clause-bytes : goal.returns-then-has_ended-clause-bytes
 returns-then-has_ended-clause-bytes g c =
-    (read_more g.R.Read.remaining 2147483648 c.args.reader.now c.loop-reader.reader c.read_and_walk.new.self
-    c.loop-reader.invariant.on c.in_ok-read_and_walk.ensures.grown c.in_ok-read_and_walk.ensures.read).1
+    read_more g.R.Read.remaining 2147483648 c.args.reader.now c.loop-reader.reader c.read_and_walk.new.self
+    c.loop-reader.invariant.on c.in_ok-read_and_walk.ensures.grown c.in_ok-read_and_walk.ensures.read

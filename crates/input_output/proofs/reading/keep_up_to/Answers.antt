@@ -14,5 +14,5 @@ loop-reader-preserved g c =
 
 pub returns-then-has_ended-clause-bytes : goal.returns-then-has_ended-clause-bytes
 returns-then-has_ended-clause-bytes g c =
-    (read_more g.R.Read.remaining c.args.limit c.args.reader.now c.loop-reader.reader c.read_once.new.self
-    c.loop-reader.invariant c.in_ok-read_once.ensures.grown c.in_ok-read_once.ensures.read).1
+    read_more g.R.Read.remaining c.args.limit c.args.reader.now c.loop-reader.reader c.read_once.new.self
+    c.loop-reader.invariant c.in_ok-read_once.ensures.grown c.in_ok-read_once.ensures.read

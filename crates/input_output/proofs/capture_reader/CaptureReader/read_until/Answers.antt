@@ -9,13 +9,13 @@ returns-then-has_ended-clause-read g c =
     let read = c.in_ok-read_once.ensures.read in
     let before = c.loop-self.invariant in
     record {
-      bytes = (read_more g.R.Read.remaining c.args.limit c.args.self.now c.loop-self.self c.read_once.new.self before
-          c.in_ok-read_once.ensures.grown read).1;
+      bytes = read_more g.R.Read.remaining c.args.limit c.args.self.now c.loop-self.self c.read_once.new.self before
+          c.in_ok-read_once.ensures.grown read;
       end = read.end;
       more = λ unended. omega (
         arith,
         read.more unended,
-        starts_with_length (kept c.loop-self.self) (kept c.args.self.now) before.front,
+        starts_with_length (kept c.loop-self.self) (kept c.args.self.now) before.grown.front,
       );
       sound = read.sound;
     }
