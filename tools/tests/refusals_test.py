@@ -79,6 +79,12 @@ def long_connection(capture: Capture) -> None:
             one.send(SERVER, window_update(0, 50))
 
 
+def three_chunks(capture: Capture) -> None:
+    """Strays enough that packets are made beside the reading, and bytes that were taken out for that are put back."""
+    for _ in range(1600):
+        capture.segment((50000, 80), CLIENT, 1, 0x10, bytes(1400))
+
+
 class Refusals(unittest.TestCase):
     folder: tempfile.TemporaryDirectory[str]
     shim: pathlib.Path
@@ -94,7 +100,7 @@ class Refusals(unittest.TestCase):
         source = pathlib.Path(__file__).with_name("refuse.c")
         subprocess.run(["cc", "-O2", "-shared", "-fPIC", "-o", cls.shim, source], check=True)
         cls.captures = {}
-        for script in (padded_stall, first_error_below_overflow, many_connections, long_connection):
+        for script in (padded_stall, first_error_below_overflow, many_connections, long_connection, three_chunks):
             path = cls.captures[script.__name__] = home / script.__name__
             with open(path, "wb") as file:
                 script(Capture(file))
@@ -186,7 +192,7 @@ class Refusals(unittest.TestCase):
                 self.growths(words, status)
 
     def test_threads(self) -> None:
-        for name in ("many_connections", "long_connection"):
+        for name in ("many_connections", "long_connection", "three_chunks"):
             with self.subTest(name):
                 words = ["--workers", "4", "--groups", "8", "--block", "64", str(self.captures[name])]
                 whole, answers = self.each_refused("thread", words)

@@ -4,6 +4,10 @@
 No contract says that threads run, since it could not say that they take turns. So each way in which
 docs/ARCHITECTURE.md divides the work has a capture here that takes it, and the number of threads that it adds,
 computed by hand. A way that is idle, or a thread that is started in vain, changes a sum. One worker starts no thread.
+
+One number is not the same in each run: the reader begins a walk over packets where the one before it is done, so of
+several MiB there may be one walk for each MiB but the last, or fewer. Where there are two such or more, the sum has a
+least and a most.
 """
 
 import os
@@ -48,8 +52,9 @@ TWO_LOUD_STREAMS = capture_of("opened\nC HEADERS 1\nC HEADERS 3\nS WINDOW_UPDATE
 UNMATCHED, AT_ONCE = SETTINGS_ACK, "C ACK"
 SHORT, LONG, LONGER = pings(3904, AT_ONCE), pings(4096, AT_ONCE), pings(20004, AT_ONCE)
 
-# The words, the capture, and how many threads each way adds beside the one at hand.
-ROWS = [
+Ways = dict[str, int | tuple[int, int]]
+# The words, the capture, and how many threads each way adds beside the one at hand, or how many at least and at most.
+ROWS: list[tuple[str, bytes, Ways]] = [
     ("--workers 2", TWO_STREAMS, {"one side's flow": 1, "nothing is shown, so there is no round": 0}),
     ("--workers 2 --frames", TWO_STREAMS, {"one side's flow": 1, "one of two groups": 1}),
     ("--workers 2", TWO_LOUD_STREAMS, {"one side's flow": 1, "one of two groups": 1}),
@@ -63,10 +68,10 @@ ROWS = [
     ("--workers 4 --block 64", pings(4096, "S WINDOW_UPDATE 9 1"), {
         "a part ahead": 1, "one side's flow": 1, "nothing behind an error in the front": 0}),
     ("--workers 4", LONGER, {
-        "chunks ahead, one at each 256 KiB of the first MiB": 4, "packets of that MiB while the next one is read": 1,
+        "chunks ahead, one at each 256 KiB of the first MiB": 4, "packets of that MiB while reading goes on": 1,
         "one side's flow": 1, "faults beside the split": 1, "faults in three pieces": 2, "five blocks are summed": 3}),
     ("--workers 4", pings(70_000), {
-        "chunks ahead": 4, "one more at each MiB from the second on": 4, "packets of each of five MiB": 5,
+        "chunks ahead": 4, "one more at each MiB from the second on": 4, "packets of five MiB": (1, 5),
         "one side's flow": 1,
         "each of eight batches of 8,192 frames is met while the next one is taken": 8}),
     ("--workers 2", connections(2), {"flows of one": 1, "nothing is shown, so there is no round": 0}),
@@ -78,12 +83,12 @@ ROWS = [
         "flows": 3, "halves, from 64 connections on": 1, "each is made ready by halves": 2,
         "blocks of each are summed": 2}),
     ("--workers 4", connections(5000, UNMATCHED), {
-        "chunks ahead": 4, "one more at the second MiB": 1, "packets of two MiB": 2, "flows": 3,
+        "chunks ahead": 4, "one more at the second MiB": 1, "packets of two MiB": (1, 2), "flows": 3,
         "halves of one batch, and halves of these": 3, "halves of the text on two batches, and halves of these": 6}),
     ("--workers 4", connections(255), {"flows": 3, "a text of so few is one worker's": 0}),
     ("--workers 4", connections(256), {"flows": 3, "halves of the text, from 256 connections on": 1}),
     ("--workers 4", connections(8193), {
-        "chunks ahead": 4, "one more at the second and the third MiB": 2, "packets of three MiB": 3, "flows": 3,
+        "chunks ahead": 4, "one more at the second and the third MiB": 2, "packets of three MiB": (1, 3), "flows": 3,
         "halves of the text on 8,192 connections, and halves of these; the last one is a batch of its own": 3}),
 ]
 
@@ -112,7 +117,10 @@ class Threads(unittest.TestCase):
     def test_each_way(self) -> None:
         for words, capture, ways in ROWS:
             with self.subTest(words, ways=ways):
-                self.assertEqual(self.started(words, capture), sum(ways.values()))
+                bounds = [(way, way) if isinstance(way, int) else way for way in ways.values()]
+                started = self.started(words, capture)
+                self.assertLessEqual(sum(least for least, _ in bounds), started)
+                self.assertLessEqual(started, sum(most for _, most in bounds))
 
     def test_one_worker(self) -> None:
         for _, capture, _ in ROWS:

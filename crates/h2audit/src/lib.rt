@@ -28,12 +28,12 @@
 //!
 //! 2^31 bytes, at which reading stops, are refused as the whole is. Where the file header refuses a capture, it alone
 //! is kept (`brief`), since what follows changes no answer (`pcap_records::laws::header_refuses`). What is kept and its
-//! packets stand in chunks, and nothing is copied from chunk to chunk. Packets are made of each chunk as it has been
-//! read, and their connections found, beside the reading where there are several workers. Round 0 has a job for each
-//! connection, which assembles both of its flows. Where credits are not shown, their frames are met one by one
-//! (`quiet_pass`), and where nothing is shown of them, as mostly, the number of frames and the tails are all that is
-//! kept. Else the flows are cut into a list of frames, and `audit_rounds` has the rounds that these go through. Last,
-//! the workers share out the text on connections (`audit_report`).
+//! packets stand in chunks, and nothing is copied from chunk to chunk. Packets are made while the capture is read, of
+//! what was read so far, and their connections found; where there are several workers, beside the reading, which does
+//! not wait for that. Round 0 has a job for each connection, which assembles both of its flows. Where credits are not
+//! shown, their frames are met one by one (`quiet_pass`), and where nothing is shown of them, as mostly, the number of
+//! frames and the tails are all that is kept. Else the flows are cut into a list of frames, and `audit_rounds` has the
+//! rounds that these go through. Last, the workers share out the text on connections (`audit_report`).
 //!
 //! Wrong bodies that the prover refuses: an empty report, a verdict by errors alone, words always refused, options not
 //! heeded, "read failed" whatever FILE gave, standard input read though FILE is named, credits left out where they are

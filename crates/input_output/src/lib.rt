@@ -15,23 +15,25 @@
 //! does; no byte behind it is moved once it was read. Later chunks are made ahead by other threads ([`ChunksAhead`]),
 //! since most of the time of reading goes into memory that is used for the first time; with one worker, or where no
 //! thread can be had, the one that reads makes them, piece by piece. [`keep_and_walk`] has a [`FrontWalk`] go on over
-//! what was read, and knows no more of it: on another thread over each full chunk while the next one is read, or with
-//! one worker on the same thread after each piece.
+//! what was read, and knows no more of it: on another thread over the chunks that are full, while the one at hand reads
+//! on until that is done, or with one worker on the same thread after each piece.
 //!
 //! The accounts are as honest as the code that enters them: their fields are private. `enter_read` of [`CaptureReader`]
-//! enters what a read gave, for `read_once`, `read_and_walk` and `pass_once`, over `read_once`, `read_and_walk`,
-//! `read_beside` and `read_into` of `kept_bytes`; `write_once` and `flush_once` of [`ReportWriter`] enter what a write
-//! took; they ask that none follows one that failed. `read_into`, `pass_once`, `write_once` and `flush_once` alone call
-//! `read`, `write` and `flush`. `lack_memory` enters want of memory. A reader sees this at once; no contract says it.
+//! enters what a read gave, for `read_once` and `pass_once`, over `read_once` and `read_into` of `kept_bytes`;
+//! `write_once` and `flush_once` of [`ReportWriter`] enter what a write took; they ask that none follows one that
+//! failed. `read_into`, `pass_once`, `write_once` and `flush_once` alone call `read`, `write` and `flush`.
+//! `read_and_walk` takes bytes out while a walk goes on over them (`take_full`), and puts them back in front of what
+//! was read meanwhile (`put_back`). `lack_memory` enters want of memory, also for `enter_memory`. A reader sees this at
+//! once; no contract says it.
 //!
 //! A [`TableHash`] hashes by SipHash under a key that is drawn anew at each start, so which pairs or streams of a
 //! capture collide nobody can foresee. A table keeps its entries in the order of first sight and answers by equality,
 //! so no answer depends on the key: no contract of a table names it.
 //!
 //! Wrong bodies that the prover refuses: a read or a write that is told to have filled or taken all; a reading that
-//! ends at half of 2^31 bytes; a capture without half of its last chunk; a range that ends with its first chunk.
-//! Tested, in `crate_tests`: which calls readers and writers get. Trusted: that a file or a pipe gives and keeps its
-//! bytes.
+//! ends at half of 2^31 bytes; a capture without half of its last chunk; chunks that are put back behind what was read
+//! after them; a range that ends with its first chunk. Tested, in `crate_tests`: which calls readers and writers get.
+//! Trusted: that a file or a pipe gives and keeps its bytes.
 #![tactic(auto)]
 
 mod capture_reader;

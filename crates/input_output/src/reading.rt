@@ -48,8 +48,8 @@ pub fn keep_up_to<T: Threads, R: Read>(
 /// Reads to the end, or until there are 2^31 bytes, and keeps them, while a walk goes on over them.
 ///
 /// With one worker the thread that reads walks over each chunk as soon as it is full, while the bytes are near the
-/// processor. With several, another thread walks over the full chunks while the next one is read. What is read last is
-/// left to the end of the walk.
+/// processor. With several, another thread walks over the full chunks while the one at hand reads on, and when it is
+/// done, over those that are full by then. What is read last is left to the end of the walk.
 pub fn keep_and_walk<T: Threads, R: Read, W: FrontWalk + Send>(
     ahead: &mut ChunksAhead<'_, T>,
     reader: &mut CaptureReader<R>,
