@@ -34,12 +34,11 @@ pub enum ReadState {
 
 /// A reader of a capture, with an account of what its reads answered.
 ///
-/// A type of reader tells which bytes it will give, if any, and not whether a read failed; of a file or
-/// a pipe it tells nothing. The account does: `enter_read` enters what a read answered, for `read_once` and `pass_once`.
-/// `pass_once` calls `read` itself, `read_once` through `read_once` and `read_into` of `kept_bytes`, of which
-/// `read_into` calls it. `read_and_walk` takes what is kept out of it while a walk goes on over that, and puts it back
-/// in front of what was read meanwhile. `lack_memory` enters want of memory, also for `enter_memory`. Nothing else
-/// changes an account.
+/// A type of reader tells which bytes it will give, if any, and not whether a read failed; of a file or a pipe it tells
+/// nothing. The account does: `enter_read` enters what a read answered, for `read_once` and `pass_once`. `pass_once`
+/// calls `read` itself, `read_once` through `read_once` and `read_into` of `kept_bytes`, of which `read_into` calls it.
+/// `read_and_walk` takes what is kept out of it while a walk goes on over that, and puts it back in front of what was
+/// read meanwhile. `lack_memory` enters want of memory, also for `enter_memory`. Nothing else changes an account.
 #[derive(Drop)]
 pub struct CaptureReader<R> {
     reader: R,
