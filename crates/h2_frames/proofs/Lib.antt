@@ -8,4 +8,6 @@ pub mod Gathering
 pub mod Merging
 pub mod BothSides
 pub mod Walking
+pub mod Splitting
+pub mod Batching
 pub mod Uniqueness

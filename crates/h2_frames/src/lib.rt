@@ -35,12 +35,14 @@
 //! Tested by whole reports: that `cut` succeeds where there is memory, on connections of each of the four kinds.
 #![tactic(auto)]
 
+mod batches;
 mod beginning;
 mod bodies;
 mod connections;
 mod cutting;
 mod headers;
 pub mod laws;
+mod limits;
 mod order;
 mod pieces;
 mod settings;
@@ -48,6 +50,7 @@ mod spelling;
 mod unread;
 mod walk;
 
+pub use batches::{FrameBatch, Merge};
 pub use connections::Cut;
 pub use cutting::cut;
 pub use walk::{Begun, FrameWalk, begin};

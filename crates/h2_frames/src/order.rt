@@ -11,7 +11,7 @@ use audit_terms::Frame;
 use std::alloc::AllocError;
 
 /// Does `x` come after `y`: by record, then by number within its side, then Client before Server?
-fn comes_after(x: &Frame, y: &Frame) -> bool
+pub(crate) fn comes_after(x: &Frame, y: &Frame) -> bool
     ensures { result ≡ comes_after x.now y.now }
 {
     (x.rec, x.number, x.side) > (y.rec, y.number, y.side)

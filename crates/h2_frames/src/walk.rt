@@ -1,4 +1,5 @@
 ghost use Rattle.std.specs.Prelude.{◌≡◌, ◌+◌, ◌<◌, ◌^◌, ◌++◌, ◌∷◌, [], List, length, IfOk, IfSome, IfNone};
+ghost use Rattle.std.specs.Bool.{OnFalse, OnTrue};
 ghost use Rattle.tcp_streams.specs.declared.streams.Flow.{Flow};
 ghost use Rattle.tcp_streams.specs.code.Orderly.{IsOrderly};
 ghost use Rattle.tcp_streams.specs.Bytes.{bytes_of};
@@ -7,14 +8,18 @@ ghost use Rattle.audit_terms.specs.code.runs.Orderly.{IsInRange};
 ghost use Rattle.h2_frames.specs.Cut.{IsHttp2};
 ghost use Rattle.h2_frames.specs.Preface.{BeginsWithPreface};
 ghost use Rattle.h2_frames.specs.code.Pieces.{bytes_of as bytes_left, IsCounted};
+ghost use Rattle.h2_frames.specs.code.Batch.{IsNumbered, frames_of};
 ghost use Rattle.h2_frames.specs.code.Walk.{IsBegun, IsReadyWalk, IsWalkAfter, taken_of, tails_of, weight_of};
 
+use crate::batches::{FrameBatch, take_sides};
 use crate::beginning::{Beginning, PREFACE, beginning_of};
+use crate::limits::limit_of;
 use crate::order::take_first;
 use crate::pieces::Pieces;
 use crate::unread::Unread;
 use audit_terms::{Frame, Side, Sides};
 use std::alloc::{AllocError, Global};
+use std::thread::Threads;
 use tcp_streams::Flow;
 
 /// The frames of both sides of a connection, taken out one by one in capture order.
@@ -96,6 +101,46 @@ impl<'a> FrameWalk<'a> {
             number: self.taken,
             ..frame
         }))
+    }
+
+    /// Takes the next frames of both sides out together, in place of those of `batch`. Is there one?
+    ///
+    /// As with [`FrameWalk::take_next`], they and those to come are the connection's. Each side is read by itself, on a
+    /// thread of its own where there are three `threads` or more. A batch has all frames up to some record, so that
+    /// none of it has to wait for one that is not read; how many these are, no contract says.
+    pub fn take_batch<R: Threads>(
+        &mut self,
+        rt: &R,
+        threads: usize,
+        batch: &mut FrameBatch,
+    ) -> Result<bool, AllocError>
+        requires { IsReadyWalk self.old }
+        ensures ready { IfOk result (λ more. IsReadyWalk self.new) }
+        ensures weight { IfOk result (λ more. OnTrue more (weight_of self.new < weight_of self.old)) }
+        ensures numbered { IfOk result (λ more. OnTrue more (IsNumbered batch.new)) }
+        ensures same { IfOk result (λ more. OnFalse more (taken_of self.new ≡ taken_of self.old)) }
+        ensures next { IfOk result (λ more. OnTrue more ((client server : Flow) → (frames : List Frame) →
+            IsWalkAfter client server frames self.old →
+            IsWalkAfter client server (frames ++ frames_of batch.new) self.new)) }
+        ensures over { IfOk result (λ more. OnFalse more ((client server : Flow) → (frames : List Frame) →
+            IsWalkAfter client server frames self.old → IsHttp2 client server frames (tails_of self.new))) }
+    {
+        self.client.read_ahead()?;
+        self.server.read_ahead()?;
+        let Some(limit) = limit_of(&self.client, &self.server) else {
+            return Ok(false);
+        };
+        take_sides(
+            rt,
+            threads,
+            limit,
+            &mut self.client,
+            &mut self.server,
+            batch,
+        )?;
+        batch.before = self.taken;
+        self.taken += (batch.client.len() + batch.server.len()) as u32;
+        Ok(true)
     }
 
     /// How many frames were taken.

@@ -3,6 +3,7 @@
 ghost use Rattle.std.specs.Prelude.{◌≡◌, ◌+◌, ◌<◌, ◌^◌, ◌++◌, IfOk, IfSome, IsTrue, List, length};
 ghost use Rattle.std.specs.Bool.{OnTrue};
 ghost use Rattle.audit_terms.specs.declared.frames.Frame.{Frame as FrameTerm};
+ghost use Rattle.h2_frames.specs.code.Batch.{IsNumbered, frames_of};
 ghost use Rattle.h2_frames.specs.code.Walk.{IsFreshWalk, IsReadyWalk, IsWalkAfter, weight_of};
 ghost use Rattle.h2audit.specs.code.Quiet.{AreTaken, IsQuietOf, IsWholeWalk};
 ghost use Rattle.quiet_pass.specs.code.QuietPass.{IsQuietAfter};
@@ -12,8 +13,7 @@ ghost use Rattle.tcp_streams.specs.code.Orderly.{IsOrderly};
 ghost use Rattle.tcp_streams.specs.declared.streams.Flow.{Flow};
 
 use audit_report::QuietConnection;
-use audit_terms::Frame;
-use h2_frames::{Begun, FrameWalk, begin};
+use h2_frames::{Begun, FrameBatch, FrameWalk, begin};
 use quiet_pass::QuietPass;
 use quiet_pass::laws::quiet_frames_show_nothing;
 use std::alloc::{AllocError, Global};
@@ -21,8 +21,8 @@ use std::mem;
 use std::thread::{Threads, join_mut};
 use tcp_streams::Flow;
 
-/// How many frames are taken at a time where two threads work on a connection.
-const BATCH: usize = 8_192;
+/// How many frames a batch has at least for which a thread is started.
+const FEW: usize = 1_024;
 
 /// How many bytes both flows have together where two threads work on them: below this the frames are met before a
 /// second thread has begun.
@@ -49,7 +49,7 @@ pub(crate) fn quiet_connection<R: Threads>(
         return Ok(None);
     };
     if 2 <= threads && LONG <= client.length() + server.length() {
-        quiet_in_batches(rt, alloc, walk)
+        quiet_in_batches(rt, alloc, threads, walk)
     } else {
         quiet_in_turn(alloc, walk)
     }
@@ -71,10 +71,11 @@ fn quiet_in_turn(alloc: Global, walk: FrameWalk<'_>) -> Result<Option<QuietConne
     Ok(Some(quiet_by(&walk)))
 }
 
-/// The same, in batches: while one thread meets a batch, another takes the next one.
+/// The same, in batches: while one thread meets a batch, others take the next one.
 fn quiet_in_batches<R: Threads>(
     rt: &R,
     alloc: Global,
+    threads: usize,
     walk: FrameWalk<'_>,
 ) -> Result<Option<QuietConnection>, AllocError>
     requires { IsReadyWalk walk }
@@ -83,73 +84,78 @@ fn quiet_in_batches<R: Threads>(
 {
     let mut walk = walk;
     let mut pass = QuietPass::begin(alloc);
-    let mut batch = Vec::new(alloc);
-    let mut next = Vec::new(alloc);
-    let mut more = take_batch(&mut walk, &mut batch)?;
+    let mut batch = FrameBatch::new(alloc);
+    let mut next = FrameBatch::new(alloc);
+    let mut more = take_batch(rt, threads, &mut walk, &mut batch)?;
     while more {
-        let (met, taken) = meet_and_take(rt, &mut pass, batch.as_slice(), &mut walk, &mut next);
+        let (met, taken) = meet_and_take(rt, threads, &mut pass, &batch, &mut walk, &mut next);
         if !met? {
             return Ok(None);
         }
         more = taken?;
         mem::swap(&mut batch, &mut next);
     }
-    if !meet_batch(&mut pass, batch.as_slice())? {
-        return Ok(None);
-    }
     Ok(Some(quiet_by(&walk)))
 }
 
-/// Meets a batch on a thread of its own, where one can be had, and takes the next one meanwhile.
+/// Meets a batch, on a thread of its own where one can be had, and takes the next one meanwhile. A short batch is done
+/// sooner than a thread has begun.
 fn meet_and_take<R: Threads>(
     rt: &R,
+    threads: usize,
     pass: &mut QuietPass,
-    batch: &[Frame],
+    batch: &FrameBatch,
     walk: &mut FrameWalk<'_>,
-    next: &mut Vec<Frame>,
+    next: &mut FrameBatch,
 ) -> (Result<bool, AllocError>, Result<bool, AllocError>)
-    requires { IsReadyWalk walk.old }
+    requires ready { IsReadyWalk walk.old }
+    requires numbered { IsNumbered batch.now }
     ensures met { IfOk result.0 (λ met. OnTrue met ((frames : List FrameTerm) → IsQuietAfter frames pass.old
-        → IsQuietAfter (frames ++ batch.now) pass.new)) }
+        → IsQuietAfter (frames ++ frames_of batch.now) pass.new)) }
     ensures ready { IfOk result.1 (λ more. IsReadyWalk walk.new) }
+    ensures numbered { IfOk result.1 (λ more. OnTrue more (IsNumbered next.new)) }
     ensures weight { IfOk result.1 (λ more. OnTrue more (weight_of walk.new < weight_of walk.old)) }
     ensures taken { IfOk result.1 (λ more. (client server : Flow) → (frames : List FrameTerm)
-        → IsWalkAfter client server frames walk.old
-        → AreTaken more client server (frames ++ next.new.items) walk.new) }
+        → IsWalkAfter client server frames walk.old → AreTaken more client server frames next.new walk.new) }
 {
+    if batch.len() < FEW {
+        let met = meet_batch(pass, batch);
+        return (met, take_batch(rt, 1, walk, next));
+    }
     join_mut(
         rt,
         &mut || meet_batch(pass, batch),
-        &mut || take_batch(walk, next),
+        &mut || take_batch(rt, threads, walk, next),
     )
 }
 
-/// Takes the next batch of frames out. Is it full? Else these are the last ones.
-fn take_batch(walk: &mut FrameWalk<'_>, batch: &mut Vec<Frame>) -> Result<bool, AllocError>
+/// Takes the next batch out. Is there one? Else all frames were taken before.
+fn take_batch<R: Threads>(
+    rt: &R,
+    threads: usize,
+    walk: &mut FrameWalk<'_>,
+    batch: &mut FrameBatch,
+) -> Result<bool, AllocError>
     requires { IsReadyWalk walk.old }
     ensures ready { IfOk result (λ more. IsReadyWalk walk.new) }
+    ensures numbered { IfOk result (λ more. OnTrue more (IsNumbered batch.new)) }
     ensures weight { IfOk result (λ more. OnTrue more (weight_of walk.new < weight_of walk.old)) }
     ensures taken { IfOk result (λ more. (client server : Flow) → (frames : List FrameTerm)
-        → IsWalkAfter client server frames walk.old
-        → AreTaken more client server (frames ++ batch.new.items) walk.new) }
+        → IsWalkAfter client server frames walk.old → AreTaken more client server frames batch.new walk.new) }
 {
-    batch.clear();
-    while batch.len() < BATCH {
-        let Some(frame) = walk.take_next()? else {
-            return Ok(false);
-        };
-        batch.extend_from_slice(&[frame])?;
-    }
-    Ok(true)
+    let more = walk.take_batch(rt, threads, batch)?;
+    Ok(more)
 }
 
 /// Meets a batch of frames. Is nothing of them shown?
-fn meet_batch(pass: &mut QuietPass, batch: &[Frame]) -> Result<bool, AllocError>
+fn meet_batch(pass: &mut QuietPass, batch: &FrameBatch) -> Result<bool, AllocError>
+    requires { IsNumbered batch.now }
     ensures { IfOk result (λ met. OnTrue met ((frames : List FrameTerm) → IsQuietAfter frames pass.old
-        → IsQuietAfter (frames ++ batch.now) pass.new)) }
+        → IsQuietAfter (frames ++ frames_of batch.now) pass.new)) }
 {
-    for frame in batch {
-        if !pass.meet(frame)? {
+    let mut merge = batch.merge();
+    while let Some(frame) = merge.take_next() {
+        if !pass.meet(&frame)? {
             return Ok(false);
         }
     }

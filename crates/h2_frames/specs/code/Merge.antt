@@ -21,3 +21,9 @@ abbrev pub is_server_first : (client server : Next) → Bool
 is_server_first (Read x) (Read y) = comes_after x y
 is_server_first (Read x) _ = false
 is_server_first _ server = true
+
+-- the same of frames in lists
+abbrev pub is_first_of_server : (client server : List Frame) → Bool
+is_first_of_server (x ∷ xs) (y ∷ ys) = comes_after x y
+is_first_of_server (x ∷ xs) [] = false
+is_first_of_server [] _ = true

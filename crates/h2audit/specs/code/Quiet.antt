@@ -6,7 +6,9 @@ use Rattle.audit_terms.specs.Pass.{pass}
 use Rattle.audit_terms.specs.code.runs.Orderly as runs
 use Rattle.audit_terms.specs.declared.frames.Frame.{Frame}
 use Rattle.h2_frames.specs.Cut.{IsHttp2}
+use Rattle.h2_frames.specs.code.Batch.{frames_of}
 use Rattle.h2_frames.specs.code.Walk.{IsWalkAfter, tails_of, taken_of}
+use Rattle.h2_frames.specs.declared.batches.FrameBatch.{FrameBatch}
 use Rattle.h2_frames.specs.declared.walk.FrameWalk.{FrameWalk}
 use Rattle.quiet_pass.specs.code.QuietPass.{IsQuietAfter}
 use Rattle.quiet_pass.specs.declared.passes.QuietPass.{QuietPass}
@@ -33,14 +35,14 @@ pub record IsWholeWalk (client server : Flow) (frames : List Frame) (walk : Fram
   pub orderly : runs.IsOrderly frames
   pub count : taken_of walk ≡ length frames
 
--- the frames taken so far: the connection's first ones where there may be more, and all of them else
-abbrev pub AreTaken : (more : Bool) → (client server : Flow) → List Frame → FrameWalk → Type 0
-AreTaken true client server frames walk = IsWalkAfter client server frames walk
-AreTaken false client server frames walk = IsWholeWalk client server frames walk
+-- with those of a batch, frames are the connection's first ones; where there was no batch left, they are all of them
+abbrev pub AreTaken : (more : Bool) → (client server : Flow) → List Frame → FrameBatch → FrameWalk → Type 0
+AreTaken true client server frames batch walk = IsWalkAfter client server (frames ++ frames_of batch) walk
+AreTaken false client server frames batch walk = IsWholeWalk client server frames walk
 
 -- of the frames taken so far all but a batch were met, and show nothing
-pub record IsMetButFor (batch : List Frame) (more : Bool) (client server : Flow) (walk : FrameWalk)
+pub record IsMetButFor (batch : FrameBatch) (more : Bool) (client server : Flow) (walk : FrameWalk)
     (machine : QuietPass) : Type 0 where
   pub frames : List Frame
-  pub taken : AreTaken more client server (frames ++ batch) walk
+  pub taken : AreTaken more client server frames batch walk
   pub quiet : IsQuietAfter frames machine

@@ -1,9 +1,11 @@
 use Rattle.std.proofs.Common.{[], ◌++◌}
+use Rattle.h2_frames.specs.code.Batch.{frames_of}
 use Rattle.h2audit.proofs.quiet.quiet_in_batches.Goals as goal
 
 pub loop-more-init : goal.loop-more-init
 loop-more-init g c = record {
   ready = c.in_ok-more.ensures.ready;
+  numbered = c.in_ok-more.ensures.numbered;
   met = λ client server before. record {
     frames = [];
     taken = c.in_ok-more.ensures.taken client server [] before;
@@ -18,14 +20,14 @@ loop-more-preserved g c =
     let taken = rw c.in_ok-more-2.was at c.meet_and_take-met.ensures.taken in
     record {
       ready = rw c.in_ok-more-2.was at c.meet_and_take-met.ensures.ready;
+      numbered = rw c.swap.ensures.x_after (rw c.in_ok-more-2.was at c.meet_and_take-met.ensures.numbered);
       met = λ client server before.
           let old = c.loop-more.invariant.met client server before in
           let first = rw c.loop-more-test.true at old.taken in
-          let quiet = rw c.as_slice.ensures.value at met old.frames old.quiet in
           record {
-            frames = old.frames ++ c.loop-more.batch.items;
+            frames = old.frames ++ frames_of c.loop-more.batch;
             taken = rw c.swap.ensures.x_after (taken client server _ first);
-            quiet = quiet;
+            quiet = met old.frames old.quiet;
           };
     }
 
@@ -33,6 +35,4 @@ pub returns : goal.returns
 returns g c = λ client server fresh.
     let old = c.loop-more.invariant.met client server fresh.whole in
     let whole = rw c.loop-more-test.false at old.taken in
-    let met = rw c.if-not-branch-2.false at c.in_ok-meet_batch.ensures in
-    let quiet = rw c.as_slice-2.ensures.value at met old.frames old.quiet in
-    c.quiet_by.ensures client server _ _ fresh.started whole quiet
+    c.quiet_by.ensures client server _ _ fresh.started whole old.quiet

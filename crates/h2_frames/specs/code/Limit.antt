@@ -1,0 +1,36 @@
+-- Frames of a side that are taken together, up to a limit. Public clauses cite this only through Walk.
+use Rattle.std.specs.Prelude.{◌≡◌, ℕ, ◌+◌, ◌*◌, ◌≤◌, Bool, true, false, nat_lt, ◌==◌, ◌&&◌, ◌||◌, List, ◌++◌, length}
+use Rattle.std.specs.List.{AllByRecursion}
+use Rattle.audit_terms.specs.declared.frames.Frame.{Frame}
+use Rattle.h2_frames.specs.declared.limits.Limit.{Limit}
+use Rattle.h2_frames.specs.declared.unread.Next.{Next}
+use Rattle.h2_frames.specs.declared.unread.Next.TheVariants.{Over, Read, Unread as ToRead}
+use Rattle.h2_frames.specs.declared.unread.Unread.{Unread}
+use Rattle.h2_frames.specs.code.Steps.{IsReadable}
+use Rattle.h2_frames.specs.code.Unread.{AreLeft, IsReady, weight}
+
+-- by record, then by the number within the side
+abbrev pub is_past : Limit → Frame → Bool
+is_past limit frame =
+    nat_lt limit.rec frame.rec || ((frame.rec == limit.rec) && nat_lt limit.number frame.number)
+
+-- a side's next frame is there, and is not past the limit
+abbrev pub IsReached : Limit → Next → Type 0
+IsReached limit (Read frame) = is_past limit frame ≡ false
+IsReached limit _ = ⊥
+
+-- a side's next frame is past the limit, or known not to be there
+abbrev pub IsPassed : Limit → Next → Type 0
+IsPassed limit (ToRead number) = ⊥
+IsPassed limit Over = Unit {0}
+IsPassed limit (Read frame) = is_past limit frame ≡ true
+
+-- these frames of a side were taken, up to the limit
+pub record AreTakenUpTo (limit : Limit) (old new : Unread) (frames : List Frame) : Type 0 where
+  pub ready : IsReady new
+  pub within : AllByRecursion (λ (frame : Frame). is_past limit frame ≡ false) frames
+  pub readable : AllByRecursion IsReadable frames
+  pub left : (later : List Frame) → (tail : List ℕ) → AreLeft new later tail → AreLeft old (frames ++ later) tail
+  pub weight : weight new + 9 * length frames ≤ weight old
+  pub passed : IsPassed limit new.next
+  pub none : length frames ≡ 0 → new.next ≡ old.next

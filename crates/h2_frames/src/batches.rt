@@ -1,0 +1,129 @@
+ghost use Rattle.std.specs.Prelude.{◌≡◌, ◌+◌, ◌<◌, ◌^◌, [], ◌∷◌, length, IfOk, IfSome, IfNone};
+ghost use Rattle.h2_frames.specs.code.Batch.{IsNumbered, IsReadyMerge, frames_of, left_of};
+ghost use Rattle.h2_frames.specs.code.Limit.{AreTakenUpTo};
+ghost use Rattle.h2_frames.specs.code.Merge.{is_first_of_server};
+ghost use Rattle.h2_frames.specs.code.Unread.{IsKnown, IsReady};
+
+use crate::limits::Limit;
+use crate::order::comes_after;
+use crate::unread::Unread;
+use audit_terms::Frame;
+use std::alloc::{AllocError, Global};
+use std::thread::{Threads, join_mut};
+
+/// Frames of both sides that were taken together: each comes before any that was not taken.
+#[derive(Drop)]
+pub struct FrameBatch {
+    pub(crate) client: Vec<Frame>,
+    pub(crate) server: Vec<Frame>,
+    /// How many frames were taken before them.
+    pub(crate) before: u32,
+}
+
+impl FrameBatch {
+    /// A batch of no frames, with no memory of its own yet.
+    pub fn new(alloc: Global) -> FrameBatch {
+        FrameBatch {
+            client: Vec::new(alloc),
+            server: Vec::new(alloc),
+            before: 0,
+        }
+    }
+
+    /// How many frames it has.
+    #[tactic(auto, using(crate::proofs::Batching::batch_lengths))]
+    pub fn len(&self) -> usize
+        requires { IsNumbered self.now }
+        ensures { result ≡ length (frames_of self.now) }
+    {
+        self.client.len() + self.server.len()
+    }
+
+    /// Goes over its frames in capture order.
+    pub fn merge(&self) -> Merge<'_>
+        requires { IsNumbered self.now }
+        ensures ready { IsReadyMerge result }
+        ensures whole { left_of result ≡ frames_of self.now }
+    {
+        Merge {
+            client: self.client.as_slice(),
+            server: self.server.as_slice(),
+            taken: self.before,
+        }
+    }
+}
+
+/// The frames of a batch, handed out one by one in capture order.
+#[derive(Drop)]
+pub struct Merge<'a> {
+    client: &'a [Frame],
+    server: &'a [Frame],
+    /// How many frames were handed out, with those of the batches before.
+    taken: u32,
+}
+
+/// Does the server's first frame come before the client's?
+fn is_first_of_server(client: &[Frame], server: &[Frame]) -> bool
+    ensures { result ≡ is_first_of_server client.now server.now }
+{
+    match (client, server) {
+        ([x, ..], [y, ..]) => comes_after(x, y),
+        ([_, ..], []) => false,
+        ([], _) => true,
+    }
+}
+
+impl<'a> Merge<'a> {
+    /// Hands out the next frame, numbered on in capture order.
+    pub fn take_next(&mut self) -> Option<Frame>
+        requires { IsReadyMerge self.old }
+        ensures ready { IsReadyMerge self.new }
+        ensures some { IfSome result (λ frame. left_of self.old ≡ frame ∷ left_of self.new) }
+        ensures none { IfNone result (left_of self.old ≡ []) }
+    {
+        let first = if is_first_of_server(self.client, self.server) {
+            let (first, later) = self.server.split_first()?;
+            self.server = later;
+            first
+        } else {
+            let (first, later) = self.client.split_first()?;
+            self.client = later;
+            first
+        };
+        self.taken += 1;
+        Some(Frame {
+            number: self.taken,
+            ..*first
+        })
+    }
+}
+
+/// Takes the frames of both sides up to a limit, each side's on a thread of its own where there are three and these
+/// can be had: one is left for who called.
+pub(crate) fn take_sides<R: Threads>(
+    rt: &R,
+    threads: usize,
+    limit: Limit,
+    client: &mut Unread<'_>,
+    server: &mut Unread<'_>,
+    batch: &mut FrameBatch,
+) -> Result<(), AllocError>
+    requires client { IsReady client.old }
+    requires server { IsReady server.old }
+    requires client_known { IsKnown client.old.next }
+    requires server_known { IsKnown server.old.next }
+    ensures client { IfOk result (λ done. AreTakenUpTo limit client.old client.new batch.new.client.items) }
+    ensures server { IfOk result (λ done. AreTakenUpTo limit server.old server.new batch.new.server.items) }
+{
+    if threads < 3 {
+        client.take_up_to(limit, &mut batch.client)?;
+        return server.take_up_to(limit, &mut batch.server);
+    }
+    let (sent, answered) = join_mut(
+        rt,
+        &mut || client.take_up_to(limit, &mut batch.client),
+        &mut || server.take_up_to(limit, &mut batch.server),
+    );
+    sent?;
+    answered
+}

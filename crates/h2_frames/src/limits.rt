@@ -1,0 +1,105 @@
+ghost use Rattle.std.specs.Prelude.{◌≡◌, ◌⊎◌, IfOk, IfSome, IfNone};
+ghost use Rattle.h2_frames.specs.code.Limit.{AreTakenUpTo, IsReached, is_past};
+ghost use Rattle.h2_frames.specs.code.Unread.{IsKnown, IsReady};
+ghost use Rattle.h2_frames.specs.declared.unread.Next.TheVariants.{Over};
+
+use crate::unread::{Next, Unread};
+use audit_terms::Frame;
+use std::alloc::AllocError;
+
+/// How many bytes further its flow is where a side has frames enough for one time.
+const REACH: u64 = 262_144;
+
+/// How many frames are enough where one record brings many.
+const ENOUGH: u32 = 32_768;
+
+/// Up to where both sides take frames at a time: frames of earlier records, and those of this record up to this number
+/// within their side.
+#[derive(Clone, Copy)]
+pub(crate) struct Limit {
+    pub rec: u32,
+    pub number: u32,
+}
+
+impl Limit {
+    /// Is a frame past it?
+    fn is_past(&self, frame: &Frame) -> bool
+        ensures { result ≡ is_past self.now frame.now }
+    {
+        (frame.rec, frame.number) > (self.rec, self.number)
+    }
+
+    /// The one of two that comes first.
+    fn first(self, other: Limit) -> Limit
+        ensures { (result ≡ self) ⊎ (result ≡ other) }
+    {
+        if (self.rec, self.number) < (other.rec, other.number) {
+            self
+        } else {
+            other
+        }
+    }
+}
+
+/// The limit of both sides, where one of them has a frame left: at least that one is taken.
+pub(crate) fn limit_of(client: &Unread<'_>, server: &Unread<'_>) -> Option<Limit>
+    requires client { IsReady client.now }
+    requires server { IsReady server.now }
+    requires client_known { IsKnown client.now.next }
+    requires server_known { IsKnown server.now.next }
+    ensures some { IfSome result (λ limit. IsReached limit client.now.next ⊎ IsReached limit server.now.next) }
+    ensures none { IfNone result ((client.now.next ≡ Over) × (server.now.next ≡ Over)) }
+{
+    match (client.limit(), server.limit()) {
+        (Some(sent), Some(answered)) => Some(sent.first(answered)),
+        (Some(sent), None) => Some(sent),
+        (None, answered) => answered,
+    }
+}
+
+impl<'a> Unread<'a> {
+    /// Up to where this side has frames enough for one time. Its next frame, if there is one, is not past it.
+    ///
+    /// That is the record at which its flow is `REACH` further, or ends, and `ENOUGH` frames of that record. So the
+    /// frames of a batch take a few megabytes, however short they are and whatever one record brings.
+    fn limit(&self) -> Option<Limit>
+        requires ready { IsReady self.now }
+        requires known { IsKnown self.now.next }
+        ensures some { IfSome result (λ limit. IsReached limit self.now.next) }
+        ensures none { IfNone result (self.now.next ≡ Over) }
+    {
+        let Next::Read(frame) = self.next else {
+            return None;
+        };
+        let reach = self.offset + REACH;
+        let short = self
+            .arrivals
+            .partition_point(|arrival| (arrival.upto as u64) < reach);
+        let rec = match self.arrivals.get(short) {
+            Some(arrival) => arrival.rec.max(frame.rec),
+            None => u32::MAX,
+        };
+        Some(Limit {
+            rec,
+            number: frame.number + ENOUGH,
+        })
+    }
+
+    /// Takes the frames out up to a limit, into a list of their own, and reads the one after them ahead.
+    pub fn take_up_to(&mut self, limit: Limit, frames: &mut Vec<Frame>) -> Result<(), AllocError>
+        requires ready { IsReady self.old }
+        requires known { IsKnown self.old.next }
+        ensures { IfOk result (λ done. AreTakenUpTo limit self.old self.new frames.new.items) }
+    {
+        frames.clear();
+        while let Next::Read(frame) = self.next {
+            if limit.is_past(&frame) {
+                return Ok(());
+            }
+            frames.extend_from_slice(&[frame])?;
+            self.next = Next::Unread(frame.number + 1);
+            self.read_ahead()?;
+        }
+        Ok(())
+    }
+}
