@@ -27,6 +27,22 @@ use std::vec::IntoIter;
 use stop_desk::{AuditRound, Gate, Part, Team, settle};
 use tcp_streams::Connection;
 
+/// How many packets a connection has at least, on average, where its flows are worth a share among workers.
+const WORTH_SHARING: usize = 4;
+
+/// How many workers make the flows of so many connections. One does, where most connections are mere openings: to
+/// share out such jobs, and to put in order what they made, takes longer than to do them.
+fn workers_for(workers: u32, packets: usize, connections: usize) -> u32
+    requires { 0 < workers }
+    ensures { 0 < result }
+{
+    if packets / WORTH_SHARING < connections {
+        1
+    } else {
+        workers
+    }
+}
+
 /// What the flows of each connection hold, in order.
 pub(crate) fn flows_each<R: Threads + Sync, G: Gate>(
     team: &Team<'_, R, G>,
@@ -52,7 +68,13 @@ pub(crate) fn flows_each<R: Threads + Sync, G: Gate>(
         packets,
         opened,
     };
-    let settled = settle(team, AuditRound::Flows, stops.as_slice(), &round)?;
+    let team = Team {
+        rt: team.rt,
+        alloc: team.alloc,
+        workers: workers_for(team.workers, packets.len(), opened.len()),
+        gate: team.gate,
+    };
+    let settled = settle(&team, AuditRound::Flows, stops.as_slice(), &round)?;
     Ok(settled.parts)
 }
 
