@@ -128,6 +128,7 @@ impl KeptBytes {
     }
 
     /// Takes out what is kept, where it fills chunks and nothing stands in the last one. It is to be put back.
+    #[tactic(auto, using(crate::proofs::Bytes::full_size, crate::proofs::Bytes::sizes))]
     pub(crate) fn take_full(&mut self, alloc: Global) -> Option<FullChunks>
         ensures kept { IfSome result (λ full. full ≡ self.old.kept) }
         ensures rest { IfSome result (λ full. self.new.kept ≡ []) }
@@ -146,6 +147,7 @@ impl KeptBytes {
     }
 
     /// Puts full chunks in front of what is kept. Where there is no memory for their list, bytes behind them are lost.
+    #[tactic(auto, using(crate::proofs::Bytes::full_size, crate::proofs::Bytes::put_full, crate::proofs::Bytes::sizes))]
     pub(crate) fn put_back(&mut self, full: FullChunks) -> Result<(), AllocError>
         requires { length full + self.old.room ≤ 2 ^ 31 }
         ensures front { StartsWith self.new.kept full }
@@ -200,6 +202,7 @@ impl Model for FullChunks {
 
 impl FullChunks {
     /// The number of bytes.
+    #[tactic(auto, using(crate::proofs::Bytes::full_size))]
     pub(crate) fn len(&self) -> usize
         ensures { result ≡ length self.now }
     {
