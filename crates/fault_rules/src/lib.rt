@@ -20,9 +20,9 @@
 //! share's end as far as the frame sought, so that no frame is looked at more than once for each side. The shares'
 //! findings are joined in order, whichever thread was done first.
 //!
-//! Wrong bodies that the prover refuses: an overflowing grant that is added, a share that begins without the frames
-//! before it. Tested by whole reports: that the calls succeed where there is memory, once over several shares. Trusted:
-//! the port of `rayon`, which starts the threads; that several work at once is not proved.
+//! A wrong body that the prover refuses: an overflowing grant that is added. Tested by whole reports: that the calls
+//! succeed where there is memory, once over several shares. Trusted: the port of `rayon`, which starts the threads;
+//! that several work at once is not proved.
 #![tactic(auto)]
 
 mod connections;
