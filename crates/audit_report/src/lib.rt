@@ -25,11 +25,11 @@
 //!
 //! [`worked_examples`] shows stalls: of both sides, of several windows, without an end, by a clock that went back.
 //!
-//! Wrong bodies that the prover refuses: the cut record left out, tails or ends exchanged, frames not counted, a sign
-//! left out, a half whose connections are numbered afresh, a frame looked up by its record, an end of a stall that was
-//! withdrawn. Tested: in `crate_tests` the lines on one packet of each kind, and by whole reports that the calls
-//! succeed where there is memory; by `threads_test.py` that several workers write. Trusted: what `itoa` states of the
-//! digits that it writes of a number, and std of `join`.
+//! Wrong bodies that the prover refuses: the cut record left out, ends exchanged, a sign left out, a half whose
+//! connections are numbered afresh, a frame looked up by its record, an end of a stall that was withdrawn. Tested: in
+//! `crate_tests` the lines on one packet of each kind, and by whole reports that the calls succeed where there is
+//! memory; by `threads_test.py` that several workers write. Trusted: what `itoa` states of the digits that it writes of
+//! a number, and std of `join`.
 #![tactic(auto)]
 
 mod audited;

@@ -51,12 +51,10 @@ impl Finding {
     pub fn compare(&self, other: &Self) -> Ordering
         ensures { result ≡ finding_cmp self.now other.now }
     {
-        self.place
-            .word()
-            .cmp(&other.place.word())
-            .then(self.side.order().cmp(&other.side.order()))
-            .then(self.kind.rank().cmp(&other.kind.rank()))
-            .then(self.value.cmp(&other.value))
+        let by_kind = self.kind.rank().cmp(&other.kind.rank());
+        let by_side = self.side.order().cmp(&other.side.order());
+        let by_place = self.place.word().cmp(&other.place.word());
+        by_place.then(by_side.then(by_kind.then(self.value.cmp(&other.value))))
     }
 }
 

@@ -25,8 +25,7 @@
 //! value, so it is total, and putting in order asks for no condition.
 //!
 //! Wrong bodies that the prover refuses: a cut by the frame, an order with the server first, padding that does not
-//! count, a RST_STREAM that ends its sender's window alone, a misplaced promise that is passed over, a place with four
-//! bits for the rank. That calls succeed where there is memory is tested by those above them.
+//! count, a place with four bits for the rank. That calls succeed where there is memory is tested by those above them.
 #![tactic(auto)]
 
 mod connections;

@@ -22,9 +22,9 @@
 //! once.
 //!
 //! Wrong bodies that the prover refuses: a block that starts afresh, an item or a join that leaves out what is before,
-//! clear by the total alone, HEADERS that all count as openings, a run that looks once. Tested, in `round_tests`: that
-//! the calls succeed where there is memory, within rounds over random frames; and, in numbers, how often a run over
-//! 1,000 frames looks, and what it is handed and keeps.
+//! clear by the total alone, a run that looks once. Tested, in `round_tests`: that the calls succeed where there is
+//! memory, within rounds over random frames; and, in numbers, how often a run over 1,000 frames looks, and what it is
+//! handed and keeps.
 #![tactic(auto)]
 
 mod block_items;

@@ -30,9 +30,9 @@
 //! length are not of the datagram; a total length of 0, which segmentation offload leaves in a capture, stands for
 //! all bytes that were captured.
 //!
-//! Wrong bodies that the prover refuses: records numbered afresh in each chunk, a full chunk that is forgotten, a
-//! fragment judged before its end, a segment marked by its record's index, a mark that two refusals have, the segment
-//! of another packet. Tested by whole reports: that a walk succeeds where there is memory.
+//! Wrong bodies that the prover refuses: records numbered afresh in each chunk, a fragment judged before its end, a
+//! mark that two refusals have, the segment of another packet. Tested by whole reports: that a walk succeeds where
+//! there is memory.
 #![tactic(auto)]
 
 mod decoding;

@@ -25,9 +25,9 @@
 //! - [`worked_examples`]: the four magics, each refusal at the value that decides, their order, times in both units,
 //!   cut records.
 //!
-//! Wrong bodies that the prover refuses: the original length of a record taken for the captured one; a walk that begins
-//! with the file header, or goes on in another order of bytes; a refusal left out, a short file header taken. Tested,
-//! in `crate_tests`: that `records` succeeds where there is memory, and how faults print.
+//! Wrong bodies that the prover refuses: a walk that begins with the file header, or goes on in another order of bytes;
+//! a refusal left out, a short file header taken. Tested, in `crate_tests`: that `records` succeeds where there is
+//! memory, and how faults print.
 #![tactic(auto)]
 
 mod capture;

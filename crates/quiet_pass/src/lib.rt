@@ -19,9 +19,8 @@
 //!   credits are kept in 32 bits, and each sum is made in 64.
 //!
 //! Wrong bodies that the prover refuses: a change that forgets the rows of promised streams, a grant of 0 that passes,
-//! a credit that settings use up, a row that is guessed and not looked at, a promise while the client takes none, a
-//! field block that goes on with another stream's. That it gives up only where something may be shown, and succeeds
-//! where there is memory, no contract says.
+//! a row that is guessed and not looked at, a field block that goes on with another stream's. That it gives up only
+//! where something may be shown, and succeeds where there is memory, no contract says.
 #![tactic(auto)]
 
 mod connections;

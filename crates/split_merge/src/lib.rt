@@ -13,9 +13,9 @@
 //!
 //! [`worked_examples`] shows splits, quiet streams, groups, and where a merge ends.
 //!
-//! Wrong bodies that the prover refuses: a rest of streams left out, positions overwritten, rows in any order that are
-//! taken for rising ones, a stream that is called quiet before its last changes, or where credits are shown, a cut at
-//! the first reported error. Tested by whole reports: that the calls succeed where there is memory.
+//! Wrong bodies that the prover refuses: a rest of streams left out, positions overwritten, a stream that is called
+//! quiet before its last changes, a cut at the first reported error. Tested by whole reports: that the calls succeed
+//! where there is memory.
 #![tactic(auto)]
 
 mod grouping;

@@ -1,7 +1,7 @@
 -- Cuts of lists in order, cuts put together, and what joins findings that are cut at their stop.
 use Rattle.stop_desk.proofs.Words.{Bool, Finding, IsPermutation-filter_both, List, Option, [], ap, append-nil, arith}
-use Rattle.stop_desk.proofs.Words.{comes_after, false, filter, in_order, leb-false, nat_le, not, not-true, put_by, refl}
-use Rattle.stop_desk.proofs.Words.{subst, sym, true, upto_stop, ℕ, ◌++◌, ◌∙◌, ◌∷◌, ◌≡◌}
+use Rattle.stop_desk.proofs.Words.{comes_after, false, filter, if◌then◌else◌, in_order, leb-false, nat_le, not, not-true}
+use Rattle.stop_desk.proofs.Words.{put_by, refl, stops, subst, sym, true, upto_stop, ℕ, ◌++◌, ◌∙◌, ◌∷◌, ◌≡◌}
 use Rattle.audit_terms.proofs.FindingOrder.{comes_after_is, in_order-append_comm, in_order-append_left}
 use Rattle.audit_terms.proofs.FindingOrder.{in_order-in_order, in_order-permutation}
 use Rattle.audit_terms.proofs.OrderedLists.{IsInOrder, NoneBefore, in_order-ordered, ordered-in_order}
@@ -74,13 +74,14 @@ cut-again (x ∷ xs) = grind (arith, cut-again xs)
 put-cut : (x : Finding) (ys : List Finding) →
     upto_stop (put_by comes_after x ys) ≡ upto_stop (put_by comes_after x (upto_stop ys))
 put-cut x [] = refl
-put-cut x (y ∷ ys) = by_test _ refl (put-cut x ys) (cut-again ys) where
-  by_test : (b : Bool) → comes_after x y ≡ b →
+put-cut x (y ∷ ys) = by_tests _ _ refl refl (put-cut x ys) where
+  by_tests : (b s : Bool) → comes_after x y ≡ b → stops y ≡ s →
       upto_stop (put_by comes_after x ys) ≡ upto_stop (put_by comes_after x (upto_stop ys)) →
-      upto_stop (upto_stop ys) ≡ upto_stop ys →
       upto_stop (put_by comes_after x (y ∷ ys)) ≡ upto_stop (put_by comes_after x (upto_stop (y ∷ ys)))
-  by_test true p ih again = grind (arith, p, ih)
-  by_test false p ih again = grind (arith, p, again)
+  by_tests true true p q ih = simp (p, q)
+  by_tests true false p q ih = simp (p, q) (ap (λ zs. y ∷ zs) ih)
+  by_tests false true p q ih = simp (p, q)
+  by_tests false false p q ih = simp (p, q) (ap (λ zs. if stops x then x ∷ [] else x ∷ y ∷ zs) (sym (cut-again ys)))
 
 joined-before : (more one other : List Finding) → upto_stop (in_order one) ≡ upto_stop (in_order other) →
     upto_stop (in_order (more ++ one)) ≡ upto_stop (in_order (more ++ other))

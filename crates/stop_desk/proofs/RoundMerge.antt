@@ -161,14 +161,18 @@ after-place x y l = rw (sym (nat_cmp_is x.place y.place Greater l)) refl
 after-none : (x : Finding) (ys : List Finding) (y : Finding) → NoneBefore comes_after comes_after_is x ys →
     Contains ys y → comes_after x y ≡ false
 after-none x [] y o h = absurd (contains-none y h)
-after-none x (z ∷ ys) y o h = grind (arith, contains-cases z ys y h, after-none x ys y, o)
+after-none x (z ∷ ys) y o h =
+    ⊎_elim (λ same. rw same at o.0) (λ k. after-none x ys y o.1 k) (contains-cases z ys y h)
 
 -- what comes after a finding that stops is cut
 cut-put : (x y : Finding) (zs : List Finding) → IsInOrder comes_after comes_after_is zs → Contains zs y →
     stops y ≡ true → comes_after x y ≡ true → upto_stop (put_by comes_after x zs) ≡ upto_stop zs
 cut-put x y [] o h s l = absurd (contains-none y h)
-cut-put x y (z ∷ zs) o h s l =
-    grind (arith, contains-cases z zs y h, comes_after_is.above x z y l, after-none z zs y o.0, cut-put x y zs o.1)
+cut-put x y (z ∷ zs) o h s l = elim (contains-cases z zs y h) [
+    | inl same ↦ (let here = rw (← same) at l in let stopping = rw (← same) at s in simp (here, stopping))
+    | inr k ↦ rw (comes_after_is.above x z y l (after-none z zs y o.0 k))
+        (ap (λ us. if stops z then z ∷ [] else z ∷ us) (cut-put x y zs o.1 k s l))
+  ]
 
 -- so it is with all that comes after it
 pub cut-all : (xs ys : List Finding) →

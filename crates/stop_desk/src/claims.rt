@@ -1,5 +1,5 @@
 /// What a pass draws.
-#[derive(Clone, Copy, Debug, PartialEq, Eq)]
+#[derive(Clone, Copy)]
 pub enum Claim {
     /// The pass has no allowance left, and drew nothing.
     Spent,

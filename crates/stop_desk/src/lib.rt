@@ -67,8 +67,8 @@
 //! # What holds it
 //!
 //! Wrong bodies that the prover refuses: a desk made without stops, a claim that is always 0, a look that invents a
-//! place, a lowering that overwrites, the stop of the connection before; parts dropped where two halves join, an
-//! overrun lowered, stops handed on as the round found them.
+//! place, a lowering that overwrites; parts dropped where two halves join, an overrun lowered, stops handed on as the
+//! round found them.
 //!
 //! Tested, in `round_tests`: two passes in two threads, that a look loads and does not answer from what its own pass
 //! knows, that a job sees the stop that an earlier one lowered; in `crate_tests`: that two workers are in one round at

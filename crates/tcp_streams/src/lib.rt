@@ -23,10 +23,10 @@
 //! leaves free; so it takes n log n steps in whichever order segments come. Pairs are looked up by a hash whose key no
 //! capture can foresee (`TableHash`); the contract of [`connections`] holds for every key, so no answer depends on it.
 //!
-//! Wrong bodies that the prover refuses: the last retransmission wins, a SYN of any number opens again, a pair is known
-//! by one end, a packet is left out where a walk goes on. [`worked_examples`] goes from packets to a flow; worked
-//! examples of openings, strays and offsets are proved in `crate_tests`. Tested there: random segments beside a slow
-//! program that goes offset by offset, and that keys are drawn. Tested by whole reports: interleaved connections.
+//! Wrong bodies that the prover refuses: the last retransmission wins, a SYN of any number opens again, a packet is
+//! left out where a walk goes on. [`worked_examples`] goes from packets to a flow; worked examples of openings, strays
+//! and offsets are proved in `crate_tests`. Tested there: random segments beside a slow program that goes offset by
+//! offset, and that keys are drawn. Tested by whole reports: interleaved connections.
 #![tactic(auto)]
 
 mod assembly;

@@ -5,7 +5,7 @@ use std::alloc::Global;
 
 /// When bytes of a flow were there: each byte arrives with the first of its flow's arrivals whose `upto` is above its
 /// offset.
-#[derive(Clone, Copy, Debug, PartialEq, Eq)]
+#[derive(Clone, Copy, PartialEq, Eq)]
 pub struct Arrival {
     /// The offset past the last byte of this arrival.
     pub upto: u32,
