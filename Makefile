@@ -80,7 +80,8 @@ deb: $(PROGRAM) $(SPLIT)
 		tools/package/build_deb.sh "$$stage" "$(abspath $(PACKAGES))"
 
 # What tells in some three minutes whether a change holds together, and proves nothing: layout, types of Python, the
-# front end on every crate, the tests of calls, and the definitions to believe. With CRATE=NAME it proves that crate.
+# front end on every crate but the few lines of h2audit_cli, the tests of calls, and the definitions to believe. With
+# CRATE=NAME it proves that crate.
 check:
 ifdef CRATE
 	cd crates/$(CRATE) && rt check
