@@ -45,6 +45,8 @@ mod tcp;
 mod walk;
 pub mod worked_examples;
 
+pub use ethernet::{ETHERNET_HEADER, TAGGED_HEADER, VLAN_TAG};
+pub use ipv4::{IPV4_HEADER, TCP_PROTOCOL};
 pub use made::MadePackets;
 pub use packets::{Endpoint, PACKET_CHUNK, Packet, Packets, Refusal, Segment, Skip};
 pub use walk::{CapturePackets, PacketWalk};
