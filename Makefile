@@ -16,8 +16,8 @@ SOURCES := crates.txt $(shell find crates -name out -prune -o -name '*.rt' -prin
 
 .PHONY: run build install deb check test test-tools bench believed pictures
 
-# Shows two reports at once, from a build without proof: of a connection with stalls and a window below zero, and of one with an
-# overrun, whose status of 1 is the program's answer.
+# Shows two reports at once, from a build without proof: of a connection with stalls and a window below zero, and of one
+# with an overrun, whose status of 1 is the program's answer.
 run:
 	@echo 'A build without proof: about a minute on four idle cores.'
 	@captures=$$(mktemp -d) && trap 'rm -r "$$captures"' EXIT && cp $(FIRST) "$$captures" && \
@@ -69,7 +69,8 @@ install: $(PROGRAM) $(SPLIT)
 	install -D -m 644 tools/completions/h2audit.bash $(share)/bash-completion/completions/h2audit
 	$(foreach name,$(BESIDE),ln -sf h2audit $(share)/bash-completion/completions/$(name) &&) true
 	install -D -m 644 -t $(DESTDIR)$(ZSHDIR) tools/completions/_h2audit
-	install -D -m 644 -t $(share)/fish/vendor_completions.d tools/completions/h2audit.fish $(BESIDE:%=tools/completions/%.fish)
+	install -D -m 644 -t $(share)/fish/vendor_completions.d tools/completions/h2audit.fish \
+		$(BESIDE:%=tools/completions/%.fish)
 
 # Builds a Debian package of what is installed, in the folder PACKAGES.
 deb: $(PROGRAM) $(SPLIT)
@@ -78,8 +79,9 @@ deb: $(PROGRAM) $(SPLIT)
 		ZSHDIR=/usr/share/zsh/vendor-completions > /dev/null && \
 		tools/package/build_deb.sh "$$stage" "$(abspath $(PACKAGES))"
 
-# What tells in some three minutes whether a change holds together, and proves nothing: layout, types of Python, the front
-# end on every crate, the tests of calls, and the definitions to believe. With CRATE=NAME it proves that crate.
+# What tells in some three minutes whether a change holds together, and proves nothing: layout, types of Python, the
+# front end on every crate but the few lines of h2audit_cli, the tests of calls, and the definitions to believe. With
+# CRATE=NAME it proves that crate.
 check:
 ifdef CRATE
 	cd crates/$(CRATE) && rt check
@@ -101,7 +103,8 @@ test:
 	tests/reports_test.py $(PROGRAM) $(PROGRAM).by-rattle
 	tests/split_test.py $(PROGRAM) $(SPLIT) $(SPLIT).by-rattle
 
-# Tests what stands around the core: the programs in Python, man pages, completions, recipes and package. It proves nothing.
+# Tests what stands around the core: the programs in Python, man pages, completions, recipes and package. It proves
+# nothing.
 test-tools:
 	tools/tests/run.sh
 
@@ -116,6 +119,7 @@ pictures:
 bench: $(PROGRAM)
 	python3 bench/measure.py $(PROGRAM) $(BENCH)
 
-# Lists the definitions that a reader has to believe, with their lines, and marks those that the report of a capture used.
+# Lists the definitions that a reader has to believe, with their lines, and marks those that the report of a capture
+# used.
 believed:
 	@tools/by-definition --modules $(RUN) | python3 tools/believed.py --used

@@ -192,6 +192,21 @@ class Documents(unittest.TestCase):
         rows = believed.read(TOP / "crates", believed.CALLS | believed.VIEWS).by_crate()
         self.assertLessEqual(believed.sums_of(rows)[0], 1350)
 
+    def test_rules(self) -> None:
+        """The column "definition" of docs/AUDIT_RULES.md names definitions that are believed."""
+        reached = believed.read(TOP / "crates", believed.CALLS | believed.VIEWS).reached
+        names = {name for definitions in reached.values() for name in definitions}
+        column = 0
+        found: set[str] = set()
+        for line in (TOP / "docs" / "AUDIT_RULES.md").read_text(encoding="utf-8").splitlines():
+            cells = [cell.strip() for cell in line.strip("|").split("|")] if line.startswith("| ") else []
+            if "definition" in cells:
+                column = cells.index("definition")
+            elif cells:
+                found |= set(re.findall(r"`([^`]*)`", cells[column]))
+        self.assertGreater(len(found), 70)
+        self.assertEqual(found - names, set())
+
     def test_written(self) -> None:
         """README.md and docs/PROOFS.md say what is reached today."""
         run = subprocess.run([sys.executable, TOP / "tools" / "believed.py", "--check"], capture_output=True, text=True)

@@ -45,17 +45,12 @@ class Blame(unittest.TestCase):
         self.assertEqual({kind: said.blame for kind, said in blame.KINDS.items()}, ranked)
 
     def test_who_is_to_blame(self) -> None:
-        """So says the other table of that document, and the one of the README."""
-        for document in ("REPORT_FORMAT.md", "../README.md"):
-            for cells in rows(document):
-                for who in set(
-                    re.findall(
-                        r"the named side|the other side|nobody", cells[-2 if "FORMAT" in document else -1].lower()
-                    )
-                ):
-                    for kind in re.findall(r"`([a-z-]+)`", cells[0]):
-                        if kind in blame.KINDS:
-                            self.assertEqual(blame.KINDS[kind].blame, who, (document, kind))
+        """So says the table of the README."""
+        for cells in rows("../README.md"):
+            for who in set(re.findall(r"the named side|the other side|nobody", cells[-1].lower())):
+                for kind in re.findall(r"`([a-z-]+)`", cells[0]):
+                    if kind in blame.KINDS:
+                        self.assertEqual(blame.KINDS[kind].blame, who, kind)
 
     def test_sections(self) -> None:
         named: dict[str, set[str]] = {}

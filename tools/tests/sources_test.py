@@ -16,8 +16,9 @@ TOP = pathlib.Path(__file__).resolve().parents[2]
 FOLDERS = (".ci", "bench", "tests", "tools")
 LONGEST = 120
 SHELL, PYTHON = re.compile(rb"#!.*sh\b"), re.compile(rb"#!.*python3?\b")
-# A name that the toolchain makes of those of several functions, a list of tactics, and the rows of a table.
-WHOLE = re.compile(r"use \S+ as goal|#!\[tactic\(.*|    (∷ )?\((not|nat_lt|if|20 ≤) .*\)")
+# A list of tactics, which the toolchain lays out on one line, and rows of the table of packet decisions, which
+# tools/definitions reads line by line.
+WHOLE = re.compile(r"#!\[tactic\(.*|    (∷ )?\((not|nat_lt|if) .*, Refused .*\)")
 
 
 def sources(ending: str, first_line: re.Pattern[bytes]) -> list[pathlib.Path]:

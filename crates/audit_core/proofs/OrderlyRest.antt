@@ -10,11 +10,7 @@ length-orderly low [] p h = omega arith
 length-orderly low (frame ∷ frames) p h =
     let r = h.1.number in omega (arith, length-orderly (frame.number + 1) frames (omega arith) h.2)
 
--- the next of what is left
-pub drop-next : {X : Type 0} (xs : List X) (i : ℕ) (d : X) → i < length xs → drop i xs ≡ get_or xs i d ∷ drop (i + 1) xs
-drop-next xs i d l = drop_more xs i d l
-
--- the same of an element that was read at its position
+-- what is left, from an element that was read at its position
 pub drop-at : {X : Type 0} (xs : List X) (i : ℕ) (x : X) → x ≡ get_or xs i x → i < length xs →
     drop i xs ≡ x ∷ drop (i + 1) xs
-drop-at xs i x is l = drop-next xs i x l ∙ ap (λ y. y ∷ drop (i + 1) xs) (sym is)
+drop-at xs i x is l = drop_more xs i x l ∙ ap (λ y. y ∷ drop (i + 1) xs) (sym is)

@@ -13,15 +13,14 @@
 //! - [`worked_examples`] are equations, computed by proof, between what the pass gives for a script of frames and the
 //!   findings that a reader expects, typed from the rules; some go over all findings, past the stop. The table of kinds
 //!   is written out there.
-//!
-//! The state of the pass is four machines that step side by side: the last frame of each side, settings in force, the
-//! connection, and the streams. So the state of one is its own run along the frames. Sorting a joined list is a sum in
-//! which parts may change places, so all findings split by machine; and a stream that has no frame and no change at a
-//! number says nothing there. From this the law on parts follows.
-//!
-//! Wrong bodies that the prover refuses: a change that counts before its acknowledgement, promised streams that are
-//! left out, a frame that does not meet the stream which it promises. Tested, in `round_tests`: that `one_pass`
-//! succeeds where there is memory, and that the rounds show what it does of random frames.
+//! - The state of the pass is four machines that step side by side: the last frame of each side, settings in force, the
+//!   connection, and the streams. So the state of one is its own run along the frames. Sorting a joined list is a sum
+//!   in which parts may change places, so all findings split by machine; and a stream that has no frame and no change
+//!   at a number says nothing there. From this the law on parts follows.
+//! - Refused by the prover: a change that counts before its acknowledgement, promised streams that are left out, a
+//!   frame that does not meet the stream which it promises.
+//! - Tested, in `round_tests`: that `one_pass` succeeds where there is memory, and that the rounds show what it does of
+//!   random frames.
 #![tactic(auto)]
 
 pub mod laws;

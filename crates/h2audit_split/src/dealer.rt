@@ -16,10 +16,8 @@ use crate::header::{is_little, link_type};
 use crate::pair::{Pair, pair_of, part_of};
 use crate::part::Part;
 use byteorder::{BigEndian, ByteOrder, LittleEndian};
+use pcap_records::RECORD_HEADER;
 use std::io::Write;
-
-/// The length of a record's header.
-const RECORD_HEADER: usize = 16;
 
 /// So many bytes of a packet name its endpoints: an Ethernet header with a VLAN tag, the longest IPv4 header and two
 /// ports.
@@ -109,30 +107,10 @@ impl Dealer {
         ensures dealt { IfOk result
             (λ n. Deals W.contents self.old self.new parts.old parts.new (take n unread.now)) }
     {
-        if self.left == 0 {
-            return self.deal_first(unread, parts);
+        if self.left != 0 {
+            let count = self.deal_more(unread, parts)?;
+            return Ok(count);
         }
-        let count = self.deal_more(unread, parts)?;
-        Ok(count)
-    }
-
-    /// Begins a record, and deals what is there of it.
-    fn deal_first<W: Write + Drop>(
-        &mut self,
-        unread: &[u8],
-        parts: &mut [Part<W>],
-    ) -> Result<usize, SplitFault>
-        requires some { 0 < length unread.now }
-        requires between { self.old.left ≡ 0 }
-        requires part { self.old.part < length parts.old }
-        ensures part { self.new.part < length parts.new }
-        ensures same { (self.new.link ≡ self.old.link) × (self.new.is_little ≡ self.old.is_little) }
-        ensures within { IfOk result (λ n. n ≤ length unread.now) }
-        ensures stops { IfOk result (λ n. n ≡ 0 → (length unread.now < 98) × (self.new.left ≡ 0)
-            × ¬ BeginsWithRecord (order_of self.new.is_little) unread.now) }
-        ensures dealt { IfOk result
-            (λ n. Deals W.contents self.old self.new parts.old parts.new (take n unread.now)) }
-    {
         if !self.begin(unread, parts)? {
             return Ok(0);
         }

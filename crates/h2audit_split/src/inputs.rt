@@ -8,14 +8,14 @@ use crate::fault::SplitFault;
 use crate::header::link_type;
 use crate::part::Part;
 use crate::splitting::{read_header, split_file, split_last};
-use pcap_records::refusal;
+use pcap_records::{FILE_HEADER, refusal};
 use std::alloc::Global;
 use std::fs::File;
 use std::io::{Read, Write};
 use std::rt::Files;
 
 /// A file header.
-pub type Header = [u8; 24];
+pub type Header = [u8; FILE_HEADER];
 
 /// A file of a capture that stands in several.
 #[derive(Clone, Copy)]
@@ -26,7 +26,7 @@ pub struct CaptureFile<'a> {
 
 /// The header of a file, or why the capture that it begins is refused.
 pub fn begin<R: Read>(reader: &mut R) -> Result<Header, Failure> {
-    let mut header = [0; 24];
+    let mut header = [0; FILE_HEADER];
     let count = read_header(reader, &mut header)?;
     match refusal(&header[..count]) {
         Some(fault) => Err(Failure::from(fault)),

@@ -1,12 +1,11 @@
 //! The program: `h2audit-split --parts N -o DIR [FILE..]`. It makes parts of a capture of any size, each of which is a
 //! capture that h2audit reads.
 //!
-//! The records of a classic pcap capture are dealt to parts by the unordered pair of endpoints that a packet names, so
-//! a TCP connection lies in one part, in order. [`splitting::split_capture`] splits a capture from behind its file
-//! header on; [`dealer::Dealer`], [`splitting::split_file`] and [`splitting::split_last`] do so with one that comes in
-//! several files. Bytes are read once, into a buffer of at least 98, and are written as they come: nothing is kept of a
-//! record but where it goes.
-//!
+//! - The records of a classic pcap capture are dealt to parts by the unordered pair of endpoints that a packet names,
+//!   so a TCP connection lies in one part, in order. [`splitting::split_capture`] splits a capture from behind its file
+//!   header on; [`dealer::Dealer`], [`splitting::split_file`] and [`splitting::split_last`] do so with one that comes
+//!   in several files. Bytes are read once, into a buffer of at least 98, and are written as they come: nothing is kept
+//!   of a record but where it goes.
 //! - What stands behind the file header is records, one after the other, and a rest that holds no whole one
 //!   (`AreRecords` of `specs/Dealt.antt`). Part i gets what `part_bytes` says: the bytes of its own records and of a
 //!   cut one, in their order; `part_numbers` are the numbers that its records have in the whole, each in 8 bytes.
@@ -22,10 +21,9 @@
 //!   of the whole capture finds.
 //! - What the program does with words, files and folders is proved safe and total: there is a part, there are as many
 //!   as were asked for, and the buffer is long enough for a packet's front.
-//!
-//! Wrong bodies that the prover refuses: a pair of a sender alone, a record without its header, a part that gets
-//! another part's bytes, one number for all records, a full part that goes on; no parts, a buffer that is too short.
-//! Tested, in `tests/` at the root: the parts of whole captures, beside a model; reports of parts, merged.
+//! - Refused by the prover: a pair of a sender alone, a record without its header, a part that gets another part's
+//!   bytes, one number for all records, a full part that goes on; no parts, a buffer that is too short.
+//! - Tested, in `tests/` at the root: the parts of whole captures, beside a model; reports of parts, merged.
 #![tactic(auto)]
 
 mod command;

@@ -7,7 +7,7 @@ ghost use Rattle.packet_heads.specs.Tcp as tcp_words;
 ghost use Rattle.h2audit_split.specs.Pair as words;
 
 use byteorder::{BigEndian, ByteOrder};
-use packet_heads::Endpoint;
+use packet_heads::{ETHERNET_HEADER, Endpoint, IPV4_HEADER, TAGGED_HEADER, TCP_PROTOCOL, VLAN_TAG};
 use pcap_records::RAW_IP;
 
 /// The endpoints of a packet.
@@ -17,21 +17,7 @@ pub struct Pair {
     pub to: Endpoint,
 }
 
-/// The length of an Ethernet header without a VLAN tag, and with one.
-const ETHERNET_HEADER: usize = 14;
-
-const TAGGED_HEADER: usize = 18;
-
-/// The type that says that a VLAN tag follows.
-const TAG: u16 = 0x8100;
-
-/// The shortest IPv4 header.
-const IPV4_HEADER: usize = 20;
-
 const VERSION_4: u8 = 4;
-
-/// The protocol number of TCP.
-const TCP: u8 = 6;
 
 /// The length of the two ports.
 const PORTS: usize = 4;
@@ -45,7 +31,7 @@ fn datagram_start(link: u16, front: &[u8]) -> usize
 {
     if link == RAW_IP {
         0
-    } else if BigEndian::read_u16(&front[12..]) == TAG {
+    } else if BigEndian::read_u16(&front[12..]) == VLAN_TAG {
         TAGGED_HEADER
     } else {
         ETHERNET_HEADER
@@ -112,7 +98,10 @@ fn receiver(datagram: &[u8], segment: &[u8]) -> Endpoint
 fn pair_in(datagram: &[u8]) -> Option<Pair>
     ensures { result ≡ (if words.names_endpoints datagram.now then Some (words.pair_in datagram.now) else None) }
 {
-    if datagram.len() < IPV4_HEADER || version(datagram) != VERSION_4 || protocol(datagram) != TCP {
+    if datagram.len() < IPV4_HEADER
+        || version(datagram) != VERSION_4
+        || protocol(datagram) != TCP_PROTOCOL
+    {
         return None;
     }
     let header = header_length(datagram);

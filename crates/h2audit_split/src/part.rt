@@ -6,10 +6,8 @@ ghost use Rattle.byteorder.specs.Endian.{big_bytes};
 
 use crate::fault::SplitFault;
 use crate::pair::Pair;
+use pcap_records::MOST_BYTES;
 use std::io::Write;
-
-/// The most bytes that a part may have: so many does h2audit read.
-const MOST_BYTES: u64 = 0x7fff_ffff;
 
 /// The record that a part has no room for.
 #[derive(Clone, Copy)]
@@ -73,7 +71,7 @@ impl<W: Write + Drop> Part<W> {
             return Ok(());
         }
         let count = bytes.len() as u64;
-        if count > MOST_BYTES - self.size {
+        if count > MOST_BYTES as u64 - self.size {
             self.full = Some(FullPart { pair });
             return Ok(());
         }

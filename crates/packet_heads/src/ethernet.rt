@@ -10,13 +10,13 @@ use crate::packets::{Packet, Refusal, Skip};
 use byteorder::{BigEndian, ByteOrder};
 
 /// The length of a header without a tag.
-const HEADER: usize = 14;
+pub const ETHERNET_HEADER: usize = 14;
 
 /// The length of a header with a tag.
-const TAGGED_HEADER: usize = 18;
+pub const TAGGED_HEADER: usize = 18;
 
 /// The type that says that a VLAN tag follows.
-const TAG: u16 = 0x8100;
+pub const VLAN_TAG: u16 = 0x8100;
 
 /// The type of an IPv4 datagram.
 const IPV4: u16 = 0x0800;
@@ -26,7 +26,7 @@ fn is_tagged(frame: &[u8]) -> bool
     requires { 14 ≤ length frame.now }
     ensures { result ≡ is_tagged frame.now }
 {
-    BigEndian::read_u16(&frame[12..]) == TAG
+    BigEndian::read_u16(&frame[12..]) == VLAN_TAG
 }
 
 /// The length of the header, a tag included.
@@ -39,7 +39,7 @@ pub fn header_length(frame: &[u8]) -> usize
     if is_tagged(frame) {
         TAGGED_HEADER
     } else {
-        HEADER
+        ETHERNET_HEADER
     }
 }
 
@@ -61,7 +61,7 @@ pub fn answer(frame: &[u8]) -> Option<Packet>
     ensures passed_over { IfSome result IsPassedOver }
     ensures whole { IfNone result (header_length frame.now ≤ length frame.now) }
 {
-    if frame.len() < HEADER {
+    if frame.len() < ETHERNET_HEADER {
         return Some(Packet::Refused(Refusal::ShortEthernet));
     }
     let header = header_length(frame);

@@ -10,11 +10,11 @@ ghost use Rattle.packet_heads.specs.code.Standing.{IsPassedOver};
 use crate::packets::{Packet, Refusal, Skip};
 use byteorder::{BigEndian, ByteOrder};
 
-/// The shortest header, in bytes.
-const SHORTEST: usize = 20;
+/// The length of the shortest header, in bytes.
+pub const IPV4_HEADER: usize = 20;
 
 /// The protocol number of TCP.
-const TCP: u8 = 6;
+pub const TCP_PROTOCOL: u8 = 6;
 
 /// More Fragments and Fragment Offset, in the 16 bits of flags and offset.
 const FRAGMENT: u16 = 0x3fff;
@@ -123,14 +123,14 @@ pub fn answer(partial: bool, datagram: &[u8]) -> Option<Packet>
     ensures passed_over { IfSome result IsPassedOver }
     ensures whole { IfNone result (HasHeader datagram.now) }
 {
-    if datagram.len() < SHORTEST {
+    if datagram.len() < IPV4_HEADER {
         return Some(Packet::Refused(Refusal::ShortIpv4));
     }
     if version(datagram) != 4 {
         return Some(Packet::Refused(Refusal::BadVersion));
     }
     let header = header_length(datagram);
-    if header < SHORTEST || header > datagram.len() {
+    if header < IPV4_HEADER || header > datagram.len() {
         return Some(Packet::Refused(Refusal::BadHeaderLength));
     }
     let total = total_length(datagram);
@@ -143,7 +143,7 @@ pub fn answer(partial: bool, datagram: &[u8]) -> Option<Packet>
     if is_fragment(datagram) {
         return Some(Packet::Skipped(Skip::Fragment));
     }
-    if protocol(datagram) != TCP {
+    if protocol(datagram) != TCP_PROTOCOL {
         return Some(Packet::Skipped(Skip::NotTcp));
     }
     None

@@ -13,7 +13,7 @@ use input_output::Capture;
 pub const FILE_HEADER: usize = 24;
 
 /// The most bytes that a capture may have.
-const MOST_BYTES: usize = 0x7fff_ffff;
+pub const MOST_BYTES: usize = 0x7fff_ffff;
 
 /// The link type that a header names.
 pub fn link_type<T: ByteOrder>(header: &[u8]) -> u16

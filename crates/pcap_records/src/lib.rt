@@ -1,18 +1,15 @@
 //! The records of a classic pcap capture (file format version 2.4).
 //!
-//! [`records`] reads a capture forward once, by offsets, and touches no byte of a packet. It takes the four magics of
-//! the format (either order of bytes, microseconds or nanoseconds), and answers either each whole record in the order
-//! of the file, with the number of the record that the end of the capture cuts off, or the first refusal that applies,
-//! in the order of the numbers of [`PcapFault`]. A capture is held in chunks (`input_output::Capture`); a record's
-//! header is read where it lies, and only one in which two chunks meet is copied.
-//!
-//! [`RecordWalk`] does the same in steps, and keeps no record: a program that reads a capture piece by piece is handed
-//! each record that has come. `records` is such a walk that keeps them.
-//!
-//! The contract pins both answers to definitions that go by the bytes alone: `refusal` of `specs/Refusal.antt` looks at
-//! the header and the length, and `IsReading` of `specs/Reading.antt` is a relation by cases, a record of 16 header
-//! bytes and the captured ones and then the rest. They share no offset and no loop with the code.
-//!
+//! - [`records`] reads a capture forward once, by offsets, and touches no byte of a packet. It takes the four magics of
+//!   the format (either order of bytes, microseconds or nanoseconds), and answers either each whole record in the order
+//!   of the file, with the number of the record that the end of the capture cuts off, or the first refusal that
+//!   applies, in the order of the numbers of [`PcapFault`]. A capture is held in chunks (`input_output::Capture`); a
+//!   record's header is read where it lies, and only one in which two chunks meet is copied.
+//! - [`RecordWalk`] does the same in steps, and keeps no record: a program is handed each record that has come, while
+//!   it reads the capture. `records` is such a walk that keeps them.
+//! - The contract pins both answers to definitions that go by the bytes alone: `refusal` of `specs/Refusal.antt` looks
+//!   at the header and the length, and `IsReading` of `specs/Reading.antt` is a relation by cases, a record of 16
+//!   header bytes and the captured ones and then the rest. They share no offset and no loop with the code.
 //! - A refusal is decided by the header and the length, before memory is taken, so it is answered whatever memory there
 //!   is. Any other fault is want of memory.
 //! - Records are fewer than 2^27 and rise without overlap inside the capture, their times are below 2^63, the link type
@@ -24,10 +21,9 @@
 //!   of a front stands whatever bytes come behind it.
 //! - [`worked_examples`]: the four magics, each refusal at the value that decides, their order, times in both units,
 //!   cut records.
-//!
-//! Wrong bodies that the prover refuses: a walk that begins with the file header, or goes on in another order of bytes;
-//! a refusal left out, a short file header taken. Tested, in `crate_tests`: that `records` succeeds where there is
-//! memory, and how faults print.
+//! - Refused by the prover: a walk that begins with the file header, or goes on in another order of bytes; a refusal
+//!   left out, a short file header taken.
+//! - Tested, in `crate_tests`: that `records` succeeds where there is memory, and how faults print.
 #![tactic(auto)]
 
 mod capture;
@@ -41,8 +37,10 @@ mod rows;
 mod walk;
 pub mod worked_examples;
 
-pub use capture::{ETHERNET, RAW_IP, Record, Records};
+pub use capture::{RAW_IP, Record, Records};
 pub use faults::PcapFault;
+pub use header::{FILE_HEADER, MOST_BYTES};
 pub use nanos::Nanos;
 pub use reading::{records, refusal, refusal_in_chunks};
+pub use rows::RECORD_HEADER;
 pub use walk::RecordWalk;

@@ -9,7 +9,7 @@ use input_output::Capture;
 use std::alloc::{AllocError, Global};
 
 /// The length of a record's header in bytes.
-const RECORD_HEADER: usize = 16;
+pub const RECORD_HEADER: usize = 16;
 
 /// The nanoseconds in a second.
 const SECOND: u64 = 1_000_000_000;

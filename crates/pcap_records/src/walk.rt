@@ -18,8 +18,8 @@ use std::alloc::{AllocError, Global};
 
 /// The records of a front of a capture, behind which more bytes may come, one after the other.
 ///
-/// A program that reads a capture piece by piece can walk over what it has. What a walk has passed stands whatever
-/// follows (`laws::more_bytes_keep_a_walk`), and it keeps no record.
+/// A program can so walk over what it has read of a capture. What a walk has passed stands whatever follows
+/// (`laws::more_bytes_keep_a_walk`), and it keeps no record.
 #[derive(Clone, Copy)]
 pub struct RecordWalk {
     format: Format,

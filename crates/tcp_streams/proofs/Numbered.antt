@@ -68,7 +68,7 @@ Falls-next n past (Carried t ∷ rest) (suc i) s h f at =
 Falls-next n past (_ ∷ rest) (suc i) s h f at =
     Falls-next (n + 1) past rest i s h (Falls-weaker n (n + 1) past (omega arith) f) at
 
-past_after-few : (past : List Segment) (packets : List Packet)
+pub past_after-few : (past : List Segment) (packets : List Packet)
     → length (past_after past packets) ≤ length past + length packets
 past_after-few past [] = omega arith
 past_after-few past (Carried s ∷ rest) = omega (arith, past_after-few (s ∷ past) rest)

@@ -3,10 +3,10 @@ use Rattle.tcp_streams.proofs.Words.{◌≡◌, ℕ, ◌<◌, ◌≤◌, List, [
 use Rattle.tcp_streams.proofs.Words.{suc, ◌+◌, ◌-◌, ◌^◌, ◌++◌, length, drop, take, slice_get, ap, IsSome, All, IfSome}
 use Rattle.tcp_streams.proofs.Words.{IsSomeAnd, slice_range, option_or, ne_eqb, eq-eqb, lt-ltb, le-ltb, nat_tests}
 use Rattle.tcp_streams.proofs.Words.{append-nil, append_assoc, length-append, All-nil, All-weaker, All-cons, All-head}
-use Rattle.tcp_streams.proofs.Words.{if◌then◌else◌, nat_lt, All-tail, sum_by-append, sum_by-cons, Rises, IsArrivalOf}
+use Rattle.tcp_streams.proofs.Words.{if◌then◌else◌, nat_lt, All-tail, Rises, IsArrivalOf}
 use Rattle.tcp_streams.proofs.Words.{IsFlow, IsGap, arrival_at, Source, arrival, end_of_offsets, AreCaptured}
 use Rattle.tcp_streams.proofs.Words.{IsInterval, IsCaptured, Spans, arrival_with, arrivals_after, arrivals_in, at}
-use Rattle.tcp_streams.proofs.Words.{bytes_in, run_length, size_of, source_in, width, AreTimely, Interval, Arrival}
+use Rattle.tcp_streams.proofs.Words.{bytes_in, run_length, source_in, width, AreTimely, Interval, Arrival}
 use Rattle.tcp_streams.proofs.Words.{Flow, IsSame, IsTrue, bytes_of, common_steps, filter_map-append}
 use Rattle.tcp_streams.specs.Sequence.{later_of}
 use Rattle.tcp_streams.specs.code.Assembled.{IsLaidOut}

@@ -10,23 +10,23 @@
 //!   repetition the capture shows: `IsFlow` of `specs/Flow.antt` is the longest covered run from offset 0, its bytes,
 //!   the record at which each byte was there, and a gap where bytes are missing before later ones. Of several records
 //!   that cover an offset the first wins (`source` of `specs/Sequence.antt`), as a receiver that took it discards the
-//!   others. A side whose initial number was not captured has an empty flow, which is always answered.
-//!   No byte is copied: a flow's pieces point at the capture, and its bytes (`bytes_of` of `specs/Bytes.antt`) are
-//!   theirs, one piece after the other. A payload over the border of two chunks of the capture is two pieces.
+//!   others. A side whose initial number was not captured has an empty flow, which is always answered. No byte is
+//!   copied: a flow's pieces point at the capture, and its bytes (`bytes_of` of `specs/Bytes.antt`) are theirs, one
+//!   piece after the other. A payload over the border of two chunks of the capture is two pieces.
 //! - A flow is orderly, as the cut into frames asks: shorter than 2^31, its arrivals rising in offset and record, times
 //!   below 2^63. It is no longer than the payloads of its side.
 //! - [`laws`]: there is one flow for a source; each payload byte is brought to the offset that the RFC's arithmetic
 //!   gives it; all flows together fit in the capture.
-//!
-//! Segments that come in order are laid out as they come. For any others the code lays disjoint intervals over one
-//! another: the first half of the segments is set apart, then the second, which gives only the offsets that the first
-//! leaves free; so it takes n log n steps in whichever order segments come. Pairs are looked up by a hash whose key no
-//! capture can foresee (`TableHash`); the contract of [`connections`] holds for every key, so no answer depends on it.
-//!
-//! Wrong bodies that the prover refuses: the last retransmission wins, a SYN of any number opens again, a packet is
-//! left out where a walk goes on. [`worked_examples`] goes from packets to a flow; worked examples of openings, strays
-//! and offsets are proved in `crate_tests`. Tested there: random segments beside a slow program that goes offset by
-//! offset, and that keys are drawn. Tested by whole reports: interleaved connections.
+//! - Segments that come in order are laid out as they come. For any others the code lays disjoint intervals over one
+//!   another: the first half of the segments is set apart, then the second, which gives only the offsets that the first
+//!   leaves free; so it takes n log n steps in whichever order segments come. Pairs are looked up by a hash whose key
+//!   no capture can foresee (`TableHash`); the contract of [`connections`] holds for every key, so no answer depends on
+//!   it.
+//! - Refused by the prover: the last retransmission wins, a SYN of any number opens again, a packet is left out where a
+//!   walk goes on.
+//! - [`worked_examples`] goes from packets to a flow; those of openings, strays and offsets stand in `crate_tests`.
+//! - Tested, in `crate_tests`: random segments beside a slow program that goes offset by offset, and that keys are
+//!   drawn; by whole reports: interleaved connections.
 #![tactic(auto)]
 
 mod assembly;

@@ -52,7 +52,7 @@ impl Connection {
     }
 
     /// A side's initial sequence number, where the capture shows it.
-    pub fn initial_of(&self, side: Side) -> Option<u32>
+    pub(crate) fn initial_of(&self, side: Side) -> Option<u32>
         ensures { result ≡ initial_of self.now side }
     {
         match side {

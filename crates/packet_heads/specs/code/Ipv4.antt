@@ -11,7 +11,8 @@ use Rattle.packet_heads.specs.Ipv4.{datagram_end}
 -- the header is whole, and the datagram does not end before it
 abbrev pub HasHeader : List ℕ → Type 0
 HasHeader datagram =
-    (20 ≤ length datagram) × (header_length datagram ≤ datagram_end datagram) × (datagram_end datagram ≤ length datagram)
+    (20 ≤ length datagram) × (header_length datagram ≤ datagram_end datagram)
+    × (datagram_end datagram ≤ length datagram)
 
 -- lines 3 to 9 of the packet decision
 abbrev pub ipv4_lines : Bool → List ℕ → List (Bool × Packet)
@@ -19,7 +20,10 @@ ipv4_lines partial datagram =
     (nat_lt (length datagram) 20, Refused ShortIpv4)
     ∷ (not (version datagram == 4), Refused BadVersion)
     ∷ (nat_lt (header_words datagram) 5 || nat_lt (length datagram) (header_length datagram), Refused BadHeaderLength)
-    ∷ (not (total_length datagram == 0) && nat_lt (total_length datagram) (header_length datagram), Refused BadTotalLength)
+    ∷ (
+      not (total_length datagram == 0) && nat_lt (total_length datagram) (header_length datagram),
+      Refused BadTotalLength,
+    )
     ∷ (nat_lt (length datagram) (total_length datagram) && not partial, Refused PastEnd)
     ∷ (is_fragment datagram, Skipped Fragment)
     ∷ (not (protocol datagram == 6), Skipped NotTcp)
