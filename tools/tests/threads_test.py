@@ -73,7 +73,8 @@ ROWS: list[tuple[str, bytes, Ways]] = [
     ("--workers 4", pings(70_000), {
         "chunks ahead": 4, "one more at each MiB from the second on": 4, "packets of five MiB": (1, 5),
         "one side's flow": 1,
-        "each of eight batches of 8,192 frames is met while the next one is taken": 8}),
+        "each of six batches, of 128 KiB twice and then of 256 KiB, is taken by two": 6,
+        "each is met while the next one is taken": 6}),
     ("--workers 2", connections(2), {"flows of one": 1, "nothing is shown, so there is no round": 0}),
     ("--workers 2", connections(2, UNMATCHED), {
         "flows of one": 1, "one is made ready": 1, "one of two blocks is summed": 1}),

@@ -1,9 +1,9 @@
 -- A walk over the frames of both sides goes on by a batch.
-use Rattle.std.proofs.Common.{◌≡◌, ℕ, ◌+◌, ◌*◌, ◌^◌, ◌<◌, ◌≤◌, List, [], ◌∷◌, ◌++◌, length, refl, ap, ap₂, ◌∙◌, sym, arith}
-use Rattle.std.proofs.Common.{append_assoc, length-append}
-use Rattle.h2_frames.proofs.Words.{AllByRecursion, Flow, Frame, IsInRange, IsOrderlyFrom, FrameWalk, Limit, Unread, Over}
-use Rattle.h2_frames.proofs.Words.{numbered, merged, append-nil, bytes_left, AreLeft, AreMerged, AreTakenUpTo, IsReadable}
-use Rattle.h2_frames.proofs.Words.{IsHttp2, IsReady, IsWalkAfter, taken_of}
+use Rattle.std.proofs.Common.{◌≡◌, ℕ, ◌+◌, ◌*◌, ◌^◌, ◌<◌, ◌≤◌, List, [], ◌∷◌, ◌++◌, length, refl, ap, ap₂, ◌∙◌}
+use Rattle.std.proofs.Common.{sym, arith, append_assoc, length-append}
+use Rattle.h2_frames.proofs.Words.{AllByRecursion, Flow, Frame, IsInRange, IsOrderlyFrom, FrameWalk, Limit, Unread}
+use Rattle.h2_frames.proofs.Words.{numbered, merged, append-nil, bytes_left, AreLeft, AreMerged, AreTakenUpTo}
+use Rattle.h2_frames.proofs.Words.{IsHttp2, IsReadable, IsReady, IsWalkAfter, Over, taken_of}
 use Rattle.h2_frames.specs.code.Unread.{weight}
 use Rattle.h2_frames.proofs.Splitting.{merged-split, merged-all, length-merged, left-past}
 

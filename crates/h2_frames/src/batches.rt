@@ -11,6 +11,18 @@ use audit_terms::Frame;
 use std::alloc::{AllocError, Global};
 use std::thread::{Threads, join_mut};
 
+/// How many frames a batch should have at least: to start threads costs as much as to read some hundred.
+const FEW: u64 = 8_192;
+
+/// How many frames it should have at most: they are to stay in the cache of a processor.
+const MANY: u64 = 32_768;
+
+/// How many bytes of a side are read for a batch at least.
+const LEAST_REACH: u32 = 131_072;
+
+/// How many are read at most: so many may hold 116,508 frames, of nine bytes each, which take 4.7 MB in a list.
+const MOST_REACH: u32 = 1_048_576;
+
 /// Frames of both sides that were taken together: each comes before any that was not taken.
 #[derive(Drop)]
 pub struct FrameBatch {
@@ -18,6 +30,8 @@ pub struct FrameBatch {
     pub(crate) server: Vec<Frame>,
     /// How many frames were taken before them.
     pub(crate) before: u32,
+    /// How many bytes of each side they were to reach over.
+    reach: u32,
 }
 
 impl FrameBatch {
@@ -27,7 +41,23 @@ impl FrameBatch {
             client: Vec::new(alloc),
             server: Vec::new(alloc),
             before: 0,
+            reach: LEAST_REACH / 2,
         }
+    }
+
+    /// How many bytes of each side to read for the frames that come in place of these: twice as many as before where
+    /// these are few, and half as many where they are many.
+    pub(crate) fn next_reach(&mut self) -> u32
+        ensures client { self.new.client ≡ self.old.client }
+        ensures server { self.new.server ≡ self.old.server }
+    {
+        let frames = self.client.len() as u64 + self.server.len() as u64;
+        if frames < FEW && self.reach < MOST_REACH {
+            self.reach *= 2;
+        } else if MANY < frames && LEAST_REACH < self.reach {
+            self.reach /= 2;
+        }
+        self.reach
     }
 
     /// How many frames it has.

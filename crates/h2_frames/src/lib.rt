@@ -8,7 +8,8 @@
 //! come in capture order, numbered from 1: a frame is there when its last byte arrives.
 //!
 //! [`begin`] decides the same, and gives a [`FrameWalk`] over the frames in place of a list: they are taken out one by
-//! one, for a reader that need not have them all. [`cut`] is a loop over it.
+//! one, for a reader that need not have them all. [`cut`] is a loop over it. Or they are taken out in batches, each
+//! side's by a thread of its own, and a [`Merge`] hands out the frames of a [`FrameBatch`].
 //!
 //! - The contract of [`cut`] is exactly this: `specs/Spelling.antt` says what spells a frame, `specs/Body.antt` what
 //!   its payload says, `specs/CaptureOrder.antt` what the order is, and `specs/Cut.antt` puts them together.
@@ -17,6 +18,9 @@
 //! - The contract of [`FrameWalk::take_next`] speaks of both flows too, whichever they are (`specs/code/Walk.antt`):
 //!   the frames that were taken, with what is left, make the connection's; where there is none left, those that were
 //!   taken are all of its frames, and [`FrameWalk::tails`] says what follows them.
+//! - So does that of [`FrameWalk::take_batch`], of the frames of a batch in capture order, which [`Merge::take_next`]
+//!   hands out from the first to the last (`specs/code/Batch.antt`). Threads are started here alone in this crate, and
+//!   what they do side by side is what one would do in turn.
 //! - The frames are orderly, as the calls on frames ask: numbers rise, streams have 31 bits and lengths 24, times are
 //!   below 2^63. So are those that were taken, at each step of a walk.
 //! - Want of memory, the one error, is answered only for a connection that is HTTP/2. The two flows together are
@@ -30,9 +34,16 @@
 //! place; another's header and payload are put together in a buffer first, but for data with no padding, whose payload
 //! no one looks at.
 //!
+//! A batch has the frames of both sides up to a limit: a record, and a number within it. The order of capture goes by
+//! these two before anything else, so all frames up to the limit come before all others, and merging what was taken of
+//! both sides is merging the front of all that is left of them. The limit is taken from the arrivals of both flows. No
+//! contract says which it is, but that one frame at least is up to it.
+//!
 //! Wrong bodies that the prover refuses: padding as long as the payload, settings left out behind one out of range, an
-//! order by first bytes, tails exchanged. Worked examples of bodies, headers and order are proved in `crate_tests`.
-//! Tested by whole reports: that `cut` succeeds where there is memory, on connections of each of the four kinds.
+//! order by first bytes, tails exchanged, batches merged by records alone, a batch numbered from those after it. Worked
+//! examples of bodies, headers and order are proved in `crate_tests`.
+//! Tested by whole reports: that `cut` succeeds where there is memory, on connections of each of the four kinds; how
+//! many threads batches start.
 #![tactic(auto)]
 
 mod batches;

@@ -7,10 +7,7 @@ use crate::unread::{Next, Unread};
 use audit_terms::Frame;
 use std::alloc::AllocError;
 
-/// How many bytes further its flow is where a side has frames enough for one time.
-const REACH: u64 = 262_144;
-
-/// How many frames are enough where one record brings many.
+/// How many frames are enough of one record.
 const ENOUGH: u32 = 32_768;
 
 /// Up to where both sides take frames at a time: frames of earlier records, and those of this record up to this number
@@ -41,8 +38,9 @@ impl Limit {
     }
 }
 
-/// The limit of both sides, where one of them has a frame left: at least that one is taken.
-pub(crate) fn limit_of(client: &Unread<'_>, server: &Unread<'_>) -> Option<Limit>
+/// The limit of both sides, where one of them has a frame left: at least that one is taken. Each side is read so many
+/// bytes further at most.
+pub(crate) fn limit_of(client: &Unread<'_>, server: &Unread<'_>, reach: u32) -> Option<Limit>
     requires client { IsReady client.now }
     requires server { IsReady server.now }
     requires client_known { IsKnown client.now.next }
@@ -50,7 +48,7 @@ pub(crate) fn limit_of(client: &Unread<'_>, server: &Unread<'_>) -> Option<Limit
     ensures some { IfSome result (λ limit. IsReached limit client.now.next ⊎ IsReached limit server.now.next) }
     ensures none { IfNone result ((client.now.next ≡ Over) × (server.now.next ≡ Over)) }
 {
-    match (client.limit(), server.limit()) {
+    match (client.limit(reach), server.limit(reach)) {
         (Some(sent), Some(answered)) => Some(sent.first(answered)),
         (Some(sent), None) => Some(sent),
         (None, answered) => answered,
@@ -58,11 +56,11 @@ pub(crate) fn limit_of(client: &Unread<'_>, server: &Unread<'_>) -> Option<Limit
 }
 
 impl<'a> Unread<'a> {
-    /// Up to where this side has frames enough for one time. Its next frame, if there is one, is not past it.
+    /// Up to where this side is read at a time. Its next frame, if there is one, is not past it.
     ///
-    /// That is the record at which its flow is `REACH` further, or ends, and `ENOUGH` frames of that record. So the
-    /// frames of a batch take a few megabytes, however short they are and whatever one record brings.
-    fn limit(&self) -> Option<Limit>
+    /// That is the record at which its flow is so many bytes further, or else its end, and `ENOUGH` frames of that
+    /// record: one that fills a gap may bring many.
+    fn limit(&self, reach: u32) -> Option<Limit>
         requires ready { IsReady self.now }
         requires known { IsKnown self.now.next }
         ensures some { IfSome result (λ limit. IsReached limit self.now.next) }
@@ -71,10 +69,10 @@ impl<'a> Unread<'a> {
         let Next::Read(frame) = self.next else {
             return None;
         };
-        let reach = self.offset + REACH;
+        let end = self.offset + reach as u64;
         let short = self
             .arrivals
-            .partition_point(|arrival| (arrival.upto as u64) < reach);
+            .partition_point(|arrival| (arrival.upto as u64) < end);
         let rec = match self.arrivals.get(short) {
             Some(arrival) => arrival.rec.max(frame.rec),
             None => u32::MAX,

@@ -127,7 +127,8 @@ impl<'a> FrameWalk<'a> {
     {
         self.client.read_ahead()?;
         self.server.read_ahead()?;
-        let Some(limit) = limit_of(&self.client, &self.server) else {
+        let reach = batch.next_reach();
+        let Some(limit) = limit_of(&self.client, &self.server, reach) else {
             return Ok(false);
         };
         take_sides(

@@ -21,7 +21,7 @@ use std::mem;
 use std::thread::{Threads, join_mut};
 use tcp_streams::Flow;
 
-/// How many frames a batch has at least for which a thread is started.
+/// How many frames a batch has at least for which threads are started.
 const FEW: usize = 1_024;
 
 /// How many bytes both flows have together where two threads work on them: below this the frames are met before a
