@@ -18,7 +18,8 @@
 //!   in which parts may change places, so all findings split by machine; and a stream that has no frame and no change
 //!   at a number says nothing there. From this the law on parts follows.
 //! - Refused by the prover: a change that counts before its acknowledgement, promised streams that are left out, a
-//!   frame that does not meet the stream which it promises.
+//!   frame that does not meet the stream which it promises, content of a reset stream that the connection does not
+//!   count.
 //! - Tested, in `round_tests`: that `one_pass` succeeds where there is memory, and that the rounds show what it does of
 //!   random frames.
 #![tactic(auto)]

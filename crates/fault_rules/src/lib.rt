@@ -20,11 +20,10 @@
 //! share's end as far as the frame sought, so that no frame is looked at more than once for each side. The shares'
 //! findings are joined in order, whichever thread was done first.
 //!
-//! Wrong bodies that the prover refuses stand in the crates above, whose contracts rest on these: a change that counts
-//! before its acknowledgement in `audit_core`, an overflowing grant that is added in `stream_credit`, a block that
-//! starts afresh in `conn_scan`. Were a contract here weaker, `one_pass` of `audit_core` would not be proved to be the
-//! pass, nor the runs. Tested by whole reports: that the calls succeed where there is memory, once over several shares.
-//! Trusted: the port of `rayon`, which starts the threads; that several work at once is not proved.
+//! Wrong bodies that the prover refuses: an overflowing grant that is added. More stand in the crates above, whose
+//! contracts rest on these calls: content of streams that were reset, left out, in `audit_core`. Tested by whole
+//! reports: that the calls succeed where there is memory, once over several shares. Trusted: the port of `rayon`, which
+//! starts the threads; that several work at once is not proved.
 #![tactic(auto)]
 
 mod connections;

@@ -31,10 +31,11 @@
 //! `settings_pair` gives them.
 //!
 //! Wrong bodies that the prover refuses: settings that reach open streams only, a run that never looks, looks once or
-//! looks ahead of its work, one that leaves out all once it is stopped, a quiet stream whose credit is used up, initial
-//! windows that another setting puts back, an overflowing grant that is added. Tested, in `round_tests`: that
-//! `stream_run` succeeds where there is memory, and, in numbers, when it looks and what it keeps; in `threads_test.py`
-//! ("quiet streams are in no group"): that a stream which shows nothing stays quiet, which no contract says.
+//! looks ahead of its work, one that leaves out all once it is stopped, one that counts a side's last DATA as any
+//! other, a quiet stream whose credit is used up, initial windows that another setting puts back. Tested, in
+//! `round_tests`: that `stream_run` succeeds where there is memory, and, in numbers, when it looks and what it keeps;
+//! in `threads_test.py` ("quiet streams are in no group"): that a stream which shows nothing stays quiet, which no
+//! contract says.
 #![tactic(auto)]
 
 mod changes;
