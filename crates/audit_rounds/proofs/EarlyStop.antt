@@ -1,18 +1,13 @@
 -- What a pass over a front of the frames shows is what a pass over all of them shows, if it ends there.
-use Rattle.audit_rounds.proofs.Words.{◌≡◌, ℕ, Bool, true, false, not, ◌==◌, ◌||◌, if◌then◌else◌, List, [], ◌∷◌, ◌++◌}
+use Rattle.audit_rounds.proofs.Words.{◌≡◌, ℕ, Bool, true, false, not, ◌==◌, if◌then◌else◌, List, [], ◌∷◌, ◌++◌}
 use Rattle.audit_rounds.proofs.Words.{filter, flat_map, refl, sym, ap, ◌∙◌, arith, append_assoc, nat_tests, list_any}
 use Rattle.audit_rounds.proofs.Words.{Frame, Finding, stops, upto_stop, is_shown, shown, promised_by, meets, PassState}
 use Rattle.audit_rounds.proofs.Words.{pass_start, first_of, next, pass, step_of, streams_of, state_from, idle_stream}
 use Rattle.audit_rounds.proofs.Words.{stream_said, streams_met_lem}
+use Rattle.std.proofs.lemmas.Bool.{or_parts}
 use Rattle.audit_terms.specs.Frame.{promises, promised_in}
 use Rattle.audit_terms.specs.Pass.{full, full_from, said}
 use Rattle.audit_rounds.specs.laws.EarlyStop.{FrontsSettle}
-
-first_false : (a b : Bool) → (a || b) ≡ false → a ≡ false
-first_false a b e = grind arith
-
-second_false : (a b : Bool) → (a || b) ≡ false → b ≡ false
-second_false a b e = grind arith
 
 -- ---- streams that no frame of a front meets add nothing to it
 
@@ -38,7 +33,7 @@ none-said : (g : ℕ → List Finding) (streams : List ℕ) → list_any (λ oth
     → ((stream : ℕ) → (stream == 0) ≡ false → g stream ≡ []) → flat_map g streams ≡ []
 none-said g [] z h = refl
 none-said g (stream ∷ streams) z h =
-    ap (λ l. l ++ flat_map g streams) (h stream (first_false _ _ z)) ∙ none-said g streams (second_false _ _ z) h
+    ap (λ l. l ++ flat_map g streams) (h stream (or_parts _ _ z).0) ∙ none-said g streams (or_parts _ _ z).1 h
 
 -- a frame meets no stream but its own and the one that it promises
 unnamed : (stream : ℕ) (frame : Frame) → (stream == 0) ≡ false → (stream == frame.stream) ≡ false
@@ -98,9 +93,9 @@ full-front front later state [] rest h = refl
 full-front front later state (frame ∷ left) rest h =
     let here = more-said later front
     (λ stream. stream_said stream state.in_force.initial (state.streams stream) (step_of state.in_force frame stream))
-    (λ stream z u. let k = h stream z u in said-idle stream state frame k.0 (first_false _ _ k.1)) in
+    (λ stream z u. let k = h stream z u in said-idle stream state frame k.0 (or_parts _ _ k.1).0) in
     let others = full-front front later (next state frame) left rest (λ stream z u.
-    let k = h stream z u in (still-idle stream state frame k.0 (first_false _ _ k.1), second_false _ _ k.1)) in
+    let k = h stream z u in (still-idle stream state frame k.0 (or_parts _ _ k.1).0, (or_parts _ _ k.1).1)) in
     rw (here, others) (sym (append_assoc (said (streams_of front) state frame) _ _))
 
 -- ---- what is kept ends in the front

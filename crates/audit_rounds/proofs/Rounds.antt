@@ -1,5 +1,5 @@
 -- The rounds make the pass.
-use Rattle.audit_rounds.proofs.Words.{◌==◌, ◌&&◌, ◌||◌, true, not, is_none, pos, is_ack, taken, ◌≡◌, ℕ, ◌+◌, Bool}
+use Rattle.audit_rounds.proofs.Words.{◌==◌, ◌&&◌, true, not, is_none, pos, is_ack, taken, ◌≡◌, ℕ, ◌+◌, Bool}
 use Rattle.audit_rounds.proofs.Words.{false, List, [], ◌∷◌, ◌++◌, Option, Some, None, refl, sym, ap, ◌∙◌, append-nil}
 use Rattle.audit_rounds.proofs.Words.{AllByRecursion, Sides, Body, Unreadable, Frame, Finding, side_of, in_order}
 use Rattle.audit_rounds.proofs.Words.{upto_stop, shown, local_said, no_previous, previous_after, local_run}
@@ -7,6 +7,7 @@ use Rattle.audit_rounds.proofs.Words.{local_run_from, InForce, settings_said, in
 use Rattle.audit_rounds.proofs.Words.{settings_run, settings_run_from, changes_of, connection_start, streams_of}
 use Rattle.audit_rounds.proofs.Words.{frames_of, stream_run, shown-append, streams_shown, blocks_shown, IsOrderly}
 use Rattle.audit_rounds.proofs.Words.{IsOrderlyFrom}
+use Rattle.std.proofs.Math.Bool.{or-true}
 use Rattle.audit_terms.specs.declared.kinds.Kind.{Kind}
 use Rattle.audit_terms.specs.declared.kinds.Kind.TheVariants.{BadPadding, BadPreface, BadPriority, BadSetting}
 use Rattle.audit_terms.specs.declared.kinds.Kind.TheVariants.{BrokenBlock, Push, UnmatchedAck, WrongSize, WrongStream}
@@ -86,13 +87,9 @@ fault-local previous frame =
     (one pushes (fault Push frame 0) refl)
 
 -- so all of it is shown
-or_true : (b : Bool) → (b || true) ≡ true
-or_true true = refl
-or_true false = refl
-
 all-shown : (c : Bool) (found : List Finding) → AllByRecursion IsFault found → shown c found ≡ found
 all-shown c [] h = refl
-all-shown c (one ∷ found) h = rw (h.0, or_true c, all-shown c found h.1) refl
+all-shown c (one ∷ found) h = rw (h.0, or-true c, all-shown c found h.1) refl
 
 before-shown : (c : Bool) (frames : List Frame) → IsOrderly frames
     → shown c (local_run frames ++ settings_run frames) ≡ local_run frames ++ settings_run frames

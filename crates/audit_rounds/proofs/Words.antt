@@ -30,12 +30,12 @@ pub use Rattle.std.specs.List.Sorted.{IsPermutation}
 pub use Rattle.std.specs.Option.{option_map_or, option_to_list}
 pub use Rattle.std.specs.Prelude.{Result, Ok, Err, IfOk}
 pub use Rattle.std.specs.Vec.Iter.{into_iter_items}
-pub use Rattle.audit_core.proofs.OrderlyRest.{length-orderly, drop-next, drop-at}
+pub use Rattle.audit_core.proofs.OrderlyRest.{length-orderly, drop-at}
 pub use Rattle.audit_core.proofs.StreamsMet.{streams_met_lem}
 pub use Rattle.audit_core.specs.laws.Parts.{joined}
 pub use Rattle.audit_rounds.specs.code.AfterStreams.{AreAfterStreams, HaveSettled}
 pub use Rattle.audit_rounds.specs.code.Batch.{IsBatch, AreReady}
-pub use Rattle.audit_rounds.specs.code.Blocks.{IsSum, AreSums, wholes, IsShort, AreShort, blocks_in}
+pub use Rattle.audit_rounds.specs.code.Blocks.{IsSum, AreSums, wholes, IsShort, AreShort}
 pub use Rattle.audit_rounds.specs.code.Blocks.{blocks_of_connection, AddsBlocks}
 pub use Rattle.audit_rounds.specs.code.Connections.{AreRests, IsRest}
 pub use Rattle.audit_rounds.specs.code.EarlyStops.{front_of, chosen_of}

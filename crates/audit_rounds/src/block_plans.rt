@@ -12,8 +12,9 @@ ghost use Rattle.audit_rounds.specs.code.Blocks.{AreFit, AreShort, AreSums, befo
 ghost use Rattle.audit_rounds.specs.code.Plans.{IsPlan, shown_from};
 
 use crate::blocks::ConnectionBlock;
+use audit_terms::ConnectionState;
 use block_scan::Summary;
-use conn_scan::{Block, ConnState, ConnSum, clear};
+use conn_scan::{Block, ConnSum, clear};
 use std::alloc::{AllocError, Global};
 
 /// A block with the connection before it.
@@ -21,11 +22,11 @@ use std::alloc::{AllocError, Global};
 pub(crate) struct ReadyBlock<'a> {
     pub(crate) connection: usize,
     pub(crate) block: Block<'a>,
-    pub(crate) before: ConnState,
+    pub(crate) before: ConnectionState,
 }
 
 /// May anything be shown of a block, by what its summary tells? Of a clear block only credits are.
-fn may_show(credits_shown: bool, before: &ConnState, sum: &ConnSum) -> bool
+fn may_show(credits_shown: bool, before: &ConnectionState, sum: &ConnSum) -> bool
     ensures { OnFalse result ((items : List ItemTerm) → sum.now ≡ conn_sum_of items
         → shown credits_shown (block_run before.now items) ≡ []) }
 {
@@ -33,13 +34,13 @@ fn may_show(credits_shown: bool, before: &ConnState, sum: &ConnSum) -> bool
 }
 
 /// The connection before a block: as the last block leaves it, where that is of the same connection.
-fn before_of(last: usize, now: &ConnState, one: &ConnectionBlock<'_>) -> ConnState
+fn before_of(last: usize, now: &ConnectionState, one: &ConnectionBlock<'_>) -> ConnectionState
     ensures { result ≡ before_of last now.now one.now }
 {
     if one.connection == last {
         *now
     } else {
-        ConnState::start()
+        ConnectionState::start()
     }
 }
 
@@ -60,7 +61,7 @@ pub(crate) fn plan_of<'a>(
 {
     let mut plan = Vec::new(alloc);
     let mut last = 0;
-    let mut now = ConnState::start();
+    let mut now = ConnectionState::start();
     for at in 0..blocks.len() {
         let one = blocks[at];
         let before = before_of(last, &now, &one);

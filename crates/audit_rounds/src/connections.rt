@@ -64,7 +64,7 @@ fn findings_of_prepared<R: Threads + Sync, G: Gate>(
     let stops = stops.as_slice();
     let rests = rest_of_each(crew.setup.alloc, connections, stops, opened.as_slice())?;
     let last = rounds_over_blocks(crew, stops, rests.as_slice(), found)?;
-    settled(crew.setup.alloc, last)
+    cut_each(crew.setup.alloc, last)
 }
 
 /// Makes each connection ready, and answers what is found of each before the rounds.
@@ -188,7 +188,7 @@ fn rest_of_each<'a>(
 }
 
 /// Each list in order, up to and including the first that stops.
-fn settled(alloc: Global, lists: Vec<Vec<Finding>>) -> Result<Vec<Vec<Finding>>, AllocError>
+fn cut_each(alloc: Global, lists: Vec<Vec<Finding>>) -> Result<Vec<Vec<Finding>>, AllocError>
     ensures { IfOk result (λ all. map (λ one. one.items) all.items
         ≡ map (λ list. upto_stop (in_order list.items)) lists.items) }
 {

@@ -7,6 +7,10 @@ use std::alloc::Global;
 use std::thread::Threads;
 use stop_desk::{Gate, Team};
 
+/// Connections of so many frames and more are long: several threads make one ready, and a front of it goes through the
+/// rounds first.
+pub(crate) const LONG: usize = 4_096;
+
 /// How connections are gone over: in which division, and whether credits are shown.
 #[derive(Clone, Copy)]
 pub(crate) struct Setup {

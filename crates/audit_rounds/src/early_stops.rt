@@ -7,14 +7,11 @@ ghost use Rattle.audit_rounds.specs.code.EarlyStops.{chosen_of, front_of, has_st
 ghost use Rattle.audit_rounds.specs.code.Batch.{AreShown, IsBatch};
 
 use crate::connections::findings_of_batch;
-use crate::crew::Crew;
+use crate::crew::{Crew, LONG};
 use audit_terms::{Finding, Frame};
 use std::alloc::{AllocError, Global};
 use std::thread::Threads;
 use stop_desk::Gate;
-
-/// Of so many frames and more a front is gone through first.
-const LONG: usize = 4_096;
 
 /// How many times shorter than its connection a front is, and so what it may cost where it shows no error.
 const FRONTS: usize = 32;

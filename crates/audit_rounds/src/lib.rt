@@ -1,28 +1,25 @@
 //! The audit of connections, divided over workers: [`findings_of_each`] shows of each connection what one pass over its
 //! frames does (RFC 9113, 5.4.1), for every [`Division`] and every interleaving of the workers.
 //!
-//! The work is done in rounds, each over all connections of a batch, and each of jobs that workers draw. As a job goes
-//! on, it looks where its connection stops by now, each time that a look is due, and goes no further than it has to;
-//! where it finds a connection error, it lowers the stop.
-//!
-//! 1. In the round over streams, a job is a group of those of a connection, but for the quiet ones, of which nothing is
-//!    shown: those are told when the connection is split. With what the split tells of them, this tells which frames
-//!    open streams. A job goes through its streams one after the other, and makes the looks that are due of each. It
-//!    went up to the least of the places at which their runs stopped (`IsWork` of `specs/code/Streams.antt`).
-//! 2. What a connection shows by itself, up to its stop, is found in blocks of its frames. In the next round, blocks
-//!    are summed, and the sums carry the connection's state from block to block.
-//! 3. In the last, blocks that are not clear are gone through, each from the state before it; where credits are shown,
-//!    all blocks are.
-//!
-//! What its blocks show is merged with all that was found of a connection before, the faults of single frames and the
-//! acknowledgements that answer nothing among it. That is cut at the first error, and so makes the pass. A batch is
-//! consecutive connections that have not too many frames together: it bounds what the rounds need beside the frames,
-//! and lets threads start once for many small connections. It has 2^28 frames at most, whatever the connections, so
-//! each round has fewer than 2^32 jobs, and want of memory is answered only where a growth was refused.
-//! A connection without frames goes through no round. Of a long connection a front goes through the rounds first: what
-//! an early error ends is then neither split nor gone through. Many short connections go in halves of as many frames,
-//! side by side, each with half of the workers.
-//!
+//! - The work is done in rounds, each over all connections of a batch, and each of jobs that workers draw. As a job
+//!   goes on, it looks where its connection stops by now, each time that a look is due, and goes no further than it has
+//!   to; where it finds a connection error, it lowers the stop.
+//! - In the round over streams, a job is a group of those of a connection, but for the quiet ones, of which nothing is
+//!   shown: those are told when the connection is split. With what the split tells of them, this tells which frames
+//!   open streams. A job goes through its streams one after the other, and makes the looks that are due of each. It
+//!   went up to the least of the places at which their runs stopped (`IsWork` of `specs/code/Streams.antt`).
+//! - What a connection shows by itself, up to its stop, is found in blocks of its frames. A second round sums them, and
+//!   the sums carry the connection's state from block to block. The third goes through the blocks that are not clear,
+//!   each from the state before it; where credits are shown, through all of them.
+//! - What its blocks show is merged with all that was found of a connection before, the faults of single frames and the
+//!   acknowledgements that answer nothing among it. That is cut at the first error, and so makes the pass.
+//! - A batch is consecutive connections that have not too many frames together: it bounds what the rounds need beside
+//!   the frames, and lets threads start once for many small connections. It has 2^28 frames at most, whatever the
+//!   connections, so each round has fewer than 2^32 jobs, and want of memory is answered only where a growth was
+//!   refused.
+//! - A connection without frames goes through no round. Of a long connection a front goes through the rounds first:
+//!   what an early error ends is then neither split nor gone through. Many short connections go in halves of as many
+//!   frames, side by side, each with half of the workers.
 //! - [`laws::rounds_make_the_pass`]: local faults, unmatched acknowledgements, what is shown of the streams and of the
 //!   blocks make what is shown of the pass, for every division of the frames into blocks. Credits that no line shows
 //!   are left out of each of these first, which changes nothing, since a credit never stops an audit.
@@ -34,13 +31,14 @@
 //!   frames shows the same.
 //! - [`laws::openings_are_found`] and [`laws::items_are_found`]: the numbers that streams tell, and the changes, make
 //!   the items of the pass.
-//!
-//! Wrong bodies that the prover refuses: changes of settings, not handed on to the blocks; a look that answers nothing
-//! in place of the worker's, in the round over streams and in that over blocks; what the blocks show, lost where
-//! nothing was found before; openings of quiet streams, lost; streams split as if credits were not shown; what is found
-//! of a connection, given to another; of the places up to which runs went, the greater taken for the lesser. Those of
-//! single rounds stand in the crates below. Tested by whole reports, in many mixes of workers, groups and block
-//! lengths: that the call succeeds where there is memory. Trusted: the port of `itertools`.
+//! - Refused by the prover: changes of settings, not handed on to the blocks; a look that answers nothing in place of
+//!   the worker's, in the round over streams and in that over blocks; what the blocks show, lost where nothing was
+//!   found before; openings of quiet streams, lost; streams split as if credits were not shown; what is found of a
+//!   connection, given to another; of the places up to which runs went, the greater taken for the lesser. Those of
+//!   single rounds stand in the crates below.
+//! - Tested by whole reports, in many mixes of workers, groups and block lengths: that the call succeeds where there is
+//!   memory.
+//! - Trusted: the port of `itertools`.
 #![tactic(auto)]
 
 mod beginnings;

@@ -8,7 +8,7 @@ ghost use Rattle.settings_pair.specs.code.Changes.{AreOrderly, AreAcknowledged};
 ghost use Rattle.split_merge.specs.code.Split.{IsSplit};
 ghost use Rattle.audit_rounds.specs.code.Prepared.{IsPrepared, found_before};
 
-use crate::crew::Crew;
+use crate::crew::{Crew, LONG};
 use audit_terms::{Change, Finding, Frame};
 use fault_rules::local_faults;
 use settings_pair::pair;
@@ -26,9 +26,6 @@ pub(crate) struct Prepared<'a> {
     /// Its frames by stream, but for the streams of which nothing is shown.
     pub(crate) split: SplitFrames,
 }
-
-/// From so many frames on a connection is made ready by more than one thread.
-const MANY: usize = 4096;
 
 /// The faults of single frames, and the frames by stream: side by side, where there are many frames and workers.
 fn faults_and_split<R: Threads + Sync, G: Gate>(
@@ -48,7 +45,7 @@ fn faults_and_split<R: Threads + Sync, G: Gate>(
 {
     let (rt, alloc, hash) = (crew.rt, crew.setup.alloc, crew.setup.hash);
     let credits_shown = crew.setup.credits_shown;
-    if crew.workers == 1 || frames.len() < MANY {
+    if crew.workers == 1 || frames.len() < LONG {
         return (
             local_faults(rt, alloc, 1, frames),
             split(alloc, hash, credits_shown, changes, frames),

@@ -33,10 +33,6 @@ pub record IsSum (block : Block) (sum : ConnSum) : Type 0 where
   pub is : sum ≡ conn_sum_of (items_in block)
   pub little : AllByRecursion MovesLittle (items_in block)
 
--- the blocks alone
-abbrev pub blocks_in : List ConnectionBlock → List Block
-blocks_in all = map (λ (one : ConnectionBlock). one.block) all
-
 -- the summary of each block
 pub record AreSums (blocks : List ConnectionBlock) (sums : List ConnSum) : Type 0 where
   pub number : length sums ≡ length blocks

@@ -1,7 +1,7 @@
 use Rattle.audit_rounds.proofs.Words.{[], ◌∷◌, ◌++◌, map, flat_map, append-nil, sym, ap, ◌∙◌, Vec, Global}
 use Rattle.audit_rounds.proofs.Words.{into_iter_items, Finding, in_order, upto_stop}
 use Rattle.audit_rounds.proofs.Lists.{items_in, known-more, taken-all, taken-more}
-use Rattle.audit_rounds.proofs.connections.settled.Goals as goal
+use Rattle.audit_rounds.proofs.connections.cut_each.Goals as goal
 
 pub loop-list-preserved : goal.loop-list-preserved
 loop-list-preserved c =

@@ -1,5 +1,5 @@
 use Rattle.audit_rounds.proofs.Words.{◌≡◌, ◌++◌, map, into_iter_items, in_order, upto_stop}
-use Rattle.audit_rounds.proofs.connections.settled.Given as goal
+use Rattle.audit_rounds.proofs.connections.cut_each.Given as goal
 
 -- the lists so far and those that are left are all of them, and those so far are in order
 abbrev pub invariant-loop-list : goal.invariant-loop-list

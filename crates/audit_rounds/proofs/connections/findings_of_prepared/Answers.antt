@@ -17,7 +17,7 @@ rounds_over_blocks-requires-clause-few g c κs within =
 
 pub returns : goal.returns
 returns g c =
-    if_ok-then c.settled.result _ _ c.settled.ensures (λ found is. is
+    if_ok-then c.cut_each.result _ _ c.cut_each.ensures (λ found is. is
     ∙ all-settle c.args.crew.now.setup.credits_shown c.args.connections.now _ _ _ _ c.requires.prepared
     (rw (c.as_slice-stops.ensures.value, c.as_slice.ensures.value) c.in_ok-after.ensures) c.in_ok-rests.ensures
     c.in_ok-last.last.items (rw c.as_slice-2.ensures.value at c.in_ok-last.ensures))
