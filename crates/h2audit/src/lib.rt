@@ -27,9 +27,9 @@
 //!   refuses numbers out of range. [`laws::known_words`] computes seven command lines. [`ending`] is status and line.
 //! - 2^31 bytes, at which reading stops, are refused as the whole is. Where the file header refuses a capture, it alone
 //!   is kept (`brief`), since what follows changes no answer (`pcap_records::laws::header_refuses`).
-//! - What is kept and its packets stand in chunks, and nothing is copied from chunk to chunk. Packets are made while the
-//!   capture is read, of what was read so far, and their connections found; where there are several workers, beside the
-//!   reading, which does not wait for that.
+//! - What is kept and its packets stand in chunks, and nothing is copied from chunk to chunk. Packets are made while
+//!   the capture is read, of what was read so far, and their connections found; where there are several workers, beside
+//!   the reading, which does not wait for that.
 //! - Round 0 has a job for each connection, which assembles both of its flows. Where credits are not shown, their
 //!   frames are met one by one (`quiet_pass`), and where nothing is shown of them, as mostly, the number of frames and
 //!   the tails are all that is kept. Else the flows are cut into a list of frames, and `audit_rounds` has the rounds

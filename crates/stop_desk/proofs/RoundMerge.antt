@@ -169,10 +169,10 @@ cut-put : (x y : Finding) (zs : List Finding) → IsInOrder comes_after comes_af
     stops y ≡ true → comes_after x y ≡ true → upto_stop (put_by comes_after x zs) ≡ upto_stop zs
 cut-put x y [] o h s l = absurd (contains-none y h)
 cut-put x y (z ∷ zs) o h s l = elim (contains-cases z zs y h) [
-    | inl same ↦ (let here = rw (← same) at l in let stopping = rw (← same) at s in simp (here, stopping))
-    | inr k ↦ rw (comes_after_is.above x z y l (after-none z zs y o.0 k))
-        (ap (λ us. if stops z then z ∷ [] else z ∷ us) (cut-put x y zs o.1 k s l))
-  ]
+  | inl same ↦ (let here = rw (← same) at l in let stopping = rw (← same) at s in simp (here, stopping))
+  | inr k ↦ rw (comes_after_is.above x z y l (after-none z zs y o.0 k))
+      (ap (λ us. if stops z then z ∷ [] else z ∷ us) (cut-put x y zs o.1 k s l))
+]
 
 -- so it is with all that comes after it
 pub cut-all : (xs ys : List Finding) →
