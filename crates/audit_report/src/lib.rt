@@ -14,22 +14,19 @@
 //!   frames it is their number where nothing is shown of them ([`QuietConnection`]), and else the frames and what was
 //!   found in them ([`AuditedFrames`]). It stands for an [`Audited`], which the definitions are over, and of which it
 //!   has all that the text tells (`AreToldOf` of `specs/code/Reported.antt`): the text is that of any such audits.
-//!
-//! Every word, number, sign, space and line end is in the contracts, the order of lines, and which findings are shown:
-//! credits are left out by their kind, unless they are asked for. Counts are over packets, one for each record, so they
-//! add up. The last finding alone decides how an audit ended. Want of memory is the one error.
-//!
-//! Asked of the caller: one outcome for each connection, and orderly frames; nothing of the findings. A finding whose
-//! frame is not there would have record 0 and time 0, which no report meets. A finding's frame is looked for at its own
-//! number first, since frame n stands at n - 1, then by halving; lines go onto one growing text, or a worker's own.
-//!
-//! [`worked_examples`] shows stalls: of both sides, of several windows, without an end, by a clock that went back.
-//!
-//! Wrong bodies that the prover refuses: the cut record left out, tails or ends exchanged, frames not counted, a sign
-//! left out, a half whose connections are numbered afresh, a frame looked up by its record, an end of a stall that was
-//! withdrawn. Tested: in `crate_tests` the lines on one packet of each kind, and by whole reports that the calls
-//! succeed where there is memory; by `threads_test.py` that several workers write. Trusted: what `itoa` states of the
-//! digits that it writes of a number, and std of `join`.
+//! - Every word, number, sign, space and line end is in the contracts, the order of lines, and which findings are
+//!   shown: credits are left out by their kind, unless they are asked for. Counts are over packets, one for each
+//!   record, so they add up. The last finding alone decides how an audit ended. Want of memory is the one error.
+//! - Asked of the caller: one outcome for each connection, and orderly frames; nothing of the findings. A finding whose
+//!   frame is not there would have record 0 and time 0, which no report meets. A finding's frame is looked for at its
+//!   own number first, since frame n stands at n - 1, then by halving; lines go onto one growing text, or a worker's
+//!   own.
+//! - [`worked_examples`] shows stalls: of both sides, of several windows, without an end, by a clock that went back.
+//! - Refused by the prover: the cut record left out, tails or ends exchanged, frames not counted, a sign left out, a
+//!   half whose connections are numbered afresh, a frame looked up by its record, an end of a stall that was withdrawn.
+//! - Tested: in `crate_tests` the lines on one packet of each kind, and by whole reports that the calls succeed where
+//!   there is memory; by `threads_test.py` that several workers write.
+//! - Trusted: what `itoa` states of the digits that it writes of a number, and std of `join`.
 #![tactic(auto)]
 
 mod audited;

@@ -2,16 +2,16 @@
 //! name, and `Ok(true)` where what it compares is the same. Each line is one that no contract gives. Those of the calls
 //! between frames and findings are a program of their own, `round_tests`.
 //!
-//! What the calls answer is proved in their own crates, and worked out by proof in their `worked_examples`; no test
-//! repeats an equation. [`stream_examples`] and [`frame_examples`] compute the definitions of `tcp_streams` and
-//! `h2_frames` on small inputs, by proof: openings, strays and offsets that wrap; each type's payload at the lengths
-//! where its answer changes, padding, values of settings at the ends of their ranges, the preface, frame headers,
-//! capture order.
-//!
-//! What is left for tests are calls, of single crates and of runs: `assemble` beside a slow program over random
-//! segments, and what comes before it; random keys; the words of refused packets, and how faults print; readers and
-//! writers that go in steps or fail; that two workers are in one round of an audit at once, and how many jobs each
-//! round has. What the program answers to words and to whole captures is asked of the program, in `tests/` at the root.
+//! - What the calls answer is proved in their own crates, and worked out by proof in their `worked_examples`; no test
+//!   repeats an equation. [`stream_examples`] and [`frame_examples`] compute the definitions of `tcp_streams` and
+//!   `h2_frames` on small inputs, by proof: openings, strays and offsets that wrap; each type's payload at the lengths
+//!   where its answer changes, padding, values of settings at the ends of their ranges, the preface, frame headers,
+//!   capture order.
+//! - What is left for tests are calls, of single crates and of runs: `assemble` beside a slow program over random
+//!   segments, and what comes before it; random keys; the words of refused packets, and how faults print; readers and
+//!   writers that go in steps or fail; that two workers are in one round of an audit at once, and how many jobs each
+//!   round has. What the program answers to words and to whole captures is asked of the program, in `tests/` at the
+//!   root.
 #![tactic(auto)]
 
 mod captures;

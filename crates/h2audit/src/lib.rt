@@ -25,20 +25,19 @@
 //! - [`parse`] says what the words of a command line ask for, by `clap`'s own definition of the command (`Asks` of
 //!   `specs/Asked.antt`): an audit with its [`Options`], help, the version or why the words are refused. [`Options`]
 //!   refuses numbers out of range. [`laws::known_words`] computes seven command lines. [`ending`] is status and line.
-//!
-//! 2^31 bytes, at which reading stops, are refused as the whole is. Where the file header refuses a capture, it alone
-//! is kept (`brief`), since what follows changes no answer (`pcap_records::laws::header_refuses`). What is kept and its
-//! packets stand in chunks, and nothing is copied from chunk to chunk. Packets are made of each chunk as it has been
-//! read, and their connections found, beside the reading where there are several workers. Round 0 has a job for each
-//! connection, which assembles both of its flows. Where credits are not shown, their frames are met one by one
-//! (`quiet_pass`), and where nothing is shown of them, as mostly, the number of frames and the tails are all that is
-//! kept. Else the flows are cut into a list of frames, and `audit_rounds` has the rounds that these go through. Last,
-//! the workers share out the text on connections (`audit_report`).
-//!
-//! Wrong bodies that the prover refuses: an empty report, a verdict by errors alone, words always refused, options not
-//! heeded, "read failed" whatever FILE gave, standard input read though FILE is named, credits left out where they are
-//! asked for, the path of the capture left out. Tested, in `crate_tests`: the texts of faults; in `tests/` at the root:
-//! what the program answers to words, the texts of help and of refused words, whole reports, long captures.
+//! - 2^31 bytes, at which reading stops, are refused as the whole is. Where the file header refuses a capture, it alone
+//!   is kept (`brief`), since what follows changes no answer (`pcap_records::laws::header_refuses`).
+//! - What is kept and its packets stand in chunks, and nothing is copied from chunk to chunk. Packets are made of each
+//!   chunk as it has been read, and their connections found, beside the reading where there are several workers.
+//! - Round 0 has a job for each connection, which assembles both of its flows. Where credits are not shown, their
+//!   frames are met one by one (`quiet_pass`), and where nothing is shown of them, as mostly, the number of frames and
+//!   the tails are all that is kept. Else the flows are cut into a list of frames, and `audit_rounds` has the rounds
+//!   that these go through. Last, the workers share out the text on connections (`audit_report`).
+//! - Refused by the prover: an empty report, a verdict by errors alone, words always refused, options not heeded, "read
+//!   failed" whatever FILE gave, standard input read though FILE is named, credits left out where they are asked for,
+//!   the path of the capture left out.
+//! - Tested, in `crate_tests`: the texts of faults; in `tests/` at the root: what the program answers to words, the
+//!   texts of help and of refused words, whole reports, long captures.
 #![tactic(auto)]
 
 mod auditing;

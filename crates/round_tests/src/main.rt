@@ -4,8 +4,8 @@
 //! have an answer, where there is memory, and the same one, of random frames. How often runs over 1,000 frames look,
 //! and what they are handed and keep, stands in their contracts; here it stands in numbers that a reader can check.
 //!
-//! It stands on the crates of the rounds alone, and links neither those of the bytes nor `h2audit`: their tests are the
-//! lines of `crate_tests`.
+//! - It stands on the crates of the rounds alone, and links neither those of the bytes nor `h2audit`: their tests are
+//!   the lines of `crate_tests`.
 #![tactic(auto)]
 
 mod desks;
