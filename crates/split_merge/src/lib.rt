@@ -6,16 +6,14 @@
 //!   they have to be opened (5.1.1), the row of one is found by halving; the others stand in a table.
 //! - To each other stream [`split`] gives its frames, as positions in the list of all frames: one row for each, in
 //!   order of first frames, promises of it included. A second walk finds them, where there are such streams. [`groups`]
-//!   deals the rows out in consecutive ranges. A row names a range of one list of positions, so no frame is copied,
-//!   and a stream of three frames costs no list of its own.
+//!   deals the rows out in consecutive ranges. A row names a range of one list of positions, so no frame is copied, and
+//!   a stream of three frames costs no list of its own.
 //! - [`merge`] puts lists of findings into one, up to the least connection error (5.4.1). It asks for neither sorted
 //!   nor distinct findings, since their order is total.
-//!
-//! [`worked_examples`] shows splits, quiet streams, groups, and where a merge ends.
-//!
-//! Wrong bodies that the prover refuses: a rest of streams left out, positions overwritten, a stream that is called
-//! quiet before its last changes, a cut at the first reported error. Tested by whole reports: that the calls succeed
-//! where there is memory.
+//! - [`worked_examples`] shows splits, quiet streams, groups, and where a merge ends.
+//! - Refused by the prover: a rest of streams left out, positions overwritten, a stream that is called quiet before its
+//!   last changes, a cut at the first reported error.
+//! - Tested by whole reports: that the calls succeed where there is memory.
 #![tactic(auto)]
 
 mod grouping;
