@@ -1,12 +1,11 @@
 //! The vocabulary of an audit of HTTP/2 flow control (RFC 9113, sections 4 to 6): frames, places and findings, and the
 //! definitions that every part of the audit cites.
 //!
-//! `specs/` holds the rules, each beside its section of the RFC: what a frame shows by itself (`LocalFault`), settings
-//! in force (`InForce`, 6.5.3), the life of a stream (`Life`, 5.1), both sides' windows (`Connection` and `Stream`,
-//! 6.9), and the pass over all frames of a connection and where it ends (`Pass`, 5.4.1). `specs/code/runs/` has what
-//! parts of a pass show by themselves, and when a run looks for the stop of its connection; `specs/laws/` what laws
-//! say, as credit in closed form. The contracts of the program's calls rest on neither of the two.
-//!
+//! - `specs/` holds the rules, each beside its section of the RFC: what a frame shows by itself (`LocalFault`),
+//!   settings in force (`InForce`, 6.5.3), the life of a stream (`Life`, 5.1), both sides' windows (`Connection` and
+//!   `Stream`, 6.9), and the pass over all frames of a connection and where it ends (`Pass`, 5.4.1). `specs/code/runs/`
+//!   has what parts of a pass show by themselves, and when a run looks for the stop of its connection; `specs/laws/`
+//!   what laws say, as credit in closed form. The contracts of the program's calls rest on neither of the two.
 //! - [`Frame`], [`Change`], [`Item`] and [`Step`] are what an audit reads: frames, what they bring, and tests of one.
 //!   [`frame_types`] has the type bytes and the flags; [`change_by`], [`new_initial`] and their neighbours say what an
 //!   acknowledgement brings into force.
@@ -16,16 +15,14 @@
 //!   settings and the numbers that they hold.
 //! - [`Place`], [`Kind`] and [`Finding`] say where a finding stands, what it says and whether it stops the audit;
 //!   [`put_in_order`], [`cut_at_stop`], [`keep_up_to`] and [`keep_shown`] order findings, end them and drop credits.
-//! - [`Look`] and [`Watch`]: a run asks where its connection stops before its first step, and again before the next
-//!   one after each 256 steps. The steps of a stream's run are its frames and the changes that find a live window of
-//!   it; those of a block's run are its frames. A look is handed what is shown of the steps before it.
+//! - [`Look`] and [`Watch`]: a run asks where its connection stops before its first step, and again before the next one
+//!   after each 256 steps. The steps of a stream's run are its frames and the changes that find a live window of it;
+//!   those of a block's run are its frames. A look is handed what is shown of the steps before it.
 //! - [`laws`]: places stand in the order of frame number, rank and stream, and none is all ones.
-//!
-//! Each contract gives exactly what its definition says. The order of findings goes on from the place to side, kind and
-//! value, so it is total, and putting in order asks for no condition.
-//!
-//! Wrong bodies that the prover refuses: a cut by the frame, an order with the server first, padding that does not
-//! count, a place with four bits for the rank. That calls succeed where there is memory is tested by those above them.
+//! - Each contract gives exactly what its definition says. The order of findings goes on from the place to side, kind
+//!   and value, so it is total, and putting in order asks for no condition.
+//! - Refused by the prover: a cut by the frame, an order with the server first, padding that does not count, a place
+//!   with four bits for the rank. That calls succeed where there is memory is tested by those above them.
 #![tactic(auto)]
 
 mod connections;

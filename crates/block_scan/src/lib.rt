@@ -1,15 +1,13 @@
 //! Summaries of items that can be joined, under laws. It knows no frames.
 //!
-//! A [`Summary`] says what some items do to a state, in a form that can be joined: blocks of a list are summed apart,
-//! by workers that draw them, and a state is then moved past whole blocks. Each instance proves the laws of
-//! `specs/code/Summary.antt` as a ghost member: joining has a unit and is associative, the summary of two lists is
-//! their summaries joined, and to advance by none, by one item and twice is what the steps do. So what is carried past
-//! blocks is what the plain fold has there. The laws are asked of states and items that fit, as the instance says:
-//! credits of 64 bits add up only within bounds.
-//!
-//! [`Both`] is two summaries of the same items as one; [`laws`] has its lawfulness as a contract.
-//!
-//! A wrong body that the prover refuses: an item of which only one of two summaries hears.
+//! - A [`Summary`] says what some items do to a state, in a form that can be joined: blocks of a list are summed apart,
+//!   by workers that draw them, and a state is then moved past whole blocks. Each instance proves the laws of
+//!   `specs/code/Summary.antt` as a ghost member: joining has a unit and is associative, the summary of two lists is
+//!   their summaries joined, and to advance by none, by one item and twice is what the steps do. So what is carried
+//!   past blocks is what the plain fold has there. The laws are asked of states and items that fit, as the instance
+//!   says: credits of 64 bits add up only within bounds.
+//! - [`Both`] is two summaries of the same items as one; [`laws`] has its lawfulness as a contract.
+//! - Refused by the prover: an item of which only one of two summaries hears.
 #![tactic(auto)]
 
 mod both;

@@ -14,17 +14,15 @@
 //!   end, with the looks made in time (`IsRun` of `audit_terms`).
 //! - [`clear`] tells by a summary that a block shows nothing but connection credit ([`laws::clear_shows_credit`]). It
 //!   is exact for `is_clear` of `specs/code/Clear.antt`, both ways.
-//!
-//! [`laws`] say too that the items of a connection are those of the pass and that those of consecutive blocks join, and
-//! that each block fits where all blocks fit the first connection: `block_findings` asks for credits that its items
-//! cannot bring beyond 2^60, and `block_sum` says that an item moves each by at most 2^32. Two laws are worked
-//! examples: credit used up, granted and used again, in states and sums, and a stall in blocks of one, of two and at
-//! once.
-//!
-//! Wrong bodies that the prover refuses: a block that starts afresh, an item or a join that leaves out what is before,
-//! clear by the total alone, a run that looks once. Tested, in `round_tests`: that the calls succeed where there is
-//! memory, within rounds over random frames; and, in numbers, how often a run over 1,000 frames looks, and what it is
-//! handed and keeps.
+//! - [`laws`] say too that the items of a connection are those of the pass and that those of consecutive blocks join,
+//!   and that each block fits where all blocks fit the first connection: `block_findings` asks for credits that its
+//!   items cannot bring beyond 2^60, and `block_sum` says that an item moves each by at most 2^32. Two laws are worked
+//!   examples: credit used up, granted and used again, in states and sums, and a stall in blocks of one, of two and at
+//!   once.
+//! - Refused by the prover: a block that starts afresh, an item or a join that leaves out what is before, clear by the
+//!   total alone, a run that looks once.
+//! - Tested, in `round_tests`: that the calls succeed where there is memory, within rounds over random frames; and, in
+//!   numbers, how often a run over 1,000 frames looks, and what it is handed and keeps.
 #![tactic(auto)]
 
 mod block_items;

@@ -1,29 +1,26 @@
-//! The calls that say each rule of an audit (RFC 9113, 3.4, 4.2, 4.3, 5.1, 6, 8.4): what a frame shows by itself,
-//! of its connection and of its streams. And all that frames show by themselves, by as many threads as are given work.
+//! The calls that say each rule of an audit (RFC 9113, 3.4, 4.2, 4.3, 5.1, 6, 8.4): what a frame shows by itself, of
+//! its connection and of its streams. And all that frames show by themselves, by as many threads as are given work.
 //!
 //! - [`say_local`]: what a frame shows by itself and beside the frame of its side just before it; [`keep_last`] keeps
 //!   that frame.
 //! - [`say_connection`]: what an item shows of its connection, and the connection after it.
 //! - [`say_stream`]: what a step shows of a stream, and the stream after it.
 //! - [`local_faults`]: what `say_local` says of all frames of a connection.
-//!
-//! The first three answer exactly what the definitions of `audit_terms` say of one frame (`local_said`,
-//! `connection_said`, `stream_said`). The plain pass and the rounds take them from here: both say each rule by the same
-//! code, and differ only in how they walk. A step with a change has an acknowledgement for its frame
-//! (`IsAcknowledged`), so one thing alone moves a window at a step: content, a grant, or a difference of initial
-//! windows. Each is below 2^32, so credits stay below 2^60 over the fewer than 2^28 frames of a connection, and no sum
-//! wraps; that bound is bookkeeping of code (`Room` of `audit_terms`).
-//!
-//! [`local_faults`] answers exactly `local_run` of `audit_terms`, one walk over the frames that knows no shares. The
-//! code divides the frames into a share for each worker, of 4,096 frames at least. All that a share needs of those
-//! before it is the last frame of each side. That is carried from share to share first, by a look back from each
-//! share's end as far as the frame sought, so that no frame is looked at more than once for each side. The shares'
-//! findings are joined in order, whichever thread was done first.
-//!
-//! Wrong bodies that the prover refuses: an overflowing grant that is added. More stand in the crates above, whose
-//! contracts rest on these calls: content of streams that were reset, left out, in `audit_core`. Tested by whole
-//! reports: that the calls succeed where there is memory, once over several shares. Trusted: the port of `rayon`, which
-//! starts the threads; that several work at once is not proved.
+//! - The first three answer exactly what the definitions of `audit_terms` say of one frame (`local_said`,
+//!   `connection_said`, `stream_said`). The plain pass and the rounds take them from here: both say each rule by the
+//!   same code, and differ only in how they walk. A step with a change has an acknowledgement for its frame
+//!   (`IsAcknowledged`), so one thing alone moves a window at a step: content, a grant, or a difference of initial
+//!   windows. Each is below 2^32, so credits stay below 2^60 over the fewer than 2^28 frames of a connection, and no
+//!   sum wraps; that bound is bookkeeping of code (`Room` of `audit_terms`).
+//! - [`local_faults`] answers exactly `local_run` of `audit_terms`, one walk over the frames that knows no shares. The
+//!   code divides the frames into a share for each worker, of 4,096 frames at least. All that a share needs of those
+//!   before it is the last frame of each side. That is carried from share to share first, by a look back from each
+//!   share's end as far as the frame sought, so that no frame is looked at more than once for each side. The shares'
+//!   findings are joined in order, whichever thread was done first.
+//! - Refused by the prover: an overflowing grant that is added. More stand in the crates above, whose contracts rest on
+//!   these calls: content of streams that were reset, left out, in `audit_core`.
+//! - Tested by whole reports: that the calls succeed where there is memory, once over several shares.
+//! - Trusted: the port of `rayon`, which starts the threads; that several work at once is not proved.
 #![tactic(auto)]
 
 mod connections;

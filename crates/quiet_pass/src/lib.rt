@@ -1,11 +1,10 @@
 //! Connections of which nothing is shown, where credits are not shown: most are of this kind. A [`QuietPass`] meets
 //! their frames one by one, in the order of the capture, and keeps none of them.
 //!
-//! It goes along the pass of `audit_terms`, which steps from state to state. For as long as it is quiet, nothing but
-//! credits is said at any frame so far, and it stands for the state after them (`IsQuietAfter`). By
-//! [`laws::quiet_frames_show_nothing`] the pass over these frames then shows nothing. As soon as something may be
-//! shown, it gives up and stands for nothing: then the frames have to be audited.
-//!
+//! - It goes along the pass of `audit_terms`, which steps from state to state. For as long as it is quiet, nothing but
+//!   credits is said at any frame so far, and it stands for the state after them (`IsQuietAfter`). By
+//!   [`laws::quiet_frames_show_nothing`] the pass over these frames then shows nothing. As soon as something may be
+//!   shown, it gives up and stands for nothing: then the frames have to be audited.
 //! - Of the last frame of each side it keeps whether a field block goes on after it, and of which stream.
 //! - SETTINGS are kept until the end: connections have few. A change that moves an initial window goes over all streams
 //!   (RFC 9113, 6.9.2); after 64 of these it gives up, so that frames cost a bounded time each. A change that moves
@@ -17,10 +16,9 @@
 //! - A row answers each kind of frame on its stream by the same rule, ends and resets too.
 //! - Frames cost no memory, but for a new stream and SETTINGS. No sum wraps, and nothing is asked of the caller:
 //!   credits are kept in 32 bits, and each sum is made in 64.
-//!
-//! Wrong bodies that the prover refuses: a change that forgets the rows of promised streams, a grant of 0 that passes,
-//! a row that is guessed and not looked at, a field block that goes on with another stream's. That it gives up only
-//! where something may be shown, and succeeds where there is memory, no contract says.
+//! - Refused by the prover: a change that forgets the rows of promised streams, a grant of 0 that passes, a row that is
+//!   guessed and not looked at, a field block that goes on with another stream's. That it gives up only where something
+//!   may be shown, and succeeds where there is memory, no contract says.
 #![tactic(auto)]
 
 mod connections;

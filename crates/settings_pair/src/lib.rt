@@ -1,19 +1,17 @@
 //! Which SETTINGS frame an acknowledgement answers, and what it brings into force (RFC 9113, 6.5.3).
 //!
-//! The acknowledgements of one endpoint answer the SETTINGS frames of the other in the order in which these were sent.
-//! Values count from the acknowledgement, for the frames of the side that acknowledges. [`pair`] gives one [`Change`]
-//! for each acknowledgement that has something to answer, and a finding of kind `UnmatchedAck` for each that has not:
-//! exactly `changes_of` and `settings_run` of `audit_terms`. The definition counts positions in the lists of all
-//! SETTINGS sent, and the code goes through the frames once for each side, so the two share nothing. SETTINGS that wait
-//! take no memory. SETTINGS and acknowledgements go by the body alone: on a stream other than 0 they wait and pair all
-//! the same.
-//!
-//! For those who go on from the changes: their numbers rise, and the frame of each is an acknowledgement.
-//! [`worked_examples`] are short runs of the definitions: the oldest SETTINGS are taken first, and nothing that is sent
-//! later.
-//!
-//! A wrong body that the prover refuses: settings that count when they are sent. Tested by whole reports: that `pair`
-//! succeeds where there is memory.
+//! - The acknowledgements of one endpoint answer the SETTINGS frames of the other in the order in which these were
+//!   sent. Values count from the acknowledgement, for the frames of the side that acknowledges. [`pair`] gives one
+//!   [`Change`] for each acknowledgement that has something to answer, and a finding of kind `UnmatchedAck` for each
+//!   that has not: exactly `changes_of` and `settings_run` of `audit_terms`. The definition counts positions in the
+//!   lists of all SETTINGS sent, and the code goes through the frames once for each side, so the two share nothing.
+//!   SETTINGS that wait take no memory. SETTINGS and acknowledgements go by the body alone: on a stream other than 0
+//!   they wait and pair all the same.
+//! - For those who go on from the changes: their numbers rise, and the frame of each is an acknowledgement.
+//!   [`worked_examples`] are short runs of the definitions: the oldest SETTINGS are taken first, and nothing that is
+//!   sent later.
+//! - Refused by the prover: settings that count when they are sent.
+//! - Tested by whole reports: that `pair` succeeds where there is memory.
 //!
 //! [`Change`]: audit_terms::Change
 #![tactic(auto)]

@@ -1,10 +1,9 @@
 //! What one stream shows by itself (RFC 9113, 5.1, 5.2, 6.9): its use before the opening and after a side's end, grants
 //! of 0, and the credit, overruns, overflows and stalls of its two windows.
 //!
-//! [`StreamPart`] points at the frames that one stream meets: those on it, and the server's promises of it. Settings
-//! change the windows of every stream, so [`stream_run`] takes all [`Changes`] of the connection beside them (RFC 9113,
-//! 6.9.2); a frame and a change of one number are one step.
-//!
+//! - [`StreamPart`] points at the frames that one stream meets: those on it, and the server's promises of it. Settings
+//!   change the windows of every stream, so [`stream_run`] takes all [`Changes`] of the connection beside them (RFC
+//!   9113, 6.9.2); a frame and a change of one number are one step.
 //! - The findings are the run of the stream as `audit_terms` defines it, in order, credits only where they are shown,
 //!   up to the place at which its [`audit_terms::Look`] has it end; with it the opening, if that does not lie past the
 //!   place.
@@ -26,16 +25,14 @@
 //! - [`worked_examples`] are short runs of the definitions: ends of both sides, resets, promises and where they stand
 //!   wrongly, windows below zero, settings that reach open and later streams, windows that open at 0, overruns, both
 //!   overflows, a promised stream, a run that ends at a stop.
-//!
-//! Asked of the caller: rising numbers, and that a frame with the number of a change is an acknowledgement, as
-//! `settings_pair` gives them.
-//!
-//! Wrong bodies that the prover refuses: settings that reach open streams only, a run that never looks, looks once or
-//! looks ahead of its work, one that leaves out all once it is stopped, one that counts a side's last DATA as any
-//! other, a quiet stream whose credit is used up, initial windows that another setting puts back. Tested, in
-//! `round_tests`: that `stream_run` succeeds where there is memory, and, in numbers, when it looks and what it keeps;
-//! in `threads_test.py` ("quiet streams are in no group"): that a stream which shows nothing stays quiet, which no
-//! contract says.
+//! - Asked of the caller: rising numbers, and that a frame with the number of a change is an acknowledgement, as
+//!   `settings_pair` gives them.
+//! - Refused by the prover: settings that reach open streams only, a run that never looks, looks once or looks ahead of
+//!   its work, one that leaves out all once it is stopped, one that counts a side's last DATA as any other, a quiet
+//!   stream whose credit is used up, initial windows that another setting puts back.
+//! - Tested, in `round_tests`: that `stream_run` succeeds where there is memory, and, in numbers, when it looks and
+//!   what it keeps; in `threads_test.py` ("quiet streams are in no group"): that a stream which shows nothing stays
+//!   quiet, which no contract says.
 #![tactic(auto)]
 
 mod changes;
