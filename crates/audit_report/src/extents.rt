@@ -55,7 +55,7 @@ impl Reach {
     }
 
     /// The extent that it stands for.
-    pub fn extent(self) -> Extent
+    fn extent(self) -> Extent
         ensures { result ≡ extent_in self }
     {
         let size = self.size as u64;
@@ -66,7 +66,7 @@ impl Reach {
     }
 
     /// The extents of a connection's flows that reach so far.
-    pub fn extents(both: &Sides<Reach>) -> Sides<Extent>
+    pub(crate) fn extents(both: &Sides<Reach>) -> Sides<Extent>
         ensures { result ≡ extents_in both.now }
     {
         Sides {

@@ -1,5 +1,5 @@
 -- The jobs of the round over connections, and what their parts keep of flows.
-use Rattle.std.proofs.Common.{◌≡◌, ℕ, suc, ◌+◌, ◌<◌, ◌≤◌, Bool, List, [], ◌∷◌, ◌++◌, length, get_or, slice_get}
+use Rattle.std.proofs.Common.{◌≡◌, ℕ, suc, ◌+◌, ◌<◌, Bool, List, [], ◌∷◌, ◌++◌, length, get_or, slice_get}
 use Rattle.std.proofs.Common.{All, IfOk, Ok, Err, Result, Option, Some, None, Bor, map, refl, sym, subst, ap, ◌∙◌}
 use Rattle.std.proofs.Common.{arith}
 use Rattle.std.proofs.lemmas.List.{get_or-map, length-map}
@@ -10,8 +10,6 @@ use Rattle.audit_report.specs.code.Reported.{HasGapAtEnd, HasOrderlyOutcome}
 use Rattle.audit_report.specs.declared.told.Outcome.{Outcome}
 use Rattle.audit_report.specs.declared.told.Outcome.TheVariants as outcome
 use Rattle.audit_report.specs.declared.told.Told.{Told}
-use Rattle.audit_terms.specs.Finding.{shown}
-use Rattle.audit_terms.specs.Pass.{pass}
 use Rattle.audit_terms.specs.code.runs.Orderly as runs
 use Rattle.audit_terms.specs.declared.frames.Frame.{Frame}
 use Rattle.audit_terms.specs.declared.sides.Sides.{Sides}

@@ -1,5 +1,5 @@
 -- What a run on the front of a reader's bytes leaves is what a run on all of them leaves.
-use Rattle.std.proofs.Common.{◌≡◌, ◌∙◌, ℕ, Bool, ◌<◌, ◌≤◌, min, List, [], ◌++◌, length, take, Option, Some, None, Ok}
+use Rattle.std.proofs.Common.{◌≡◌, ◌∙◌, ℕ, Bool, ◌<◌, ◌≤◌, min, List, [], length, take, Option, Some, None, Ok}
 use Rattle.std.proofs.Common.{Err, Result, inl, inr, refl, sym, ap, subst, arith}
 use Rattle.std.specs.Prelude.{◌≢◌}
 use Rattle.std.proofs.lemmas.List.{append-nil, length-take, take_all}

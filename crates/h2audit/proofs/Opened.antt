@@ -5,9 +5,9 @@ use Rattle.packet_heads.specs.declared.packets.Packet.{Packet}
 use Rattle.packet_heads.specs.declared.packets.Segment.{Segment}
 use Rattle.tcp_streams.specs.declared.members.Connection.{Connection}
 use Rattle.tcp_streams.proofs.Belongings.{connections-shown}
+use Rattle.tcp_streams.proofs.Numbered.{past_after-few}
 use Rattle.tcp_streams.specs.Membership.{AreConnections, with_if}
-use Rattle.tcp_streams.specs.code.Past.{opens, openings, connection_of, connections_of, membership, past_of, past_after}
-use Rattle.packet_heads.specs.declared.packets.Packet.TheVariants.{Segment as Carried, Skipped, Refused}
+use Rattle.tcp_streams.specs.code.Past.{opens, openings, connection_of, connections_of, membership, past_of}
 
 with-one : (test : Bool) (before : List Segment) (s : Segment) → length (with_if test before s) ≤ length before + 1
 with-one true before s = let all = length-append before (s ∷ []) in omega arith
@@ -20,13 +20,6 @@ openings-few (s ∷ earlier) =
     let rest = openings-few earlier in
     omega arith
 
-past-few : (past : List Segment) (packets : List Packet)
-    → length (past_after past packets) ≤ length past + length packets
-past-few past [] = omega arith
-past-few past (Carried s ∷ rest) = let later = past-few (s ∷ past) rest in omega arith
-past-few past (Skipped _ ∷ rest) = let later = past-few past rest in omega arith
-past-few past (Refused _ ∷ rest) = let later = past-few past rest in omega arith
-
 pub opened-few : (packets : List Packet) (opened : List Connection)
     → AreConnections packets opened → length opened ≤ length packets
 opened-few packets opened are =
@@ -35,5 +28,5 @@ opened-few packets opened are =
     let mine = length-map opened membership in
     let theirs = length-map (openings (past_of packets)) (connection_of (past_of packets)) in
     let openings = openings-few (past_of packets) in
-    let past = past-few [] packets in
+    let past = past_after-few [] packets in
     omega arith

@@ -22,15 +22,20 @@ fn one_of(rng: &mut Pcg32, numbers: &[u32; 4]) -> u32 {
     numbers[(rng.next_u32() % 4) as usize]
 }
 
-/// A frame of a side on a stream, with END_STREAM in one of eight.
-fn random_frame(rng: &mut Pcg32, number: u32) -> Frame {
-    let side = if rng.next_u32() % 2 == 0 {
+/// One of both sides.
+fn random_side(rng: &mut Pcg32) -> Side {
+    if rng.next_u32() % 2 == 0 {
         Side::Client
     } else {
         Side::Server
-    };
+    }
+}
+
+/// A frame of a side on a stream.
+fn random_kind(rng: &mut Pcg32, number: u32) -> Frame {
+    let side = random_side(rng);
     let stream = one_of(rng, &[1, 3, 5, 2]);
-    let made = match rng.next_u32() % 16 {
+    match rng.next_u32() % 16 {
         0..=5 => data(number, side, stream, rng.next_u32() % 3 * 8_192),
         6 | 7 => headers(number, side, stream),
         8 => {
@@ -53,7 +58,12 @@ fn random_frame(rng: &mut Pcg32, number: u32) -> Frame {
         }
         14 => promise(number, stream, one_of(rng, &[4, 4, 6, 5])),
         _ => reset(number, side, stream),
-    };
+    }
+}
+
+/// The same, with END_STREAM in one of eight.
+fn random_frame(rng: &mut Pcg32, number: u32) -> Frame {
+    let made = random_kind(rng, number);
     let end = if rng.next_u32() % 8 == 0 {
         END_STREAM_FLAG
     } else {

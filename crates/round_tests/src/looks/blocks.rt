@@ -3,8 +3,8 @@
 use super::frames::frames;
 use super::test_look::{Looked, TestLook};
 use crate::Answer;
-use audit_terms::{Kind, Place};
-use conn_scan::{Block, ConnState, block_findings};
+use audit_terms::{ConnectionState, Kind, Place};
+use conn_scan::{Block, block_findings};
 use std::alloc::Global;
 
 /// What a run of the frames as one block comes to, with credits: one finding at each frame but the first.
@@ -15,7 +15,7 @@ fn looked(alloc: Global, mut look: TestLook) -> Option<Looked> {
         opened: &[],
         changes: &[],
     };
-    let run = block_findings(alloc, &ConnState::start(), &block, true, &mut look).ok()?;
+    let run = block_findings(alloc, &ConnectionState::start(), &block, true, &mut look).ok()?;
     Some(Looked {
         calls: look.calls,
         handed: look.handed,
