@@ -35,7 +35,6 @@ pub mod laws;
 mod rising;
 mod sums;
 
-pub use audit_terms::ConnectionState as ConnState;
 pub use block_items::{Block, changes_from, numbers_from};
 pub use blocks::{BlockRun, block_findings};
 pub use cleared::clear;
