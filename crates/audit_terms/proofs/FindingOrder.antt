@@ -16,7 +16,7 @@ use Rattle.audit_terms.specs.declared.findings.Finding.{Finding}
 use Rattle.audit_terms.specs.Side.{side_order}
 use Rattle.audit_terms.specs.Kind.{rank_of}
 use Rattle.audit_terms.specs.Finding.{finding_cmp, comes_after, in_order}
-use Rattle.audit_terms.proofs.OrderedLists.{IsAfter, IsRising, ordered-left, ordered-both}
+use Rattle.audit_terms.proofs.OrderedLists.{IsAfter, IsRising, ordered-left}
 use Rattle.audit_terms.proofs.OrderedLists.{ordered-append_comm, ordered-alike, ordered-ordered, ordered-permutation}
 use Rattle.audit_terms.proofs.OrderedLists.{ordered-in_order, in_order-rising}
 
@@ -88,9 +88,6 @@ comes_after_is = record {
 -- the lemmas on lists in order, of findings
 pub in_order-append_left : (xs ys : List Finding) → in_order (in_order xs ++ ys) ≡ in_order (xs ++ ys)
 in_order-append_left = ordered-left comes_after comes_after_is
-
-pub in_order-append_both : (xs ys : List Finding) → in_order (in_order xs ++ in_order ys) ≡ in_order (xs ++ ys)
-in_order-append_both = ordered-both comes_after comes_after_is
 
 pub in_order-append_comm : (xs ys : List Finding) → in_order (xs ++ ys) ≡ in_order (ys ++ xs)
 in_order-append_comm = ordered-append_comm comes_after comes_after_is

@@ -9,15 +9,12 @@ use crate::fault::AuditFault;
 use input_output::{
     CaptureReader, ChunksAhead, ReadFault, TableHash, keep_and_walk, keep_up_to, pass_over,
 };
-use pcap_records::PcapFault;
+use pcap_records::{FILE_HEADER, PcapFault};
 use std::alloc::Global;
 use std::io::Read;
 use std::random::RandomSource;
 use std::thread::Threads;
 use tcp_streams::ConnectionWalk;
-
-/// The number of bytes in a file header.
-const HEADER: usize = 24;
 
 /// What the file header of a capture gives.
 #[derive(Drop)]
@@ -64,7 +61,7 @@ fn read_in_chunks<T: Threads, R: Read>(
     ensures read { IfOk result (HasReadCapture (R.remaining reader.old.reader) reader.new) }
     ensures err { IfErr result (λ e. accounted.IsReadingFault e reader.new) }
 {
-    keep_up_to(ahead, reader, HEADER)?;
+    keep_up_to(ahead, reader, FILE_HEADER)?;
     let begun = ConnectionWalk::begin(alloc, hash, reader.together());
     if reader.has_ended() {
         return Ok(header_by(begun));

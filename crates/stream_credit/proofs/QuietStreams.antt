@@ -1,6 +1,6 @@
 -- A stream of which nothing is shown, from one of its frames to the next.
 use Rattle.stream_credit.proofs.Words.{◌≡◌, ℕ, pos, ◌+◌, ◌-◌, ◌^◌, ◌<◌, ◌≤◌, Bool, true, false, List, [], ◌∷◌, drop}
-use Rattle.stream_credit.proofs.Words.{length, slice_get, Some, None, refl, sym, ap, ◌∙◌, arith, inl, inr, cases_Bool}
+use Rattle.stream_credit.proofs.Words.{length, slice_get, Some, None, refl, sym, ap, ◌∙◌, arith}
 use Rattle.stream_credit.proofs.Words.{nat_tests, filter-append, slice_get_within, Sides, StreamLife, Frame, Change}
 use Rattle.stream_credit.proofs.Words.{Step, Stream, Finding, other, side_of, in_order, is_shown, shown, idle_stream}
 use Rattle.stream_credit.proofs.Words.{stream_said, stream_after, IsOrderlyFrom, IsOrderly, frame_step, change_step}

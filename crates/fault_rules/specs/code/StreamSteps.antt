@@ -1,14 +1,13 @@
 -- The parts of a live window's step, as the code works them out one by one: `window_step` has all of them.
-use Rattle.std.specs.Prelude.{ℕ, ℤ, pos, ◌+ℤ◌, ◌-ℤ◌, Bool, ◌&&◌, ◌||◌, nat_lt, if◌then◌else◌}
+use Rattle.std.specs.Prelude.{ℕ, ℤ, pos, ◌+ℤ◌, ◌-ℤ◌, Bool, ◌&&◌, nat_lt, if◌then◌else◌}
 use Rattle.audit_terms.specs.declared.sides.Side.{Side}
 use Rattle.audit_terms.specs.declared.sides.Sides.{Sides}
 use Rattle.audit_terms.specs.declared.items.Step.{Step}
 use Rattle.audit_terms.specs.Sides.{side_of}
 use Rattle.audit_terms.specs.Frame.{content_by, grant_to}
-use Rattle.audit_terms.specs.Life.{ends_window}
 use Rattle.audit_terms.specs.Window.{overflows}
 use Rattle.audit_terms.specs.Change.{new_initial}
-use Rattle.audit_terms.specs.Stream.{step_amount, step_test}
+use Rattle.audit_terms.specs.Stream.{step_amount}
 
 -- what the step moves a live window of side d by: what is granted to it, less what is sent through it (6.9, 6.9.1), and
 -- the new initial window minus the old (6.9.2)
@@ -30,8 +29,3 @@ is_overflowing_grant d stream initial step before =
 abbrev pub last_credit : Side → (stream : ℕ) → Sides ℕ → Step → (before : ℤ) → ℤ
 last_credit d stream initial step before =
     if is_overflowing_grant d stream initial step before then before else counted d stream initial step before
-
--- a live window of side d ends with a frame that ends it, or with an overflowing grant
-abbrev pub window_ends : Side → (stream : ℕ) → Sides ℕ → Step → (before : ℤ) → Bool
-window_ends d stream initial step before =
-    step_test (ends_window d) step || is_overflowing_grant d stream initial step before
