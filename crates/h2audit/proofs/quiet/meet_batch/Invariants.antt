@@ -4,12 +4,12 @@ use Rattle.h2_frames.specs.code.Batch.{IsReadyMerge, frames_of, left_of}
 use Rattle.h2audit.proofs.quiet.meet_batch.Given as goal
 use Rattle.quiet_pass.specs.code.QuietPass.{IsQuietAfter}
 
-abbrev pub invariant-loop-merge : goal.invariant-loop-merge
-invariant-loop-merge l = record {
+abbrev pub invariant-loop-frame : goal.invariant-loop-frame
+invariant-loop-frame l = record {
   ready : IsReadyMerge l.merge;
   met : (frames : List Frame) → IsQuietAfter frames l.initial.pass → (now : List Frame) × IsQuietAfter now l.pass
       × (now ++ left_of l.merge ≡ frames ++ frames_of l.batch);
 }
 
-abbrev pub decreases-loop-merge : goal.decreases-loop-merge
-decreases-loop-merge l = length (left_of l.merge)
+abbrev pub decreases-loop-frame : goal.decreases-loop-frame
+decreases-loop-frame l = length (left_of l.merge)
