@@ -32,6 +32,7 @@ pub struct FrameBatch {
     pub(crate) before: u32,
     /// How many bytes of each side they were to reach over.
     reach: u32,
+    alloc: Global,
 }
 
 impl FrameBatch {
@@ -42,7 +43,13 @@ impl FrameBatch {
             server: Vec::new(alloc),
             before: 0,
             reach: LEAST_REACH / 2,
+            alloc,
         }
+    }
+
+    /// Where its memory comes from.
+    pub fn alloc(&self) -> Global {
+        self.alloc
     }
 
     /// How many bytes of each side to read for the frames that come in place of these: twice as many as before where
@@ -149,10 +156,11 @@ pub(crate) fn take_sides<R: Threads>(
         client.take_up_to(limit, &mut batch.client)?;
         return server.take_up_to(limit, &mut batch.server);
     }
+    let alloc = batch.alloc;
     let (sent, answered) = join_mut(
         rt,
-        &mut || client.take_up_to(limit, &mut batch.client),
-        &mut || server.take_up_to(limit, &mut batch.server),
+        &mut || client.take_apart(alloc, limit, &mut batch.client),
+        &mut || server.take_apart(alloc, limit, &mut batch.server),
     );
     sent?;
     answered

@@ -5,7 +5,8 @@ ghost use Rattle.h2_frames.specs.declared.unread.Next.TheVariants.{Over};
 
 use crate::unread::{Next, Unread};
 use audit_terms::Frame;
-use std::alloc::AllocError;
+use std::alloc::{AllocError, Global};
+use std::mem;
 
 /// How many frames are enough of one record.
 const ENOUGH: u32 = 32_768;
@@ -99,5 +100,34 @@ impl<'a> Unread<'a> {
             self.read_ahead()?;
         }
         Ok(())
+    }
+
+    /// The same, beside a thread that does it for the other side.
+    ///
+    /// What is written for each frame stands with this thread alone meanwhile. In their places both sides' values lie
+    /// together, and a line of the cache would go from one processor to the other with each frame.
+    pub fn take_apart(
+        &mut self,
+        alloc: Global,
+        limit: Limit,
+        frames: &mut Vec<Frame>,
+    ) -> Result<(), AllocError>
+        requires ready { IsReady self.old }
+        requires known { IsKnown self.old.next }
+        ensures { IfOk result (λ done. AreTakenUpTo limit self.old self.new frames.new.items) }
+    {
+        let mut own = Unread {
+            side: self.side,
+            next: self.next,
+            bytes: self.bytes,
+            offset: self.offset,
+            arrivals: self.arrivals,
+            gathered: mem::replace(&mut self.gathered, Vec::new(alloc)),
+        };
+        let mut list = mem::replace(frames, Vec::new(alloc));
+        let taken = own.take_up_to(limit, &mut list);
+        *self = own;
+        *frames = list;
+        taken
     }
 }

@@ -148,7 +148,21 @@ fn take_batch<R: Threads>(
 }
 
 /// Meets a batch of frames. Is nothing of them shown?
+///
+/// The pass stands with this thread alone meanwhile: in its place it lies beside what others write.
 fn meet_batch(pass: &mut QuietPass, batch: &FrameBatch) -> Result<bool, AllocError>
+    requires { IsNumbered batch.now }
+    ensures { IfOk result (λ met. OnTrue met ((frames : List FrameTerm) → IsQuietAfter frames pass.old
+        → IsQuietAfter (frames ++ frames_of batch.now) pass.new)) }
+{
+    let mut own = mem::replace(pass, QuietPass::begin(batch.alloc()));
+    let met = meet_each(&mut own, batch);
+    *pass = own;
+    met
+}
+
+/// The same, of the frames one after the other.
+fn meet_each(pass: &mut QuietPass, batch: &FrameBatch) -> Result<bool, AllocError>
     requires { IsNumbered batch.now }
     ensures { IfOk result (λ met. OnTrue met ((frames : List FrameTerm) → IsQuietAfter frames pass.old
         → IsQuietAfter (frames ++ frames_of batch.now) pass.new)) }

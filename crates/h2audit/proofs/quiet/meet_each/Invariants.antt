@@ -1,7 +1,7 @@
 use Rattle.std.proofs.Common.{◌≡◌, List, ◌++◌, length}
 use Rattle.audit_terms.specs.declared.frames.Frame.{Frame}
 use Rattle.h2_frames.specs.code.Batch.{IsReadyMerge, frames_of, left_of}
-use Rattle.h2audit.proofs.quiet.meet_batch.Given as goal
+use Rattle.h2audit.proofs.quiet.meet_each.Given as goal
 use Rattle.quiet_pass.specs.code.QuietPass.{IsQuietAfter}
 
 abbrev pub invariant-loop-frame : goal.invariant-loop-frame
