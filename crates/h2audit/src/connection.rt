@@ -27,21 +27,9 @@ use std::vec::IntoIter;
 use stop_desk::{AuditRound, Gate, Part, Team, settle};
 use tcp_streams::Connection;
 
-/// How many packets a connection has at least, on average, where its flows are worth a share among workers.
+/// How many packets a connection has on average, at least, where workers share the connections out. Of mere openings
+/// it takes longer to share such jobs out, and to put in order what they made, than to do them.
 const WORTH_SHARING: usize = 4;
-
-/// How many workers make the flows of so many connections. One does, where most connections are mere openings: to
-/// share out such jobs, and to put in order what they made, takes longer than to do them.
-fn workers_for(workers: u32, packets: usize, connections: usize) -> u32
-    requires { 0 < workers }
-    ensures { 0 < result }
-{
-    if packets / WORTH_SHARING < connections {
-        1
-    } else {
-        workers
-    }
-}
 
 /// What the flows of each connection hold, in order.
 pub(crate) fn flows_each<R: Threads + Sync, G: Gate>(
@@ -68,10 +56,11 @@ pub(crate) fn flows_each<R: Threads + Sync, G: Gate>(
         packets,
         opened,
     };
+    let is_worth = opened.len() <= packets.len() / WORTH_SHARING;
     let team = Team {
         rt: team.rt,
         alloc: team.alloc,
-        workers: workers_for(team.workers, packets.len(), opened.len()),
+        workers: if is_worth { team.workers } else { 1 },
         gate: team.gate,
     };
     let settled = settle(&team, AuditRound::Flows, stops.as_slice(), &round)?;

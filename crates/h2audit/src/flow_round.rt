@@ -20,10 +20,8 @@ use std::thread::{Threads, join};
 use stop_desk::{Round, Work};
 use tcp_streams::{Connection, Flow, assemble};
 
-/// What is made for each side of a connection.
-///
-/// Two threads make it (`both`). It stands behind a trait, since `join` passes on nothing of what closures say that
-/// hold a type with a lifetime and a model, as [`Capture`] is.
+/// What is made for each side of a connection, by two threads (`both`). It stands behind a trait, since `join` passes
+/// on nothing of what closures say that hold a type with a lifetime and a model, as [`Capture`] is.
 trait ForSides: Sync {
     type Made: Send + Drop;
 

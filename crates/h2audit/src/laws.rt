@@ -4,8 +4,7 @@ ghost use Rattle.h2audit.specs.laws.KnownWords.{KnownWords};
 ghost use Rattle.h2audit.specs.laws.OneReport.{OneReport};
 ghost use Rattle.h2audit.specs.laws.Run.{FaultsAreSilent, RunsLeave};
 
-/// The bytes of a capture, and whether credits are shown, determine the report's text and the
-/// verdict.
+/// The bytes of a capture, and whether credits are shown, determine the report's text and the verdict.
 pub fn one_report()
     ensures { OneReport }
 {}

@@ -6,34 +6,24 @@
 //! ```
 //!
 //! - [`audit`] answers for every capture its report and verdict, or why there is none: the first refusal that applies,
-//!   or want of memory. The report is `IsReport` of `specs/Report.antt`, made of the definitions of the crates below
-//!   and of none of their functions. It names neither workers nor groups nor blocks, and [`laws::one_report`] says that
-//!   there is no second one.
+//!   or want of memory. The report is `IsReport` of `specs/Report.antt`, which names no function of the crates below,
+//!   no workers, groups or blocks; [`laws::one_report`] says that there is no second one.
 //! - [`run`] reads a capture to its end, audits it, writes the report and flushes once. What its reads gave and its
-//!   writes took is told by the accounts of `input_output`, a [`CaptureReader`] and a [`ReportWriter`]. For every
-//!   reader and writer, also of files and pipes, clause `tells` says of these accounts (`Tells` of
-//!   `specs/Account.antt`): after a verdict the reads gave a whole capture, and the writes took all of its report and
-//!   one flush; after a failed write they took a prefix of it; before any other fault nothing was written, and a
-//!   refusal is that of the bytes that were read. Where reader and writer themselves tell their bytes, these are the
-//!   ones of the accounts (`given`, `taken`); what a run then leaves in the writer follows ([`laws::runs_leave`],
-//!   [`laws::faults_are_silent`]).
-//! - [`run_program`] is the program, over words and what it is lent ([`Outside`]): a way to open FILE and to say a
-//!   line, and the accounts of standard input, of FILE and of standard output. It does what the words ask for and
-//!   nothing else (`Ends` of `specs/Program.antt`): the account of the input that they name tells what `run` tells,
-//!   status and line are those of the answer, and all else that is lent stays as it was. [`program_words`] reads the
-//!   words.
+//!   writes took is told by the accounts of `input_output`, a [`CaptureReader`] and a [`ReportWriter`] (clause `tells`,
+//!   `Tells` of `specs/Account.antt`), for every reader and writer, also of files and pipes. Where these tell their
+//!   bytes themselves, they are those of the accounts (`given`, `taken`); what a run then leaves in the writer follows
+//!   ([`laws::runs_leave`], [`laws::faults_are_silent`]).
+//! - [`run_program`] is the program, over the words that [`program_words`] reads and what it is lent ([`Outside`]): a
+//!   way to open FILE and to say a line, and the accounts of standard input, of FILE and of standard output. It does
+//!   what the words ask for and nothing else (`Ends` of `specs/Program.antt`).
 //! - [`parse`] says what the words of a command line ask for, by `clap`'s own definition of the command (`Asks` of
 //!   `specs/Asked.antt`): an audit with its [`Options`], help, the version or why the words are refused. [`Options`]
 //!   refuses numbers out of range. [`laws::known_words`] computes seven command lines. [`ending`] is status and line.
 //! - 2^31 bytes, at which reading stops, are refused as the whole is. Where the file header refuses a capture, it alone
 //!   is kept (`brief`), since what follows changes no answer (`pcap_records::laws::header_refuses`).
-//! - What is kept and its packets stand in chunks, and nothing is copied from chunk to chunk. Packets are made while
-//!   the capture is read, of what was read so far, and their connections found; where there are several workers, beside
-//!   the reading, which does not wait for that.
-//! - Round 0 has a job for each connection, which assembles both of its flows. Where credits are not shown, their
-//!   frames are met one by one (`quiet_pass`), and where nothing is shown of them, as mostly, the number of frames and
-//!   the tails are all that is kept. Else the flows are cut into a list of frames, and `audit_rounds` has the rounds
-//!   that these go through. Last, the workers share out the text on connections (`audit_report`).
+//! - Packets are made, and connections found, while the capture is read. Round 0 has a job for each connection, which
+//!   makes both of its flows, and meets their frames where credits are not shown. What may show something goes through
+//!   the rounds of `audit_rounds`. docs/ARCHITECTURE.md follows the data all the way.
 //! - Refused by the prover: an empty report, a verdict by errors alone, words always refused, options not heeded, "read
 //!   failed" whatever FILE gave, standard input read though FILE is named, credits left out where they are asked for,
 //!   the path of the capture left out.

@@ -30,9 +30,8 @@ const LONG: u64 = 1_048_576;
 
 /// The number of frames and the tails of a connection of HTTP/2 of which nothing is shown, where credits are not.
 ///
-/// The frames are taken out of the flows one by one, and met by a machine that keeps none of them. It gives up at the
-/// first frame of which something may be shown. Where there is no answer, the flows may hold anything, and something
-/// may be shown or not. With two `threads` or more, two work on long flows.
+/// The frames are met by a machine that keeps none of them, and gives up at the first of which something may be shown:
+/// so no answer tells nothing. With two `threads` or more, several work on long flows.
 pub(crate) fn quiet_connection<R: Threads>(
     rt: &R,
     alloc: Global,
@@ -147,9 +146,8 @@ fn take_batch<R: Threads>(
     Ok(more)
 }
 
-/// Meets a batch of frames. Is nothing of them shown?
-///
-/// The pass stands with this thread alone meanwhile: in its place it lies beside what others write.
+/// Meets a batch of frames. Is nothing of them shown? The pass stands with this thread alone meanwhile: in its place
+/// it lies beside what others write.
 fn meet_batch(pass: &mut QuietPass, batch: &FrameBatch) -> Result<bool, AllocError>
     requires { IsNumbered batch.now }
     ensures { IfOk result (λ met. OnTrue met ((frames : List FrameTerm) → IsQuietAfter frames pass.old

@@ -24,10 +24,9 @@ use stop_desk::Gate;
 /// writes took: the report that was written is that of the capture that was read. Of a capture that its file header
 /// refuses the account keeps that header, and the number of bytes after it, which are read and passed over.
 ///
-/// No capture is refused before reading is over, so a failure to read comes before a refusal of the
-/// capture. After `Write` a front of the report was written, possibly all of it; after any other
-/// fault nothing was. An error of any kind from the reader or the writer is a fault: no call is
-/// tried again.
+/// No capture is refused before reading is over, so a failure to read comes before a refusal of the capture. After
+/// `Write` a front of the report was written, possibly all of it; after any other fault nothing was. An error of any
+/// kind from the reader or the writer is a fault: no call is tried again.
 pub fn run<R: Read, W: Write>(
     rt: &(impl Threads + Sync + RandomSource),
     alloc: Global,
