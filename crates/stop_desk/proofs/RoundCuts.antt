@@ -1,6 +1,7 @@
 -- Cuts of lists in order, cuts put together, and what joins findings that are cut at their stop.
 use Rattle.stop_desk.proofs.Words.{Bool, Finding, IsPermutation-filter_both, List, Option, [], ap, append-nil, arith}
-use Rattle.stop_desk.proofs.Words.{comes_after, false, filter, if◌then◌else◌, in_order, leb-false, nat_le, not, not-true}
+use Rattle.stop_desk.proofs.Words.{comes_after, false, filter, if◌then◌else◌, in_order}
+use Rattle.stop_desk.proofs.Words.{leb-false, nat_le, not, not-true}
 use Rattle.stop_desk.proofs.Words.{put_by, refl, stops, subst, sym, true, upto_stop, ℕ, ◌++◌, ◌∙◌, ◌∷◌, ◌≡◌}
 use Rattle.audit_terms.proofs.FindingOrder.{comes_after_is, in_order-append_comm, in_order-append_left}
 use Rattle.audit_terms.proofs.FindingOrder.{in_order-in_order, in_order-permutation}
