@@ -168,9 +168,10 @@ fn are_two_at_once(
         && gate.given_up.load(Ordering::SeqCst) == 0
 }
 
-/// A connection, and a second opening of its pair.
+/// A connection, and a second opening of its pair: four packets for each, so that both workers make flows.
 fn two_connections(alloc: Global) -> Result<Capture, AllocError> {
     let mut capture = Capture::opened(alloc)?;
+    capture.client(headers(1))?;
     capture.syn(9000)?;
     Ok(capture)
 }
