@@ -1,4 +1,5 @@
 -- A stream after a frame of which nothing is shown: how each side stands, and the row that is kept of it.
+use Rattle.std.specs.Bool.{then_some}
 use Rattle.std.proofs.lemmas.Bool.{or_parts}
 use Rattle.stream_credit.proofs.Words.{◌≡◌, ℕ, pos, ◌<◌, Bool, true, false, ◌&&◌, if◌then◌else◌}
 use Rattle.stream_credit.proofs.Words.{List, Some, None, refl, sym, ap, ◌∙◌, arith, subst, and-false}
@@ -7,7 +8,7 @@ use Rattle.stream_credit.proofs.Words.{Sides, Body, WindowUpdate, Frame, StreamL
 use Rattle.stream_credit.proofs.Words.{is_reset, increment, is_zero_grant, content_by, sends_end, is_last_of}
 use Rattle.stream_credit.proofs.Words.{ends_window, is_not_opened, is_after_end, life_after, is_used_up, overflows}
 use Rattle.stream_credit.proofs.Words.{overruns, say_of, idle_stream, stream_said, stream_after, counted, frame_step}
-use Rattle.stream_credit.proofs.Words.{has_credit, has_ended, window_of}
+use Rattle.stream_credit.proofs.Words.{has_credit, has_ended, mark, window_of, ForSome, same_Some}
 use Rattle.audit_terms.specs.Frame.{is_content, is_headers, is_update, needs_opening, is_server_promise, promises}
 use Rattle.audit_terms.specs.Life.{idle_life, is_opening}
 use Rattle.audit_terms.specs.Stream.{opened_window_said, stream_window_said}
@@ -17,8 +18,14 @@ use Rattle.stream_credit.proofs.QuietStreams.{window-some, ended-none}
 use Rattle.stream_credit.proofs.SilentLemmas.{both, unsaid, frame-unshown, IsCalm, calm-some, calm-ended, calm-same}
 use Rattle.stream_credit.proofs.SilentLemmas.{stream-unshown, stream-moved}
 use Rattle.quiet_pass.specs.declared.rows.Row.{Row}
-use Rattle.quiet_pass.specs.code.Standing.{mark, AreUnshown, IsCounted, IsStandingAfter, IsOpeningStanding}
+use Rattle.quiet_pass.specs.code.Standing.{AreUnshown, IsCounted, IsStandingAfter, IsOpeningStanding}
 use Rattle.quiet_pass.specs.code.Rows.{life_of, stream_of, entry_in, AreRising, IsRowAfter, IsOpened, HasMet}
+
+-- what a frame opens, where nothing is shown of it
+pub ForSome-quiet : (quiet opens : Bool) (P : Bool → Type 0) → (quiet ≡ true → P opens)
+    → ForSome (then_some quiet opens) P
+ForSome-quiet true opens P h = λ x e. subst P (same_Some _ _ e) (h refl)
+ForSome-quiet false opens P h = λ x e. cc
 
 -- a promise on a stream is of another
 pub promises-other : (frame : Frame) → promises frame.stream frame ≡ false

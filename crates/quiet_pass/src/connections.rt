@@ -10,9 +10,9 @@ ghost use Rattle.quiet_pass.specs.code.Connection.{connection_of, IsConnectionAf
 ghost use Rattle.quiet_pass.specs.code.Connection.{IsOpenedAfter, IsPromisedAfter, IsUnmoved};
 
 use audit_terms::{
-    Change, FIRST_LIMIT, FIRST_WINDOW, Frame, LARGEST_WINDOW, Side, Sides, limit_after, new_limit,
-    new_push,
+    Change, FIRST_LIMIT, FIRST_WINDOW, Frame, Side, Sides, limit_after, new_limit, new_push,
 };
+use stream_credit::standings::balance;
 
 /// The connection between two frames (RFC 9113, 4.2, 5.1.1, 6.9).
 #[derive(Clone, Copy)]
@@ -153,12 +153,11 @@ fn moved_side(frame: &Frame) -> Option<Side>
 fn counted(credit: u32, side: Side, frame: &Frame) -> Option<u32>
     ensures { ForSome result (IsCountedCredit side frame.now credit) }
 {
-    let granted = frame.grant_to(side, 0);
-    let after = i64::from(credit) + i64::from(granted) - i64::from(frame.content_by(side));
-    if credit == 0 || after <= 0 || after > i64::from(LARGEST_WINDOW) {
+    let after = balance(credit, frame.grant_to(side, 0), frame.content_by(side))?;
+    if credit == 0 || after == 0 {
         return None;
     }
-    Some(after as u32)
+    Some(after)
 }
 
 /// A credit after a frame, if nothing but credit is shown of that (6.9, 6.9.1).

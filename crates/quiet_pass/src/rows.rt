@@ -8,9 +8,10 @@ ghost use Rattle.audit_terms.specs.declared.sides.Sides.{Sides as SidesTerm};
 ghost use Rattle.quiet_pass.specs.code.Rows.{life_of, IsRowOf, IsRowAfter, IsOpened, AreRising, HasMet};
 ghost use Rattle.quiet_pass.specs.code.Rows.{AreMoved, IsPast, IsRowMoved};
 
-use crate::standings::{has_ended, moved, opening_standing, standing_after};
+use crate::standings::{opening_standing, standing_after};
 use audit_terms::{Frame, Side, Sides, StreamLife};
 use std::alloc::AllocError;
+use stream_credit::standings::{has_ended, moved};
 
 /// A stream that is opened, between two frames: 16 bytes.
 #[derive(Clone, Copy)]
@@ -110,10 +111,10 @@ pub(crate) fn find(rows: &[Row], stream: u32) -> Option<usize>
         return None;
     };
     let guess = stream.wrapping_sub(first.stream) as usize / 2;
-    match rows.get(guess) {
-        Some(row) if row.stream == stream => Some(guess),
-        _ => search(rows, stream),
+    if is_row_of(rows, guess, stream) {
+        return Some(guess);
     }
+    search(rows, stream)
 }
 
 /// The same by halving.
@@ -121,9 +122,19 @@ fn search(rows: &[Row], stream: u32) -> Option<usize>
     ensures { ForSome result (IsRowOf rows.now stream) }
 {
     let at = rows.partition_point(|row| row.stream < stream);
+    if is_row_of(rows, at, stream) {
+        return Some(at);
+    }
+    None
+}
+
+/// Does the row of a stream stand here?
+fn is_row_of(rows: &[Row], at: usize, stream: u32) -> bool
+    ensures { OnTrue result (IsRowOf rows.now stream at) }
+{
     match rows.get(at) {
-        Some(row) if row.stream == stream => Some(at),
-        _ => None,
+        Some(row) => row.stream == stream,
+        None => false,
     }
 }
 

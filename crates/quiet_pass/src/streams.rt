@@ -44,7 +44,7 @@ impl Streams {
     {
         if frame.is_server_promise() {
             let is_quiet = self.promise(initial, frame)?;
-            return Ok(if is_quiet { Some(false) } else { None });
+            return Ok(is_quiet.then_some(false));
         }
         if frame.stream % 2 == 1 {
             meet_on(&mut self.opened, initial, frame)
@@ -95,11 +95,11 @@ fn meet_on(
 {
     if let Some(at) = find(rows.as_slice(), frame.stream) {
         let is_quiet = meet(rows, at, frame);
-        return Ok(if is_quiet { Some(false) } else { None });
+        return Ok(is_quiet.then_some(false));
     }
     if !frame.needs_opening() {
         return Ok(Some(false));
     }
     let is_quiet = open(rows, frame.stream, initial, frame)?;
-    Ok(if is_quiet { Some(true) } else { None })
+    Ok(is_quiet.then_some(true))
 }

@@ -19,7 +19,8 @@
 //!   counted without a list of findings.
 //! - A [`QuietStream`] is what is known of a stream of which nothing is shown so far, where credits are not shown. It
 //!   meets the stream's frames one by one, beside all other streams. What is quiet after its last frame shows nothing,
-//!   and its opening is known: so it needs no run.
+//!   and its opening is known: so it needs no run. How a side stands is one number there, and [`standings`] says what
+//!   frames and changes do to it: `quiet_pass` keeps the same.
 //! - No sum wraps, for any increments and settings that a frame can hold: 2^28 steps of less than 2^32 fit a signed
 //!   word.
 //! - [`worked_examples`] are short runs of the definitions: ends of both sides, resets, promises and where they stand
@@ -41,6 +42,7 @@ mod quiet;
 mod quiet_streams;
 mod runs;
 mod silent;
+pub mod standings;
 mod stream_parts;
 mod walks;
 pub mod worked_examples;

@@ -13,21 +13,19 @@ ghost use Rattle.stream_credit.specs.code.Looks.{is_live};
 ghost use Rattle.audit_terms.specs.code.Room.{HasRoom};
 ghost use Rattle.stream_credit.specs.code.Changes.{AreFrom};
 ghost use Rattle.stream_credit.specs.code.QuietStream.{CanMeet, HasMet, IsAhead, IsAheadIfQuiet, IsCreditOf};
-ghost use Rattle.stream_credit.specs.code.QuietStream.{IsMovedBy, IsNext, IsPassed, ShowsNothing, opened_of, stream_of};
-ghost use Rattle.stream_credit.specs.code.QuietStream.{has_credit, has_ended, window_of, IsStanding};
+ghost use Rattle.stream_credit.specs.code.QuietStream.{IsNext, IsPassed, ShowsNothing, opened_of, stream_of};
+ghost use Rattle.stream_credit.specs.code.QuietStream.{has_credit, window_of, IsStanding};
 ghost use Rattle.stream_credit.specs.code.Quiet.{IsRaised};
 
 use crate::changes::Changes;
 use crate::quiet::{Move, move_of};
+use crate::standings::{has_credit, has_ended, mark, moved};
 use audit_terms::{
     Finding, Frame, LARGEST_WINDOW, Length, Side, Sides, Step, Stream, StreamLife, initial_after,
     keep_shown,
 };
 use fault_rules::say_stream;
 use std::alloc::AllocError;
-
-/// What stands for a credit where the side has ended the stream: its window is not live then.
-const ENDED: u32 = LARGEST_WINDOW + 1;
 
 /// The most changes that a stream is followed through: more do not fit its count.
 const MOST_MET: u32 = 0xff_ffff;
@@ -50,20 +48,6 @@ pub struct QuietStream {
 }
 
 const _: () = prove!(size_of::<QuietStream>() == 16);
-
-/// Does a side that stands so have a live window?
-fn has_credit(standing: u32) -> bool
-    ensures { result ≡ has_credit standing }
-{
-    0 < standing && standing < ENDED
-}
-
-/// Has a side that stands so ended the stream?
-fn has_ended(standing: u32) -> bool
-    ensures { result ≡ has_ended standing }
-{
-    standing == ENDED
-}
 
 /// The window of a side that stands so.
 fn window_of(standing: u32) -> Option<i64>
@@ -93,18 +77,8 @@ fn standing_of(window: &Option<i64>, ended: bool) -> Option<u32>
     match window {
         Some(_) if ended => None,
         Some(credit) => kept(*credit),
-        None => Some(if ended { ENDED } else { 0 }),
+        None => Some(mark(ended)),
     }
-}
-
-/// How a side stands after a change of the initial window, under the same conditions (6.9.2).
-fn moved(standing: u32, before: u32, after: u32) -> Option<u32>
-    ensures { ForSome result (IsMovedBy before after standing) }
-{
-    if !has_credit(standing) {
-        return Some(standing);
-    }
-    kept(i64::from(standing) + i64::from(after) - i64::from(before))
 }
 
 /// A credit after a frame moves it by an amount, if it is live, under the same conditions.

@@ -1,5 +1,5 @@
 -- How a side stands on a stream of which nothing is shown. No public clause cites this.
-use Rattle.std.specs.Prelude.{◌≡◌, ℕ, ◌^◌, ◌<◌, ℤ, pos, ◌+ℤ◌, ◌-ℤ◌, Bool, false, ◌||◌, if◌then◌else◌, List, Option}
+use Rattle.std.specs.Prelude.{◌≡◌, ℕ, ℤ, pos, Bool, false, ◌||◌, if◌then◌else◌, List, Option}
 use Rattle.std.specs.Prelude.{Some, None}
 use Rattle.std.specs.List.{AllByRecursion}
 use Rattle.audit_terms.specs.declared.sides.Side.{Side}
@@ -12,11 +12,7 @@ use Rattle.audit_terms.specs.Window.{is_used_up}
 use Rattle.audit_terms.specs.Finding.{is_shown, say_of}
 use Rattle.audit_terms.specs.Stream.{window_step, window_after, live_window_said}
 use Rattle.audit_terms.specs.code.runs.Streams.{frame_step}
-use Rattle.stream_credit.specs.code.QuietStream.{ended_mark, has_ended, window_of}
-
--- how a side stands whose window is not live
-abbrev pub mark : (is_ended : Bool) → ℕ
-mark is_ended = if is_ended then ended_mark else 0
+use Rattle.stream_credit.specs.code.QuietStream.{has_ended, window_of, IsBalance}
 
 -- findings that are not shown where credits are not
 abbrev pub IsUnshown : Finding → Type 0
@@ -32,10 +28,8 @@ window_said d initial frame window =
     (window_step d frame.stream initial (frame_step frame) before)) window
 
 -- the credit of a live window of side d after a frame on the stream
-pub record IsCounted (d : Side) (frame : Frame) (standing counted : ℕ) : Type 0 where
-  pub moved : pos counted
-      ≡ pos standing +ℤ (pos (grant_to d frame.stream frame) -ℤ pos (content_by d frame))
-  pub within : counted < 2 ^ 31
+abbrev pub IsCounted : (d : Side) → Frame → (standing counted : ℕ) → Type 0
+IsCounted d frame standing = IsBalance standing (grant_to d frame.stream frame) (content_by d frame)
 
 -- how side d stands after a frame on the stream, which is opened: nothing of that is shown
 pub record IsStandingAfter (d : Side) (frame : Frame) (standing next : ℕ) : Type 0 where

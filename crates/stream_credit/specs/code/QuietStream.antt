@@ -1,6 +1,6 @@
 -- A stream of which nothing was shown so far, where credits are not shown.
-use Rattle.std.specs.Prelude.{◌≡◌, ℕ, ℤ, pos, ◌+◌, ◌^◌, ◌<◌, ◌≤◌, Bool, ◌==◌, ◌&&◌, nat_lt, if◌then◌else◌, true, false}
-use Rattle.std.specs.Prelude.{List, [], ◌∷◌, drop, length, Option, Some, None, option_map}
+use Rattle.std.specs.Prelude.{◌≡◌, ℕ, ℤ, pos, ◌+ℤ◌, ◌-ℤ◌, ◌+◌, ◌^◌, ◌<◌, ◌≤◌, Bool, ◌==◌, ◌&&◌, nat_lt, true, false}
+use Rattle.std.specs.Prelude.{if◌then◌else◌, List, [], ◌∷◌, drop, length, Option, Some, None, option_map}
 use Rattle.audit_terms.specs.declared.sides.Sides.{Sides}
 use Rattle.audit_terms.specs.declared.frames.Frame.{Frame}
 use Rattle.audit_terms.specs.declared.items.Change.{Change}
@@ -27,6 +27,10 @@ has_credit standing = nat_lt 0 standing && nat_lt standing ended_mark
 abbrev pub has_ended : (standing : ℕ) → Bool
 has_ended standing = standing == ended_mark
 
+-- how a side stands whose window is not live
+abbrev pub mark : (is_ended : Bool) → ℕ
+mark is_ended = if is_ended then ended_mark else 0
+
 -- the window of a side that stands so
 abbrev pub window_of : (standing : ℕ) → Option ℤ
 window_of standing = if has_credit standing then Some (pos standing) else None
@@ -44,6 +48,11 @@ stream_of quiet = record {
   };
   window = record { client = window_of quiet.client; server = window_of quiet.server };
 }
+
+-- a credit after it rises by so many bytes and falls by so many
+pub record IsBalance (credit rise fall after : ℕ) : Type 0 where
+  pub moved : pos after ≡ pos credit +ℤ (pos rise -ℤ pos fall)
+  pub within : after < 2 ^ 31
 
 -- a credit as it is kept: more than 0, and no more than the largest
 pub record IsCreditOf (credit : ℤ) (kept : ℕ) : Type 0 where

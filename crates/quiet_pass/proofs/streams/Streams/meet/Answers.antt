@@ -1,12 +1,14 @@
 use Rattle.std.proofs.Common.{◌%◌}
-use Rattle.stream_credit.proofs.Words.{◌≡◌, refl, sym, ◌∙◌, arith, OnTrue_at, same_Some}
+use Rattle.stream_credit.proofs.Words.{◌≡◌, refl, sym, ◌∙◌, arith, OnTrue_at, false}
 use Rattle.std.proofs.lemmas.Result.{IfOk-weaker}
+use Rattle.quiet_pass.proofs.StreamFrames.{ForSome-quiet}
 use Rattle.quiet_pass.proofs.StreamLemmas.{met-odd, met-even}
 use Rattle.quiet_pass.proofs.streams.Streams.meet.Goals as goal
 
-pub returns-then-is_quiet : goal.returns-then-is_quiet
-returns-then-is_quiet c = λ x e.
-    rw (← same_Some _ _ e) (OnTrue_at c.if-is_quiet.true c.in_ok-is_quiet.ensures)
+pub returns-then-is_server_promise : goal.returns-then-is_server_promise
+returns-then-is_server_promise c =
+    rw c.then_some.ensures (ForSome-quiet c.in_ok-is_quiet.is_quiet false _ (λ quiet.
+    OnTrue_at quiet c.in_ok-is_quiet.ensures))
 
 pub returns-then-frame-eq1 : goal.returns-then-frame-eq1
 returns-then-frame-eq1 c =
