@@ -4,7 +4,9 @@ use Rattle.split_merge.proofs.Terms.{[], ◌∷◌, length, get_or, slice_get, f
 use Rattle.split_merge.proofs.Terms.{option_to_list, refl, ◌∙◌, arith, nat_tests, get_or_from_slice_get}
 use Rattle.split_merge.proofs.Terms.{slice_get_within, QuietStream, Visited, streams_in, total_of, NotAmong}
 use Rattle.split_merge.proofs.Terms.{AreDistinct, loud_of, places_from, opened_in, quiet_in, ArePlaces, AllByRecursion}
-use Rattle.split_merge.proofs.Terms.{AllZip, eq-eqb, ne_eqb}
+use Rattle.split_merge.proofs.Terms.{AllZip, None, eq-eqb, false, ne_eqb}
+use Rattle.std.specs.Bool.{then_some}
+use Rattle.std.specs.Int.{from_bool}
 use Rattle.stream_credit.specs.code.QuietStream.{opened_of}
 use Rattle.split_merge.proofs.Visited.{not_among-at}
 
@@ -78,6 +80,17 @@ each-quiet P (x ∷ xs) (quiet ∷ quiets) h told = (
 )
 
 -- ---- where they stand
+
+-- the place of the next stream, and how many loud ones there are then
+pub places-next : (at : ℕ) (is_quiet : Bool) (quiets : List QuietStream)
+    → (if is_quiet then None ∷ places_from at quiets else Some at ∷ places_from (at + 1) quiets)
+    ≡ then_some (not is_quiet) at ∷ places_from (at + from_bool (not is_quiet)) quiets
+places-next at true quiets = let same : at + 0 ≡ at = omega arith in rw same refl
+places-next at false quiets = refl
+
+pub one-more : (b : Bool) → from_bool b ≤ 1
+one-more true = omega arith
+one-more false = omega arith
 
 pub places-length : (at : ℕ) (quiets : List QuietStream) → length (places_from at quiets) ≡ length quiets
 places-length at [] = refl

@@ -60,12 +60,9 @@ pub fn places_of(alloc: Global, quiets: &[QuietStream]) -> Result<Vec<Option<u32
     let mut places = Vec::with_capacity(alloc, quiets.len())?;
     let mut next = 0;
     for quiet in quiets {
-        if quiet.is_quiet {
-            places.push(None)?;
-        } else {
-            places.push(Some(next))?;
-            next += 1;
-        }
+        let is_loud = !quiet.is_quiet;
+        places.push(is_loud.then_some(next))?;
+        next += u32::from(is_loud);
     }
     Ok(places)
 }

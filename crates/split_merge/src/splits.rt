@@ -7,7 +7,7 @@ ghost use Rattle.split_merge.specs.code.Visits.{AreFilled, IsTableOf, laid_out, 
 ghost use Rattle.split_merge.specs.code.Visits.{total_of};
 
 use crate::loud::{Loud, place_of, places_of};
-use crate::visits::{Visited, Visits, finish};
+use crate::visits::{Visited, Visits};
 use audit_terms::{Change, Frame};
 use input_output::TableHash;
 use std::alloc::{AllocError, Global};
@@ -58,13 +58,7 @@ pub fn split(
     ensures { IfOk result (IsSplit credits_shown changes.now frames.now) }
 {
     let changes = Changes::of(alloc, changes)?;
-    let mut table = Visits::of(alloc, hash, credits_shown, &changes, frames)?;
-    finish(
-        table.rows.as_slice(),
-        &mut table.quiets,
-        credits_shown,
-        &changes,
-    );
+    let mut table = Visits::ended(alloc, hash, credits_shown, &changes, frames)?;
     let loud = Loud::of(alloc, &table)?;
     laid(alloc, loud, &mut table, frames)
 }

@@ -1,6 +1,7 @@
-ghost use Rattle.std.specs.Prelude.{◌≡◌, ◌≢◌, ℕ, ◌^◌, ◌<◌, ◌++◌, [], List, IfOk, MatchOption, OnOk, Some};
+ghost use Rattle.std.specs.Prelude.{◌≡◌, ℕ, ◌^◌, ◌<◌, ◌++◌, [], List, IfOk, MatchOption, OnOk, Some};
 ghost use Rattle.std.specs.Prelude.{length, slice_get};
 ghost use Rattle.std.specs.Bool.{OnTrue};
+ghost use Rattle.std.specs.Option.{ForSome};
 ghost use Rattle.audit_terms.specs.declared.frames.Frame.{Frame as FrameTerm};
 ghost use Rattle.audit_terms.specs.declared.items.Change.{Change as ChangeTerm};
 ghost use Rattle.audit_terms.specs.Pass.{streams_of};
@@ -8,9 +9,10 @@ ghost use Rattle.audit_terms.specs.code.runs.Orderly.{IsOrderly};
 ghost use Rattle.settings_pair.specs.code.Changes.{AreOrderly, AreAcknowledged};
 ghost use Rattle.stream_credit.specs.code.QuietStream.{IsAheadIfQuiet};
 ghost use Rattle.split_merge.specs.code.Visits.{IsIndex, IsTableOf, NotAmong, counted, noted, notes_from};
-ghost use Rattle.split_merge.specs.code.Visits.{streams_in, with_row, with_stream};
+ghost use Rattle.split_merge.specs.code.Visits.{streams_in, with_stream};
 ghost use Rattle.split_merge.specs.code.Loud.{IsKept};
-ghost use Rattle.split_merge.specs.code.Ahead.{AreAhead, AreHushed, IsEnd, IsHushed, MeetsNext, with_next};
+ghost use Rattle.split_merge.specs.code.Ahead.{AreAhead, AreHushed, CanHaveRow, HasRow, IsEnd, IsHushed, MeetsNext};
+ghost use Rattle.split_merge.specs.code.Ahead.{with_next};
 
 use crate::row_index::RowIndex;
 use audit_terms::{Finding, Frame};
@@ -48,8 +50,36 @@ pub struct Visits {
 }
 
 impl Visits {
+    /// The streams that meet some frames, each after the changes behind its last one: nothing is shown of a quiet one.
+    /// Where credits are shown, none is quiet.
+    pub fn ended(
+        alloc: Global,
+        hash: TableHash,
+        credits_shown: bool,
+        changes: &Changes<'_>,
+        frames: &[Frame],
+    ) -> Result<Visits, AllocError>
+        requires length { length frames.now < 2 ^ 28 }
+        requires frames { IsOrderly frames.now }
+        requires changes { AreOrderly changes.now }
+        requires acknowledged { AreAcknowledged frames.now changes.now }
+        ensures streams { IfOk result (λ table. streams_in table.rows.items ≡ streams_of frames.now) }
+        ensures table { IfOk result (IsTableOf (notes_from 0 frames.now)) }
+        ensures hushed { IfOk result (λ table.
+            AreHushed credits_shown changes.now frames.now (streams_in table.rows.items) table.quiets.items) }
+    {
+        let mut table = Visits::of(alloc, hash, credits_shown, changes, frames)?;
+        finish(
+            table.rows.as_slice(),
+            &mut table.quiets,
+            credits_shown,
+            changes,
+        );
+        Ok(table)
+    }
+
     /// The streams that meet some frames, each after its last one. Where credits are shown, none is quiet.
-    pub fn of(
+    fn of(
         alloc: Global,
         hash: TableHash,
         credits_shown: bool,
@@ -123,40 +153,33 @@ impl Visits {
 
     /// The index of a stream's row, which is made where there is none yet.
     fn row_of(&mut self, credits_shown: bool, stream: u32) -> Result<u32, AllocError>
-        requires index { IsIndex (streams_in self.old.rows.items) self.old.index }
-        requires room { length self.old.rows.items < 2 ^ 31 }
-        requires above { stream ≢ 0 }
-        requires streamed { stream < 2 ^ 31 }
-        ensures index { OnOk result (IsIndex (streams_in self.new.rows.items) self.new.index) }
-        ensures row { IfOk result (λ row. slice_get (streams_in self.new.rows.items) row ≡ Some stream) }
-        ensures rows { OnOk result (self.new.rows.items ≡ with_row stream self.old.rows.items) }
-        ensures ahead { OnOk result ((changes : List ChangeTerm) (all : List FrameTerm) (rest : ℕ → List FrameTerm)
-            → AreAhead changes all rest (streams_in self.old.rows.items) self.old.quiets.items
-            → AreAhead changes all rest (streams_in self.new.rows.items) self.new.quiets.items) }
+        requires { CanHaveRow stream self.old }
+        ensures { IfOk result (λ row. HasRow stream row self.old self.new) }
+    {
+        if let Some(row) = self.hinted_row(stream) {
+            return Ok(row);
+        }
+        self.sought_row(credits_shown, stream)
+    }
+
+    /// The index of a stream's row, if a hint leads to it.
+    fn hinted_row(&self, stream: u32) -> Option<u32>
+        ensures { ForSome result (λ row. slice_get (streams_in self.now.rows.items) row ≡ Some stream) }
     {
         let hint = hint_of(self.hints.as_slice(), self.last, stream);
         if is_row_of(self.rows.as_slice(), hint, stream) {
-            return Ok(hint);
+            return Some(hint);
         }
-        let row = self.sought_row(credits_shown, stream)?;
-        remember(&mut self.hints, stream, row);
-        Ok(row)
+        None
     }
 
-    /// The same, where no hint leads to the row.
+    /// The index of a stream's row, where no hint leads to it.
     fn sought_row(&mut self, credits_shown: bool, stream: u32) -> Result<u32, AllocError>
-        requires index { IsIndex (streams_in self.old.rows.items) self.old.index }
-        requires room { length self.old.rows.items < 2 ^ 31 }
-        requires above { stream ≢ 0 }
-        requires streamed { stream < 2 ^ 31 }
-        ensures index { OnOk result (IsIndex (streams_in self.new.rows.items) self.new.index) }
-        ensures row { IfOk result (λ row. slice_get (streams_in self.new.rows.items) row ≡ Some stream) }
-        ensures rows { OnOk result (self.new.rows.items ≡ with_row stream self.old.rows.items) }
-        ensures ahead { OnOk result ((changes : List ChangeTerm) (all : List FrameTerm) (rest : ℕ → List FrameTerm)
-            → AreAhead changes all rest (streams_in self.old.rows.items) self.old.quiets.items
-            → AreAhead changes all rest (streams_in self.new.rows.items) self.new.quiets.items) }
+        requires { CanHaveRow stream self.old }
+        ensures { IfOk result (λ row. HasRow stream row self.old self.new) }
     {
         let (row, added) = self.index.insert(self.rows.as_slice(), stream)?;
+        remember(&mut self.hints, stream, row);
         if !added {
             return Ok(row);
         }
@@ -176,9 +199,8 @@ impl Visits {
         if stream == 0 {
             return None;
         }
-        let hint = hint_of(self.hints.as_slice(), self.last, stream);
-        if is_row_of(self.rows.as_slice(), hint, stream) {
-            return Some(hint);
+        if let Some(row) = self.hinted_row(stream) {
+            return Some(row);
         }
         let row = self.index.find(self.rows.as_slice(), stream)?;
         remember(&mut self.hints, stream, row);
@@ -199,7 +221,7 @@ fn unmet(credits_shown: bool) -> QuietStream
 }
 
 /// The streams of the rows after the changes behind their last frames: each that is still quiet shows nothing.
-pub fn finish(
+fn finish(
     rows: &[Visited],
     quiets: &mut Vec<QuietStream>,
     credits_shown: bool,

@@ -1,5 +1,6 @@
 -- What the table of streams says of each stream that is quiet so far, as a split walks over the frames.
-use Rattle.std.specs.Prelude.{◌≡◌, ◌≢◌, ℕ, ◌==◌, if◌then◌else◌, Bool, true, false, List, [], ◌∷◌}
+use Rattle.std.specs.Prelude.{◌≡◌, ◌≢◌, ℕ, ◌^◌, ◌<◌, ◌==◌, if◌then◌else◌, Bool, true, false, List, [], ◌∷◌, length}
+use Rattle.std.specs.Prelude.{slice_get, Some}
 use Rattle.std.specs.List.{AllZip}
 use Rattle.audit_terms.specs.declared.frames.Frame.{Frame}
 use Rattle.audit_terms.specs.declared.items.Change.{Change}
@@ -8,7 +9,8 @@ use Rattle.audit_terms.specs.code.runs.Streams.{frames_of}
 use Rattle.settings_pair.specs.code.Changes.{AreOrderly, AreAcknowledged}
 use Rattle.stream_credit.specs.declared.quiet_streams.QuietStream.{QuietStream}
 use Rattle.stream_credit.specs.code.QuietStream.{IsAheadIfQuiet, ShowsNothing}
-use Rattle.split_merge.specs.code.Visits.{NotAmong}
+use Rattle.split_merge.specs.declared.visits.Visits.{Visits}
+use Rattle.split_merge.specs.code.Visits.{IsIndex, NotAmong, streams_in, with_row}
 
 -- the frames that each stream has still to meet, with one more that one of them meets first
 abbrev pub with_next : (stream : ℕ) → Frame → (rest : ℕ → List Frame) → ℕ → List Frame
@@ -34,6 +36,22 @@ pub record MeetsNext (stream : ℕ) (changes : List Change) (frame : Frame)
   pub all : List Frame
   pub rest : ℕ → List Frame
   pub ahead : AreAhead changes all (with_next stream frame rest) streams quiets
+
+-- the stream may have a row in the table
+pub record CanHaveRow (stream : ℕ) (table : Visits) : Type 0 where
+  pub index : IsIndex (streams_in table.rows.items) table.index
+  pub room : length table.rows.items < 2 ^ 31
+  pub above : stream ≢ 0
+  pub streamed : stream < 2 ^ 31
+
+-- it has this one, which was added unless it had one before
+pub record HasRow (stream at : ℕ) (old new : Visits) : Type 0 where
+  pub index : IsIndex (streams_in new.rows.items) new.index
+  pub row : slice_get (streams_in new.rows.items) at ≡ Some stream
+  pub rows : new.rows.items ≡ with_row stream old.rows.items
+  pub ahead : (changes : List Change) (all : List Frame) (rest : ℕ → List Frame)
+      → AreAhead changes all rest (streams_in old.rows.items) old.quiets.items
+      → AreAhead changes all rest (streams_in new.rows.items) new.quiets.items
 
 -- no stream has a frame still to meet
 pub record IsEnd (changes : List Change) (streams : List ℕ) (quiets : List QuietStream) : Type 0 where

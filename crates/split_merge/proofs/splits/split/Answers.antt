@@ -1,4 +1,6 @@
-use Rattle.split_merge.proofs.Terms.{SplitFrames, IsHushedOf, ◌∙◌}
+use Rattle.split_merge.proofs.Terms.{◌≡◌, ◌∙◌, Bool, List, length, Change, Frame, SplitFrames, AreHushed, IsHushedOf}
+use Rattle.split_merge.proofs.Terms.{streams_in}
+use Rattle.split_merge.specs.declared.visits.Visits.{Visits}
 use Rattle.std.proofs.lemmas.Slice.Zip.{AllZip-long}
 use Rattle.split_merge.proofs.Visited.{length-streams_in}
 use Rattle.std.specs.Prelude.{IfOk, Result, Ok, Err}
@@ -11,28 +13,23 @@ if-more : {E : Type 0} (P Q : SplitFrames → Type 0) (r : Result SplitFrames E)
 if-more P Q (Ok x) f h = f x h
 if-more P Q (Err e) f h = tt
 
-pub of-requires-3 : goal.of-requires-3
-of-requires-3 c =
-    let table = c.in_ok-table.ensures in
-    let hushed = rw c.as_slice.ensures.value at (c.finish.ensures c.args.frames.now
-    (rw c.as_slice.ensures.value table.ahead)) in
-    AllZip-long (IsHushedOf c.args.credits_shown c.in_ok-changes.changes c.args.frames.now) _ _ hushed
-    ∙ length-streams_in c.in_ok-table.table.rows.items
+long : (credits_shown : Bool) (changes : List Change) (frames : List Frame) (table : Visits)
+    → AreHushed credits_shown changes frames (streams_in table.rows.items) table.quiets.items
+    → length table.quiets.items ≡ length table.rows.items
+long credits_shown changes frames table hushed =
+    AllZip-long (IsHushedOf credits_shown changes frames) _ _ hushed ∙ length-streams_in table.rows.items
+
+pub of-requires-2 : goal.of-requires-2
+of-requires-2 c = long _ _ _ c.in_ok-table.table c.in_ok-table.ensures.hushed
 
 pub laid-requires-clause-long : goal.laid-requires-clause-long
-laid-requires-clause-long c =
-    let table = c.in_ok-table.ensures in
-    let hushed = rw c.as_slice.ensures.value at (c.finish.ensures c.args.frames.now
-    (rw c.as_slice.ensures.value table.ahead)) in
-    AllZip-long (IsHushedOf c.args.credits_shown c.in_ok-changes.changes c.args.frames.now) _ _ hushed
-    ∙ length-streams_in c.in_ok-table.table.rows.items
+laid-requires-clause-long c = long _ _ _ c.in_ok-table.table c.in_ok-table.ensures.hushed
 
 pub returns : goal.returns
 returns c =
     let frames = c.args.frames.now in
     let table = c.in_ok-table.ensures in
-    let hushed = rw c.as_slice.ensures.value at (c.finish.ensures frames (rw c.as_slice.ensures.value table.ahead)) in
     rw (← c.in_ok-changes.ensures) (if-more _ _ c.laid.result
-    (λ split is. split-is c.args.credits_shown c.in_ok-changes.changes frames _ c.finish.new.quiets.items split
-    table.streams table.table.index.distinct table.table.index.above hushed
+    (λ split is. split-is c.args.credits_shown c.in_ok-changes.changes frames _ c.in_ok-table.table.quiets.items split
+    table.streams table.table.index.distinct table.table.index.above table.hushed
     (rw (c.in_ok-loud.ensures.rows, loud-streams, c.in_ok-loud.ensures.opened) at is)) c.laid.ensures)

@@ -2,8 +2,15 @@ use Rattle.split_merge.proofs.Terms.{refl, streams_in}
 use Rattle.split_merge.proofs.Visited.{found_among}
 use Rattle.split_merge.proofs.visits.Visits.row_of.Goals as goal
 
-pub returns-then-is_row_of-clause-rows : goal.returns-then-is_row_of-clause-rows
-returns-then-is_row_of-clause-rows c =
-    let rows = c.args.self.now.rows.items in
-    rw (found_among c.args.stream (streams_in rows) c.hint_of-hint.result (rw c.as_slice-2.ensures.value
-    at c.if-is_row_of.ensures)) refl
+pub returns-in-Some : goal.returns-in-Some
+returns-in-Some c =
+    let found = c.hinted_row.ensures c.in-Some.row c.in-Some.is in
+    record {
+      index = c.requires.index;
+      row = found;
+      rows = rw (found_among c.args.stream (streams_in c.args.self.now.rows.items) c.in-Some.row found) refl;
+      ahead = λ changes all rest h. h;
+    }
+
+pub returns : goal.returns
+returns c = c.sought_row.ensures

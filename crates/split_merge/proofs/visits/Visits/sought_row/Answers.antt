@@ -3,11 +3,16 @@ use Rattle.split_merge.proofs.Visited.{found_among, slice_get-last, none_among, 
 use Rattle.split_merge.proofs.Ahead.{ahead-new}
 use Rattle.split_merge.proofs.visits.Visits.sought_row.Goals as goal
 
-pub returns-then-not-added-clause-rows : goal.returns-then-not-added-clause-rows
-returns-then-not-added-clause-rows c =
+pub returns-then-not-added : goal.returns-then-not-added
+returns-then-not-added c =
     let rows = c.args.self.now.rows.items in
     let found = rw (c.as_slice.ensures.value, c.if-not-added.true) at c.in_ok-row.ensures in
-    rw (found_among c.args.stream (streams_in rows) c.in_ok-row.row found.0) refl
+    record {
+      index = found.1;
+      row = found.0;
+      rows = rw (found_among c.args.stream (streams_in rows) c.in_ok-row.row found.0) refl;
+      ahead = λ changes all rest h. h;
+    }
 
 pub returns : goal.returns
 returns c =
