@@ -1,4 +1,4 @@
-ghost use Rattle.std.specs.Prelude.{◌≡◌, ℕ, ◌-◌, ◌^◌, ◌<◌, ◌≤◌, ◌++◌, All, List, IfOk, OnOk, length};
+ghost use Rattle.std.specs.Prelude.{◌≡◌, ℕ, ◌-◌, ◌^◌, ◌<◌, ◌≤◌, ◌++◌, [], All, List, IfOk, OnOk, length};
 ghost use Rattle.std.specs.Bool.{MatchBool};
 ghost use Rattle.audit_terms.specs.declared.frames.Frame.{Frame as FrameTerm};
 ghost use Rattle.audit_terms.specs.declared.findings.Finding.{Finding};
@@ -57,6 +57,36 @@ fn meet_frames<L: Look>(
     Ok(true)
 }
 
+/// Meets all frames of a stream, some at a time, and the changes before them, and answers whether it met them all.
+/// `near` is room for those of a time.
+fn meet_own<L: Look>(
+    near: &mut Vec<Frame>,
+    walk: &mut Walk,
+    look: &mut L,
+    own: &StreamPart<'_>,
+    changes: &Changes<'_>,
+    met: &mut u32,
+) -> Result<bool, AllocError>
+    requires own { IsStreamPart own.now }
+    requires sound { (run : WholeRun L)
+        × IsSound L.answers run look.old walk.old changes.now met.old (frames_met own.now) }
+    ensures { IfOk result (λ goes_on. (run : WholeRun L)
+        → IsSound L.answers run look.old walk.old changes.now met.old (frames_met own.now)
+        → MatchBool goes_on (IsSound L.answers run look.new walk.new changes.now met.new [])
+        (HasStopped L.answers run look.new walk.new)) }
+{
+    let mut rest = own.positions;
+    while !rest.is_empty() {
+        let (some, later) = rest.split_at(rest.len().min(NEAR));
+        gather(near, own.frames, some)?;
+        if !meet_frames(walk, look, changes, met, near.as_slice())? {
+            return Ok(false);
+        }
+        rest = later;
+    }
+    Ok(true)
+}
+
 /// Meets all frames of a stream, and all changes of its connection, and answers whether it met them all.
 fn meet_all<L: Look>(
     alloc: Global,
@@ -72,15 +102,9 @@ fn meet_all<L: Look>(
         → MatchBool goes_on (HasEnded L.answers run look.new walk.new) (HasStopped L.answers run look.new walk.new)) }
 {
     let mut met = 0;
-    let mut rest = own.positions;
-    let mut near = Vec::with_capacity(alloc, rest.len().min(NEAR))?;
-    while !rest.is_empty() {
-        let (some, later) = rest.split_at(rest.len().min(NEAR));
-        gather(&mut near, own.frames, some)?;
-        if !meet_frames(walk, look, changes, &mut met, near.as_slice())? {
-            return Ok(false);
-        }
-        rest = later;
+    let mut near = Vec::with_capacity(alloc, own.positions.len().min(NEAR))?;
+    if !meet_own(&mut near, walk, look, own, changes, &mut met)? {
+        return Ok(false);
     }
     let is_met = walk.meet_changes(look, changes, &mut met, u32::MAX)?;
     Ok(is_met)
