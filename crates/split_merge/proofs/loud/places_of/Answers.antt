@@ -6,14 +6,8 @@ use Rattle.split_merge.proofs.loud.places_of.Goals as goal
 pub overflow_add-next : goal.overflow_add-next
 overflow_add-next c =
     let more = c.from-next.ensures in
-    omega (
-      arith,
-      more,
-      one-more (not c.quiet-item.result.is_quiet),
-      c.loop-quiet.invariant.within,
-      c.loop-quiet-test.true,
-      c.requires,
-    )
+    let one = one-more (not c.quiet-item.result.is_quiet) in
+    omega (arith, more, one, c.loop-quiet.invariant.within, c.loop-quiet-test.true, c.requires)
 
 pub loop-quiet-preserved : goal.loop-quiet-preserved
 loop-quiet-preserved c =

@@ -13,6 +13,7 @@ if-more : {E : Type 0} (P Q : SplitFrames → Type 0) (r : Result SplitFrames E)
 if-more P Q (Ok x) f h = f x h
 if-more P Q (Err e) f h = tt
 
+-- each stream of a table has its row and what is known of it
 long : (credits_shown : Bool) (changes : List Change) (frames : List Frame) (table : Visits)
     → AreHushed credits_shown changes frames (streams_in table.rows.items) table.quiets.items
     → length table.quiets.items ≡ length table.rows.items
