@@ -1,9 +1,9 @@
 -- The changes of orderly frames are orderly, and each is that of an acknowledgement.
 use Rattle.std.proofs.Common.{◌≡◌, ℕ, ◌+◌, ◌≤◌, true, List, [], ◌∷◌, ◌++◌, All, Option}
-use Rattle.std.proofs.Common.{Some, None, length, drop, refl, sym, ap, ◌∙◌, is_some, arith}
+use Rattle.std.proofs.Common.{Some, None, refl, is_some, arith}
 use Rattle.std.specs.List.{AllByRecursion}
 use Rattle.std.proofs.lemmas.List.Elements.{All-from_recursion, All-weaker}
-use Rattle.settings_pair.proofs.Words.{option_to_list, append-nil, drop_all, Settings, Frame, Change, is_ack, IsInRange}
+use Rattle.settings_pair.proofs.Words.{option_to_list, Settings, Frame, Change, is_ack, IsInRange}
 use Rattle.settings_pair.proofs.Words.{IsOrderlyFrom, IsOrderly, InForce, initial_in_force, taken, change_taking}
 use Rattle.settings_pair.proofs.Words.{in_force_after, changes_of, changes_from, AreOrderlyFrom, AreAcknowledged}
 
@@ -24,12 +24,6 @@ changes_from-orderly low now [] h = h
 changes_from-orderly low now (frame ∷ frames) h =
     orderly-taking low frame (taken now frame) (changes_from (in_force_after now frame) frames) h.0 h.1
     (changes_from-orderly (frame.number + 1) (in_force_after now frame) frames h.2)
-
--- what a loop over all of the frames found
-pub all-changes : (now : InForce) (found : List Change) (frames : List Frame) (i : ℕ) → length frames ≤ i
-    → found ++ changes_from now (drop i frames) ≡ changes_of frames → found ≡ changes_of frames
-all-changes now found frames i past e =
-    sym (append-nil found) ∙ ap (λ rest. found ++ changes_from now rest) (sym (drop_all i frames past)) ∙ e
 
 -- ---- the frame of a change is an acknowledgement
 
@@ -83,5 +77,3 @@ changes_of-acknowledged frames h =
     (λ (frame : Frame). All (AcknowledgesAt frame) (changes_of frames))
     (λ frame. All-from_recursion (AcknowledgesAt frame) (changes_of frames)) frames
     (All-from_recursion _ frames (changes_from-acknowledge 0 initial_in_force frames h))
-
-pub ruleset found_changes = (all-changes, changes_from-orderly, changes_of-acknowledged)

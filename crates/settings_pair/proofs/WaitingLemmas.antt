@@ -97,6 +97,19 @@ waiting-step now seen frame new queue inside = record {
   within = λ d. let low = inside d in let more = length-append seen (frame ∷ []) in omega arith;
 }
 
+-- ---- another frame
+
+nothing-more : (b : Bool) (k : ℕ) → k + (if b && false then 1 else 0) ≡ k
+nothing-more true k = add-zero k
+nothing-more false k = add-zero k
+
+pub waiting-after_other : (now : InForce) (seen : List Frame) (frame : Frame) (old : Waiting)
+    → is_ack frame.body ≡ false → IsWaiting now seen old
+    → IsWaiting (in_force_after now frame) (seen ++ frame ∷ []) old
+waiting-after_other now seen frame old none h =
+    waiting-step now seen frame old
+    (λ d. rw (paired-after now frame (other d), none, nothing-more) (h.taken d, h.queued d)) h.within
+
 -- ---- an acknowledgement
 
 module _ (now : InForce) (seen : List Frame) (frame : Frame) (old : Waiting) (ack : is_ack frame.body ≡ true)
@@ -139,7 +152,3 @@ waiting-at_start waiting none = record {
   queued = λ d. grind (arith, none d);
   within = λ d. let low = none d in omega arith;
 }
-
-pub ruleset acknowledged = (waiting-after_ack, change_of-ack, settings_said-ack)
-
-pub ruleset here = (sent-here, none-left_by)

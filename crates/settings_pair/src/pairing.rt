@@ -21,7 +21,6 @@ pub struct Pairs {
 }
 
 /// The changes and the unmatched acknowledgements of a connection's frames.
-#[tactic(auto, using(crate::proofs::OrderLemmas::found_changes))]
 pub fn pair(alloc: Global, frames: &[Frame]) -> Result<Pairs, AllocError>
     requires { IsOrderly frames.now }
     ensures changes { IfOk result (λ pairs. pairs.changes.items ≡ changes_of frames.now) }
@@ -41,7 +40,6 @@ pub fn pair(alloc: Global, frames: &[Frame]) -> Result<Pairs, AllocError>
 }
 
 /// The next frame after those seen: an acknowledgement takes what waits longest of the SETTINGS seen.
-#[tactic(auto, using(crate::proofs::WaitingLemmas::acknowledged))]
 fn meet(
     waiting: &mut Waiting,
     pairs: &mut Pairs,

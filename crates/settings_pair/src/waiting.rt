@@ -49,7 +49,6 @@ impl Waiting {
 
 /// The first settings that `sender` sent from a position on, and the position after their frame; at the end there are
 /// none.
-#[tactic(auto, using(crate::proofs::WaitingLemmas::here))]
 fn first_from(seen: &[Frame], from: usize, sender: Side) -> (usize, Option<Settings>)
     ensures first { result.1 ≡ slice_get (sent_by sender (drop from seen.now)) 0 }
     ensures rest { sent_by sender (drop result.0 seen.now) ≡ drop 1 (sent_by sender (drop from seen.now)) }

@@ -1,7 +1,15 @@
-use Rattle.std.proofs.Common.{refl}
-use Rattle.settings_pair.proofs.Words.{initial_in_force}
+use Rattle.std.proofs.Common.{◌≡◌, ℕ, ◌+◌, ◌<◌, List, ◌∷◌, append_assoc, ap, drop, get_or, length, refl, sym, ◌∙◌}
+use Rattle.std.proofs.lemmas.List.{at_drop_more, take_more}
+use Rattle.settings_pair.proofs.Words.{append-nil, changes_of, drop_all, Frame, in_force_after, initial_in_force}
+use Rattle.settings_pair.proofs.OrderLemmas.{changes_from-orderly, changes_of-acknowledged}
 use Rattle.settings_pair.proofs.WaitingLemmas.{waiting-at_start}
 use Rattle.settings_pair.proofs.pairing.pair.Goals as goal
+
+-- the frames from a place on
+from-here : (frames : List Frame) (at : ℕ) (frame : Frame) → at < length frames → frame ≡ get_or frames at frame
+    → drop at frames ≡ frame ∷ drop (at + 1) frames
+from-here frames at frame within is =
+    at_drop_more (λ l. l) frames at frame within ∙ ap (λ (one : Frame). one ∷ drop (at + 1) frames) (sym is)
 
 pub loop-at-init : goal.loop-at-init
 loop-at-init c = record {
@@ -12,3 +20,35 @@ loop-at-init c = record {
   changes = rw c.new.ensures.items refl;
   findings = rw c.new-2.ensures.items refl;
 }
+
+pub meet-requires : goal.meet-requires
+meet-requires c =
+    (rw (from-here c.args.frames.now _ _ c.loop-at-test.true c.index-frames-at.is) at c.loop-at.invariant.orderly).1
+
+pub loop-at-preserved : goal.loop-at-preserved
+loop-at-preserved c =
+    let was = c.loop-at.invariant in
+    let frame = c.index-frames-at.result in
+    let here = from-here c.args.frames.now _ frame c.loop-at-test.true c.index-frames-at.is in
+    let did = c.in_ok-meet.ensures in
+    record {
+      now = in_force_after was.now frame;
+      low = frame.number + 1;
+      waiting = rw (take_more c.args.frames.now _ frame c.loop-at-test.true, ← c.index-frames-at.is)
+          (did.waiting was.now was.waiting);
+      orderly = (rw here at was.orderly).2;
+      changes = rw (did.changes was.now was.waiting, append_assoc) (rw here at was.changes);
+      findings = rw (did.findings was.now was.waiting, append_assoc) (rw here at was.findings);
+    }
+
+pub returns : goal.returns
+returns c =
+    let was = c.loop-at.invariant in
+    let past = drop_all c.loop-at.at c.args.frames.now c.loop-at-test.false in
+    let changes : c.loop-at.pairs.changes.items ≡ changes_of c.args.frames.now = rw (past, append-nil) at was.changes in
+    record {
+      changes = changes;
+      findings = rw (past, append-nil) at was.findings;
+      orderly = rw changes (changes_from-orderly 0 initial_in_force c.args.frames.now c.requires);
+      acknowledged = rw changes (changes_of-acknowledged c.args.frames.now c.requires);
+    }
