@@ -6,6 +6,7 @@ use Rattle.stop_desk.proofs.Words.{append_assoc, arith, filter, flat_map, get_or
 use Rattle.stop_desk.proofs.Words.{joined, length, length-append, map, nat_tests, not, part_of, pass_draws, pass_of}
 use Rattle.stop_desk.proofs.Words.{refl, slice_get, slice_get-get_or, stops, stops_on, subst, suc, sum_by-append, sym}
 use Rattle.stop_desk.proofs.Words.{times, zero, ℕ, ⊎_elim, ◌++◌, ◌+◌, ◌<◌, ◌==◌, ◌∙◌, ◌∷◌, ◌≡◌, ◌≤◌}
+use Rattle.std.proofs.Common.{Err, Global, IfOk, MatchResult, Ok, Result, Vec}
 use Rattle.std.proofs.lemmas.List.{map-append}
 use Rattle.std.proofs.lemmas.List.Elements.{Contains-append_left, Contains-push_cases}
 use Rattle.stop_desk.specs.code.Board.{IsCut, Job, Part as BoardPart, StopsAt, parts_of}
@@ -277,3 +278,17 @@ module _ {M : Type 0} (makes : ℕ → Option ℕ → M → Type 0) (jobs : List
         },
         (n, past, omega (arith, weigh-append (is_number n) mine.drawn theirs.drawn)),
       )
+
+  -- the same of two groups, of which each may lack memory
+  pub worked-together : {E : Type 0} (desk : DeskId) (first second : ℕ)
+      (one other : Result (Vec (Part M) Global × PassView) E) (parts : List (Part M)) (joined : PassView)
+      → IfOk one (λ m. IsAllWorked makes jobs desk round first m.0.items m.1)
+      → IfOk other (λ t. IsAllWorked makes jobs desk round second t.0.items t.1)
+      → MatchResult one (λ m. MatchResult other (λ t. (parts ≡ m.0.items ++ t.0.items)
+      × (joined ≡ pass_of m.1.desk (m.1.allowance + t.1.allowance) (m.1.drawn ++ t.1.drawn)
+      (m.1.seen ++ t.1.seen) (m.1.lowered ++ t.1.lowered))) (λ _. ⊥)) (λ _. ⊥)
+      → IsAllWorked makes jobs desk round (first + second) parts joined
+  worked-together desk first second (Ok m) (Ok t) parts joined w v is =
+      rw is.0 (worked-both desk first second m.0.items t.0.items m.1 t.1 joined w v is.1)
+  worked-together desk first second (Ok m) (Err e) parts joined w v is = absurd is
+  worked-together desk first second (Err e) other parts joined w v is = absurd is

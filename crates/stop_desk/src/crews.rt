@@ -1,6 +1,6 @@
 //! Workers on threads of their own, over one desk.
 
-ghost use Rattle.std.specs.Prelude.{◌≡◌, ◌+◌, ◌-◌, ◌*◌, ◌<◌, [], ◌++◌, All, IfOk, length};
+ghost use Rattle.std.specs.Prelude.{◌≡◌, ◌+◌, ◌-◌, ◌*◌, ◌<◌, [], ◌++◌, All, IfOk, MatchResult, length};
 ghost use Rattle.std.specs.Thread.{IsSend, IsSync};
 ghost use Rattle.stop_desk.specs.code.Desk.{pass_of, all_draws, IsConnection};
 ghost use Rattle.stop_desk.specs.code.Board.{Job};
@@ -29,20 +29,20 @@ fn divide(desk: &Desk, pass: Pass, workers: u32, given: u32) -> (Pass, Pass)
     pass.split(desk, u64::from(given) * (u64::from(desk.jobs()) + 1))
 }
 
-/// Makes one of what two groups of workers laid down, and of their passes.
+/// Makes one of what two groups of workers laid down, and of their passes, where both had memory.
 fn together<M: Drop>(
     desk: &Desk,
-    mine: (Vec<Part<M>>, Pass),
-    theirs: (Vec<Part<M>>, Pass),
+    mine: Result<(Vec<Part<M>>, Pass), AllocError>,
+    theirs: Result<(Vec<Part<M>>, Pass), AllocError>,
 ) -> Result<(Vec<Part<M>>, Pass), AllocError>
-    requires mine { mine.1.desk ≡ desk.now.id }
-    requires theirs { theirs.1.desk ≡ desk.now.id }
-    ensures { IfOk result (λ r. (r.0.items ≡ mine.0.items ++ theirs.0.items)
-        × (r.1 ≡ pass_of mine.1.desk (mine.1.allowance + theirs.1.allowance) (mine.1.drawn ++ theirs.1.drawn)
-        (mine.1.seen ++ theirs.1.seen) (mine.1.lowered ++ theirs.1.lowered))) }
+    requires mine { IfOk mine (λ m. m.1.desk ≡ desk.now.id) }
+    requires theirs { IfOk theirs (λ t. t.1.desk ≡ desk.now.id) }
+    ensures { IfOk result (λ r. MatchResult mine (λ m. MatchResult theirs (λ t. (r.0.items ≡ m.0.items ++ t.0.items)
+        × (r.1 ≡ pass_of m.1.desk (m.1.allowance + t.1.allowance) (m.1.drawn ++ t.1.drawn)
+        (m.1.seen ++ t.1.seen) (m.1.lowered ++ t.1.lowered))) (λ _. ⊥)) (λ _. ⊥)) }
 {
-    let (mut parts, pass) = mine;
-    let (mut more, other) = theirs;
+    let (mut parts, pass) = mine?;
+    let (mut more, other) = theirs?;
     parts.append(&mut more)?;
     Ok((parts, pass.join(other, desk)))
 }
@@ -66,7 +66,7 @@ fn fork<R: Threads + Sync, G: Gate, P: Round>(
     let half = workers / 2;
     let rest = workers - half;
     let (kept, given) = divide(shift.desk, pass, workers, half);
-    let (one, other) = join(
+    let (mine, theirs) = join(
         rt,
         || -> Result<(Vec<Part<P::Made>>, Pass), AllocError>
             requires { IsSend P.Made.row × IsSync R.row × IsSync G.row × IsSync P.row × (0 < half)
@@ -83,8 +83,6 @@ fn fork<R: Threads + Sync, G: Gate, P: Round>(
                 r.0.items r.1) }
         { fork(rt, alloc, rest, shift, kept) },
     );
-    let mine = one?;
-    let theirs = other?;
     together(shift.desk, mine, theirs)
 }
 

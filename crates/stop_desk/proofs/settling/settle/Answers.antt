@@ -1,4 +1,5 @@
-use Rattle.std.proofs.Common.{◌∙◌}
+use Rattle.std.proofs.Common.{◌∙◌, arith}
+use Rattle.std.proofs.lemmas.List.{length-map}
 use Rattle.stop_desk.proofs.CrewDone.{has-settled, in-round}
 use Rattle.stop_desk.proofs.settling.settle.Goals as goal
 
@@ -13,3 +14,7 @@ returns-clause-round g c = λ part is.
     in-round (g.P.Round.makes c.args.plan.now) (g.P.Round.jobs c.args.plan.now) c.in_ok-desk.desk.id c.number.result
     c.in_ok-parts.parts.items c.in_ok-parts.closed c.in_ok-parts.ensures _ c.put_in_order.ensures.same part is
     ∙ c.number.ensures
+
+pub stops_of-requires : goal.stops_of-requires
+stops_of-requires g c =
+    rw (c.in_ok-parts.ensures.desk_is, c.in_ok-desk.ensures.words, length-map) (omega arith)
