@@ -1,5 +1,5 @@
 -- What the plain pass keeps between two frames, beside the state of the pass, and what it says at a frame.
-use Rattle.std.proofs.Common.{◌≡◌, ℕ, pos, ◌^◌, ◌≤◌, Bool, true, false, ◌==◌, ◌&&◌, List, [], ◌∷◌, ◌++◌, map, Option}
+use Rattle.std.proofs.Common.{◌≡◌, ℕ, pos, ◌^◌, ◌≤◌, Bool, true, false, ◌==◌, ◌&&◌, ◌||◌, List, [], ◌∷◌, ◌++◌, map, Option}
 use Rattle.std.proofs.Common.{refl, ap, ◌∙◌, append_assoc, ◌+◌, Some, None, is_some, arith, if◌then◌else◌, not, ◌*◌}
 use Rattle.std.proofs.lemmas.Simd.{map-map}
 use Rattle.std.proofs.lemmas.List.Folds.{flat_map-map}
@@ -55,11 +55,17 @@ module _ (state : PassState) (frame : Frame) where
   abbrev opens_it : ℕ → Bool
   opens_it stream = is_opening stream (state.streams stream).life frame
 
+  either-opens : (same one own rest : Bool) → (same ≡ true → one ≡ own)
+      → ((same && one) || (rest && own)) ≡ ((same || rest) && own)
+  either-opens same one own rest e = grind arith
+
   -- the row of the frame's stream alone may say so
   opens-rows : (streams : List ℕ) → list_any (row_opens frame) (rows_in state.streams streams)
       ≡ (list_any (λ other. other == frame.stream) streams && opens_it frame.stream)
   opens-rows [] = refl
-  opens-rows (stream ∷ streams) = grind (arith, nat_tests, opens-rows streams)
+  opens-rows (stream ∷ streams) =
+      rw (opens-rows streams) (either-opens (stream == frame.stream) (opens_it stream) (opens_it frame.stream) _
+      (λ e. ap opens_it (eqb-true stream frame.stream e)))
 
   -- no frame promises its own stream, and none opens stream 0
   zero-unopened : (frame.stream == 0) ≡ true → opens_it frame.stream ≡ false

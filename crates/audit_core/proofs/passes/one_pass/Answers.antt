@@ -11,6 +11,17 @@ loop-frame-init c =
     rw (c.start-connection.ensures, c.in_ok-rows.ensures, c.new-found.ensures.items)
     (pass-begins c.args.frames.now _ c.requires c.in_ok-pairs.ensures.changes)
 
+pub say_local-requires : goal.say_local-requires
+say_local-requires c =
+    (rw (drop-at c.args.frames.now _ _ c.frame-item.is c.loop-frame-test.true) at c.loop-frame.invariant).orderly.1
+
+pub at-ack-requires : goal.at-ack-requires
+at-ack-requires c =
+    let at = rw (drop-at c.args.frames.now _ _ c.frame-item.is c.loop-frame-test.true) at c.loop-frame.invariant in
+    let frame = at.orderly.1 in
+    let below = frame.number in
+    record { numbered = omega arith; streamed = frame.stream }
+
 pub say_connection-requires : goal.say_connection-requires
 say_connection-requires c =
     let at = rw (drop-at c.args.frames.now _ _ c.frame-item.is c.loop-frame-test.true) at c.loop-frame.invariant in
