@@ -1,5 +1,5 @@
 use Rattle.stop_desk.proofs.Words.{refl, ◌∙◌}
-use Rattle.std.proofs.lemmas.List.{map-append, take_all, take_more}
+use Rattle.std.proofs.lemmas.List.{map-append, take_more}
 use Rattle.stop_desk.proofs.desks.opening_words.Goals as goal
 
 pub loop-stop-init : goal.loop-stop-init
@@ -15,6 +15,3 @@ loop-stop-preserved c =
       ← c.stop-item.is,
       c.word_of.ensures,
     )
-
-pub returns : goal.returns
-returns c = rw (take_all c.loop-stop.stop-index c.args.stops.now c.loop-stop-test.false) at c.loop-stop.invariant
