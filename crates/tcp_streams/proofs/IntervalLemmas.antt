@@ -9,6 +9,10 @@ use Rattle.std.proofs.Common.{min, max}
 use Rattle.tcp_streams.specs.code.Interval.{AreSetApart}
 use Rattle.tcp_streams.proofs.Lists.{by_lt}
 
+-- what stands where no interval does
+abbrev pub no_interval : Interval
+no_interval = record { from = 0; upto = 0; index = 0; rec = 0; nanos = 0 }
+
 -- an offset is held, or it lies before, or past
 pub at-in : (x : Interval) (xs : List Interval) (o : ℕ) → x.from ≤ o → o < x.upto → at (x ∷ xs) o ≡ Some (source_in x o)
 at-in x xs o a b = grind (arith, nat_tests)

@@ -4,11 +4,11 @@ use Rattle.tcp_streams.proofs.Words.{◌∙◌, arith, ◌+◌, ◌-◌, ◌++�
 use Rattle.tcp_streams.proofs.Words.{set, inl, inr, All, nat_lt, AllPairs, list_any, slice_range, lt-ltb, le-ltb}
 use Rattle.tcp_streams.proofs.Words.{common_steps, get_or-map, length-map, map-append, length-take-le, All-head}
 use Rattle.tcp_streams.proofs.Words.{All-tail, All-push, list_any-append, get_or_from_slice_get, slice_get_within}
-use Rattle.tcp_streams.proofs.Words.{Segment, with_if}
+use Rattle.tcp_streams.proofs.Words.{Segment, with_if, take, filter_map, filter_map-append, option_to_list, append-nil}
 use Rattle.std.proofs.Common.{◌≢◌}
 use Rattle.std.specs.Prelude.{Result, Ok, Err, OnOk}
 use Rattle.std.proofs.lemmas.Bool.{cases_lt}
-use Rattle.std.proofs.lemmas.List.{length-drop, get_or-set_other, get_or-set_same, length-set, same_lists}
+use Rattle.std.proofs.lemmas.List.{length-drop, get_or-set_other, get_or-set_same, length-set, same_lists, take_more}
 use Rattle.std.proofs.lemmas.List.Quantifiers.{all_pairs_push}
 use Rattle.std.proofs.lemmas.Option.{gets}
 
@@ -101,3 +101,12 @@ module _ (b : Bool) (xs : List Segment) (s : Segment) where
 pub on_ok_3 : {A E P Q R W : Type 0} (r : Result A E) → OnOk r P → OnOk r Q → OnOk r R → (P → Q → R → W) → OnOk r W
 on_ok_3 (Ok x) p q h f = f p q h
 on_ok_3 (Err e) p q h f = tt
+
+-- what one element more gives
+pub filter_map-more : {X Y : Type 0} (f : X → Option Y) (xs : List X) (k : ℕ) (d : X) (o : Option Y)
+    → k < length xs → o ≡ f (get_or xs k d)
+    → filter_map f (take (k + 1) xs) ≡ filter_map f (take k xs) ++ option_to_list o
+filter_map-more f xs k d None lt is =
+    rw (take_more xs k d lt, filter_map-append f (take k xs) (get_or xs k d ∷ []), ← is) refl
+filter_map-more f xs k d (Some y) lt is =
+    rw (take_more xs k d lt, filter_map-append f (take k xs) (get_or xs k d ∷ []), ← is) refl

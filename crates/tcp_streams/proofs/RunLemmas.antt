@@ -7,7 +7,7 @@ use Rattle.tcp_streams.proofs.Words.{if◌then◌else◌, nat_lt, All-tail, Rise
 use Rattle.tcp_streams.proofs.Words.{IsFlow, IsGap, arrival_at, Source, arrival, end_of_offsets, AreCaptured}
 use Rattle.tcp_streams.proofs.Words.{IsInterval, IsCaptured, Spans, arrival_with, arrivals_after, arrivals_in, at}
 use Rattle.tcp_streams.proofs.Words.{bytes_in, run_length, source_in, width, AreTimely, Interval, Arrival}
-use Rattle.tcp_streams.proofs.Words.{Flow, IsSame, IsTrue, bytes_of, common_steps, filter_map-append}
+use Rattle.tcp_streams.proofs.Words.{Flow, IsSame, IsTrue, bytes_of}
 use Rattle.tcp_streams.specs.Sequence.{later_of}
 use Rattle.tcp_streams.specs.code.Assembled.{IsLaidOut}
 use Rattle.tcp_streams.specs.code.Interval.{IsInside}
@@ -95,8 +95,6 @@ pub bytes_in-push : (capture : List ℕ) (xs : List Interval) (x : Interval)
     → bytes_in capture (xs ++ x ∷ []) ≡ bytes_in capture xs ++ part capture x
 bytes_in-push capture [] x = append-nil (part capture x)
 bytes_in-push capture (y ∷ xs) x = rw (bytes_in-push capture xs x) (sym (append_assoc (part capture y) _ _))
-
-pub ruleset pushes = (common_steps, filter_map-append, bytes_in-push)
 
 length-part : (capture : List ℕ) (x : Interval) → x.index + (x.upto - x.from) ≤ length capture
     → length (part capture x) ≡ width x

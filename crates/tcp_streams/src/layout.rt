@@ -51,7 +51,6 @@ fn run_length(intervals: &[Interval]) -> usize
 }
 
 /// The pieces of the capture that the intervals name.
-#[tactic(auto, using(crate::proofs::RunLemmas::pushes))]
 fn pieces_in<'a>(
     alloc: Global,
     capture: &Capture<'a>,

@@ -13,7 +13,6 @@ use std::alloc::{AllocError, Global};
 const MODULUS: u64 = 0x1_0000_0000;
 
 /// The offsets that a side's segments cover, a piece for each that covers any, in order of record.
-#[tactic(auto, using(crate::proofs::RunLemmas::pushes))]
 pub fn pieces_of(
     alloc: Global,
     initial_number: u32,

@@ -1,5 +1,6 @@
-use Rattle.tcp_streams.proofs.Words.{◌≡◌, true, None, refl, arith, ◌+◌, ◌++◌, length, take, filter_map, option_to_list}
-use Rattle.tcp_streams.proofs.Words.{common_steps, append-nil, take_all, filter_map-append, member_piece}
+use Rattle.tcp_streams.proofs.Words.{true, None, refl, arith, length, take, filter_map, append-nil, take_all}
+use Rattle.tcp_streams.proofs.Words.{member_piece}
+use Rattle.tcp_streams.proofs.Lists.{filter_map-more}
 use Rattle.tcp_streams.proofs.Sides.{IsLaid-more, laid-assembled, piece-inside}
 use Rattle.tcp_streams.proofs.in_order.flow_in_order.Goals as goal
 use Rattle.tcp_streams.proofs.in_order.flow_in_order.Goals.{in-Some+else-piece-laid+in_ok-add, in_default}
@@ -14,12 +15,11 @@ add-requires c =
 
 pub loop-member-preserved : goal.loop-member-preserved
 loop-member-preserved c =
-    let members = c.args.connection.now.members.items in
-    let k = c.loop-member.member-index in
     let f = member_piece c.args.initial_number c.args.packets.now c.args.connection.now c.args.side in
-    let next : filter_map f (take (k + 1) members)
-    ≡ filter_map f (take k members) ++ option_to_list c.piece_of_member.result =
-    grind (arith, common_steps, filter_map-append) in
+    let so_far = take c.loop-member.member-index c.args.connection.now.members.items in
+    let next = filter_map-more f c.args.connection.now.members.items c.loop-member.member-index 0
+    c.piece_of_member.result (rw c.deref-member-items.ensures.value at c.loop-member-test.true)
+    (rw c.deref-member-items.ensures.value at c.piece_of_member.ensures) in
     elim c.match-piece_of_member.branch [
       | in-Some+else-piece-laid+in_ok-add w ↦
           let is = piece-inside c.args.initial_number c.args.capture.now c.args.packets.now c.args.connection.now
@@ -28,7 +28,7 @@ loop-member-preserved c =
           rw (next, w.in-Some.is, w.laid-is, laid.bytes, laid.arrivals, laid.end)
           (IsLaid-more c.args.capture.now _ _ _ _ w.in-Some.piece c.loop-member.invariant
           (omega (arith, w.if-piece-laid.false)) is)
-      | in_default w ↦ rw (w.laid-is, next, w.in_default.is, append-nil (filter_map f (take k members)))
+      | in_default w ↦ rw (w.laid-is, next, w.in_default.is, append-nil (filter_map f so_far))
           c.loop-member.invariant
     ]
 

@@ -2,4 +2,4 @@ use Rattle.tcp_streams.proofs.Words.{◌≡◌, ◌++◌, drop, arrivals_after, 
 use Rattle.tcp_streams.proofs.layout.arrivals_in.Given as goal
 
 abbrev pub invariant-loop-x : goal.invariant-loop-x
-invariant-loop-x l = l.arrivals.items ++ arrivals_after l.last (drop l.x-index (drop 1 l.run)) ≡ arrivals_in l.run
+invariant-loop-x l = l.arrivals.items ++ arrivals_after l.last (drop l.x-index l.x-items) ≡ arrivals_in l.run
