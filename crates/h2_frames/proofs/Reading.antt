@@ -10,8 +10,8 @@ use Rattle.h2_frames.proofs.Arriving.{captured_from-from, get_or-arrivals_from, 
 use Rattle.h2_frames.proofs.Arriving.{arrivals_from-rise, arrivals_from-timely, first_timely}
 
 -- the frame and what follows make up the length
-size_of_taken : (s : Spelled) (old new : Pieces) → IsOneTaken s old new
-    → length (bytes_of old) ≡ 9 + s.header.length + length (bytes_of new)
+size_of_taken : (s : Spelled) (old : List ℕ) (new : Pieces) → IsOneTaken s old new
+    → length old ≡ 9 + s.header.length + length (bytes_of new)
 size_of_taken s old new one =
     omega (
       arith,
@@ -24,19 +24,20 @@ size_of_taken s old new one =
 
 -- the first whole frame ahead has an arrival
 pub frame_arrives : (unread : Unread) → IsPlaced unread → (s : Spelled) (after : Pieces)
-    → IsOneTaken s unread.bytes after → (last : ℕ) → last ≡ unread.offset + (9 + s.header.length) - 1
+    → IsOneTaken s (bytes_of unread.bytes) after → (last : ℕ) → last ≡ unread.offset + (9 + s.header.length) - 1
     → 0 < length (arrivals_from last unread.arrivals.now)
 frame_arrives unread placed s after one last last_is =
-    let size = size_of_taken s unread.bytes after one in
+    let size = size_of_taken s (bytes_of unread.bytes) after one in
     arrivals_from-not_empty placed.low placed.rec _ last unread.arrivals.now placed.rises
     (omega (arith, placed.before)) (omega arith)
 
 -- past that frame
-pub placed_after : (unread after : Unread) → IsPlaced unread → (s : Spelled) → IsOneTaken s unread.bytes after.bytes
+pub placed_after : (unread after : Unread) → IsPlaced unread → (s : Spelled)
+    → IsOneTaken s (bytes_of unread.bytes) after.bytes
     → after.offset ≡ unread.offset + (9 + s.header.length)
     → after.arrivals.now ≡ arrivals_from (after.offset - 1) unread.arrivals.now → IsPlaced after
 placed_after unread after placed s one offset_is arrivals_are =
-    let size = size_of_taken s unread.bytes after.bytes one in
+    let size = size_of_taken s (bytes_of unread.bytes) after.bytes one in
     let rise = arrivals_from-rise placed.low placed.rec _ (after.offset - 1) unread.arrivals.now placed.rises
     (omega (arith, placed.before)) in
     let high : unread.offset + length (bytes_of unread.bytes) ≡ after.offset + length (bytes_of after.bytes) = omega
@@ -53,7 +54,7 @@ placed_after unread after placed s one offset_is arrivals_are =
 
 -- it is in range
 pub frame_readable : (frame : Frame) (side : Side) (number last : ℕ) (arrivals to_come : List Arrival) (d : Arrival)
-    (s : Spelled) (old new : Pieces) → IsOneTaken s old new
+    (s : Spelled) (old : List ℕ) (new : Pieces) → IsOneTaken s old new
     → frame ≡ captured side number (get_or to_come 0 d) s → to_come ≡ arrivals_from last arrivals
     → AllByRecursion (λ (a : Arrival). a.nanos < 2 ^ 63) arrivals → 0 < length to_come → IsReadable frame
 frame_readable frame side number last arrivals to_come d s old new one frame_is to_come_is timely there =
@@ -66,12 +67,12 @@ frame_readable frame side number last arrivals to_come d s old new one frame_is 
 
 -- it stands before those that are ahead then
 pub ahead_before : (side : Side) (arrivals to_come : List Arrival) (number offset upto : ℕ) (s : Spelled)
-    (old new : Pieces) → IsOneTaken s old new
+    (old : List ℕ) (new : Pieces) → IsOneTaken s old new
     → upto ≡ offset + (9 + s.header.length) → to_come ≡ arrivals_from (upto - 1) arrivals
     → 0 < length (arrivals_from (upto - 1) arrivals) → (d : Arrival) (frame : Frame)
     → frame ≡ captured side number (get_or to_come 0 d) s → (frames later : List Frame) (tail : List ℕ)
     → frames ≡ frame ∷ later → AreAhead side to_come (frame.number + 1) upto (bytes_of new) later tail
-    → AreAhead side arrivals number offset (bytes_of old) frames tail
+    → AreAhead side arrivals number offset old frames tail
 ahead_before side arrivals to_come number offset upto s old new one upto_is to_come_is there d frame frame_is frames
     later tail frames_are ahead =
     let first : get_or to_come 0 d ≡ byte_arrival arrivals (upto - 1) =

@@ -51,5 +51,3 @@ with_later-turn settings new s rest pair later pair_is later_is size s_is new_is
     let begins : s ∷ settings_in later ≡ settings_in rest =
     rw (s_is, pair_is, later_is) (sym (settings_in-step rest (omega arith))) in
     rw (new_is, ← begins) (with_later-step settings s (settings_in later))
-
-pub ruleset later_turns = (with_later-turn)

@@ -37,7 +37,9 @@ pub struct FrameBatch {
 
 impl FrameBatch {
     /// A batch of no frames, with no memory of its own yet.
-    pub fn new(alloc: Global) -> FrameBatch {
+    pub fn new(alloc: Global) -> FrameBatch
+        ensures { frames_of result ≡ [] }
+    {
         FrameBatch {
             client: Vec::new(alloc),
             server: Vec::new(alloc),

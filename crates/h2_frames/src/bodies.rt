@@ -106,7 +106,7 @@ fn push_promise_body(flags: u8, payload: &[u8]) -> Body
     ensures { result ≡ padded_body flags payload.now 4
         (PushPromise (number_of_31_bits (drop (if is_padded flags then 1 else 0) payload.now))) }
 {
-    let padding = if has_flag(flags, PADDED_FLAG) { 1 } else { 0 };
+    let padding = usize::from(has_flag(flags, PADDED_FLAG));
     if payload.len() < padding + 4 {
         return wrong_size(payload);
     }

@@ -148,7 +148,7 @@ impl<'a> Pieces<'a> {
     /// Takes the frame out that the bytes begin with, where they hold the whole of it and it lies in several pieces.
     fn take_scattered(&mut self, gathered: &mut Vec<u8>) -> Result<Option<Spelled>, AllocError>
         requires { IsCounted self.old }
-        ensures { IfOk result (λ found. IsFrameTaken found self.old self.new) }
+        ensures { IfOk result (λ found. IsFrameTaken found (bytes_of self.old) self.new) }
     {
         if self.length < HEADER_LENGTH {
             return Ok(None);
@@ -169,7 +169,7 @@ impl<'a> Pieces<'a> {
     /// place.
     pub fn take_frame(&mut self, gathered: &mut Vec<u8>) -> Result<Option<Spelled>, AllocError>
         requires { IsCounted self.old }
-        ensures { IfOk result (λ found. IsFrameTaken found self.old self.new) }
+        ensures { IfOk result (λ found. IsFrameTaken found (bytes_of self.old) self.new) }
     {
         self.go_on();
         match first_frame(self.first) {

@@ -68,7 +68,6 @@ fn with_setting(settings: Settings, setting: Setting) -> Settings
 }
 
 /// What a payload of whole settings says.
-#[tactic(auto, using(crate::proofs::SettingsRead::later_turns))]
 pub(crate) fn settings_of(payload: &[u8]) -> Settings
     ensures { result ≡ settings_of payload.now }
 {

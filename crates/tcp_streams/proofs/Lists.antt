@@ -4,7 +4,7 @@ use Rattle.tcp_streams.proofs.Words.{◌∙◌, arith, ◌+◌, ◌-◌, ◌++�
 use Rattle.tcp_streams.proofs.Words.{set, inl, inr, All, nat_lt, AllPairs, list_any, slice_range, lt-ltb, le-ltb}
 use Rattle.tcp_streams.proofs.Words.{common_steps, get_or-map, length-map, map-append, length-take-le, All-head}
 use Rattle.tcp_streams.proofs.Words.{All-tail, All-push, list_any-append, get_or_from_slice_get, slice_get_within}
-use Rattle.tcp_streams.proofs.Words.{Segment, with_if, take, filter_map, filter_map-append, option_to_list, append-nil}
+use Rattle.tcp_streams.proofs.Words.{Segment, with_if, take, filter_map, filter_map-append, option_to_list}
 use Rattle.std.proofs.Common.{◌≢◌}
 use Rattle.std.specs.Prelude.{Result, Ok, Err, OnOk}
 use Rattle.std.proofs.lemmas.Bool.{cases_lt}

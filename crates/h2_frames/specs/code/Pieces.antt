@@ -24,17 +24,17 @@ pub record IsTaken (count : ℕ) (old new : Pieces) (front : List ℕ) : Type 0 
   pub bytes : bytes_of old ≡ front ++ bytes_of new
   pub counted : IsCounted new
 
--- this frame was taken from the front
-pub record IsOneTaken (frame : Spelled) (old new : Pieces) : Type 0 where
+-- this frame was taken from the front of bytes
+pub record IsOneTaken (frame : Spelled) (old : List ℕ) (new : Pieces) : Type 0 where
   pub header : List ℕ
   pub payload : List ℕ
-  pub bytes : bytes_of old ≡ header ++ payload ++ bytes_of new
+  pub bytes : old ≡ header ++ payload ++ bytes_of new
   pub makes : Makes header payload frame
   pub length_fits : frame.header.length < 2 ^ 24
   pub stream_fits : frame.header.stream < 2 ^ 31
   pub counted : IsCounted new
 
--- a frame was taken from the front; where there is none, the bytes are what they were and hold no whole one
-abbrev pub IsFrameTaken : Option Spelled → (old new : Pieces) → Type 0
+-- a frame was taken from the front of bytes; where there is none, they are what they were and hold no whole one
+abbrev pub IsFrameTaken : Option Spelled → (old : List ℕ) → (new : Pieces) → Type 0
 IsFrameTaken (Some frame) old new = IsOneTaken frame old new
-IsFrameTaken None old new = (bytes_of new ≡ bytes_of old) × HoldsNoFrame (bytes_of old) × IsCounted new
+IsFrameTaken None old new = (bytes_of new ≡ old) × HoldsNoFrame old × IsCounted new

@@ -1,13 +1,13 @@
 use Rattle.std.proofs.Common.{refl, ap, arith}
 use Rattle.h2_frames.proofs.unread.Unread.read.Goals as goal
-use Rattle.h2_frames.proofs.Words.{Frame, IsOneTaken}
+use Rattle.h2_frames.proofs.Words.{Frame, IsOneTaken, bytes_left}
 use Rattle.h2_frames.proofs.Reading.{ahead_before, frame_arrives, frame_readable, placed_after}
 
 pub returns-clause-ready : goal.returns-clause-ready
 returns-clause-ready c =
     let unread = c.args.self.now in
-    let one : IsOneTaken c.in-Some.spelled unread.bytes c.take_frame.new.self = rw c.in-Some.is at
-    c.in_ok-spelled.ensures in
+    let one : IsOneTaken c.in-Some.spelled (bytes_left unread.bytes) c.take_frame.new.self =
+    rw c.in-Some.is at c.in_ok-spelled.ensures in
     let there = frame_arrives unread c.requires.placed c.in-Some.spelled _ one _ refl in
     record {
       placed = placed_after unread _ c.requires.placed c.in-Some.spelled one refl c.arrivals_of_frame-to_come.ensures;
@@ -22,8 +22,8 @@ returns-clause-ready c =
 pub returns-clause-left : goal.returns-clause-left
 returns-clause-left c =
     let unread = c.args.self.now in
-    let one : IsOneTaken c.in-Some.spelled unread.bytes c.take_frame.new.self = rw c.in-Some.is at
-    c.in_ok-spelled.ensures in
+    let one : IsOneTaken c.in-Some.spelled (bytes_left unread.bytes) c.take_frame.new.self =
+    rw c.in-Some.is at c.in_ok-spelled.ensures in
     λ frames tail left. ahead_before unread.side unread.arrivals.now c.arrivals_of_frame-to_come.result.now
     c.args.number unread.offset _ c.in-Some.spelled _ _ one refl c.arrivals_of_frame-to_come.ensures
     (frame_arrives unread c.requires.placed c.in-Some.spelled _ one _ refl) _ c.captured.result c.captured.ensures

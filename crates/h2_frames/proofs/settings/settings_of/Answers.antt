@@ -1,0 +1,9 @@
+use Rattle.std.proofs.Common.{◌∙◌}
+use Rattle.h2_frames.proofs.SettingsRead.{with_later-turn}
+use Rattle.h2_frames.proofs.settings.settings_of.Goals as goal
+
+pub loop-pair-preserved : goal.loop-pair-preserved
+loop-pair-preserved c =
+    let parts = c.in-Some.ensures.cases in
+    with_later-turn c.loop-pair.settings _ _ c.loop-pair.rest.now _ _ parts.0 parts.1 parts.2 c.read.ensures
+    c.with_setting-settings.ensures ∙ c.loop-pair.invariant
