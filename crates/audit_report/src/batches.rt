@@ -1,7 +1,7 @@
 //! The sections of connections by several workers: in batches, of which halves are written side by side. So no more
 //! than a batch's text is in memory twice.
 
-ghost use Rattle.std.specs.Prelude.{◌≡◌, [], ◌+◌, ◌<◌, ◌≤◌, ◌^◌, ◌++◌, IfOk, All, length};
+ghost use Rattle.std.specs.Prelude.{◌≡◌, ◌+◌, ◌<◌, ◌≤◌, ◌^◌, ◌++◌, IfOk, All, length};
 ghost use Rattle.std.specs.String.{string_bytes};
 ghost use Rattle.std.specs.Thread.{IsSync};
 ghost use Rattle.audit_report.specs.code.Reported.{HasOrderlyOutcome, told_text};
@@ -85,8 +85,7 @@ fn with_sections<R: Threads + Sync>(
     let count = count_within(told, weight / 2);
     let headings = headings.split_at(count);
     let told = told.split_at(count);
-    let all = with_halves(rt, telling, text, before, headings, told)?;
-    Ok(all)
+    with_halves(rt, telling, text, before, headings, told)
 }
 
 /// The same, of connections in two halves: the back's text is made apart, and put behind the front's.
@@ -115,16 +114,24 @@ fn with_halves<R: Threads + Sync>(
     let between = before + front.len() as u64;
     let few = telling.workers / 2;
     let others = telling.workers - few;
-    let own = String::new(telling.alloc);
     let (later, earlier) = join(
         rt,
         || -> Result<String, AllocError>
             requires { IsSync R.row × (0 < few) × (length told_back.now ≡ length back.now)
                 × All (λ (t : Told). HasOrderlyOutcome t.outcome) told_back.now
-                × (between + length back.now < 2 ^ 64) × (string_bytes own ≡ []) }
+                × (between + length back.now < 2 ^ 64) }
             ensures { IfOk result (λ all. string_bytes all
                 ≡ told_text telling.frames_shown (between + 1) back.entry.now told_back.entry.now) }
-        { with_sections(rt, telling.by(few), own, between, back, told_back) },
+        {
+            with_sections(
+                rt,
+                telling.by(few),
+                String::new(telling.alloc),
+                between,
+                back,
+                told_back,
+            )
+        },
         || -> Result<String, AllocError>
             requires { IsSync R.row × (0 < others) × (length told_front.now ≡ length front.now)
                 × All (λ (t : Told). HasOrderlyOutcome t.outcome) told_front.now

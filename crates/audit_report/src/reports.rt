@@ -2,7 +2,7 @@ ghost use Rattle.std.specs.Prelude.{◌≡◌, ◌++◌, List, IfOk, All, length
 ghost use Rattle.std.specs.String.{string_bytes};
 ghost use Rattle.audit_report.specs.Section.{sections_text};
 ghost use Rattle.audit_report.specs.code.Heading.{heading_of};
-ghost use Rattle.audit_report.specs.code.Reported.{AreToldOf, HasOrderlyOutcome, told_text};
+ghost use Rattle.audit_report.specs.code.Reported.{AreToldOf, HasOrderlyOutcome};
 ghost use Rattle.audit_report.specs.declared.audited.Audited.{Audited};
 ghost use Rattle.audit_report.specs.declared.told.Told.{Told};
 ghost use Rattle.tcp_streams.specs.declared.members.Connection.{Connection};
@@ -29,23 +29,6 @@ pub fn report<R: Threads + Sync>(
     ensures { IfOk result (λ text. (connections : List Connection) → (audited : List Audited)
         → headings.now ≡ map heading_of connections → AreToldOf told.now audited → text.items
         ≡ string_bytes capture_lines ++ sections_text telling.frames_shown 1 connections audited) }
-{
-    let text = told_report(rt, telling, capture_lines, headings, told)?;
-    Ok(text)
-}
-
-/// The same, in the words of what is told.
-fn told_report<R: Threads + Sync>(
-    rt: &R,
-    telling: Telling,
-    capture_lines: String,
-    headings: &[Heading],
-    told: &[Told],
-) -> Result<Vec<u8>, AllocError>
-    requires each { length told.now ≡ length headings.now }
-    requires orderly { All (λ (t : Told). HasOrderlyOutcome t.outcome) told.now }
-    ensures { IfOk result (λ text. text.items
-        ≡ string_bytes capture_lines ++ told_text telling.frames_shown 1 headings.now told.now) }
 {
     let text = with_all_sections(rt, telling, capture_lines, headings, told)?;
     Ok(text.into_bytes())

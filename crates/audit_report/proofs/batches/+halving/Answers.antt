@@ -1,4 +1,5 @@
 use Rattle.std.proofs.Common.{◌+◌, ◌∙◌, length, arith}
+use Rattle.std.proofs.lemmas.Result.{MatchResult-weaker}
 use Rattle.std.specs.String.{string_bytes}
 use Rattle.audit_report.proofs.Pairs.{told_joined}
 use Rattle.audit_report.proofs.batches.+halving.Goals as goal
@@ -13,4 +14,5 @@ with_sections-returns g t c =
     let whole = told_joined c.args.telling.frames_shown (c.args.before + 1) (c.args.before + length front + 1)
     c.count_within-count.result _ _ _ _ _ _ (string_bytes c.reserve.new.self) (omega (arith, long)) headings.front
     headings.back told.front told.back in
-    rw (← c.reserve.ensures.bytes) (c.in_ok-all.ensures ∙ whole)
+    rw (← c.reserve.ensures.bytes)
+    (MatchResult-weaker c.with_halves.result c.with_halves.ensures (λ _ halves. halves ∙ whole) (λ _ u. u))

@@ -1,4 +1,4 @@
-use Rattle.std.proofs.Common.{◌++◌, ℕ, List, ap, ◌∙◌}
+use Rattle.std.proofs.Common.{◌≡◌, ◌++◌, ℕ, List, ap, ◌∙◌, rules}
 use Rattle.std.specs.String.{string_bytes}
 use Rattle.audit_report.specs.code.Reported.{told_text}
 use Rattle.audit_report.proofs.Standing.{told-same}
@@ -8,6 +8,7 @@ pub returns : goal.returns
 returns g c = λ connections audited headed stand.
     let before = string_bytes c.args.capture_lines in
     let shown = c.args.telling.frames_shown in
-    c.in_ok-text.ensures
+    let bytes : c.into_bytes.result.items ≡ string_bytes c.in_ok-text.text = search rules in
+    bytes ∙ c.in_ok-text.ensures
     ∙ ap (λ headings. before ++ told_text shown 1 headings c.args.told.now) headed
     ∙ ap (λ (l : List ℕ). before ++ l) (told-same shown 1 connections c.args.told.now audited stand)
