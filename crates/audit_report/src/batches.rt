@@ -123,14 +123,8 @@ fn with_halves<R: Threads + Sync>(
             ensures { IfOk result (λ all. string_bytes all
                 ≡ told_text telling.frames_shown (between + 1) back.entry.now told_back.entry.now) }
         {
-            with_sections(
-                rt,
-                telling.by(few),
-                String::new(telling.alloc),
-                between,
-                back,
-                told_back,
-            )
+            let own = String::new(telling.alloc);
+            with_sections(rt, telling.by(few), own, between, back, told_back)
         },
         || -> Result<String, AllocError>
             requires { IsSync R.row × (0 < others) × (length told_front.now ≡ length front.now)
