@@ -1,8 +1,9 @@
 -- How parts grow, step by step.
 use Rattle.h2audit_split.proofs.Terms.{AllGrow, Appends-nil, Appends-trans, Grows, List, OneGrows, Option, Part, []}
 use Rattle.h2audit_split.proofs.Terms.{append-nil, arith, both_ways, cases_Bool, cases_eq, eq-eqb, false, get_or}
-use Rattle.h2audit_split.proofs.Terms.{if◌then◌else◌, inl, inr, is_some, length-append, ne_eqb, refl, sym, true}
-use Rattle.h2audit_split.proofs.Terms.{ℕ, ◌++◌, ◌==◌, ◌∙◌, ◌≡◌}
+use Rattle.h2audit_split.proofs.Terms.{get_or-set_other, get_or-set_same, get_or_read}
+use Rattle.h2audit_split.proofs.Terms.{if◌then◌else◌, inl, inr, is_some, length, length-append, length-set, ne_eqb}
+use Rattle.h2audit_split.proofs.Terms.{refl, set, sym, true, ℕ, ◌++◌, ◌<◌, ◌==◌, ◌∙◌, ◌≡◌}
 
 module _ {W : Type 0} (contents : W → Option (List ℕ)) where
   -- one step after another
@@ -19,6 +20,16 @@ module _ {W : Type 0} (contents : W → Option (List ℕ)) where
       | inl filled ↦ omega (arith, p.full stands filled, length-append x y)
       | inr stood ↦ omega (arith, q.full stood full, p.size stood, length-append x y)
     ];
+  }
+
+  -- one part grows, and is put back in its place
+  pub OneGrows-put : (parts : List (Part W)) (i : ℕ) (was new : Part W) (bytes numbers : List ℕ) → i < length parts
+      → was ≡ get_or parts i was → Grows contents (get_or parts i was) new bytes numbers
+      → OneGrows contents parts (set parts i new) i bytes numbers
+  OneGrows-put parts i was new bytes numbers within is grows = record {
+    count = length-set parts i new;
+    one = λ d. rw (get_or-set_same parts i new d within, ← get_or_read parts i was within is d) (rw (← is) at grows);
+    others = λ j d other. get_or-set_other parts i j new d other;
   }
 
   -- one part grows by a number, and then by bytes

@@ -7,7 +7,10 @@ pub use Rattle.std.proofs.KnownBytes.{Appends-nil, Appends-trans, Consumes-nil, 
 pub use Rattle.std.proofs.Math.Seq.{drop-append_seam, take-add, take-append_seam}
 pub use Rattle.std.proofs.lemmas.Bool.{both_ways, cases_Bool, cases_eq, cases_lt, cond-false, cond-true, eq-eqb}
 pub use Rattle.std.proofs.lemmas.Bool.{eqb-false, eqb-true, le-ltb, ltb-false, ne_eqb, not-false}
-pub use Rattle.std.proofs.lemmas.List.{drop-append-le, drop-take, drop_min, get_or-take, length-take, length-take-le}
+pub use Rattle.std.proofs.Math.ListN.{set}
+pub use Rattle.std.proofs.lemmas.List.{drop-append-le, drop-take, drop_min, get_or-set_other, get_or-set_same}
+pub use Rattle.std.proofs.lemmas.List.{get_or-take, get_or_read, length-set, length-take, length-take-le}
+pub use Rattle.std.proofs.lemmas.Result.{on_ok_weaker}
 pub use Rattle.std.proofs.lemmas.List.{nil_from_length, take-append-le, take-take, take_all, take_min, take_rest}
 pub use Rattle.std.proofs.lemmas.Slice.{take-put_mid, take-put_mid_below}
 pub use Rattle.std.specs.Io.KnownBytes.{Consumes}

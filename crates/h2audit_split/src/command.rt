@@ -52,30 +52,48 @@ fn unparsed(alloc: Global, error: &Error) -> Result<Asked, Failure> {
 }
 
 fn words_in(alloc: Global, found: &ArgMatches<'_>) -> Result<Words, AllocError> {
-    let parts = found.get_one::<u32>("parts").unwrap_or(1);
     let folder = String::from_str(alloc, found.get_str("output").unwrap_or(""))?;
+    let files = files_in(alloc, found)?;
+    Ok(Words {
+        parts: parts_in(found),
+        folder,
+        files,
+    })
+}
+
+fn parts_in(found: &ArgMatches<'_>) -> usize
+    ensures { 0 < result }
+{
+    let parts = found.get_one::<u32>("parts").unwrap_or(1);
+    parts.max(1) as usize
+}
+
+fn files_in(alloc: Global, found: &ArgMatches<'_>) -> Result<Vec<String>, AllocError> {
     let mut files = Vec::new(alloc);
     if let Some(paths) = found.get_strs("FILE") {
         for path in paths {
             files.push(String::from_str(alloc, path)?)?;
         }
     }
-    Ok(Words {
-        parts: parts.max(1) as usize,
-        folder,
-        files,
-    })
+    Ok(files)
 }
 
 fn matches<'a>(alloc: Global, words: &'a [&'a str]) -> Result<ArgMatches<'a>, Error> {
-    let command = Command::new(alloc, "h2audit-split")
+    command(alloc)?.try_get_matches_from(words)
+}
+
+fn command<'a>(alloc: Global) -> Result<Command<'a>, AllocError> {
+    described(alloc)
+        .arg(parts_option(alloc))?
+        .arg(output_option(alloc))?
+        .arg(file_words(alloc))
+}
+
+fn described<'a>(alloc: Global) -> Command<'a> {
+    Command::new(alloc, "h2audit-split")
         .version(VERSION)
         .about(ABOUT)
         .no_binary_name(true)
-        .arg(parts_option(alloc))?
-        .arg(output_option(alloc))?
-        .arg(file_words(alloc))?;
-    command.try_get_matches_from(words)
 }
 
 fn parts_option<'a>(alloc: Global) -> Arg<'a> {

@@ -55,19 +55,36 @@ pub fn split_later<R: Files + AllocGlobal, W: Write + Drop>(
     ensures { dealer.new.part < length parts.new }
 {
     let mut file = open(rt, later.path)?;
-    match begin(&mut file) {
-        Ok(own) => {
-            if own[..4] != header[..4] {
-                return Err(refused(rt.alloc(), later.path, "another-format"));
-            }
-            if link_type(&own) != link_type(header) {
-                return Err(refused(rt.alloc(), later.path, "another-link-type"));
-            }
-        }
-        Err(Failure::Capture(name)) => return Err(refused(rt.alloc(), later.path, name)),
-        Err(failure) => return Err(failure),
-    }
+    begin_later(rt.alloc(), later.path, &mut file, header)?;
     split_named(rt, later, &mut file, dealer, buffer, parts)
+}
+
+/// Reads the header of a later file, or tells why the file is refused behind one with this header.
+fn begin_later<R: Read>(
+    alloc: Global,
+    path: &str,
+    reader: &mut R,
+    header: &Header,
+) -> Result<(), Failure> {
+    match begin(reader) {
+        Ok(own) => match difference(&own, header) {
+            Some(name) => Err(refused(alloc, path, name)),
+            None => Ok(()),
+        },
+        Err(Failure::Capture(name)) => Err(refused(alloc, path, name)),
+        Err(failure) => Err(failure),
+    }
+}
+
+/// How a later file's header differs from the first one's, if it does.
+fn difference(own: &Header, header: &Header) -> Option<&'static str> {
+    if own[..4] != header[..4] {
+        Some("another-format")
+    } else if link_type(own) != link_type(header) {
+        Some("another-link-type")
+    } else {
+        None
+    }
 }
 
 /// Splits what stands behind the header of a file.

@@ -38,26 +38,31 @@ pub fn create_parts<R: Files + AllocGlobal>(
     }
     let mut parts = Vec::new(alloc);
     for index in 0..count {
-        let packets = create_file(
-            rt,
-            part_path(alloc, folder, index + 1, "pcap")?,
-            PACKETS_BUFFER,
-        )?;
-        let numbers = create_file(
-            rt,
-            part_path(alloc, folder, index + 1, "records")?,
-            NUMBERS_BUFFER,
-        )?;
-        parts.push(Part::begin(packets, numbers, header)?)?;
+        parts.push(create_part(rt, folder, index + 1, header)?)?;
     }
     Ok(parts)
 }
 
+/// Makes the files of one part.
+fn create_part<R: Files + AllocGlobal>(
+    rt: &R,
+    folder: &str,
+    number: usize,
+    header: &Header,
+) -> Result<FilePart<R>, Failure> {
+    let packets = create_file(rt, folder, number, "pcap", PACKETS_BUFFER)?;
+    let numbers = create_file(rt, folder, number, "records", NUMBERS_BUFFER)?;
+    Ok(Part::begin(packets, numbers, header)?)
+}
+
 fn create_file<R: Files + AllocGlobal>(
     rt: &R,
-    path: String,
+    folder: &str,
+    number: usize,
+    kind: &str,
     buffer: usize,
 ) -> Result<BufWriter<R::File>, Failure> {
+    let path = part_path(rt.alloc(), folder, number, kind)?;
     match File::create(rt, path.as_str()) {
         Ok(file) => match BufWriter::with_capacity(rt.alloc(), buffer, file) {
             Ok(writer) => Ok(writer),
@@ -73,25 +78,68 @@ pub fn finish_parts<R: Files + AllocGlobal + Eprint>(
     folder: &str,
     parts: &mut [FilePart<R>],
 ) -> Result<bool, Failure> {
-    let alloc = rt.alloc();
-    let count = parts.len();
-    let mut summary = format!(in alloc; "h2audit-split 1\nparts {count}\n")?;
+    let mut summary = begin_summary(rt.alloc(), parts.len())?;
+    let are_refused = finish_each(rt, folder, parts, &mut summary)?;
+    write_summary(rt, folder, summary.as_str())?;
+    Ok(are_refused)
+}
+
+fn begin_summary(alloc: Global, count: usize) -> Result<String, AllocError> {
+    format!(in alloc; "h2audit-split 1\nparts {count}\n")
+}
+
+fn finish_each<R: Files + AllocGlobal + Eprint>(
+    rt: &R,
+    folder: &str,
+    parts: &mut [FilePart<R>],
+    summary: &mut String,
+) -> Result<bool, Failure> {
     let mut are_refused = false;
-    for index in 0..count {
-        parts[index].flush()?;
-        if let Some(full) = parts[index].full() {
-            are_refused = true;
-            let number = index + 1;
-            let reason = full_reason(alloc, full)?;
-            let line = format!(in alloc; "part {number} refused {reason}\n")?;
-            summary.push_str(line.as_str())?;
-            let _ = eprintln!(rt; "h2audit-split: part {number} refused: {reason}");
-            remove_part(rt, folder, number)?;
-        }
+    for index in 0..parts.len() {
+        are_refused |= finish_part(rt, folder, index + 1, &mut parts[index], summary)?;
     }
-    let path = format!(in alloc; "{folder}/split.txt")?;
-    match fs::write(rt, path.as_str(), summary.as_str()) {
-        Ok(()) => Ok(are_refused),
+    Ok(are_refused)
+}
+
+/// Completes the files of one part, and answers whether it is full. A full one is written down and removed.
+fn finish_part<R: Files + AllocGlobal + Eprint>(
+    rt: &R,
+    folder: &str,
+    number: usize,
+    part: &mut FilePart<R>,
+    summary: &mut String,
+) -> Result<bool, Failure> {
+    part.flush()?;
+    let Some(full) = part.full() else {
+        return Ok(false);
+    };
+    let reason = full_reason(rt.alloc(), full)?;
+    refuse_part(rt, number, reason.as_str(), summary)?;
+    remove_part(rt, folder, number)?;
+    Ok(true)
+}
+
+/// Says why a part is refused, and writes it down.
+fn refuse_part<R: AllocGlobal + Eprint>(
+    rt: &R,
+    number: usize,
+    reason: &str,
+    summary: &mut String,
+) -> Result<(), AllocError> {
+    let line = format!(in rt.alloc(); "part {number} refused {reason}\n")?;
+    summary.push_str(line.as_str())?;
+    let _ = eprintln!(rt; "h2audit-split: part {number} refused: {reason}");
+    Ok(())
+}
+
+fn write_summary<R: Files + AllocGlobal>(
+    rt: &R,
+    folder: &str,
+    summary: &str,
+) -> Result<(), Failure> {
+    let path = format!(in rt.alloc(); "{folder}/split.txt")?;
+    match fs::write(rt, path.as_str(), summary) {
+        Ok(()) => Ok(()),
         Err(_) => Err(Failure::Io("write failed")),
     }
 }

@@ -25,17 +25,17 @@ pub fn run<R: Files + Env + AllocGlobal + Eprint, I: Read>(
     match words_asked(rt)? {
         Asked::Text(text) => Ok(Ending::Text(text)),
         Asked::Split(words) => {
-            let are_refused = if words.files.is_empty() {
-                split_input(rt, &words, input)?
-            } else {
-                split_files(rt, &words)?
-            };
-            Ok(if are_refused {
-                Ending::PartsRefused
-            } else {
-                Ending::Split
-            })
+            let are_refused = split(rt, &words, input)?;
+            Ok(ending(are_refused))
         }
+    }
+}
+
+fn ending(are_refused: bool) -> Ending {
+    if are_refused {
+        Ending::PartsRefused
+    } else {
+        Ending::Split
     }
 }
 
@@ -59,53 +59,61 @@ fn make_buffer(alloc: Global) -> Result<Vec<u8>, Failure>
     Ok(buffer)
 }
 
-/// Splits standard input, and answers whether a part is refused.
-fn split_input<R: Files + AllocGlobal + Eprint, I: Read>(
+/// Splits the capture that the words name, and answers whether a part is refused.
+fn split<R: Files + AllocGlobal + Eprint, I: Read>(
     rt: &R,
     words: &Words,
     input: &mut I,
 ) -> Result<bool, Failure> {
-    let header = begin(input)?;
     let mut buffer = make_buffer(rt.alloc())?;
+    match words.files.as_slice().first() {
+        Some(first) => {
+            let mut file = open(rt, first.as_str())?;
+            split_from(rt, words, &mut file, buffer.as_mut_slice())
+        }
+        None => split_from(rt, words, input, buffer.as_mut_slice()),
+    }
+}
+
+/// Splits the capture that this reader begins: the first file, or standard input where no files are named.
+fn split_from<R: Files + AllocGlobal + Eprint, I: Read>(
+    rt: &R,
+    words: &Words,
+    reader: &mut I,
+    buffer: &mut [u8],
+) -> Result<bool, Failure>
+    requires { 98 ≤ length buffer.old }
+{
+    let header = begin(reader)?;
     let folder = words.folder.as_str();
     let mut parts = create_parts(rt, folder, words.parts, &header)?;
-    split_capture(&header, input, buffer.as_mut_slice(), parts.as_mut_slice())?;
+    let files = words.files.as_slice();
+    split_files(rt, files, reader, &header, buffer, parts.as_mut_slice())?;
     finish_parts(rt, folder, parts.as_mut_slice())
 }
 
-/// Splits files, which make one capture in their order.
-fn split_files<R: Files + AllocGlobal + Eprint>(rt: &R, words: &Words) -> Result<bool, Failure> {
-    let Some((first, later)) = words.files.as_slice().split_first() else {
-        return Ok(false);
+/// Splits files, which make one capture in their order. The reader stands behind the header of the first.
+fn split_files<R: Files + AllocGlobal, I: Read, W: Write + Drop>(
+    rt: &R,
+    files: &[String],
+    reader: &mut I,
+    header: &Header,
+    buffer: &mut [u8],
+    parts: &mut [Part<W>],
+) -> Result<(), Failure>
+    requires some { 0 < length parts.old }
+    requires buffer { 98 ≤ length buffer.old }
+{
+    let Some((first, later)) = files.split_first() else {
+        return Ok(split_capture(header, reader, buffer, parts)?);
     };
-    let mut file = open(rt, first.as_str())?;
-    let header = begin(&mut file)?;
-    let mut buffer = make_buffer(rt.alloc())?;
-    let folder = words.folder.as_str();
-    let mut parts = create_parts(rt, folder, words.parts, &header)?;
-    let buffer = buffer.as_mut_slice();
-    let mut dealer = Dealer::behind(&header);
+    let mut dealer = Dealer::behind(header);
     let named = CaptureFile {
         path: first.as_str(),
         is_last: later.is_empty(),
     };
-    split_named(
-        rt,
-        named,
-        &mut file,
-        &mut dealer,
-        buffer,
-        parts.as_mut_slice(),
-    )?;
-    split_others(
-        rt,
-        later,
-        &header,
-        &mut dealer,
-        buffer,
-        parts.as_mut_slice(),
-    )?;
-    finish_parts(rt, folder, parts.as_mut_slice())
+    split_named(rt, named, reader, &mut dealer, buffer, parts)?;
+    split_others(rt, later, header, &mut dealer, buffer, parts)
 }
 
 /// Splits the files behind the first one.
