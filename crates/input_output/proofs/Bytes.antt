@@ -1,6 +1,6 @@
 -- What stands in the chunks of a capture's bytes.
-use Rattle.std.proofs.Common.{◌≡◌, ◌∙◌, ℕ, ◌+◌, ◌*◌, ◌≤◌, List, ◌++◌, length, take, drop, map, length-append, Option}
-use Rattle.std.proofs.Common.{sym, ap, subst, arith, vec_len, slice_index_or, Bool, true, false, if◌then◌else◌}
+use Rattle.std.proofs.Common.{◌≡◌, ◌∙◌, ℕ, ◌+◌, ◌*◌, ◌≤◌, List, [], ◌∷◌, ◌++◌, length, take, drop, map}
+use Rattle.std.proofs.Common.{length-append, Option, sym, ap, subst, arith, vec_len, slice_index_or, Bool, true, false, if◌then◌else◌}
 use Rattle.std.specs.Io.{appended_bytes}
 use Rattle.std.specs.List.{All}
 use Rattle.std.specs.declared.vec.Vec.{Vec}
@@ -8,7 +8,7 @@ use Rattle.std.specs.declared.alloc.Global.{Global}
 use Rattle.std.proofs.Math.Seq.{take-add}
 use Rattle.std.proofs.Transfers.{drop-appended, starts_with_of_append}
 use Rattle.std.proofs.lemmas.List.{append_assoc, length-drop, length-take, length-take-le}
-use Rattle.std.proofs.lemmas.List.Elements.{All-append}
+use Rattle.std.proofs.lemmas.List.Elements.{All-append, All-push}
 use Rattle.input_output.specs.Bytes.{InChunks}
 use Rattle.input_output.specs.Chunks.{joined}
 use Rattle.input_output.specs.code.Reads.{HasRead, IsGrown}
@@ -21,6 +21,12 @@ all_of full last filled = joined (map (λ (chunk : Vec ℕ Global). chunk.items)
 
 abbrev pub AreFull : List (Vec ℕ Global) → Type 0
 AreFull full = All (λ (chunk : Vec ℕ Global). vec_len chunk ≡ 1048576) full
+
+-- full chunks, and one more behind them
+pub all_full : (full now : List (Vec ℕ Global)) (last : Vec ℕ Global) → AreFull full → vec_len last ≡ 1048576
+    → now ≡ full ++ last ∷ [] → AreFull now
+all_full full now last all whole is =
+    subst AreFull (sym is) (All-push (λ (chunk : Vec ℕ Global). vec_len chunk ≡ 1048576) full last all whole)
 
 pub full_size : (full : List (Vec ℕ Global)) → AreFull full
     → length (joined (map (λ (chunk : Vec ℕ Global). chunk.items) full)) ≡ length full * 1048576

@@ -1,19 +1,38 @@
 -- What is kept of a capture, read by read.
-use Rattle.std.proofs.Common.{◌≡◌, ◌≢◌, ◌∙◌, ℕ, ◌+◌, ◌^◌, ◌≤◌, List, [], ◌++◌, length, take, drop, length-append}
-use Rattle.std.proofs.Common.{take_at, Option, Some, None, IfSome, inl, inr, refl, sym, ap, subst}
+use Rattle.std.proofs.Common.{◌≡◌, ◌∙◌, ℕ, suc, ◌+◌, ◌-◌, ◌^◌, ◌<◌, ◌≤◌, List, [], ◌++◌, length, take, drop}
+use Rattle.std.proofs.Common.{length-append, take_at, Option, Some, None, IfSome, inl, inr, refl, sym, ap, subst}
+use Rattle.std.proofs.Common.{Result, Ok, Err, IfErr, OnOk}
 use Rattle.std.proofs.Common.{arith}
-use Rattle.std.specs.Io.{StartsWith, appended_bytes}
+use Rattle.std.specs.Io.{StartsWith}
 use Rattle.std.specs.Io.KnownBytes.{Consumes, IsAtEnd}
 use Rattle.std.proofs.KnownBytes.{Consumes-more, Consumes-nil, Consumes-trans, starts_with_rest}
 use Rattle.std.proofs.Math.Seq.{drop-length}
-use Rattle.std.proofs.Transfers.{drop-appended, starts_with_of_eq, starts_with_trans}
+use Rattle.std.proofs.Transfers.{drop-appended, starts_with_length, starts_with_of_eq, starts_with_trans}
+use Rattle.std.specs.Result.{result_and}
+use Rattle.std.proofs.lemmas.Result.{on_ok_weaker}
 use Rattle.std.proofs.lemmas.List.{append-nil, append_assoc, nil_from_length, take_all}
 use Rattle.input_output.specs.code.Front.{Lasts}
 use Rattle.input_output.specs.Account.{HaveGiven, IsReadToEnd, kept}
-use Rattle.input_output.specs.code.Reading.{HasConsumed, HasGrown, HasPassed, HasReadOn, IsSound}
+use Rattle.input_output.specs.code.Reading.{HasConsumed, HasGrown, HasPassed, HasReadOn, IsReadingFault, IsSound}
 use Rattle.input_output.specs.code.Reads.{HasRead}
 use Rattle.input_output.specs.declared.capture_reader.CaptureReader.{CaptureReader}
-use Rattle.input_output.specs.declared.capture_reader.ReadState.TheVariants.{Open, Ended}
+use Rattle.input_output.specs.declared.capture_reader.ReadState.{ReadState}
+use Rattle.input_output.specs.declared.capture_reader.ReadState.TheVariants.{Open, Ended, Failed, LackedMemory}
+use Rattle.input_output.specs.declared.fault.ReadFault.{ReadFault}
+use Rattle.input_output.specs.declared.fault.ReadFault.TheVariants as fault
+
+-- what holds where both answers are good
+pub both_well : (P : Type 0) (one other both : Result (Unit {0}) ReadFault) → both ≡ result_and one other
+    → OnOk one (OnOk other P) → OnOk both P
+both_well P (Ok _) other both is well = rw is well
+both_well P (Err fault) other both is well = rw is tt
+
+-- how many reads can follow at most, where so many bytes more are to be kept
+abbrev pub reads_left : ReadState → ℕ → ℕ
+reads_left Open more = suc more
+reads_left Ended more = 0
+reads_left Failed more = 0
+reads_left LackedMemory more = 0
 
 module _ {R : Type 0} where
   -- where nothing was passed over the reads gave what is kept
@@ -30,63 +49,93 @@ module _ {R : Type 0} where
       → length given ≡ length (kept reader) + reader.passed
   given_size reader given gave = omega (arith, ap length gave.1, length-append (kept reader) gave.0, gave.2)
 
-  -- reads that are kept, of which none found the end
-  pub record IsReading (left : R → Option (List ℕ)) (limit : ℕ) (first now : CaptureReader R) : Type 0 where
-    pub sound : IsSound now
-    pub state : now.state ≡ Open
-    pub grown : HasGrown limit first now
-    pub bytes : HasConsumed left first now
+  -- reads that are kept, and what the last of them answered
+  pub record IsReading (left : R → Option (List ℕ)) (limit : ℕ) (first now : CaptureReader R)
+      (read : Result (Unit {0}) ReadFault) : Type 0 where
+    pub grown : HasGrown limit (kept first) now
+    pub sound : OnOk read (IsSound now)
+    pub end : OnOk read (now.state ≡ Ended → IsAtEnd (left now.reader))
+    pub bytes : OnOk read (HasConsumed left first now)
+    pub err : IfErr read (λ e. IsReadingFault e now)
 
   pub read_none : (left : R → Option (List ℕ)) (limit : ℕ) (first : CaptureReader R) → IsSound first
-      → first.bytes.room ≤ limit → first.passed ≡ 0 → first.state ≡ Open → IsReading left limit first first
+      → first.bytes.room ≤ limit → first.passed ≡ 0 → first.state ≡ Open → IsReading left limit first first (Ok tt)
   read_none left limit first sound room unpassed state = record {
-    sound = sound;
-    state = state;
     grown = record {
       front = starts_with_of_eq (kept first) (kept first) refl;
       room = room;
       unpassed = unpassed;
     };
+    sound = sound;
+    end = λ ended. cc;
     bytes = rw drop-length (Consumes-nil (left first.reader));
+    err = tt;
   }
+
+  -- where a read can follow, the last one went well
+  pub went_well : {P : Type 0} (reader : CaptureReader R) (read : Result (Unit {0}) ReadFault) → reader.state ≡ Open
+      → IfErr read (λ e. IsReadingFault e reader) → OnOk read P → P
+  went_well reader (Ok _) unended err is = is
+  went_well reader (Err fault.Failed) unended err is = cc
+  went_well reader (Err fault.OutOfMemory) unended err is = cc
 
   -- and more of them
   pub read_more : (left : R → Option (List ℕ)) (limit : ℕ) (first old new : CaptureReader R)
-      → IsReading left limit first old → HasGrown limit old new → HasReadOn left old new → HasConsumed left first new
-  read_more left limit first old new on grown read =
-      Consumes-more _ _ _ (kept first) (kept old) (kept new) on.grown.front grown.front on.bytes read.bytes
-
-  pub read_on : (left : R → Option (List ℕ)) (limit : ℕ) (first old new : CaptureReader R)
-      → IsReading left limit first old → HasGrown limit old new → HasReadOn left old new → new.state ≢ Ended
-      → IsReading left limit first new
-  read_on left limit first old new on grown read unended = record {
+      → HasGrown limit (kept first) old → HasConsumed left first old → HasGrown limit (kept old) new
+      → HasReadOn left old.reader (kept old) new → HasReadOn left first.reader (kept first) new
+  read_more left limit first old new before bytes grown read = record {
+    bytes = Consumes-more _ _ _ (kept first) (kept old) (kept new) before.front grown.front bytes read.bytes;
+    end = read.end;
+    more = λ on. omega (arith, read.more on, starts_with_length (kept old) (kept first) before.front);
     sound = read.sound;
-    state = elim read.sound.well [
-      | inl is ↦ is
-      | inr ended ↦ absurd (unended ended)
-    ];
-    grown = record {
-      front = starts_with_trans (kept new) (kept old) (kept first) grown.front on.grown.front;
-      room = grown.room;
-      unpassed = grown.unpassed;
-    };
-    bytes = read_more left limit first old new on grown read;
   }
 
-  -- what was read while the bytes before it were taken out, once these stand in front again
-  pub read_behind : (left : R → Option (List ℕ)) (old rest now new : CaptureReader R) → HasReadOn left rest now
-      → kept rest ≡ [] → rest.reader ≡ old.reader → new ≡ record now { bytes = new.bytes }
-      → kept new ≡ kept old ++ kept now → new.bytes.room ≡ length (kept old) + now.bytes.room
-      → new.bytes.room ≤ 2 ^ 31 → now.passed ≡ 0 → HasReadOn left old new
-  read_behind left old rest now new read none first same whole room most unpassed =
+  pub grown_more : (limit : ℕ) (first old new : CaptureReader R) → HasGrown limit (kept first) old
+      → HasGrown limit (kept old) new → HasGrown limit (kept first) new
+  grown_more limit first old new before grown = record {
+    front = starts_with_trans (kept new) (kept old) (kept first) grown.front before.front;
+    room = grown.room;
+    unpassed = grown.unpassed;
+  }
+
+  pub read_on : (left : R → Option (List ℕ)) (limit : ℕ) (first old new : CaptureReader R)
+      (last read : Result (Unit {0}) ReadFault) → IsReading left limit first old last → old.state ≡ Open
+      → HasGrown limit (kept old) new → OnOk read (HasReadOn left old.reader (kept old) new)
+      → IfErr read (λ e. IsReadingFault e new) → IsReading left limit first new read
+  read_on left limit first old new last read on unended grown more err = record {
+    grown = grown_more limit first old new on.grown grown;
+    sound = on_ok_weaker read (λ more. more.sound) more;
+    end = on_ok_weaker read (λ more. more.end) more;
+    bytes = on_ok_weaker read
+        (λ more.
+        (read_more left limit first old new on.grown (went_well old last unended on.err on.bytes) grown more).bytes)
+        more;
+    err = err;
+  }
+
+  pub fewer_left : (left : R → Option (List ℕ)) (limit : ℕ) (old new : CaptureReader R)
+      (read : Result (Unit {0}) ReadFault) → old.state ≡ Open → length (kept old) < limit
+      → OnOk read (HasReadOn left old.reader (kept old) new) → IfErr read (λ e. IsReadingFault e new)
+      → reads_left new.state (limit - length (kept new)) < reads_left old.state (limit - length (kept old))
+  fewer_left left limit old new (Ok _) unended below more err = rw unended (elim more.sound.well [
+    | inl on ↦ rw on (omega (arith, more.more on, below))
+    | inr ended ↦ rw ended (omega arith)
+  ])
+  fewer_left left limit old new (Err fault.Failed) unended below more err = rw (unended, err) (omega arith)
+  fewer_left left limit old new (Err fault.OutOfMemory) unended below more err = rw (unended, err) (omega arith)
+
+  -- what was read while these bytes were taken out, once they stand in front again
+  pub read_behind : (left : R → Option (List ℕ)) (before : R) (front : List ℕ) (now new : CaptureReader R)
+      → HasReadOn left before [] now → new ≡ record now { bytes = new.bytes } → kept new ≡ front ++ kept now
+      → new.bytes.room ≡ length front + now.bytes.room → new.bytes.room ≤ 2 ^ 31 → now.passed ≡ 0
+      → HasReadOn left before front new
+  read_behind left before front now new read same whole room most unpassed =
       let reader : new.reader ≡ now.reader = ap (λ (r : CaptureReader R). r.reader) same in
       let state : new.state ≡ now.state = ap (λ (r : CaptureReader R). r.state) same in
-      let size : length (kept new) ≡ length (kept old) + length (kept now) =
-      ap length whole ∙ length-append (kept old) (kept now) in
-      let given : appended_bytes (kept old) (kept new) ≡ appended_bytes (kept rest) (kept now) =
-      drop-appended (kept old) (kept new) (kept now) whole ∙ sym (ap (λ l. drop (length l) (kept now)) none) in
+      let size : length (kept new) ≡ length front + length (kept now) =
+      ap length whole ∙ length-append front (kept now) in
       record {
-        bytes = rw (given, reader, sym first) read.bytes;
+        bytes = rw (drop-appended front (kept new) (kept now) whole, reader) read.bytes;
         end = λ ended. rw reader (read.end (sym state ∙ ended));
         more = λ unended. omega (arith, size, read.more (sym state ∙ unended));
         sound = record {

@@ -2,7 +2,8 @@ ghost use Rattle.std.specs.Prelude.{◌≡◌, ◌+◌, ◌^◌, ◌<◌, ◌≤
 ghost use Rattle.std.specs.Bool.{Decides};
 ghost use Rattle.input_output.specs.Account.{IsUnread, kept};
 ghost use Rattle.input_output.specs.code.Front.{Lasts};
-ghost use Rattle.input_output.specs.code.Reading.{HasGrown, HasReadOn, IsOpenBelow, IsReadingFault};
+ghost use Rattle.input_output.specs.code.Reading.{HasGrown, HasReadOn, IsOpenBehind, IsOpenBelow};
+ghost use Rattle.input_output.specs.code.Reading.{IsReadingFault};
 ghost use Rattle.input_output.specs.code.Reads.{HasRead, IsStateAfter};
 
 use crate::chunks_ahead::ChunksAhead;
@@ -37,8 +38,9 @@ pub enum ReadState {
 /// A type of reader tells which bytes it will give, if any, and not whether a read failed; of a file or a pipe it tells
 /// nothing. The account does: `enter_read` enters what a read answered, for `read_once` and `pass_once`. `pass_once`
 /// calls `read` itself, `read_once` through `read_once` and `read_into` of `kept_bytes`, of which `read_into` calls it.
-/// `read_and_walk` takes what is kept out of it while a walk goes on over that, and puts it back in front of what was
-/// read meanwhile. `lack_memory` enters want of memory, also for `enter_memory`. Nothing else changes an account.
+/// `walk_where_full` takes what is kept out of it for a walk that goes on over that, and `read_behind` puts it back in
+/// front of what was read meanwhile. `lack_memory` enters want of memory, also for `enter_memory`. Nothing else changes
+/// an account.
 #[derive(Drop)]
 pub struct CaptureReader<R> {
     reader: R,
@@ -99,11 +101,11 @@ impl<R> CaptureReader<R> {
         self.state == ReadState::Ended
     }
 
-    /// Whether so many bytes are kept.
-    pub(crate) fn has_kept(&self, count: usize) -> bool
-        ensures { Decides result (count ≤ length (kept self.now)) }
+    /// Whether a read can follow, and fewer bytes than `limit` are kept.
+    pub(crate) fn is_open_below(&self, limit: usize) -> bool
+        ensures { Decides result ((self.now.state ≡ ReadState.Open) × (length (kept self.now) < limit)) }
     {
-        count <= self.bytes.len()
+        self.state == ReadState::Open && self.bytes.len() < limit
     }
 
     /// Whether the reads gave 2^31 bytes.
@@ -166,15 +168,14 @@ impl<R: Read> CaptureReader<R> {
         ahead: &mut ChunksAhead<'_, T>,
     ) -> Result<(), ReadFault>
         requires { IsOpenBelow limit self.old }
-        ensures grown { HasGrown limit self.old self.new }
-        ensures read { OnOk result (HasReadOn R.remaining self.old self.new) }
+        ensures grown { HasGrown limit (kept self.old) self.new }
+        ensures read { OnOk result (HasReadOn R.remaining self.old.reader (kept self.old) self.new) }
         ensures err { IfErr result (λ e. IsReadingFault e self.new) }
     {
         let room = self.bytes.make_room(limit, ahead);
         self.enter_memory(room)?;
         let read = self.bytes.read_once(&mut self.reader);
-        self.enter_read(read)?;
-        Ok(())
+        self.enter_read(read).and(Ok(()))
     }
 
     /// Reads once or more, up to [`LIMIT`], while a walk goes on over what is kept.
@@ -188,27 +189,75 @@ impl<R: Read> CaptureReader<R> {
     ) -> Result<(), ReadFault>
         requires reader { IsOpenBelow (2 ^ 31) self.old }
         requires walk { Lasts W.stands (kept self.old) walk.old }
-        ensures grown { HasGrown (2 ^ 31) self.old self.new }
-        ensures read { OnOk result (HasReadOn R.remaining self.old self.new) }
+        ensures grown { HasGrown (2 ^ 31) (kept self.old) self.new }
+        ensures read { OnOk result (HasReadOn R.remaining self.old.reader (kept self.old) self.new) }
         ensures walk { OnOk result (Lasts W.stands (kept self.new) walk.new) }
         ensures err { IfErr result (λ e. IsReadingFault e self.new) }
     {
         if ahead.is_alone() {
-            self.read_once(LIMIT, ahead)?;
-            let walked = self.bytes.walk_where_filled(ahead.alloc, walk);
-            return self.enter_memory(walked);
+            self.read_then_walk(ahead, walk)
+        } else {
+            self.walk_where_full(ahead, walk)
         }
+    }
+
+    /// Reads once, and walks where a piece is full.
+    fn read_then_walk<T: Threads, W: FrontWalk + Send>(
+        &mut self,
+        ahead: &mut ChunksAhead<'_, T>,
+        walk: &mut W,
+    ) -> Result<(), ReadFault>
+        requires reader { IsOpenBelow (2 ^ 31) self.old }
+        requires walk { Lasts W.stands (kept self.old) walk.old }
+        ensures grown { HasGrown (2 ^ 31) (kept self.old) self.new }
+        ensures read { OnOk result (HasReadOn R.remaining self.old.reader (kept self.old) self.new) }
+        ensures walk { OnOk result (Lasts W.stands (kept self.new) walk.new) }
+        ensures err { IfErr result (λ e. IsReadingFault e self.new) }
+    {
+        self.read_once(LIMIT, ahead)?;
+        let walked = self.bytes.walk_where_filled(ahead.alloc, walk);
+        self.enter_memory(walked)
+    }
+
+    /// Reads once, or, where a chunk begins, on beside a walk over those before it.
+    fn walk_where_full<T: Threads, W: FrontWalk + Send>(
+        &mut self,
+        ahead: &mut ChunksAhead<'_, T>,
+        walk: &mut W,
+    ) -> Result<(), ReadFault>
+        requires reader { IsOpenBelow (2 ^ 31) self.old }
+        requires walk { Lasts W.stands (kept self.old) walk.old }
+        ensures grown { HasGrown (2 ^ 31) (kept self.old) self.new }
+        ensures read { OnOk result (HasReadOn R.remaining self.old.reader (kept self.old) self.new) }
+        ensures walk { OnOk result (Lasts W.stands (kept self.new) walk.new) }
+        ensures err { IfErr result (λ e. IsReadingFault e self.new) }
+    {
         let room = self.bytes.make_room(LIMIT, ahead);
         self.enter_memory(room)?;
-        let Some(full) = self.bytes.take_full(ahead.alloc) else {
-            return self.read_once(LIMIT, ahead);
-        };
+        match self.bytes.take_full(ahead.alloc) {
+            Some(full) => self.read_behind(full, ahead, walk),
+            None => self.read_once(LIMIT, ahead),
+        }
+    }
+
+    /// Reads on beside a walk over full chunks that were taken out, and puts these back in front.
+    fn read_behind<T: Threads, W: FrontWalk + Send>(
+        &mut self,
+        full: FullChunks,
+        ahead: &mut ChunksAhead<'_, T>,
+        walk: &mut W,
+    ) -> Result<(), ReadFault>
+        requires reader { IsOpenBehind full self.old }
+        requires walk { Lasts W.stands full walk.old }
+        ensures grown { HasGrown (2 ^ 31) full self.new }
+        ensures read { OnOk result (HasReadOn R.remaining self.old.reader full self.new) }
+        ensures walk { OnOk result (Lasts W.stands (kept self.new) walk.new) }
+        ensures err { IfErr result (λ e. IsReadingFault e self.new) }
+    {
         let limit = BESIDE.min(LIMIT - full.len());
-        let (walked, read) = self.read_beside(limit, ahead, &full, walk);
+        let read = self.read_beside(limit, ahead, &full, walk);
         let whole = self.bytes.put_back(full);
-        self.enter_memory(whole)?;
-        read?;
-        self.enter_memory(walked)
+        self.enter_memory(whole).and(read)
     }
 
     /// Reads on, up to `limit`, until a walk over full chunks is done, which another thread lets go on. So neither
@@ -220,21 +269,23 @@ impl<R: Read> CaptureReader<R> {
         ahead: &mut ChunksAhead<'_, T>,
         full: &FullChunks,
         walk: &mut W,
-    ) -> (Result<(), AllocError>, Result<(), ReadFault>)
+    ) -> Result<(), ReadFault>
         requires reader { IsOpenBelow limit self.old }
         requires walk { Lasts W.stands full.now walk.old }
-        ensures grown { HasGrown limit self.old self.new }
-        ensures read { OnOk result.1 (HasReadOn R.remaining self.old self.new) }
-        ensures walk { OnOk result.0 (Lasts W.stands full.now walk.new) }
-        ensures err { IfErr result.1 (λ e. IsReadingFault e self.new) }
+        ensures grown { HasGrown limit (kept self.old) self.new }
+        ensures read { OnOk result (HasReadOn R.remaining self.old.reader (kept self.old) self.new) }
+        ensures walk { OnOk result (Lasts W.stands full.now walk.new) }
+        ensures err { IfErr result (λ e. IsReadingFault e self.new) }
     {
         let rt = ahead.rt;
         let alloc = ahead.alloc;
-        join_mut(
+        let (walked, read) = join_mut(
             rt,
             &mut || full.walk(alloc, walk),
             &mut || self.read_until(limit, ahead, full),
-        )
+        );
+        read?;
+        self.enter_memory(walked)
     }
 
     /// Reads once, and then on until the walk over these chunks is done, the end is found, or `limit` bytes are kept.
@@ -245,17 +296,16 @@ impl<R: Read> CaptureReader<R> {
         full: &FullChunks,
     ) -> Result<(), ReadFault>
         requires { IsOpenBelow limit self.old }
-        ensures grown { HasGrown limit self.old self.new }
-        ensures read { OnOk result (HasReadOn R.remaining self.old self.new) }
+        ensures grown { HasGrown limit (kept self.old) self.new }
+        ensures read { OnOk result (HasReadOn R.remaining self.old.reader (kept self.old) self.new) }
         ensures err { IfErr result (λ e. IsReadingFault e self.new) }
     {
-        while !self.has_kept(limit) {
-            self.read_once(limit, ahead)?;
-            if self.has_ended() || full.is_walked() {
-                return Ok(());
+        loop {
+            let read = self.read_once(limit, ahead);
+            if full.is_walked() || !self.is_open_below(limit) {
+                return read;
             }
         }
-        Ok(())
     }
 
     /// Reads once into the piece, and keeps nothing of it. No read comes after one that failed or found the end.

@@ -1,7 +1,7 @@
 //! The bytes that are kept of a capture, in chunks of one length.
 
 ghost use Rattle.std.specs.Prelude.{◌≡◌, ◌+◌, ◌++◌, ◌^◌, ◌<◌, ◌≤◌, [], length, take, drop, vec_len, IfOk, OnOk};
-ghost use Rattle.std.specs.Prelude.{IfNone, IfSome};
+ghost use Rattle.std.specs.Prelude.{◌∷◌, IfNone, IfSome, OnErr};
 ghost use Rattle.std.specs.Io.{StartsWith, appended_bytes};
 ghost use Rattle.input_output.specs.code.Front.{Lasts};
 ghost use Rattle.input_output.specs.code.Reads.{HasRead, IsGrown};
@@ -85,8 +85,7 @@ impl KeptBytes {
 
     /// Makes room for at least one byte more, and for no more than `limit` in all.
     ///
-    /// A chunk grows by pieces where it was not made ahead. The first one may be moved as it grows, so that a short
-    /// capture takes little; while it grows, later ones are begun.
+    /// A chunk grows by pieces where it was not made ahead.
     pub(crate) fn make_room<T: Threads>(
         &mut self,
         limit: usize,
@@ -101,16 +100,11 @@ impl KeptBytes {
         if self.filled < self.last.len() {
             return Ok(());
         }
-        let rest = limit - self.full.len() * CAPTURE_CHUNK;
+        let most = limit - self.full.len() * CAPTURE_CHUNK;
         if self.last.len() < CAPTURE_CHUNK {
-            ahead.begin(self.last.len() / PIECE);
-            let wanted = CAPTURE_CHUNK.min(self.filled + PIECE).min(rest);
-            fill_up(&mut self.last, wanted)?;
-            return Ok(());
+            return grow_chunk(&mut self.last, most, ahead);
         }
-        let chunk = next_chunk(ahead, rest - CAPTURE_CHUNK)?;
-        self.full.reserve(1)?;
-        self.full.push_reserved(mem::replace(&mut self.last, chunk));
+        begin_chunk(&mut self.full, &mut self.last, most - CAPTURE_CHUNK, ahead)?;
         self.filled = 0;
         Ok(())
     }
@@ -227,6 +221,42 @@ impl FullChunks {
     pub(crate) fn is_walked(&self) -> bool {
         self.is_walked.load(Ordering::SeqCst) > 0
     }
+}
+
+/// Makes a chunk longer by a piece, up to `most` bytes. The first one may be moved, so that a short capture takes
+/// little; while it grows, later ones are begun.
+fn grow_chunk<T: Threads>(
+    chunk: &mut Vec<u8>,
+    most: usize,
+    ahead: &mut ChunksAhead<'_, T>,
+) -> Result<(), AllocError>
+    requires { (vec_len chunk.old < 1048576) × (vec_len chunk.old < most) }
+    ensures front { take (vec_len chunk.old) chunk.new.items ≡ chunk.old.items }
+    ensures grows { vec_len chunk.old ≤ vec_len chunk.new }
+    ensures within { (vec_len chunk.new ≤ most) × (vec_len chunk.new ≤ 1048576) }
+    ensures room { OnOk result (vec_len chunk.old < vec_len chunk.new) }
+{
+    ahead.begin(chunk.len() / PIECE);
+    let wanted = CAPTURE_CHUNK.min(chunk.len() + PIECE).min(most);
+    fill_up(chunk, wanted)
+}
+
+/// Begins a chunk, for `most` bytes at most; the last one comes behind those that are full.
+fn begin_chunk<T: Threads>(
+    full: &mut Vec<Vec<u8>>,
+    last: &mut Vec<u8>,
+    most: usize,
+    ahead: &mut ChunksAhead<'_, T>,
+) -> Result<(), AllocError>
+    requires { 0 < most }
+    ensures ok { OnOk result ((full.new.items ≡ full.old.items ++ last.old ∷ []) × (0 < vec_len last.new)
+        × (vec_len last.new ≤ most) × (vec_len last.new ≤ 1048576)) }
+    ensures err { OnErr result ((full.new.items ≡ full.old.items) × (last.new ≡ last.old)) }
+{
+    let chunk = next_chunk(ahead, most)?;
+    full.reserve(1)?;
+    full.push_reserved(mem::replace(last, chunk));
+    Ok(())
 }
 
 /// A chunk behind full ones, with room for one byte at least and `most` at most: whole where it was made ahead, and

@@ -36,13 +36,11 @@ pub fn keep_up_to<T: Threads, R: Read>(
     ensures bytes { OnOk result (HasConsumed R.remaining reader.old reader.new) }
     ensures err { IfErr result (λ e. IsReadingFault e reader.new) }
 {
-    while !reader.has_kept(limit) {
-        reader.read_once(limit, ahead)?;
-        if reader.has_ended() {
-            return Ok(());
-        }
+    let mut read = Ok(());
+    while reader.is_open_below(limit) {
+        read = reader.read_once(limit, ahead);
     }
-    Ok(())
+    read
 }
 
 /// Reads to the end, or until there are 2^31 bytes, and keeps them, while a walk goes on over them.
@@ -69,13 +67,11 @@ pub fn keep_and_walk<T: Threads, R: Read, W: FrontWalk + Send>(
     ensures walk { OnOk result (Lasts W.stands (kept reader.new) walk.new) }
     ensures err { IfErr result (λ e. IsReadingFault e reader.new) }
 {
-    while !reader.has_kept(LIMIT) {
-        reader.read_and_walk(ahead, walk)?;
-        if reader.has_ended() {
-            return Ok(());
-        }
+    let mut read = Ok(());
+    while reader.is_open_below(LIMIT) {
+        read = reader.read_and_walk(ahead, walk);
     }
-    Ok(())
+    read
 }
 
 /// Reads to the end, or until there were 2^31 bytes, and keeps nothing of it. Its turns end likewise.

@@ -1,5 +1,5 @@
 -- How the bytes of a capture are read, and how that fails.
-use Rattle.std.specs.Prelude.{◌≡◌, ℕ, ◌+◌, ◌^◌, ◌<◌, ◌≤◌, ◌⊎◌, List, Option, length}
+use Rattle.std.specs.Prelude.{◌≡◌, ℕ, ◌+◌, ◌^◌, ◌<◌, ◌≤◌, ◌⊎◌, List, [], Option, length}
 use Rattle.std.specs.Io.{StartsWith, appended_bytes}
 use Rattle.std.specs.Io.KnownBytes.{Consumes, IsAtEnd}
 use Rattle.input_output.specs.Account.{HasReadFailed, kept}
@@ -25,23 +25,33 @@ module _ {R : Type 0} where
     pub room : reader.bytes.room ≤ limit
     pub most : limit ≤ 2 ^ 31
 
-  -- what was kept stands in front of what is kept now, in room up to the limit, and nothing was passed over
-  pub record HasGrown (limit : ℕ) (old new : CaptureReader R) : Type 0 where
-    pub front : StartsWith (kept new) (kept old)
-    pub room : new.bytes.room ≤ limit
-    pub unpassed : new.passed ≡ 0
+  -- the same below 2^31 bytes, with these in front of what is kept: none yet, with room for a chunk at most
+  pub record IsOpenBehind (front : List ℕ) (reader : CaptureReader R) : Type 0 where
+    pub state : reader.state ≡ Open
+    pub unpassed : reader.passed ≡ 0
+    pub none : kept reader ≡ []
+    pub below : length front < 2 ^ 31
+    pub room : length front + reader.bytes.room ≤ 2 ^ 31
+    pub within : reader.bytes.room ≤ 1048576
+
+  -- these bytes stand in front of what is kept, in room up to the limit, and nothing was passed over
+  pub record HasGrown (limit : ℕ) (first : List ℕ) (reader : CaptureReader R) : Type 0 where
+    pub front : StartsWith (kept reader) first
+    pub room : reader.bytes.room ≤ limit
+    pub unpassed : reader.passed ≡ 0
 
   -- what the reads gave more is what the reader had left before, and has no longer
   abbrev pub HasConsumed : (left : R → Option (List ℕ)) (old new : CaptureReader R) → Type 0
   HasConsumed left old new =
       Consumes (left old.reader) (left new.reader) (appended_bytes (kept old) (kept new))
 
-  -- one read or more that are kept, of which none but the last found the end; `left` says what a reader has left
-  pub record HasReadOn (left : R → Option (List ℕ)) (old new : CaptureReader R) : Type 0 where
-    pub bytes : HasConsumed left old new
-    pub end : new.state ≡ Ended → IsAtEnd (left new.reader)
-    pub more : new.state ≡ Open → length (kept old) < length (kept new)
-    pub sound : IsSound new
+  -- one read or more that are kept behind these bytes, of which none but the last found the end; `left` says what a
+  -- reader has left
+  pub record HasReadOn (left : R → Option (List ℕ)) (before : R) (front : List ℕ) (now : CaptureReader R) : Type 0 where
+    pub bytes : Consumes (left before) (left now.reader) (appended_bytes front (kept now))
+    pub end : now.state ≡ Ended → IsAtEnd (left now.reader)
+    pub more : now.state ≡ Open → length front < length (kept now)
+    pub sound : IsSound now
 
   -- the same, where they were passed over
   abbrev pub HasPassed : (left : R → Option (List ℕ)) (old new : CaptureReader R) → Type 0

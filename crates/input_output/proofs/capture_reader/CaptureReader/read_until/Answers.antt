@@ -1,26 +1,31 @@
-use Rattle.std.proofs.Common.{arith, rules}
-use Rattle.std.proofs.Transfers.{starts_with_length}
-use Rattle.input_output.specs.Account.{kept}
-use Rattle.input_output.proofs.Kept.{read_more, read_on}
+use Rattle.std.proofs.lemmas.Result.{on_ok_weaker}
+use Rattle.input_output.proofs.Kept.{grown_more, read_more, went_well}
 use Rattle.input_output.proofs.capture_reader.CaptureReader.read_until.Goals as goal
 
-pub returns-then-has_ended-clause-read : goal.returns-then-has_ended-clause-read
-returns-then-has_ended-clause-read g c =
-    let read = c.in_ok-read_once.ensures.read in
-    let before = c.loop-self.invariant in
-    record {
-      bytes = read_more g.R.Read.remaining c.args.limit c.args.self.now c.loop-self.self c.read_once.new.self before
-          c.in_ok-read_once.ensures.grown read;
-      end = read.end;
-      more = λ unended. omega (
-        arith,
-        read.more unended,
-        starts_with_length (kept c.loop-self.self) (kept c.args.self.now) before.grown.front,
-      );
-      sound = read.sound;
-    }
+pub returns-then-is_walked-clause-read : goal.returns-then-is_walked-clause-read
+returns-then-is_walked-clause-read g c =
+    on_ok_weaker c.read_once-read.result
+    (read_more g.R.Read.remaining c.args.limit c.args.self.now c.loop-self.self c.read_once-read.new.self
+    c.loop-self.invariant.grown c.loop-self.invariant.bytes c.read_once-read.ensures.grown)
+    c.read_once-read.ensures.read
 
 pub loop-self-preserved : goal.loop-self-preserved
 loop-self-preserved g c =
-    read_on g.R.Read.remaining c.args.limit c.args.self.now c.loop-self.self c.read_once.new.self
-    c.loop-self.invariant c.in_ok-read_once.ensures.grown c.in_ok-read_once.ensures.read (search rules)
+    let on = c.is_open_below.ensures.0 c.if-not-is_open_below.false in
+    let grown = c.read_once-read.ensures.grown in
+    let read = went_well c.read_once-read.new.self c.read_once-read.result on.0 c.read_once-read.ensures.err
+    c.read_once-read.ensures.read in
+    record {
+      on = record {
+        sound = read.sound;
+        state = on.0;
+        unpassed = grown.unpassed;
+        below = on.1;
+        room = grown.room;
+        most = c.requires.most;
+      };
+      grown = grown_more c.args.limit c.args.self.now c.loop-self.self c.read_once-read.new.self
+          c.loop-self.invariant.grown grown;
+      bytes = (read_more g.R.Read.remaining c.args.limit c.args.self.now c.loop-self.self c.read_once-read.new.self
+          c.loop-self.invariant.grown c.loop-self.invariant.bytes grown read).bytes;
+    }
