@@ -289,8 +289,5 @@ fn read_into<R: Read>(reader: &mut R, chunk: &mut Vec<u8>, filled: usize) -> io:
     ensures read { IfOk result (λ n. HasRead (R.remaining reader.old) (R.remaining reader.new)
         (take n (drop filled chunk.new.items)) n) }
 {
-    match reader.read(&mut chunk[filled..]) {
-        Ok(count) => Ok(count),
-        Err(error) => Err(error),
-    }
+    reader.read(&mut chunk[filled..])
 }
