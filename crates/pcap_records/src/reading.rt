@@ -52,10 +52,12 @@ pub fn records(alloc: Global, capture: &Capture<'_>) -> Result<Records, PcapFaul
     ensures short { OnOk result (length capture.now < 2 ^ 31) }
 {
     let header = header_in_chunks(capture);
-    let format = format_or_refusal(header, capture.len())?;
-    match passed(alloc, RecordWalk::of(format, header), capture) {
-        Ok(found) => Ok(found),
-        Err(_) => Err(PcapFault::OutOfMemory),
+    match format_or_refusal(header, capture.len()) {
+        Ok(format) => match passed(alloc, RecordWalk::of(format, header), capture) {
+            Ok(found) => Ok(found),
+            Err(_) => Err(PcapFault::OutOfMemory),
+        },
+        Err(fault) => Err(fault),
     }
 }
 

@@ -38,8 +38,10 @@ impl RecordWalk {
         ensures err { IfErr result (λ e. refusal front.now ≡ Some e) }
     {
         let header = header(front);
-        let format = format_or_refusal(header, front.len())?;
-        Ok(RecordWalk::of(format, header))
+        match format_or_refusal(header, front.len()) {
+            Ok(format) => Ok(RecordWalk::of(format, header)),
+            Err(fault) => Err(fault),
+        }
     }
 
     /// A walk that stands behind this file header, which is of this format.
