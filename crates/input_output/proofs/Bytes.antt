@@ -1,6 +1,7 @@
 -- What stands in the chunks of a capture's bytes.
-use Rattle.std.proofs.Common.{◌≡◌, ◌∙◌, ℕ, ◌+◌, ◌*◌, ◌≤◌, List, [], ◌∷◌, ◌++◌, length, take, drop, map}
-use Rattle.std.proofs.Common.{length-append, Option, sym, ap, subst, arith, vec_len, slice_index_or, Bool, true, false, if◌then◌else◌}
+use Rattle.std.proofs.Common.{◌≡◌, ◌∙◌, ℕ, ◌+◌, ◌*◌, ◌≤◌, List, [], ◌∷◌, ◌++◌, length, take, drop, map, length-append}
+use Rattle.std.proofs.Common.{Option, sym, ap, subst, arith, vec_len, slice_index_or, Bool, true, false}
+use Rattle.std.proofs.Common.{if◌then◌else◌}
 use Rattle.std.specs.Io.{appended_bytes}
 use Rattle.std.specs.List.{All}
 use Rattle.std.specs.declared.vec.Vec.{Vec}

@@ -123,7 +123,10 @@ impl<'a, T, const N: usize> Chunks<'a, T, N> {
         requires length { length full.now * N + length last.now < 2 ^ 64 }
         ensures { IfOk result (λ all. all ≡ joined (map (λ chunk. chunk.items) full.now) ++ last.now) }
     {
-        let mut all = slices_of(alloc, full)?;
+        let mut all = Vec::with_capacity(alloc, full.len())?;
+        for chunk in full {
+            all.extend_from_slice(&[chunk.as_slice()])?;
+        }
         all.extend_from_slice(&[last])?;
         Ok(Chunks {
             chunks: all,
@@ -149,15 +152,4 @@ impl<'a, T, const N: usize> Chunks<'a, T, N> {
             count: whole.len(),
         })
     }
-}
-
-/// These chunks, each as a slice.
-fn slices_of<T>(alloc: Global, full: &[Vec<T>]) -> Result<Vec<&[T]>, AllocError>
-    ensures { IfOk result (λ all. map (λ chunk. chunk.now) all.items ≡ map (λ chunk. chunk.items) full.now) }
-{
-    let mut all = Vec::with_capacity(alloc, full.len())?;
-    for chunk in full {
-        all.extend_from_slice(&[chunk.as_slice()])?;
-    }
-    Ok(all)
 }

@@ -1,5 +1,5 @@
 ghost use Rattle.std.specs.Prelude.{◌≡◌, ◌≤◌, ◌<◌, ◌^◌, IfErr, IfNone, IfOk, IsTrue, None, OnOk, Some, length, min};
-ghost use Rattle.pcap_records.specs.FileHeader.{format_of, header_of, link_of, number_of};
+ghost use Rattle.pcap_records.specs.FileHeader.{format_of, header_of, is_version, link_of, number_of};
 ghost use Rattle.pcap_records.specs.LinkType.{is_read};
 ghost use Rattle.pcap_records.specs.Refusal.{refusal_in, refusal_of};
 
@@ -23,6 +23,14 @@ pub fn link_type<T: ByteOrder>(header: &[u8]) -> u16
     (T::read_u32(&header[20..]) & 0xffff) as u16
 }
 
+/// Whether a header names version 2.4.
+fn is_version<T: ByteOrder>(header: &[u8]) -> bool
+    requires { 24 ≤ length header.now }
+    ensures { result ≡ is_version T.number_of header.now }
+{
+    T::read_u16(&header[4..]) == 2 && T::read_u16(&header[6..]) == 4
+}
+
 /// What refuses a capture of `size` bytes whose header is this one, with the order of bytes known.
 pub fn late_fault<T: ByteOrder>(header: &[u8], size: usize) -> Option<PcapFault>
     requires { 24 ≤ length header.now }
@@ -31,8 +39,7 @@ pub fn late_fault<T: ByteOrder>(header: &[u8], size: usize) -> Option<PcapFault>
     ensures linked { IfNone result (IsTrue (is_read (link_of T.number_of header.now))) }
 {
     let link = link_type::<T>(header);
-    let (major, minor) = (T::read_u16(&header[4..]), T::read_u16(&header[6..]));
-    if (major, minor) != (2, 4) {
+    if !is_version::<T>(header) {
         Some(PcapFault::BadVersion)
     } else if link != ETHERNET && link != RAW_IP {
         Some(PcapFault::LinkType)

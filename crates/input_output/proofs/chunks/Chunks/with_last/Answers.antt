@@ -1,6 +1,6 @@
-use Rattle.std.proofs.Common.{slice_index_or, ◌≡◌, ◌∙◌, ◌∷◌, [], ◌++◌, List, length, map, length-append, arith, ap}
+use Rattle.std.proofs.Common.{◌≤◌, slice_index_or, ◌≡◌, ◌∙◌, ◌∷◌, [], ◌++◌, List, length, map, length-append, arith, ap}
 use Rattle.std.proofs.Common.{sym, subst}
-use Rattle.std.proofs.lemmas.List.{map-append}
+use Rattle.std.proofs.lemmas.List.{map-append, take_all}
 use Rattle.input_output.specs.Chunks.{joined}
 use Rattle.input_output.specs.code.Sizes.{AreChunksOf}
 use Rattle.input_output.proofs.ChunkLemmas.{AreFull, full_and_last, full_count, joined-push}
@@ -13,10 +13,12 @@ invariant_of-result g c =
     let before : List (List _) = map (λ chunk. chunk.items) full in
     let all : AreFull (λ chunk. chunk.items) g.row.N full =
     λ k d within. omega (arith, c.requires.full k d within, (slice_index_or full k d).ok.0) in
-    let is : map (λ chunk. chunk.now) c.extend_from_slice.new.self.items ≡ before ++ last ∷ [] =
-    ap (map (λ chunk. chunk.now)) c.in_ok-extend_from_slice.ensures.items
-    ∙ map-append (λ chunk. chunk.now) c.in_ok-all.all.items (c.args.last ∷ [])
-    ∙ ap (λ l. l ++ last ∷ []) c.in_ok-all.ensures in (
+    let whole : length full ≤ c.loop-chunk.chunk-index = omega arith in
+    let is : map (λ chunk. chunk.now) c.extend_from_slice-2.new.self.items ≡ before ++ last ∷ [] =
+    ap (map (λ chunk. chunk.now)) c.in_ok-extend_from_slice-2.ensures.items
+    ∙ map-append (λ chunk. chunk.now) c.loop-chunk.all.items (c.args.last ∷ [])
+    ∙ ap (λ l. l ++ last ∷ [])
+    (c.loop-chunk.invariant ∙ ap (map (λ chunk. chunk.items)) (take_all c.loop-chunk.chunk-index full whole)) in (
       c.requires.size,
       subst (AreChunksOf g.row.N) (sym is)
           (full_and_last (λ chunk. chunk.items) g.row.N full last all c.requires.last),

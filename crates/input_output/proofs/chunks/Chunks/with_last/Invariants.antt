@@ -1,5 +1,5 @@
 use Rattle.std.proofs.Common.{◌≡◌, map, take}
-use Rattle.input_output.proofs.chunks.slices_of.Given as goal
+use Rattle.input_output.proofs.chunks.Chunks.with_last.Given as goal
 
 abbrev pub invariant-loop-chunk : goal.invariant-loop-chunk
 invariant-loop-chunk g l =
