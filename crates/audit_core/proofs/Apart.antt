@@ -35,12 +35,10 @@ module _ (R : Finding → Finding → Type 0) (elsewhere : (x y : Finding) → x
   later : (number : ℕ) (x : Finding) (ys : List Finding) → x.place < number * 2 ^ 36 + 2 ^ 36 →
       AreFrom (number + 1) ys → AllByRecursion (R x) ys
   later number x [] p h = tt
-  later number x (y ∷ ys) p h =
-      let a = h.0 in (elsewhere x y (λ e. absurd (omega arith)), later number x ys p h.1)
+  later number x (y ∷ ys) p h = let a = h.0 in (elsewhere x y (λ e. absurd (omega arith)), later number x ys p h.1)
 
   across-frames : (number : ℕ) (xs ys : List Finding) → AreWithin (number * 2 ^ 36) (number * 2 ^ 36 + 2 ^ 36) xs →
-      AreFrom (number + 1) ys →
-      Across R xs ys
+      AreFrom (number + 1) ys → Across R xs ys
   across-frames number [] ys p h = tt
   across-frames number (x ∷ xs) ys p h = (later number x ys p.1 h, across-frames number xs ys p.2 h)
 
@@ -51,8 +49,7 @@ module _ (R : Finding → Finding → Type 0) (elsewhere : (x y : Finding) → x
     pairs-full_from state low [] h = tt
     pairs-full_from state low (frame ∷ frames) h =
         pairs-append R (said streams state frame) (full_from streams (next state frame) frames)
-        (at state frame h.1)
-        (pairs-full_from (next state frame) (frame.number + 1) frames h.2)
+        (at state frame h.1) (pairs-full_from (next state frame) (frame.number + 1) frames h.2)
         (across-frames frame.number _ _ (at-said streams state frame small h.1).within
         (from-full_from streams (next state frame) (frame.number + 1) frames small h.2))
 

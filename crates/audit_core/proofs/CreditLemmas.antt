@@ -39,8 +39,7 @@ module _ (d : Side) (stream : ℕ) (state : PassState) (frame : Frame) where
   abbrev opens_now : Bool
   opens_now = opens stream (state.streams stream) step
 
-  opened-next : opened_in stream (next state frame)
-      ≡ (if opens_now then Some frame.number else opened_in stream state)
+  opened-next : opened_in stream (next state frame) ≡ (if opens_now then Some frame.number else opened_in stream state)
   opened-next = step-opened stream state.in_force frame (state.streams stream)
 
   window-next : opens_now ≡ false → window_in d stream (next state frame)
@@ -82,20 +81,12 @@ counts-on d stream first state (frame ∷ frames) credit e last =
     let (stays, after, live, counts) = counts-on d stream first (next state frame) frames credit
     (opened-next d stream state frame ∙ rw once e) last in
     let (before, was, is) = window-was d stream state frame (window_in d stream state) after
-    (sym (window-next d stream state frame once) ∙ live) in (
-      stays,
-      before,
-      was,
-      omega (
-        arith,
-        ints,
-        step-grant stream state.in_force frame d,
-        step-content stream state.in_force frame d,
-        initial-next d stream state frame,
-        sum_by-cons (grant_to d stream) frame frames,
-        sum_by-cons (content_on d stream) frame frames,
-      ),
-    )
+    (sym (window-next d stream state frame once) ∙ live) in
+    let granted = sum_by-cons (grant_to d stream) frame frames in
+    let sent = sum_by-cons (content_on d stream) frame frames in
+    let grant = step-grant stream state.in_force frame d in
+    let content = step-content stream state.in_force frame d in
+    (stays, before, was, omega (arith, ints, initial-next d stream state frame))
 
 -- ---- from the opening on
 
@@ -123,12 +114,7 @@ begun d stream state frame frames before credit h here live counts =
     let content : content_on d stream frame ≡ 0 = grind (arith, nothing.content) in
     let unchanged : initial_in d (next state frame) ≡ initial_in d state = grind (arith, nothing.ack) in
     rw (since-all frame.number frame.number (frame ∷ frames) (omega arith) h)
-    (omega (
-      arith,
-      ints,
-      sum_by-cons (grant_to d stream) frame frames,
-      sum_by-cons (content_on d stream) frame frames,
-    ))
+    (omega (arith, ints, sum_by-cons (grant_to d stream) frame frames, sum_by-cons (content_on d stream) frame frames))
 
 -- a stream that is opened among some frames is opened by one of them
 is-sum : (d : Side) (stream opening low : ℕ) (state : PassState) (frames : List Frame) (credit : ℤ)

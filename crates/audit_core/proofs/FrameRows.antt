@@ -98,8 +98,7 @@ module _ (frame : Frame) (h : IsInRange frame) where
       Rows 8 9 (opening_order_said opened (record { frame = frame; opens = opens; change = change })
       ++ promise_order_said promised frame)
   rows-order opened promised opens change =
-      rows-one_of 8 9 _ _ _ _
-      (λ p q. grind arith) (said K.IdNotGreater 8 9 _ _ refl refl)
+      rows-one_of 8 9 _ _ _ _ (λ p q. grind arith) (said K.IdNotGreater 8 9 _ _ refl refl)
       (told frame.side Any frame.number (promised_in frame.body) h.promised tt K.IdNotGreater 8 9 _ _ refl refl)
 
   rows-connection_window : (d : Side) (before : ℤ) →
@@ -173,8 +172,7 @@ module _ (state : PassState) (frame : Frame) where
   rows-streams on [] h d all = rows-nil _ _ 21 36 (omega arith)
   rows-streams on (stream ∷ streams) h d all =
       let one = rows-one on all.0 in
-      let others = rows-streams on streams h.1 d.1 all.1 in
-      record {
+      let others = rows-streams on streams h.1 d.1 all.1 in record {
         rising = omega arith;
         within = each-append (IsRow frame.side on 21 36) _ _ one.within others.within;
         apart = pairs-append AreApart _ _ one.apart others.apart

@@ -49,9 +49,7 @@ module _ (change : Change) where
   changes-with : (steps : List Step) → AllByRecursion (IsChangedAbove change.number) steps
       → changes_in (with_change steps change) ≡ change ∷ changes_in steps
   changes-with [] h = refl
-  changes-with (step ∷ steps) h =
-      let rest = changes-with steps h.1 in
-      grind (arith, nat_tests, h.0)
+  changes-with (step ∷ steps) h = let rest = changes-with steps h.1 in grind (arith, nat_tests, h.0)
 
 -- ---- the steps of frames alone
 
@@ -87,8 +85,7 @@ steps_join_lem frames (change ∷ changes) rising changing =
     all-steps (IsChangedAbove change.number) (λ c step e new old f. rw e (new refl)) frames changes
     (of_frames (IsChangedAbove change.number) (λ frame e. cc) frames)
     (each-weaker (λ (c : Change). change.number < c.number) _ (λ c p e. p) changes
-    (all-before_map (λ n. change.number < n) (λ (c : Change). c.number) changes changing.0)) in
-    record {
+    (all-before_map (λ n. change.number < n) (λ (c : Change). c.number) changes changing.0)) in record {
       rising = rising-with change steps joined.rising;
       filled = all-with IsFilled
           (λ c step e new old. record { has_one = or-true _; frame = old.frame; change = sym e }) change steps

@@ -77,9 +77,8 @@ module _ (stream : ℕ) (initial : Sides ℕ) (number : ℕ) (change : Option Ch
   sending-after Client (Some frame) h = sending-met Client frame h _ refl
   sending-after Server (Some frame) h = sending-met Server frame h _ refl
 
-sending-from : (d : Side) (stream : ℕ) (state : PassState) (frames : List Frame)
-    → Sending d stream (state.streams stream)
-    → Sending d stream ((state_from state frames).streams stream)
+sending-from : (d : Side) (stream : ℕ) (state : PassState) (frames : List Frame) →
+    Sending d stream (state.streams stream) → Sending d stream ((state_from state frames).streams stream)
 sending-from d stream state [] h = h
 sending-from d stream state (frame ∷ frames) h =
     sending-from d stream (next state frame) frames

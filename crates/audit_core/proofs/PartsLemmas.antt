@@ -64,8 +64,7 @@ merged a b = in_order (a ++ b)
 
 merged-is : (a b : List Finding) → in_order (a ++ b) ≡ merged (in_order a) (in_order b)
 unfolding merged
-merged-is a b =
-    in_order-alike a (in_order a) b (in_order b) (sym (in_order-in_order a)) (sym (in_order-in_order b))
+merged-is a b = in_order-alike a (in_order a) b (in_order b) (sym (in_order-in_order a)) (sym (in_order-in_order b))
 
 merged-in_order : (a b : List Finding) → in_order (merged a b) ≡ merged a b
 unfolding merged
@@ -144,14 +143,12 @@ block_runs-joined now (block ∷ blocks) =
 groups-joined : (frames : List Frame) (groups : List (List ℕ))
     → flat_map (group_run frames) groups ≡ group_run frames (joined groups)
 groups-joined frames [] = refl
-groups-joined frames (group ∷ groups) =
-    rw (groups-joined frames groups) (sym (flat_map-append _ group (joined groups)))
+groups-joined frames (group ∷ groups) = rw (groups-joined frames groups) (sym (flat_map-append _ group (joined groups)))
 
 group-alone : (frames : List Frame) (streams : List ℕ) → IsOrderly frames → group_run frames streams
     ≡ flat_map (λ stream. alone stream pass_start frames) streams
 group-alone frames [] h = refl
-group-alone frames (stream ∷ streams) h =
-    ap₂ ◌++◌ (run-alone stream frames h) (group-alone frames streams h)
+group-alone frames (stream ∷ streams) h = ap₂ ◌++◌ (run-alone stream frames h) (group-alone frames streams h)
 
 pub parts_make_full_lem : PartsMakeFull
 parts_make_full_lem frames groups blocks h same_streams same_items =

@@ -41,8 +41,7 @@ at-said streams state frame small h =
     (at-streams streams state frame small))
 
 pub from-full_from : (streams : List ℕ) (state : PassState) (low : ℕ) (frames : List Frame) → AreStreams streams →
-    IsOrderlyFrom low frames →
-    AreFrom low (full_from streams state frames)
+    IsOrderlyFrom low frames → AreFrom low (full_from streams state frames)
 from-full_from streams state low [] small h = tt
 from-full_from streams state low (frame ∷ frames) small h =
     from-append low (said streams state frame) (full_from streams (next state frame) frames)
@@ -52,8 +51,7 @@ from-full_from streams state low (frame ∷ frames) small h =
 
 -- the whole pass stands in order
 pub in_order-full_from : (streams : List ℕ) (state : PassState) (low : ℕ) (frames : List Frame) → AreStreams streams →
-    IsOrderlyFrom low frames →
-    IsInOrder comes_after comes_after_is (full_from streams state frames)
+    IsOrderlyFrom low frames → IsInOrder comes_after comes_after_is (full_from streams state frames)
 in_order-full_from streams state low [] small h = tt
 in_order-full_from streams state low (frame ∷ frames) small h =
     in_order-append comes_after comes_after_is (said streams state frame) (full_from streams (next state frame) frames)

@@ -23,8 +23,7 @@ abbrev pub is_at : ℕ → Change → Bool
 is_at number change = change.number == number
 
 none-later : (number : ℕ) (changes : List Change) →
-    AllByRecursion (λ (change : Change). number + 1 ≤ change.number) changes →
-    find (is_at number) changes ≡ None
+    AllByRecursion (λ (change : Change). number + 1 ≤ change.number) changes → find (is_at number) changes ≡ None
 none-later number [] h = refl
 none-later number (change ∷ changes) h = grind (arith, nat_tests, none-later number changes h.1, h.0)
 
@@ -49,8 +48,7 @@ find-on now frame later number h = by_taken (taken now frame) where
 -- a frame that brings a change is an acknowledgement
 pub step_of-acknowledged : (now : InForce) (frame : Frame) (stream : ℕ) → IsAcknowledged (step_of now frame stream)
 step_of-acknowledged now frame stream change e one f =
-    let ack = change-ack now frame (ap is_some e) in
-    grind (arith, ack)
+    let ack = change-ack now frame (ap is_some e) in grind (arith, ack)
 
 module _ (state : PassState) (frame : Frame) where
   abbrev opens_it : ℕ → Bool
@@ -83,11 +81,7 @@ fits-wider : {bound more : ℕ} {now : ConnectionState} {entries : List StreamRo
 fits-wider {bound} {more} l h = record {
   client = room-wider bound more _ l h.client;
   server = room-wider bound more _ l h.server;
-  rows = each-weaker (RowFits bound) (RowFits more) (λ row k. record {
-    stream = k.stream;
-    client = λ credit e. room-wider bound more credit l (k.client credit e);
-    server = λ credit e. room-wider bound more credit l (k.server credit e);
-  }) _ h.rows;
+  rows = each-weaker (RowFits bound) (RowFits more) (λ row k. grind (arith, k, room-wider bound more)) _ h.rows;
 }
 
 -- what the code keeps before the frames that are left, of all frames, stands for a state of the pass
@@ -178,8 +172,7 @@ module _ {all : List Frame} {changes : List Change} {frame : Frame} {rest : List
         let streams : flat_map (row_said state.in_force.initial (item_of state frame)) (rows_in state.streams names)
         ≡ streams_said names state frame = flat_map-map _ _ names in
         let said : four ≡ rows_of names state frame =
-        rw (d, c, b, a, h.previous, h.initial, h.connection, h.rows, change_is, opens_is, ack, streams) refl in
-        record {
+        rw (d, c, b, a, h.previous, h.initial, h.connection, h.rows, change_is, opens_is, ack, streams) refl in record {
           state = next state frame;
           low = frame.number + 1;
           orderly = h.orderly.2;

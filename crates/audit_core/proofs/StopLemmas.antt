@@ -1,5 +1,5 @@
 -- What is kept of the findings ends at the first that stops.
-use Rattle.std.proofs.Common.{◌≡◌, Bool, true, false, List, [], ◌∷◌, refl, ap, ◌⊎◌, inl, inr}
+use Rattle.std.proofs.Common.{◌≡◌, Bool, true, false, List, [], ◌∷◌, refl, ap, ◌⊎◌, inl, inr, arith}
 use Rattle.audit_core.proofs.Words.{Finding, stops, upto_stop, NoneStops, EndsAt, KeptUptoFirstStop}
 use Rattle.audit_core.proofs.PassOrder.{findings_stand_in_order}
 
@@ -11,17 +11,7 @@ Kept findings =
 kept-step : (x : Finding) (xs : List Finding) (b : Bool) → stops x ≡ b → Kept xs → Kept (x ∷ xs)
 kept-step x xs true e h = inr ([], x, xs, record { parts = refl; front_goes_on = tt; last_stops = e; kept = rw e refl })
 kept-step x xs false e (inl h) = inl ((e, h.0), rw e (ap (λ l. x ∷ l) h.1))
-kept-step x xs false e (inr h) = inr (
-  x ∷ h.0,
-  h.1,
-  h.2,
-  record {
-    parts = ap (λ l. x ∷ l) h.3.parts;
-    front_goes_on = (e, h.3.front_goes_on);
-    last_stops = h.3.last_stops;
-    kept = rw e (ap (λ l. x ∷ l) h.3.kept);
-  },
-)
+kept-step x xs false e (inr h) = inr (x ∷ h.0, h.1, h.2, grind (arith, h.3))
 
 pub kept_upto_first_stop : KeptUptoFirstStop
 kept_upto_first_stop [] = inl (tt, refl)

@@ -53,8 +53,7 @@ same-row x y p s = cc
 
 pub rows-apart : (by : Side) (on other : ℕ → Type 0) (low mid high : ℕ) (x y : Finding) →
     IsRow by on low mid x → IsRow by other mid high y → AreApart x y
-rows-apart by on other low mid high x y p q e s =
-    absurd (omega (arith, p.below, q.from, same-row x y e s))
+rows-apart by on other low mid high x y p q e s = absurd (omega (arith, p.below, q.from, same-row x y e s))
 
 -- ---- findings one after the other
 
@@ -72,8 +71,7 @@ module _ (sender : Side) (on : ℕ → Type 0) where
       AreRows sender on mid high ys → AreRows sender on low high (xs ++ ys)
   rows-append low mid high xs ys a b =
       let p = a.rising in
-      let q = b.rising in
-      record {
+      let q = b.rising in record {
         rising = omega arith;
         within = each-append (IsRow sender on low high) xs ys
             (rows-wider low mid low high (omega arith) q xs a.within)
@@ -117,8 +115,7 @@ module _ (sender : Side) (on : ℕ → Type 0) (number stream : ℕ) (small : st
       let rank : place_rank (place_of number (rank_of kind) stream) ≡ rank_of kind = omega arith in
       let its : place_stream (place_of number (rank_of kind) stream) ≡ stream = omega arith in
       let (rows, error) = and_parts _ _ (h refl) in
-      let (from, below) = and_parts _ _ rows in
-      record {
+      let (from, below) = and_parts _ _ rows in record {
         rising = p;
         within = (
           record {

@@ -17,7 +17,7 @@ pub use Rattle.audit_terms.proofs.{SaidPlaces.AreAt, SaidPlaces.at-stream, Bound
 pub use Rattle.audit_terms.specs.Connection.{credit_after, promise_order_said, connection_window_said, length_said}
 pub use Rattle.audit_terms.specs.Connection.{push_said, connection_said, opening_order_said, connection_after}
 pub use Rattle.audit_terms.specs.Finding.{say, finding_at, stops, say_of, comes_after, in_order, upto_stop}
-pub use Rattle.audit_terms.specs.Frame.{content_by, grant_to, is_promise, promised_in, is_ack, is_client_headers}
+pub use Rattle.audit_terms.specs.Frame.{content_by, grant_to, promised_in, is_ack, is_client_headers}
 pub use Rattle.audit_terms.specs.InForce.{change_of, settings_said, InForce, taken, change_taking, in_force_after}
 pub use Rattle.audit_terms.specs.LocalFault.{body_said, reading_fault, fault, local_said, previous_after}
 pub use Rattle.audit_terms.specs.Pass.{first_of, next, PassState, step_of, pass_start, item_of, streams_said, full}
@@ -31,7 +31,7 @@ pub use Rattle.audit_terms.specs.code.{runs.Changes.changes_from, runs.Changes.c
 pub use Rattle.audit_terms.specs.code.{runs.Changes.settings_run_from, runs.Orderly.IsOrderlyFrom}
 pub use Rattle.audit_terms.specs.code.{runs.Orderly.IsInRange, runs.Orderly.IsOrderly, runs.States.state_from}
 pub use Rattle.audit_terms.specs.code.{runs.States.items_from}
-pub use Rattle.audit_terms.specs.declared.frames.Body.TheVariants.{PushPromise, Unreadable, Settings as SettingsBody}
+pub use Rattle.audit_terms.specs.declared.frames.Body.TheVariants.{Unreadable, Settings as SettingsBody}
 pub use Rattle.audit_terms.specs.declared.{connections.ConnectionState.ConnectionState, findings.Finding.Finding}
 pub use Rattle.audit_terms.specs.declared.{frames.Body.Body, frames.Frame.Frame, items.Change.Change, items.Item.Item}
 pub use Rattle.audit_terms.specs.declared.{items.Step.Step, kinds.Kind.Kind, kinds.Kind.TheVariants.UnmatchedAck}

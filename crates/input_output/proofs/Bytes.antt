@@ -1,7 +1,6 @@
 -- What stands in the chunks of a capture's bytes.
 use Rattle.std.proofs.Common.{◌≡◌, ◌∙◌, ℕ, ◌+◌, ◌*◌, ◌≤◌, List, [], ◌∷◌, ◌++◌, length, take, drop, map, length-append}
-use Rattle.std.proofs.Common.{Option, sym, ap, subst, arith, vec_len, slice_index_or, Bool, true, false}
-use Rattle.std.proofs.Common.{if◌then◌else◌}
+use Rattle.std.proofs.Common.{Option, sym, ap, subst, arith, vec_len, slice_index_or, Bool, true, false, if◌then◌else◌}
 use Rattle.std.specs.Io.{appended_bytes}
 use Rattle.std.specs.List.{All}
 use Rattle.std.specs.declared.vec.Vec.{Vec}
@@ -46,18 +45,12 @@ pub kept_size : (full : List (Vec ℕ Global)) (last : List ℕ) (filled : ℕ) 
     → length (all_of full last filled) ≡ length full * 1048576 + filled
 kept_size full last filled all within =
     let items = λ (chunk : Vec ℕ Global). chunk.items in
-    omega (
-      arith,
-      full_size full all,
-      length-append (joined (map items full)) (take filled last),
-      length-take-le filled last within,
-    )
+    let both = length-append (joined (map items full)) (take filled last) in
+    omega (arith, full_size full all, length-take-le filled last within)
 
 abbrev view_of : Inside → InChunks
-view_of b = record {
-  kept = all_of b.full.items b.last.items b.filled;
-  room = vec_len b.full * 1048576 + vec_len b.last;
-}
+view_of b =
+    record { kept = all_of b.full.items b.last.items b.filled; room = vec_len b.full * 1048576 + vec_len b.last }
 
 -- what kept bytes keep
 abbrev IsOrderly : Inside → Type 0
@@ -67,9 +60,8 @@ IsOrderly b = AreFull b.full.items
     × (vec_len b.full * 1048576 + vec_len b.last ≤ 2147483648)
 
 -- what a view tells of them: how many there are, and how many there is room for
-pub sizes : (b : Inside) (view : InChunks) → IsOrderly b → view_of b ≡ view
-    → (length view.kept ≡ vec_len b.full * 1048576 + b.filled)
-    × (view.room ≡ vec_len b.full * 1048576 + vec_len b.last)
+pub sizes : (b : Inside) (view : InChunks) → IsOrderly b → view_of b ≡ view →
+    (length view.kept ≡ vec_len b.full * 1048576 + b.filled) × (view.room ≡ vec_len b.full * 1048576 + vec_len b.last)
 sizes b view orderly is =
     let size = kept_size b.full.items b.last.items b.filled orderly.0 (omega (arith, orderly.1, b.last.ok.0)) in (
       omega (arith, ap (λ (v : InChunks). length v.kept) is, size, b.full.ok.0),
@@ -93,17 +85,9 @@ module _ (b : Inside) (chunk : Vec ℕ Global) (old : InChunks) (orderly : IsOrd
   pub is_grown : (n filled : ℕ) → filled ≡ b.filled + n → length (take n (drop b.filled chunk.items)) ≡ n
       → IsGrown old (view_of (record b { last = chunk; filled = filled }))
   is_grown n filled grown count =
-      let within : filled ≤ length chunk.items = omega (
-        arith,
-        grown,
-        count,
-        length-take n (drop b.filled chunk.items),
-        length-drop b.filled chunk.items,
-        orderly.1,
-        length_same,
-        chunk.ok.0,
-      ) in
-      record {
+      let taken = length-take n (drop b.filled chunk.items) in
+      let within : filled ≤ length chunk.items =
+      omega (arith, grown, count, length-drop b.filled chunk.items, orderly.1, length_same, chunk.ok.0) in record {
         front = starts_with_of_append _ old.kept _ (more n filled grown);
         room = ap (λ k. vec_len b.full * 1048576 + k) length_same ∙ ap (λ (v : InChunks). v.room) is;
         within = omega

@@ -50,13 +50,10 @@ module _ {T X : Type 0} (items : X → List T) (size : ℕ) where
   -- how many elements full chunks hold
   pub full_count : (full : List X) → AreFull full → length (joined (map items full)) ≡ length full * size
   full_count [] all = omega arith
-  full_count (chunk ∷ full) all = omega (
-    arith,
-    length-append (items chunk) (joined (map items full)),
-    All-head (λ chunk. length (items chunk) ≡ size) chunk full all,
-    full_count full (All-tail (λ chunk. length (items chunk) ≡ size) chunk full all),
-    suc-mul (length full) size,
-  )
+  full_count (chunk ∷ full) all =
+      let is = All-head (λ chunk. length (items chunk) ≡ size) chunk full all in
+      let later = full_count full (All-tail (λ chunk. length (items chunk) ≡ size) chunk full all) in
+      omega (arith, is, later, length-append (items chunk) (joined (map items full)), suc-mul (length full) size)
 
   -- what lies in a chunk from an offset on, and in those after it
   record Lies (chunks : List X) (at offset : ℕ) (chunk : X) : Type 0 where
@@ -95,8 +92,7 @@ module _ {T X : Type 0} (items : X → List T) (size : ℕ) where
       (omega (arith, all, within, is, full, step)) in (
         omega (arith, rest.0),
         (λ chunk here.
-            let found = rest.1 chunk here in
-            record {
+            let found = rest.1 chunk here in record {
               inside = found.inside;
               short = found.short;
               later = found.later;
@@ -119,19 +115,12 @@ module _ {T X : Type 0} (items : X → List T) (size : ℕ) where
         (λ chunk here.
             let lies = found.1 chunk here in
             let left : List T = drop (at % size) (items chunk) in
-            let front : drop at all ≡ left ++ lies.later =
-            ap (drop at) (sym is) ∙ lies.front in
-            let count : length left ≡ min (size - at % size) (length all - at) = grind (
-              arith,
-              length-drop (at % size) (items chunk),
-              length-drop at all,
-              ap length front,
-              length-append left lies.later,
-              lies.short,
-              lies.full,
-              lies.inside,
-            ) in
-            record {
+            let front : drop at all ≡ left ++ lies.later = ap (drop at) (sym is) ∙ lies.front in
+            let behind = length-drop (at % size) (items chunk) in
+            let ahead = length-drop at all in
+            let both = ap length front ∙ length-append left lies.later in
+            let count : length left ≡ min (size - at % size) (length all - at) =
+            grind (arith, behind, ahead, both, lies.short, lies.full, lies.inside) in record {
               inside = lies.inside;
               front = subst (λ n. left ≡ take n (drop at all)) count
                   (sym (ap (take (length left)) front ∙ take-append_seam left lies.later));

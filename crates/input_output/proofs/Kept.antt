@@ -1,8 +1,7 @@
 -- What is kept of a capture, read by read.
 use Rattle.std.proofs.Common.{◌≡◌, ◌∙◌, ℕ, suc, ◌+◌, ◌-◌, ◌^◌, ◌<◌, ◌≤◌, List, [], ◌++◌, length, take, drop}
 use Rattle.std.proofs.Common.{length-append, take_at, Option, Some, None, IfSome, inl, inr, refl, sym, ap, subst}
-use Rattle.std.proofs.Common.{Result, Ok, Err, IfErr, OnOk}
-use Rattle.std.proofs.Common.{arith}
+use Rattle.std.proofs.Common.{Result, Ok, Err, IfErr, OnOk, arith}
 use Rattle.std.specs.Io.{StartsWith}
 use Rattle.std.specs.Io.KnownBytes.{Consumes, IsAtEnd}
 use Rattle.std.proofs.KnownBytes.{Consumes-more, Consumes-nil, Consumes-trans, starts_with_rest}
@@ -61,11 +60,7 @@ module _ {R : Type 0} where
   pub read_none : (left : R → Option (List ℕ)) (limit : ℕ) (first : CaptureReader R) → IsSound first
       → first.bytes.room ≤ limit → first.passed ≡ 0 → first.state ≡ Open → IsReading left limit first first (Ok tt)
   read_none left limit first sound room unpassed state = record {
-    grown = record {
-      front = starts_with_of_eq (kept first) (kept first) refl;
-      room = room;
-      unpassed = unpassed;
-    };
+    grown = record { front = starts_with_of_eq (kept first) (kept first) refl; room = room; unpassed = unpassed };
     sound = sound;
     end = λ ended. cc;
     bytes = rw drop-length (Consumes-nil (left first.reader));
@@ -92,11 +87,9 @@ module _ {R : Type 0} where
 
   pub grown_more : (limit : ℕ) (first old new : CaptureReader R) → HasGrown limit (kept first) old
       → HasGrown limit (kept old) new → HasGrown limit (kept first) new
-  grown_more limit first old new before grown = record {
-    front = starts_with_trans (kept new) (kept old) (kept first) grown.front before.front;
-    room = grown.room;
-    unpassed = grown.unpassed;
-  }
+  grown_more limit first old new before grown =
+      let front = starts_with_trans (kept new) (kept old) (kept first) grown.front before.front in
+      grind (arith, grown, front)
 
   pub read_on : (left : R → Option (List ℕ)) (limit : ℕ) (first old new : CaptureReader R)
       (last read : Result (Unit {0}) ReadFault) → IsReading left limit first old last → old.state ≡ Open
@@ -133,22 +126,15 @@ module _ {R : Type 0} where
       let reader : new.reader ≡ now.reader = ap (λ (r : CaptureReader R). r.reader) same in
       let state : new.state ≡ now.state = ap (λ (r : CaptureReader R). r.state) same in
       let size : length (kept new) ≡ length front + length (kept now) =
-      ap length whole ∙ length-append front (kept now) in
-      record {
+      ap length whole ∙ length-append front (kept now) in record {
         bytes = rw (drop-appended front (kept new) (kept now) whole, reader) read.bytes;
         end = λ ended. rw reader (read.end (sym state ∙ ended));
         more = λ unended. omega (arith, size, read.more (sym state ∙ unended));
         sound = record {
           within = omega (arith, size, room, read.sound.within);
-          limit = omega (
-            arith,
-            size,
-            room,
-            most,
-            read.sound.within,
-            ap (λ (r : CaptureReader R). r.passed) same,
-            unpassed,
-          );
+          limit =
+              let passed = ap (λ (r : CaptureReader R). r.passed) same in
+              omega (arith, size, room, most, read.sound.within, unpassed);
           well = rw state read.sound.well;
         };
       }

@@ -38,21 +38,15 @@ none-opened frame before = record { opened = λ change. refl; said = λ change. 
 
 pub none-promised : (frame : Frame) (push before : ℕ) → is_server_promise frame ≡ false
     → IsPromisedAfter frame push before before
-none-promised frame push before e = record {
-  promised = rw e refl;
-  order_said = rw e refl;
-  allowed = rw e refl;
-}
+none-promised frame push before e = record { promised = rw e refl; order_said = rw e refl; allowed = rw e refl }
 
 -- a frame that moves no credit of a side
-pub credit_unmoved : (d : Side) (frame : Frame) (credit : ℕ) → IsUnmoved d frame
-    → IsCreditAfter d frame credit credit
+pub credit_unmoved : (d : Side) (frame : Frame) (credit : ℕ) → IsUnmoved d frame → IsCreditAfter d frame credit credit
 credit_unmoved d frame credit u =
     let same : credit_after d (pos credit) frame ≡ pos credit = rw (u.grant, u.content) (omega (arith, ints)) in
     let level : int_lt (pos credit) (pos credit) ≡ false = grind (arith, ints) in
     let fits = ap (overflows (pos credit)) same ∙ rw level refl in
-    let still = sym (ap is_used_up same) in
-    record {
+    let still = sym (ap is_used_up same) in record {
       moved = sym same;
       said = both _ _
           (both _ _

@@ -1,6 +1,5 @@
 -- What the machine stands for, from frame to frame.
-use Rattle.std.proofs.Common.{◌%◌}
-use Rattle.std.proofs.Common.{filter}
+use Rattle.std.proofs.Common.{◌%◌, filter}
 use Rattle.stream_credit.proofs.Words.{◌≡◌, ℕ, ◌+◌, ◌<◌, ◌==◌, Bool, true, false, ◌&&◌, not, if◌then◌else◌, List, []}
 use Rattle.stream_credit.proofs.Words.{◌∷◌, ◌++◌, Option, Some, None, is_some, is_none, refl, sym, ap, ◌∙◌, subst}
 use Rattle.stream_credit.proofs.Words.{arith, nat_tests, append_assoc, eq-eqb, append-nil}
@@ -125,8 +124,7 @@ module _ (frame : Frame) (old mid : QuietPass) (state : PassState) (stands : Sta
   own-last Server = stands.server
 
   opens-is : opens_stream state frame ≡ is_opening frame.stream (state.streams frame.stream).life frame
-  opens-is =
-      let met : meets frame.stream frame ≡ true = rw (eq-eqb frame.stream frame.stream refl) refl in rw met refl
+  opens-is = let met : meets frame.stream frame ≡ true = rw (eq-eqb frame.stream frame.stream refl) refl in rw met refl
 
   own : IsBrought state.in_force frame rest.change mid.pending
   own = rest.brought state.in_force stands.pending
@@ -198,8 +196,7 @@ pub frames-met : {frame : Frame} {old new : QuietPass}
     → ((state : PassState) → StandsFor old state → IsQuietStep state frame new) → (frames : List Frame)
     → IsQuietAfter frames old → IsQuietAfter (frames ++ frame ∷ []) new
 frames-met {frame} step frames quiet =
-    let own = step (state_after frames) quiet.stands in
-    record {
+    let own = step (state_after frames) quiet.stands in record {
       shown = λ streams named.
           rw (full-more streams frame pass_start frames)
           (both _ _ (quiet.shown streams named) (own.shown streams named));

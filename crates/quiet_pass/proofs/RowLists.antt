@@ -52,8 +52,7 @@ row-met rows at frame next of after rising initial =
     let risen = set-rising row next after.same 0 rows at of.there rising in
     let new : entry_in (slice_set rows at next) frame.stream ≡ stream_of next =
     rw (← of.same, ← after.same)
-    (entry-there 0 (slice_set rows at next) at next risen (set-there row next after.same rows at of.there)) in
-    record {
+    (entry-there 0 (slice_set rows at next) at next risen (set-there row next after.same rows at of.there)) in record {
       opening = rw old after.unopened;
       said = rw old (after.said initial);
       after = rw (new, old) (after.after initial);
@@ -86,12 +85,10 @@ past-above : (rows : List Row) (stream : ℕ) → IsPast rows stream → 0 < str
 past-above [] stream h = h
 past-above (row ∷ rows) stream h = omega (arith, h.0)
 
-pub row-opened : (rows : List Row) (stream : ℕ) (initial : Sides ℕ) (frame : Frame) (row : Row) → IsPast rows stream
-    → IsOpened stream initial frame row → AreRising rows
-    → HasMet stream initial frame true rows (rows ++ row ∷ [])
+pub row-opened : (rows : List Row) (stream : ℕ) (initial : Sides ℕ) (frame : Frame) (row : Row) → IsPast rows stream →
+    IsOpened stream initial frame row → AreRising rows → HasMet stream initial frame true rows (rows ++ row ∷ [])
 row-opened rows stream initial frame row past opened rising =
-    let old = past-idle rows stream past in
-    record {
+    let old = past-idle rows stream past in record {
       opening = rw old opened.opening;
       said = rw old opened.said;
       after = rw (push-own rows row stream past opened.same, old) opened.after;

@@ -1,14 +1,13 @@
 -- A stream after a frame of which nothing is shown: how each side stands, and the row that is kept of it.
 use Rattle.std.specs.Bool.{then_some}
 use Rattle.std.proofs.lemmas.Bool.{or_parts}
-use Rattle.stream_credit.proofs.Words.{◌≡◌, ℕ, pos, ◌<◌, Bool, true, false, ◌&&◌, if◌then◌else◌}
-use Rattle.stream_credit.proofs.Words.{List, Some, None, refl, sym, ap, ◌∙◌, arith, subst, and-false}
-use Rattle.stream_credit.proofs.Words.{or-false, eq-eqb, ne_eqb, nat_tests, ints, Side, Client, Server}
-use Rattle.stream_credit.proofs.Words.{Sides, Body, WindowUpdate, Frame, StreamLife, Stream, other, is_side, side_of}
-use Rattle.stream_credit.proofs.Words.{is_reset, increment, is_zero_grant, content_by, sends_end, is_last_of}
-use Rattle.stream_credit.proofs.Words.{ends_window, is_not_opened, is_after_end, life_after, is_used_up, overflows}
-use Rattle.stream_credit.proofs.Words.{overruns, say_of, idle_stream, stream_said, stream_after, counted, frame_step}
-use Rattle.stream_credit.proofs.Words.{has_credit, has_ended, mark, window_of, ForSome, same_Some}
+use Rattle.stream_credit.proofs.Words.{◌≡◌, ℕ, pos, ◌<◌, Bool, true, false, ◌&&◌, if◌then◌else◌, List, Some, None, refl}
+use Rattle.stream_credit.proofs.Words.{sym, ap, ◌∙◌, arith, subst, and-false, or-false, eq-eqb, ne_eqb, nat_tests, ints}
+use Rattle.stream_credit.proofs.Words.{Side, Client, Server, Sides, Body, WindowUpdate, Frame, StreamLife, Stream}
+use Rattle.stream_credit.proofs.Words.{other, is_side, side_of, is_reset, increment, is_zero_grant, content_by}
+use Rattle.stream_credit.proofs.Words.{sends_end, is_last_of, ends_window, is_not_opened, is_after_end, life_after}
+use Rattle.stream_credit.proofs.Words.{is_used_up, overflows, overruns, say_of, idle_stream, stream_said, stream_after}
+use Rattle.stream_credit.proofs.Words.{counted, frame_step, has_credit, has_ended, mark, window_of, ForSome, same_Some}
 use Rattle.audit_terms.specs.Frame.{is_content, is_headers, is_update, needs_opening, is_server_promise, promises}
 use Rattle.audit_terms.specs.Life.{idle_life, is_opening}
 use Rattle.audit_terms.specs.Stream.{opened_window_said, stream_window_said}
@@ -105,8 +104,7 @@ pub row-after : (frame : Frame) (old : Row) (client server : ℕ) → frame.stre
 row-after frame old client server own numbered used late zero c s =
     let number = some-number old.opened numbered in
     let unopened : is_opening frame.stream (life_of old) frame ≡ false = rw number refl in
-    let next = stream_of (record old { client = client; server = server }) in
-    record {
+    let next = stream_of (record old { client = client; server = server }) in record {
       same = refl;
       unopened = unopened;
       said = λ initial.
@@ -146,8 +144,7 @@ module _ (stream : ℕ) (initial : Sides ℕ) (frame : Frame) (opening : is_open
       → IsOpened stream initial frame
       (record { stream = stream; opened = frame.number; client = client; server = server })
   idle-opened client server numbered used c s =
-      let number = some-number frame.number numbered in
-      record {
+      let number = some-number frame.number numbered in record {
         same = refl;
         opening = opening;
         said = both _ _
@@ -199,8 +196,7 @@ idle-met frame unneeded unpromised initial rows rising =
     let (others, update) = or_parts _ _ unneeded in
     let (either, reset) = or_parts _ _ others in
     let (content, headers) = or_parts _ _ either in
-    let entry = entry_in rows frame.stream in
-    record {
+    let entry = entry_in rows frame.stream in record {
       opening = unopened frame content headers reset update unpromised initial entry;
       said = said frame content headers reset update unpromised initial entry;
       after = after frame content headers reset update unpromised initial entry;

@@ -4,8 +4,7 @@ use Rattle.stream_credit.proofs.Words.{◌≡◌, ℕ, ℤ, ◌<◌, ◌==◌, i
 use Rattle.stream_credit.proofs.Words.{None, option_map, refl, sym, ap, ◌∙◌, subst, arith, inl, inr, and-false}
 use Rattle.stream_credit.proofs.Words.{or-false, cases_Bool, cases_eq, eq-eqb, ne_eqb, ints, same_Some, Sides, Frame}
 use Rattle.stream_credit.proofs.Words.{Change, StreamLife, Stream, initial_after, moved, IsSilent, window_of}
-use Rattle.std.proofs.Common.{◌%◌}
-use Rattle.std.proofs.Common.{ap₂}
+use Rattle.std.proofs.Common.{◌%◌, ap₂}
 use Rattle.std.proofs.Math.Bool.{and-true}
 use Rattle.stream_credit.specs.code.QuietStream.{IsMovedBy}
 use Rattle.audit_terms.specs.Frame.{is_server_promise, promised_in, meets}
@@ -104,8 +103,7 @@ module _ (initial : Sides ℕ) (frame : Frame) (opens : Bool) (old new : Streams
       → HasMet frame.stream initial frame opens old.opened.items new.opened.items)
       → new.promised.items ≡ old.promised.items → AreMetOn initial frame opens streams new
   met-odd p met same =
-      let m = met h.opened in
-      record {
+      let m = met h.opened in record {
         opening = rw (h.odd frame.stream p) m.opening;
         met = all-met initial frame None streams new
             (λ s q. step-met frame.stream initial frame opens old.opened.items new.opened.items m s (streams s)
@@ -119,8 +117,7 @@ module _ (initial : Sides ℕ) (frame : Frame) (opens : Bool) (old new : Streams
       → HasMet frame.stream initial frame opens old.promised.items new.promised.items)
       → new.opened.items ≡ old.opened.items → AreMetOn initial frame opens streams new
   met-even p above met same =
-      let m = met h.promised in
-      record {
+      let m = met h.promised in record {
         opening = rw (h.even frame.stream p above) m.opening;
         met = all-met initial frame None streams new
             (λ s q. step-unmet s initial frame new.opened.items (streams s)
@@ -135,8 +132,7 @@ module _ (initial : Sides ℕ) (frame : Frame) (opens : Bool) (old new : Streams
 module _ (initial : Sides ℕ) (frame : Frame) (old new : Streams) (streams : ℕ → Stream) (h : AreStreams streams old)
     (promised : is_server_promise frame ≡ true) (odd : frame.stream % 2 ≡ 1) where
   unpromised-odd : (s : ℕ) → s % 2 ≡ 1 → meets s frame ≡ (frame.stream == s)
-  unpromised-odd s q =
-      let uneven : (s % 2 == 0) ≡ false = rw q refl in simp (uneven, and-false, or-false)
+  unpromised-odd s q = let uneven : (s % 2 == 0) ≡ false = rw q refl in simp (uneven, and-false, or-false)
 
   promised-even : (s : ℕ) → s % 2 ≡ 0 → meets s frame ≡ (promised_in frame.body == s)
   promised-even s q =
@@ -150,8 +146,7 @@ module _ (initial : Sides ℕ) (frame : Frame) (old new : Streams) (streams : �
       → AreMetOn initial frame false streams new
   met-promise met opened =
       let m = met h.opened in
-      let n = opened h.promised in
-      record {
+      let n = opened h.promised in record {
         opening = rw (h.odd frame.stream odd) m.opening;
         met = all-met initial frame None streams new
             (λ s q. step-met frame.stream initial frame false old.opened.items new.opened.items m s (streams s)
@@ -165,13 +160,8 @@ module _ (initial : Sides ℕ) (frame : Frame) (old new : Streams) (streams : �
 
 entries-moved : (before after : Sides ℕ) (old new : List Row) (stream : ℕ) → AreMoved before after old new
     → IsEntryMoved before after (entry_in old stream) (entry_in new stream)
-entries-moved before after [] [] stream m = record {
-  life = refl;
-  client = refl;
-  server = refl;
-  client_silent = λ credit e. cc;
-  server_silent = λ credit e. cc;
-}
+entries-moved before after [] [] stream m =
+    record { life = refl; client = refl; server = refl; client_silent = λ credit e. cc; server_silent = λ credit e. cc }
 entries-moved before after (one ∷ old) (two ∷ new) stream m =
     let row = m.0 in
     rw row.same (elim (cases_Bool (one.stream == stream)) [
@@ -194,29 +184,15 @@ rising-moved before after low (one ∷ old) (two ∷ new) m h =
 rising-moved before after low _ _ m h = absurd m
 
 unmoved-standing : (i standing : ℕ) → IsMovedBy i i standing standing
-unmoved-standing i standing = record {
-  moved = window-stays i (window_of standing);
-  silent = window-silent (window_of standing);
-  ended = refl;
-}
+unmoved-standing i standing =
+    record { moved = window-stays i (window_of standing); silent = window-silent (window_of standing); ended = refl }
 
 unmoved-rows : (initial : Sides ℕ) (rows : List Row) → AreMoved initial initial rows rows
 unmoved-rows initial [] = tt
-unmoved-rows initial (row ∷ rows) = (
-  record {
-    same = refl;
-    opened = refl;
-    client = unmoved-standing initial.client row.client;
-    server = unmoved-standing initial.server row.server;
-  },
-  unmoved-rows initial rows,
-)
+unmoved-rows initial (row ∷ rows) = grind (arith, unmoved-standing, unmoved-rows initial rows)
 
 pub unmoved : (initial : Sides ℕ) (streams : Streams) → AreAllMoved initial initial streams streams
-unmoved initial streams = record {
-  opened = unmoved-rows initial streams.opened.items;
-  promised = unmoved-rows initial streams.promised.items;
-}
+unmoved initial streams = grind (arith, unmoved-rows initial)
 
 pub same-sides : (a b : Sides ℕ) → a.client ≡ b.client → a.server ≡ b.server → a ≡ b
 same-sides a b c s =

@@ -68,10 +68,7 @@ slice_get-drop (suc k) (x ∷ xs) = slice_get-drop k xs
 
 -- nothing is left from a place with no element
 none-left : (xs : List Settings) (k : ℕ) → slice_get xs k ≡ None → drop 1 (drop k xs) ≡ drop (k + 0) xs
-none-left xs k e =
-    let cases = slice_get_cases xs k in
-    let all = drop_all k xs in
-    rw add-zero (grind arith)
+none-left xs k e = let cases = slice_get_cases xs k in let all = drop_all k xs in rw add-zero (grind arith)
 
 -- a queue from place k on, after one more of it is taken, or not
 queue-after : (b : Bool) (xs : List Settings) (k : ℕ) (t : Option Settings) → k ≤ length xs
@@ -103,9 +100,8 @@ nothing-more : (b : Bool) (k : ℕ) → k + (if b && false then 1 else 0) ≡ k
 nothing-more true k = add-zero k
 nothing-more false k = add-zero k
 
-pub waiting-after_other : (now : InForce) (seen : List Frame) (frame : Frame) (old : Waiting)
-    → is_ack frame.body ≡ false → IsWaiting now seen old
-    → IsWaiting (in_force_after now frame) (seen ++ frame ∷ []) old
+pub waiting-after_other : (now : InForce) (seen : List Frame) (frame : Frame) (old : Waiting) →
+    is_ack frame.body ≡ false → IsWaiting now seen old → IsWaiting (in_force_after now frame) (seen ++ frame ∷ []) old
 waiting-after_other now seen frame old none h =
     waiting-step now seen frame old
     (λ d. rw (paired-after now frame (other d), none, nothing-more) (h.taken d, h.queued d)) h.within

@@ -87,8 +87,7 @@ module _ {M : Type 0} (makes : ℕ → Option ℕ → M → Type 0) (jobs : List
 
   -- a number past all jobs was drawn, and so were all before it
   one-each : (job : ℕ) → job < length jobs → parts_of job (map part_of parts) ≡ 1
-  one-each job lt =
-      let (n, past, some) = h.1 in grind (arith, nat_tests, s.numbers n, s.numbers job, h.0.drawn job lt)
+  one-each job lt = let (n, past, some) = h.1 in grind (arith, nat_tests, s.numbers n, s.numbers job, h.0.drawn job lt)
 
   parts-are : (part : BoardPart) → Contains (map part_of parts) part →
       (job : Job) × (slice_get jobs part.job ≡ Some job) × IsPartOf last.seen last.lowered job part

@@ -26,10 +26,9 @@ place_at-none n high = rw (le-ltb n past_places high) refl
 pub at_most-stop : (n m : ℕ) → n ≤ m → IsAtMost n (place_at m)
 at_most-stop n m low = cond_both (nat_lt m past_places) (Some m) None (IsAtMost n) (λ _. low) (λ _. tt)
 
-least-stop : (d : DeskId) (lowered : List (ℕ × ℕ)) (c n : ℕ) → n ≤ get_or d.opened (c + 1) 0
-    → ((p : ℕ) → 0 < marks c p lowered → (n ≤ p) × (p < past_places))
-    → (n ≡ get_or d.opened (c + 1) 0) ⊎ (0 < marks c n lowered)
-    → IsLeast d lowered c (place_at n)
+least-stop : (d : DeskId) (lowered : List (ℕ × ℕ)) (c n : ℕ) → n ≤ get_or d.opened (c + 1) 0 →
+    ((p : ℕ) → 0 < marks c p lowered → (n ≤ p) × (p < past_places)) →
+    (n ≡ get_or d.opened (c + 1) 0) ⊎ (0 < marks c n lowered) → IsLeast d lowered c (place_at n)
 least-stop d lowered c n below low reached = elim (cases_lt n past_places) [
   | inl place ↦ rw (place_at-place n place) (
     at_most-stop n (get_or d.opened (c + 1) 0) below,

@@ -1,8 +1,7 @@
 -- Cuts of lists in order, cuts put together, and what joins findings that are cut at their stop.
 use Rattle.stop_desk.proofs.Words.{Bool, Finding, IsPermutation-filter_both, List, Option, [], ap, append-nil, arith}
-use Rattle.stop_desk.proofs.Words.{comes_after, false, filter, if◌then◌else◌, in_order}
-use Rattle.stop_desk.proofs.Words.{leb-false, nat_le, not, not-true}
-use Rattle.stop_desk.proofs.Words.{put_by, refl, stops, subst, sym, true, upto_stop, ℕ, ◌++◌, ◌∙◌, ◌∷◌, ◌≡◌}
+use Rattle.stop_desk.proofs.Words.{comes_after, false, filter, if◌then◌else◌, in_order, leb-false, nat_le, not}
+use Rattle.stop_desk.proofs.Words.{not-true, put_by, refl, stops, subst, sym, true, upto_stop, ℕ, ◌++◌, ◌∙◌, ◌∷◌, ◌≡◌}
 use Rattle.audit_terms.proofs.FindingOrder.{comes_after_is, in_order-append_comm, in_order-append_left}
 use Rattle.audit_terms.proofs.FindingOrder.{in_order-in_order, in_order-permutation}
 use Rattle.audit_terms.proofs.OrderedLists.{IsInOrder, NoneBefore, in_order-ordered, ordered-in_order}
@@ -50,11 +49,8 @@ whole_is_cut_lem whole upto e = record {
 -- what a cut leaves out, where it lies past another place
 leaves : (whole kept : List Finding) (upto upto' : Option ℕ) → ((place : ℕ) → IsPast upto place → IsPast upto' place) →
     IsCut whole upto kept → Leaves (λ found. IsPast upto' found.place) kept whole
-leaves whole kept upto upto' past h = record {
-  left_out = h.left_out;
-  together = h.together;
-  beyond = λ found k. past found.place (h.past found k);
-}
+leaves whole kept upto upto' past h =
+    record { left_out = h.left_out; together = h.together; beyond = λ found k. past found.place (h.past found k) }
 
 pub cuts_join_lem : CutsJoin
 cuts_join_lem one other kept_of_one kept_of_other upto upto_of_one upto_of_other h k before before' =

@@ -161,8 +161,7 @@ after-place x y l = rw (sym (nat_cmp_is x.place y.place Greater l)) refl
 after-none : (x : Finding) (ys : List Finding) (y : Finding) → NoneBefore comes_after comes_after_is x ys →
     Contains ys y → comes_after x y ≡ false
 after-none x [] y o h = absurd (contains-none y h)
-after-none x (z ∷ ys) y o h =
-    ⊎_elim (λ same. rw same at o.0) (λ k. after-none x ys y o.1 k) (contains-cases z ys y h)
+after-none x (z ∷ ys) y o h = ⊎_elim (λ same. rw same at o.0) (λ k. after-none x ys y o.1 k) (contains-cases z ys y h)
 
 -- what comes after a finding that stops is cut
 cut-put : (x y : Finding) (zs : List Finding) → IsInOrder comes_after comes_after_is zs → Contains zs y →

@@ -8,8 +8,7 @@ use Rattle.atomic_table.proofs.Lists.{at_set, at_snoc, set_again}
 use Rattle.std.proofs.lemmas.List.{set-get_or}
 use Rattle.stop_desk.specs.code.Plays.{Lowers, drawn_by, given_part, kept_part, learned_by, lowered_by, seen_by, spent}
 use Rattle.stop_desk.specs.code.Rule.{Fits, Holds, Kept, allowance_in, drawn_in, knows, lowered_in, seen_in, share}
-use Rattle.stop_desk.proofs.Weights.{weigh-set, weigh-snoc, weigh-append, weigh-part}
-use Rattle.stop_desk.proofs.Weights.{seen-cases}
+use Rattle.stop_desk.proofs.Weights.{weigh-set, weigh-snoc, weigh-append, weigh-part, seen-cases}
 
 pub fits-set : (opened : List ℕ) (views : List Knows) (id : ℕ) (w : Knows) → Fits opened w
     → ((j : ℕ) (u : Knows) → get_elem? views j ≡ some u → Fits opened u)
@@ -68,8 +67,7 @@ module _ (o : Opening) (s : State (Unit {0}) Knows) (id : ℕ) (v : Knows) (h : 
       )
 
   draw-fresh : times (get_or s.words 0 0) v.drawn ≡ 0
-  draw-fresh =
-      grind (arith, nat_tests, part (drawn_in (get_or s.words 0 0)), h.0.each_once (get_or s.words 0 0))
+  draw-fresh = grind (arith, nat_tests, part (drawn_in (get_or s.words 0 0)), h.0.each_once (get_or s.words 0 0))
 
   -- a look at the stop of connection c
   abbrev saw : (c : ℕ) → Knows
@@ -79,8 +77,7 @@ module _ (o : Opening) (s : State (Unit {0}) Knows) (id : ℕ) (v : Knows) (h : 
       v.lowered
 
   -- what the pass knew of connection c is not below the stop word
-  sees-below : (c : ℕ) (me : PassState) → 0 < share v →
-      Sees c (v, me.1) (get_or s.words (c + 1) 0) (saw c, me.1)
+  sees-below : (c : ℕ) (me : PassState) → 0 < share v → Sees c (v, me.1) (get_or s.words (c + 1) 0) (saw c, me.1)
   sees-below c me some_share =
       let opened = (h.2 id v at).knowing some_share in
       grind (arith, h.1, λ (p : ℕ). part (lowered_in c p), λ (p : ℕ). part (seen_in c p))
@@ -175,9 +172,8 @@ sees o slots id me c some_share s h _ at _ = (
       (let e : c + 1 ≡ c' + 1 = same in omega arith) (sees-below o s id me.0 h at c me some_share)),
 )
 
-pub lowers : (o : Opening) (slots id : ℕ) (me : PassState) (c p : ℕ) → 0 < share me.0 → c + 1 < length me.0.opened
-    → p < past_places
-    → Allows (Holds o) slots id me (c + 1) (λ n. min n p) (lowered_by (step slots (c + 1) p 0 none) me)
+pub lowers : (o : Opening) (slots id : ℕ) (me : PassState) (c p : ℕ) → 0 < share me.0 → c + 1 < length me.0.opened →
+    p < past_places → Allows (Holds o) slots id me (c + 1) (λ n. min n p) (lowered_by (step slots (c + 1) p 0 none) me)
 lowers o slots id me c p some_share there place s h _ at _ = (
   lowered o s id me.0 h at c p,
   keeps,

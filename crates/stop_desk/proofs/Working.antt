@@ -164,13 +164,7 @@ module _ {M : Type 0} (makes : ℕ → Option ℕ → M → Type 0) (jobs : List
       ((c p : ℕ) → Contains seen (c, p) → Contains seen' (c, p)) →
       ((c p : ℕ) → Contains lowered (c, p) → Contains lowered' (c, p)) →
       IsLaid makes jobs round seen lowered part → IsLaid makes jobs round seen' lowered' part
-  laid-grows more less h = record {
-    in_round = h.in_round;
-    made = h.made;
-    job = h.job;
-    is_job = h.is_job;
-    of_job = part-grows more less h.of_job;
-  }
+  laid-grows more less h = grind (arith, h, part-grows more less h.of_job)
 
   parts_of-append : (job : ℕ) (parts more : List (Part M)) →
       parts_of job (map part_of (parts ++ more)) ≡ parts_of job (map part_of parts) + parts_of job (map part_of more)
@@ -184,13 +178,9 @@ module _ {M : Type 0} (makes : ℕ → Option ℕ → M → Type 0) (jobs : List
     more-times x = ap (λ (v : PassView). times x v.drawn) draws.added ∙ weigh-snoc (is_number x) before.drawn n
 
     same-whole : pass_draws claimed ≡ whole
-    same-whole = omega (
-      arith,
-      ap (λ (v : PassView). length v.drawn) draws.added,
-      length-append before.drawn (n ∷ []),
-      h.whole_is,
-      draws.paid,
-    )
+    same-whole =
+        let more = ap (λ (v : PassView). length v.drawn) draws.added in
+        omega (arith, length-append before.drawn (n ∷ []), h.whole_is, draws.paid)
 
     -- a number past all jobs
     worked-past : length jobs ≤ n → IsAllWorked makes jobs desk round whole parts claimed
@@ -216,15 +206,9 @@ module _ {M : Type 0} (makes : ℕ → Option ℕ → M → Type 0) (jobs : List
           record {
             desk_is = ap (λ (v : PassView). v.desk) goes.kept ∙ ap (λ (v : PassView). v.desk) draws.added ∙ h.desk_is;
             whole_is = ap pass_draws goes.kept ∙ same-whole;
-            drawn = λ job l. grind (
-              arith,
-              nat_tests,
-              after-times job,
-              h.drawn job l,
-              number,
-              parts_of-append job parts (part ∷ []),
-              count-cons (λ (p : BoardPart). p.job == job) (part_of part) [],
-            );
+            drawn = λ job l. (let more = parts_of-append job parts (part ∷ []) in
+                let one = count-cons (λ (p : BoardPart). p.job == job) (part_of part) [] in
+                grind (arith, nat_tests, after-times job, h.drawn job l, number));
             laid = λ other k. ⊎_elim
                 (λ old. laid-grows goes.seen_kept goes.lowered_kept (rw draws.added (h.laid other old)))
                 (λ new. rw new at laid) (Contains-push_cases parts part other k);
@@ -258,13 +242,8 @@ module _ {M : Type 0} (makes : ℕ → Option ℕ → M → Type 0) (jobs : List
         record {
           desk_is = w.desk_is;
           whole_is = omega (arith, w.whole_is, v.whole_is, length-append mine.drawn theirs.drawn);
-          drawn = λ job lt. omega (
-            arith,
-            w.drawn job lt,
-            v.drawn job lt,
-            parts_of-append job parts more,
-            weigh-append (is_number job) mine.drawn theirs.drawn,
-          );
+          drawn = λ job lt. (let both = parts_of-append job parts more in
+              omega (arith, w.drawn job lt, v.drawn job lt, weigh-append (is_number job) mine.drawn theirs.drawn));
           laid = λ part l. elim (Contains-append_cases parts more part l) [
             | inl k ↦ laid-grows (λ c p. Contains-append_left mine.seen theirs.seen (c, p))
                 (λ c p. Contains-append_left mine.lowered theirs.lowered (c, p)) (w.laid part k)

@@ -31,8 +31,7 @@ pub meet_all-requires : goal.meet_all-requires
 meet_all-requires c =
     let at = rw (drop-at c.args.frames.now _ _ c.frame-item.is c.loop-frame-test.true) at c.loop-frame.invariant in
     let is = rw c.deref.ensures.value at c.change_at-change.ensures in
-    let below = at.orderly.1.number in
-    record {
+    let below = at.orderly.1.number in record {
       numbered = omega arith;
       acknowledged = λ stream change e. step_of-acknowledged at.state.in_force c.frame-item.result stream change
           (sym (brings at is) ∙ e);

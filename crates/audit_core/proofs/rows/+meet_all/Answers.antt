@@ -1,3 +1,4 @@
+use Rattle.std.proofs.Common.{arith}
 use Rattle.std.proofs.lemmas.Result.{on_ok_weaker}
 use Rattle.audit_core.proofs.rows.+meet_all.Goals as goal
 
@@ -8,12 +9,7 @@ pub returns-clause-fits : goal.returns-clause-fits
 returns-clause-fits t c =
     on_ok_weaker c.meet_all.result
     (λ others bound h.
-    let all = rw c.in-Some.ensures.cases.0 at h in (
-      record {
-        stream = all.0.stream;
-        client = c.in_ok-say_stream.ensures.client bound all.0.client;
-        server = c.in_ok-say_stream.ensures.server bound all.0.server;
-      },
-      others bound all.1,
-    ))
+    let all = rw c.in-Some.ensures.cases.0 at h in
+    let told = c.in_ok-say_stream.ensures in
+    (grind (arith, all.0, told.client bound, told.server bound), others bound all.1))
     c.meet_all.ensures.fits

@@ -9,21 +9,10 @@ returns-then-branch-eq0-clause-bytes g c =
     c.in_ok-pass_once.ensures.count c.in_ok-pass_once.ensures.read
 
 pub loop-piece-init : goal.loop-piece-init
-loop-piece-init g c = record {
-  sound = search rules;
-  room = search rules;
-  kept = search rules;
-  state = search rules;
-  bytes = passed_none g.R.Read.remaining c.args.reader.now;
-}
+loop-piece-init g c = search (rules, passed_none g.R.Read.remaining c.args.reader.now)
 
 pub loop-piece-preserved : goal.loop-piece-preserved
-loop-piece-preserved g c = record {
-  sound = search rules;
-  room = search rules;
-  kept = search rules;
-  state = search rules;
-  bytes = passed_more g.R.Read.remaining c.args.reader.now c.loop-piece.reader c.pass_once.new.self
-      (take c.in_ok-pass_once.field-0 c.pass_once.new.piece) c.in_ok-pass_once.field-0 c.loop-piece.invariant.bytes
-      c.in_ok-pass_once.ensures.count c.in_ok-pass_once.ensures.read;
-}
+loop-piece-preserved g c =
+    let bytes = passed_more g.R.Read.remaining c.args.reader.now c.loop-piece.reader c.pass_once.new.self
+    (take c.in_ok-pass_once.field-0 c.pass_once.new.piece) c.in_ok-pass_once.field-0 c.loop-piece.invariant.bytes
+    c.in_ok-pass_once.ensures.count c.in_ok-pass_once.ensures.read in search (rules, bytes)

@@ -2,6 +2,7 @@ use Rattle.std.proofs.Common.{rules, ◌≡◌, ◌+◌, take, drop}
 use Rattle.std.specs.Io.KnownBytes.{Appends}
 use Rattle.std.proofs.KnownBytes.{Appends-trans}
 use Rattle.std.proofs.Math.Seq.{take-add}
+use Rattle.input_output.specs.Account.{written}
 use Rattle.input_output.proofs.writing.write_report.Goals as goal
 
 pub loop-writer-preserved : goal.loop-writer-preserved
@@ -17,10 +18,5 @@ loop-writer-preserved g c =
     rw (take-add before.written count before.text.items) taken in
     let text : now.text ≡ before.text = search rules in
     let grown : now.written ≡ before.written + count = search rules in
-    record {
-      within = search rules;
-      text = search rules;
-      has_failed = search rules;
-      is_flushed = search rules;
-      taken = rw (grown, text) more;
-    }
+    let all : Appends first (g.W.Write.contents now.writer) (written now) = rw (grown, text) more in
+    search (rules, all)

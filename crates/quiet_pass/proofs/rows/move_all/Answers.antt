@@ -11,8 +11,7 @@ loop-at-preserved c =
     let rows = c.loop-at.rows.items in
     let next = c.in-Some.next in
     let inside : at < length rows =
-    omega (arith, c.loop-at-test.true, c.len-at-end.ensures, was.long, c.args.rows.now.ok.0) in
-    record {
+    omega (arith, c.loop-at-test.true, c.len-at-end.ensures, was.long, c.args.rows.now.ok.0) in record {
       long = length-set rows at next ∙ was.long;
       moved = λ k d l. elim (cases_eq k at) [
         | inl own ↦

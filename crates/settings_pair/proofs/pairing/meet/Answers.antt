@@ -5,8 +5,7 @@ use Rattle.settings_pair.proofs.pairing.meet.Goals as goal
 
 pub returns-then-not-is_ack : goal.returns-then-not-is_ack
 returns-then-not-is_ack c =
-    let none = sym c.is_ack.ensures ∙ c.if-not-is_ack.true in
-    record {
+    let none = sym c.is_ack.ensures ∙ c.if-not-is_ack.true in record {
       waiting = λ now h. waiting-after_other now c.args.seen.now c.args.frame.now _ none h;
       changes = λ now h. rw (none, append-nil);
       findings = λ now h. rw (none, append-nil);
@@ -15,8 +14,7 @@ returns-then-not-is_ack c =
 pub returns : goal.returns
 returns c =
     let ack = sym c.is_ack.ensures ∙ c.if-not-is_ack.false in
-    let took = c.take-taken.ensures in
-    record {
+    let took = c.take-taken.ensures in record {
       waiting = λ now h. waiting-after_ack now c.args.seen.now c.args.frame.now c.args.waiting.now ack h _ _
           c.other.ensures took.rest took.within;
       changes = λ now h. rw (change_of-ack now c.args.seen.now c.args.frame.now c.args.waiting.now ack h _ _

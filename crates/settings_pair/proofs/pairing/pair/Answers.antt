@@ -30,8 +30,7 @@ loop-at-preserved c =
     let was = c.loop-at.invariant in
     let frame = c.index-frames-at.result in
     let here = from-here c.args.frames.now _ frame c.loop-at-test.true c.index-frames-at.is in
-    let did = c.in_ok-meet.ensures in
-    record {
+    let did = c.in_ok-meet.ensures in record {
       now = in_force_after was.now frame;
       low = frame.number + 1;
       waiting = rw (take_more c.args.frames.now _ frame c.loop-at-test.true, ← c.index-frames-at.is)

@@ -1,4 +1,4 @@
-use Rattle.std.proofs.Common.{◌+◌, ◌∙◌, drop, slice_get, sym, ap, arith}
+use Rattle.std.proofs.Common.{◌+◌, ◌∙◌, drop, sym, arith}
 use Rattle.settings_pair.proofs.Words.{sent_by}
 use Rattle.settings_pair.proofs.WaitingLemmas.{IsSent, none-left_by, sent-here}
 use Rattle.settings_pair.proofs.waiting.first_from.Goals as goal
@@ -27,8 +27,4 @@ pub returns : goal.returns
 returns c =
     let left = c.loop-frame.invariant.left in
     let none = none-left_by c.args.sender c.args.seen.now _ _ left c.in_default.ensures.lookup.3 in
-    record {
-      first = sym (ap (λ left. slice_get left 0) none);
-      rest = left ∙ none ∙ sym (ap (drop 1) none);
-      within = c.loop-frame.invariant.within;
-    }
+    grind (arith, left, none, c.loop-frame.invariant.within)

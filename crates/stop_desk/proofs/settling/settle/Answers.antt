@@ -16,5 +16,4 @@ returns-clause-round g c = λ part is.
     ∙ c.number.ensures
 
 pub stops_of-requires : goal.stops_of-requires
-stops_of-requires g c =
-    rw (c.in_ok-parts.ensures.desk_is, c.in_ok-desk.ensures.words, length-map) (omega arith)
+stops_of-requires g c = rw (c.in_ok-parts.ensures.desk_is, c.in_ok-desk.ensures.words, length-map) (omega arith)

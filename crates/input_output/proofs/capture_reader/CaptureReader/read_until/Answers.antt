@@ -1,3 +1,4 @@
+use Rattle.std.proofs.Common.{arith}
 use Rattle.std.proofs.lemmas.Result.{on_ok_weaker}
 use Rattle.input_output.proofs.Kept.{grown_more, read_more, went_well}
 use Rattle.input_output.proofs.capture_reader.CaptureReader.read_until.Goals as goal
@@ -14,16 +15,8 @@ loop-self-preserved g c =
     let on = c.is_open_below.ensures.0 c.if-not-is_open_below.false in
     let grown = c.read_once-read.ensures.grown in
     let read = went_well c.read_once-read.new.self c.read_once-read.result on.0 c.read_once-read.ensures.err
-    c.read_once-read.ensures.read in
-    record {
-      on = record {
-        sound = read.sound;
-        state = on.0;
-        unpassed = grown.unpassed;
-        below = on.1;
-        room = grown.room;
-        most = c.requires.most;
-      };
+    c.read_once-read.ensures.read in record {
+      on = grind (arith, on, grown, read.sound, c.requires.most);
       grown = grown_more c.args.limit c.args.self.now c.loop-self.self c.read_once-read.new.self
           c.loop-self.invariant.grown grown;
       bytes = (read_more g.R.Read.remaining c.args.limit c.args.self.now c.loop-self.self c.read_once-read.new.self

@@ -22,11 +22,7 @@ invariant_of-result g c =
       c.requires.size,
       subst (AreChunksOf g.row.N) (sym is)
           (full_and_last (λ chunk. chunk.items) g.row.N full last all c.requires.last),
-      omega (
-        arith,
-        ap (λ chunks. length (joined chunks)) is,
-        ap length (joined-push before last),
-        length-append (joined before) last,
-        full_count (λ chunk. chunk.items) g.row.N full all,
-      ),
+      (let count = full_count (λ chunk. chunk.items) g.row.N full all in
+          let size = ap length (ap joined is ∙ joined-push before last) ∙ length-append (joined before) last in
+          omega arith),
     )

@@ -12,8 +12,7 @@ returns-in_err-count-clause-grown g c =
 
 pub returns : goal.returns
 returns g c =
-    let read = c.in_ok-count.ensures.read in
-    record {
+    let read = c.in_ok-count.ensures.read in record {
       grown = is_grown c.self.inside c.read_into.new.chunk c.args.self.now c.self.invariant c.self.view_is
           c.read_into.ensures.length c.read_into.ensures.front c.in_ok-count.count _ refl read.count;
       read = has_read c.self.inside c.read_into.new.chunk c.args.self.now c.self.invariant c.self.view_is

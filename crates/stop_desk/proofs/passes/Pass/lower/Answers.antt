@@ -18,9 +18,4 @@ invariant_of-self c = rw (c.fetch_min.ensures.2 c.args.connection refl) c.self.i
 
 pub returns : goal.returns
 returns c =
-    rw (
-      ← c.self.view_is,
-      ← c.word-word.ensures,
-      c.fetch_min.ensures.0,
-      c.fetch_min.ensures.2 c.args.connection refl,
-    )
+    rw (← c.self.view_is, ← c.word-word.ensures, c.fetch_min.ensures.0, c.fetch_min.ensures.2 c.args.connection refl)
