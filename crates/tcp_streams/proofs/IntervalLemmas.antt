@@ -59,8 +59,7 @@ pub clipped-last : (low high a b : ℕ) (ys : List Interval) (k : ℕ) (d : Inte
     → high < (get_or ys k d).upto → Spans a ys b
     → clipped low high (drop k ys) ≡ clipped low high (get_or ys k d ∷ [])
 clipped-last low high a b [] k d lt over h = absurd (omega (arith, lt))
-clipped-last low high a b (y ∷ ys) zero d lt over h =
-    simp (clipped-beyond low high y.upto b ys (omega arith) h.2)
+clipped-last low high a b (y ∷ ys) zero d lt over h = simp (clipped-beyond low high y.upto b ys (omega arith) h.2)
 clipped-last low high a b (y ∷ ys) (suc k) d lt over h = clipped-last low high y.upto b ys k d
     (omega (arith, lt)) over h.2
 
@@ -97,11 +96,10 @@ overlay-before : (low : ℕ) (kept later : List Interval) (o : ℕ) → Spans lo
     → at (overlay kept later low) o ≡ None
 overlay-before low [] later o h lt = grind (arith, nat_tests, at-clipped low end_of_offsets later o)
 overlay-before low (x ∷ kept) later o h lt =
-    let after = overlay kept later x.upto in
     grind (
       arith,
       nat_tests,
-      at-append (clipped low x.from later) (x ∷ after) o,
+      at-append (clipped low x.from later) (x ∷ overlay kept later x.upto) o,
       at-clipped low x.from later o,
       overlay-before x.upto kept later o h.2 (omega (arith, h.0, h.1.some)),
     )
@@ -159,8 +157,7 @@ Spans-apart low (x ∷ xs) le apart h =
 -- so they are apart
 pub apart-already : (pieces : List Interval) → lie_apart 0 pieces ≡ true → All IsInterval pieces
     → AreSetApart pieces pieces
-apart-already pieces apart all =
-    record { spans = Spans-apart 0 pieces (omega arith) apart all; same = λ o lt. refl }
+apart-already pieces apart all = record { spans = Spans-apart 0 pieces (omega arith) apart all; same = λ o lt. refl }
 
 -- and the halves of a list, each set apart, one laid over the other, are the list set apart
 pub halves-apart : (kept later pieces : List Interval) (n : ℕ) → AreSetApart (take n pieces) kept

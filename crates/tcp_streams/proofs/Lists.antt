@@ -14,8 +14,7 @@ use Rattle.std.proofs.lemmas.Option.{gets}
 
 -- a goal, by whether one number is below another
 pub by_lt : {G : Type 0} (a b : ℕ) → (nat_lt a b ≡ true → a < b → G) → (nat_lt a b ≡ false → b ≤ a → G) → G
-by_lt a b below not_below =
-    elim (cases_lt a b) [ inl h ↦ below (lt-ltb a b h) h | inr h ↦ not_below (le-ltb a b h) h ]
+by_lt a b below not_below = elim (cases_lt a b) [ inl h ↦ below (lt-ltb a b h) h | inr h ↦ not_below (le-ltb a b h) h ]
 
 -- the same by any test
 pub by_Bool : {G : Type 0} (b : Bool) → (b ≡ true → G) → (b ≡ false → G) → G

@@ -3,11 +3,10 @@ use Rattle.tcp_streams.proofs.Words.{◌≡◌, ℕ, ◌<◌, ◌≤◌, List, [
 use Rattle.tcp_streams.proofs.Words.{suc, ◌+◌, ◌-◌, ◌^◌, ◌++◌, length, drop, take, slice_get, ap, IsSome, All, IfSome}
 use Rattle.tcp_streams.proofs.Words.{IsSomeAnd, slice_range, option_or, ne_eqb, eq-eqb, lt-ltb, le-ltb, nat_tests}
 use Rattle.tcp_streams.proofs.Words.{append-nil, append_assoc, length-append, All-nil, All-weaker, All-cons, All-head}
-use Rattle.tcp_streams.proofs.Words.{if◌then◌else◌, nat_lt, All-tail, Rises, IsArrivalOf}
-use Rattle.tcp_streams.proofs.Words.{IsFlow, IsGap, arrival_at, Source, arrival, end_of_offsets, AreCaptured}
-use Rattle.tcp_streams.proofs.Words.{IsInterval, IsCaptured, Spans, arrival_with, arrivals_after, arrivals_in, at}
-use Rattle.tcp_streams.proofs.Words.{bytes_in, run_length, source_in, width, AreTimely, Interval, Arrival}
-use Rattle.tcp_streams.proofs.Words.{Flow, IsSame, IsTrue, bytes_of}
+use Rattle.tcp_streams.proofs.Words.{if◌then◌else◌, nat_lt, All-tail, Rises, IsArrivalOf, IsFlow, IsGap, arrival_at}
+use Rattle.tcp_streams.proofs.Words.{Source, arrival, end_of_offsets, AreCaptured, IsInterval, IsCaptured, Spans}
+use Rattle.tcp_streams.proofs.Words.{arrival_with, arrivals_after, arrivals_in, at, bytes_in, run_length, source_in}
+use Rattle.tcp_streams.proofs.Words.{width, AreTimely, Interval, Arrival, Flow, IsSame, IsTrue, bytes_of}
 use Rattle.tcp_streams.specs.Sequence.{later_of}
 use Rattle.tcp_streams.specs.code.Assembled.{IsLaidOut}
 use Rattle.tcp_streams.specs.code.Interval.{IsInside}
@@ -54,8 +53,7 @@ run_end-after low (x ∷ xs) f = omega (arith, f.0, f.1.some, run_end-after x.up
 run-covers : (low : ℕ) (run : List Interval) (o : ℕ) → Follows low run → low ≤ o → o < run_end low run
     → IsSome (at run o)
 run-covers low [] o f a b = absurd (omega (arith, a, b))
-run-covers low (x ∷ xs) o f a b =
-    grind (arith, nat_tests, (λ (le : x.upto ≤ o). run-covers x.upto xs o f.2 le b))
+run-covers low (x ∷ xs) o f a b = grind (arith, nat_tests, (λ (le : x.upto ≤ o). run-covers x.upto xs o f.2 le b))
 
 run-beyond : (low : ℕ) (run : List Interval) (o : ℕ) → Follows low run → run_end low run ≤ o → at run o ≡ None
 run-beyond low [] o f b = refl
@@ -209,8 +207,7 @@ module _ (size : ℕ) (sources : ℕ → Option Source) where
   run-arrivals : (run : List Interval) → Follows 0 run → All (IsHeld size) run
       → ((o : ℕ) → o < run_end 0 run → sources o ≡ at run o)
       → AreArrived sources 0 0 (run_end 0 run) (arrivals_in run)
-  run-arrivals [] f h same =
-      record { rises = refl; timely = All-nil _; each = λ o le lt. absurd (omega (arith, lt)) }
+  run-arrivals [] f h same = record { rises = refl; timely = All-nil _; each = λ o le lt. absurd (omega (arith, lt)) }
   run-arrivals (x ∷ xs) f h same =
       let head = All-head (IsHeld size) x xs h in
       let brings : (p : ℕ) → p < x.upto → sources p ≡ Some (source_in x p) =

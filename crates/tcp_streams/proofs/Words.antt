@@ -13,7 +13,7 @@ pub use Rattle.std.proofs.lemmas.List.{drop-drop, length-take-le, take-append-dr
 pub use Rattle.std.proofs.lemmas.List.Elements.{All-cons, All-head, All-nil, All-push, All-tail, All-weaker}
 pub use Rattle.std.proofs.lemmas.List.Elements.{filter_map-append}
 pub use Rattle.std.proofs.lemmas.List.Folds.{list_any-append}
-pub use Rattle.std.proofs.lemmas.List.Sums.{sum_by-append, sum_by-cons}
+pub use Rattle.std.proofs.lemmas.List.Sums.{sum_by-cons}
 pub use Rattle.std.proofs.lemmas.Option.{IfSome_then, none-some, get_or_from_slice_get, slice_get_within}
 pub use Rattle.audit_terms.specs.declared.sides.Side.{Side}
 pub use Rattle.audit_terms.specs.declared.sides.Side.TheVariants.{Client, Server}

@@ -1,10 +1,6 @@
-use Rattle.tcp_streams.proofs.Words.{length}
 use Rattle.std.proofs.lemmas.Result.{MatchResult-weaker}
 use Rattle.tcp_streams.proofs.Sides.{assembled, intervals-captured, side-pieces}
 use Rattle.tcp_streams.proofs.assembly.flow_in_any_order.Goals as goal
-
-pub pieces_of-requires : goal.pieces_of-requires
-pieces_of-requires c = (length c.args.capture.now, c.requires.size, c.requires.payloads)
 
 pub set_apart-requires : goal.set_apart-requires
 set_apart-requires c =

@@ -1,12 +1,8 @@
-use Rattle.tcp_streams.proofs.Words.{true, None, refl, arith, length, take, filter_map, append-nil, take_all}
-use Rattle.tcp_streams.proofs.Words.{member_piece}
+use Rattle.tcp_streams.proofs.Words.{true, None, refl, arith, take, filter_map, append-nil, take_all, member_piece}
 use Rattle.tcp_streams.proofs.Lists.{filter_map-more}
 use Rattle.tcp_streams.proofs.Sides.{IsLaid-more, laid-assembled, piece-inside}
 use Rattle.tcp_streams.proofs.in_order.flow_in_order.Goals as goal
 use Rattle.tcp_streams.proofs.in_order.flow_in_order.Goals.{in-Some+else-piece-laid+in_ok-add, in_default}
-
-pub piece_of_member-requires : goal.piece_of_member-requires
-piece_of_member-requires c = (length c.args.capture.now, c.requires.size, c.requires.payloads)
 
 pub add-requires : goal.add-requires
 add-requires c =
@@ -35,8 +31,7 @@ loop-member-preserved c =
 pub returns : goal.returns
 returns c =
     let laid = c.loop-member.laid in
-    let members = c.args.connection.now.members.items in
     laid-assembled c.args.initial_number c.args.capture.now c.args.packets.now c.args.connection.now c.args.side
     c.requires (record { started = true; pieces = laid.pieces; arrivals = laid.arrivals; gap = None }) laid.end
-    (rw (take_all c.loop-member.member-index members
+    (rw (take_all c.loop-member.member-index c.args.connection.now.members.items
     (rw c.deref-member-items.ensures.value at c.loop-member-test.false)) at c.loop-member.invariant) refl refl

@@ -1,4 +1,4 @@
-use Rattle.tcp_streams.proofs.Words.{[], arith, take, take_all, past_of}
+use Rattle.tcp_streams.proofs.Words.{[], arith, take, past_of}
 use Rattle.tcp_streams.proofs.Numbered.{Falls-next, past_of-few, past_of-more, past_of-passed}
 use Rattle.tcp_streams.proofs.membership.take_in.Goals as goal
 use Rattle.tcp_streams.proofs.membership.take_in.Goals.{in-Some+in_ok-add, in_default}
@@ -20,6 +20,3 @@ loop-index-preserved c =
       | in_default w ↦ rw (w.table-is, past_of-passed packets index (omega arith) w.in_default.ensures.none)
           c.loop-index.invariant
     ]
-
-pub returns : goal.returns
-returns c = rw (take_all c.loop-index.index c.args.packets.now (omega arith)) at c.loop-index.invariant

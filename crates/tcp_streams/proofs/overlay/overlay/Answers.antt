@@ -1,4 +1,4 @@
-use Rattle.tcp_streams.proofs.Words.{refl, arith, append_assoc}
+use Rattle.tcp_streams.proofs.Words.{arith, append_assoc}
 use Rattle.std.proofs.lemmas.List.{at_drop_more}
 use Rattle.tcp_streams.proofs.IntervalLemmas.{no_interval}
 use Rattle.tcp_streams.proofs.overlay.overlay.Goals as goal
@@ -12,11 +12,3 @@ loop-x-preserved c =
       passed = record { clips = λ a b le. c.in_ok-next.ensures.next.clips a b (omega (arith, here.1.some)) };
       within = c.in_ok-next.ensures.within;
     }
-
-pub loop-x-init : goal.loop-x-init
-loop-x-init c = record {
-  makes = rw c.new-out.ensures.items refl;
-  spans = c.requires.kept;
-  passed = record { clips = λ a b le. refl };
-  within = omega arith;
-}
