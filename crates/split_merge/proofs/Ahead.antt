@@ -23,8 +23,7 @@ pub orderly-filter : (test : Frame → Bool) (low : ℕ) (frames : List Frame) �
     → IsOrderlyFrom low (filter test frames)
 orderly-filter test low [] h = tt
 orderly-filter test low (frame ∷ frames) h =
-    let rest = orderly-filter test (frame.number + 1) frames h.2 in
-    grind (arith, orderly-earlier low (frame.number + 1))
+    grind (arith, orderly-earlier low (frame.number + 1), orderly-filter test (frame.number + 1) frames h.2)
 
 -- each of the frames of a connection is in range
 pub in_range_at : (low : ℕ) (frames : List Frame) → IsOrderlyFrom low frames → (i : ℕ) (d : Frame) → i < length frames
@@ -98,8 +97,7 @@ module _ {changes : List Change} {all : List Frame} where
   pub ahead-zero : (frame : Frame) (rest : ℕ → List Frame) (stream : ℕ) {streams : List ℕ} {quiets : List QuietStream}
       → stream ≡ 0 → AreAhead changes all (with_next stream frame rest) streams quiets
       → AreAhead changes all rest streams quiets
-  ahead-zero frame rest stream z h =
-      ahead-alike (with_next stream frame rest) rest (λ s n. grind (arith, nat_tests)) h
+  ahead-zero frame rest stream z h = ahead-alike (with_next stream frame rest) rest (λ s n. grind (arith, nat_tests)) h
 
   -- no stream has met a frame
   pub ahead-none : IsOrderly all → AreOrderly changes → AreAcknowledged all changes

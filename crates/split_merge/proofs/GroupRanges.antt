@@ -14,9 +14,7 @@ first : (count k : ℕ) → 0 < k → 0 * count / k ≡ 0
 first count k h = let e : 0 * count ≡ 0 * k = omega arith in rw e (mul-div_cancel 0 h)
 
 rising : (count k g : ℕ) → 0 < k → g * count / k ≤ (g + 1) * count / k
-rising count k g h =
-    let part = div-add-mod' (g * count) k in
-    le-div (g * count / k) ((g + 1) * count) k h (omega (arith, part))
+rising count k g h = le-div (g * count / k) ((g + 1) * count) k h (omega (arith, div-add-mod' (g * count) k))
 
 consecutive-from : (count k g m : ℕ) → 0 < k → g + m ≡ k →
     AreConsecutive (g * count / k) count (map (group_at count k) (range_with_len g m))

@@ -43,12 +43,11 @@ can-place {notes} {table} h few long loud_is places_is rows_is total_is position
     let streams = streams_in table.rows.items in
     let row : ℕ → Visited = λ stream. record { stream = stream; count = length (noted_positions stream notes) } in
     let made = loud_is ∙ ap (λ l. loud_of l quiets) h.rows ∙ sym (loud-map row streams quiets) in
-    let total = loud-total table.rows.items quiets in
     let same = ap total_of loud_is in
     rw (loud_is, loud-streams) record {
       index = h.index;
       few = omega (arith, h.few, few);
-      short = omega (arith, positions_long, total_is, same, total, h.visits, few);
+      short = omega (arith, positions_long, total_is, same, loud-total table.rows.items quiets, h.visits, few);
       leads = rw places_is (are-places streams quiets (long ∙ sym (length-streams_in table.rows.items)) h.index.distinct
           h.index.above);
       distinct = loud-distinct streams quiets h.index.distinct;
@@ -169,11 +168,10 @@ module _ {loud : List ℕ} {came : List (ℕ × ℕ)} {places : List (Option ℕ
         (set rows row (longer (get_or rows row d))) (set positions ((get_or rows row d).to - 0) position)
     placed =
         let above : stream ≢ 0 = among-apart 0 stream loud row h.leads.above at in
-        let own = positions-own stream stream position came refl above in
         let all = noted_positions-append stream (came ++ noted stream position) left in
         let more : length (noted_positions stream came)
         < length (noted_positions stream ((came ++ noted stream position) ++ left)) =
-        rw (all, own, length-append, length_push) (omega arith) in
+        rw (all, positions-own stream stream position came refl above, length-append, length_push) (omega arith) in
         filled-at 0 loud came _ rows positions row stream position d above h.distinct at more filled-now
 
     pub put-within : (row < length rows) × ((get_or rows row d).to < length positions)
@@ -214,11 +212,10 @@ split-rows split frames from (stream ∷ streams) (row ∷ rows) above within h 
     let (ranges, parts) = split-rows split frames (from + many) streams rows above.1
     (omega (arith, within, h.0.room, long)) (rw (drop-drop many from split.positions.items) at h.1) in
     let same : from + many - from ≡ many = omega arith in
-    let part = h.0.front ∙ noted-positions stream apart 0 frames in
     rw h.0.is (
       (record { rising = omega arith; within = omega (arith, within, h.0.room, long) }, ranges),
       (
-        rw (same, part) record {
+        rw (same, h.0.front ∙ noted-positions stream apart 0 frames) record {
           not_connection = omega arith;
           positions = refl;
           frames = frames_at-positions stream frames;

@@ -4,9 +4,7 @@ use Rattle.split_merge.proofs.Terms.{[], ◌∷◌, length, get_or, slice_get, f
 use Rattle.split_merge.proofs.Terms.{option_to_list, refl, ◌∙◌, arith, nat_tests, get_or_from_slice_get}
 use Rattle.split_merge.proofs.Terms.{slice_get_within, QuietStream, Visited, streams_in, total_of, NotAmong}
 use Rattle.split_merge.proofs.Terms.{AreDistinct, loud_of, places_from, opened_in, quiet_in, ArePlaces, AllByRecursion}
-use Rattle.split_merge.proofs.Terms.{AllZip, None, eq-eqb, false, ne_eqb}
-use Rattle.std.specs.Bool.{then_some}
-use Rattle.std.specs.Int.{from_bool}
+use Rattle.split_merge.proofs.Terms.{AllZip, eq-eqb, ne_eqb}
 use Rattle.stream_credit.specs.code.QuietStream.{opened_of}
 use Rattle.split_merge.proofs.Visited.{not_among-at}
 
@@ -26,8 +24,7 @@ loud-not_among s (x ∷ xs) (quiet ∷ quiets) n = grind (arith, loud-not_among 
 loud-not_among s xs quiets n = tt
 
 pub loud-distinct : (xs : List ℕ) (quiets : List QuietStream) → AreDistinct xs → AreDistinct (loud_of xs quiets)
-loud-distinct (x ∷ xs) (quiet ∷ quiets) h =
-    grind (arith, loud-distinct xs quiets h.1, loud-not_among x xs quiets h.0)
+loud-distinct (x ∷ xs) (quiet ∷ quiets) h = grind (arith, loud-distinct xs quiets h.1, loud-not_among x xs quiets h.0)
 loud-distinct xs quiets h = tt
 
 pub loud-total : (rows : List Visited) (quiets : List QuietStream) → total_of (loud_of rows quiets) ≤ total_of rows
@@ -56,17 +53,14 @@ pub opened-filter : (f : ℕ → List ℕ) (xs : List ℕ) (quiets : List QuietS
 opened-filter f [] [] h told = refl
 opened-filter f (x ∷ xs) (quiet ∷ quiets) h told =
     let rest = opened-filter f xs quiets h.1 told.1 in
-    let past = filter-past x quiet.is_quiet (λ s. quiet_in s xs quiets) (λ b. b) xs h.0 in
-    let first = told.0 in
-    grind (arith, nat_tests)
+    grind (arith, nat_tests, told.0, filter-past x quiet.is_quiet (λ s. quiet_in s xs quiets) (λ b. b) xs h.0)
 opened-filter f xs quiets h told = absurd told
 
 each-past : (P : ℕ → Type 0) (other : ℕ) (b : Bool) (h : ℕ → Bool) (xs : List ℕ) → NotAmong other xs
     → AllByRecursion (λ s. h s ≡ true → P s) xs
     → AllByRecursion (λ s. (if other == s then b else h s) ≡ true → P s) xs
 each-past P other b h [] n all = tt
-each-past P other b h (x ∷ xs) n all =
-    (rw (ne_eqb other x n.0) all.0, each-past P other b h xs n.1 all.1)
+each-past P other b h (x ∷ xs) n all = (rw (ne_eqb other x n.0) all.0, each-past P other b h xs n.1 all.1)
 
 -- what holds of each quiet stream
 pub each-quiet : (P : ℕ → Type 0) (xs : List ℕ) (quiets : List QuietStream) → AreDistinct xs
@@ -81,17 +75,6 @@ each-quiet P (x ∷ xs) (quiet ∷ quiets) h told = (
 
 -- ---- where they stand
 
--- the place of the next stream, and how many loud ones there are then
-pub places-next : (at : ℕ) (is_quiet : Bool) (quiets : List QuietStream)
-    → (if is_quiet then None ∷ places_from at quiets else Some at ∷ places_from (at + 1) quiets)
-    ≡ then_some (not is_quiet) at ∷ places_from (at + from_bool (not is_quiet)) quiets
-places-next at true quiets = let same : at + 0 ≡ at = omega arith in rw same refl
-places-next at false quiets = refl
-
-pub one-more : (b : Bool) → from_bool b ≤ 1
-one-more true = omega arith
-one-more false = omega arith
-
 pub places-length : (at : ℕ) (quiets : List QuietStream) → length (places_from at quiets) ≡ length quiets
 places-length at [] = refl
 places-length at (quiet ∷ quiets) = grind (arith, places-length at quiets, places-length (at + 1) quiets)
@@ -102,8 +85,7 @@ places-at : (xs : List ℕ) (quiets : List QuietStream) → length quiets ≡ le
     (λ k. (at ≤ k) × (slice_get (loud_of xs quiets) (k - at) ≡ Some s))
 places-at [] quiets n h at r s d is = cc
 places-at (x ∷ xs) [] n h at r s d is = absurd (omega (arith, n))
-places-at (x ∷ xs) (quiet ∷ quiets) n h at zero s d is =
-    grind (arith, loud-not_among x xs quiets h.0)
+places-at (x ∷ xs) (quiet ∷ quiets) n h at zero s d is = grind (arith, loud-not_among x xs quiets h.0)
 places-at (x ∷ xs) (quiet ∷ quiets) n h at (suc r) s d is =
     let apart = not_among-at x xs r h.0 (slice_get_within xs r s is) in
     let e = get_or_from_slice_get xs r s 0 is in

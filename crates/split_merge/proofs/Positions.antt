@@ -37,8 +37,7 @@ frames-from stream front [] position e = refl
 frames-from stream front (frame ∷ frames) position e =
     let later = rw append_assoc at (frames-from stream (front ++ frame ∷ []) frames (position + 1)
     (omega (arith, length_push front frame, e))) in
-    let here = rw e at (slice_get-last front frames frame) in
-    grind arith
+    grind (arith, rw e at (slice_get-last front frames frame))
 
 -- the frames at the positions of a stream are those that it meets
 pub frames_at-positions : (stream : ℕ) (frames : List Frame)
@@ -71,10 +70,9 @@ noted-few stream position = grind arith
 notes-few : (position : ℕ) (frames : List Frame) → length (notes_from position frames) ≤ 2 * length frames
 notes-few position [] = omega arith
 notes-few position (frame ∷ frames) =
-    let rest = notes-few (position + 1) frames in
     let own = noted-few frame.stream position in
     let promised = noted-few (promised_by frame) position in
-    rw (length-append, length-append) (omega (arith, rest, own, promised))
+    rw (length-append, length-append) (omega (arith, notes-few (position + 1) frames, own, promised))
 
 pub notes-fit : (frames : List Frame) → length frames < 2 ^ 28 → length (notes_from 0 frames) < 2 ^ 30
 notes-fit frames few = omega (arith, notes-few 0 frames, few)

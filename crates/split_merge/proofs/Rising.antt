@@ -40,9 +40,7 @@ module _ (rows : List Visited) (many : ℕ) (m : many ≤ length rows) where
     streams-rise : (i j : ℕ) (d : Visited) → i ≤ j → j < many
         → (get_or (take many rows) i d).stream ≤ (get_or (take many rows) j d).stream
     streams-rise i j d le l =
-        let one = front-stream i d (omega (arith, le, l)) in
-        let other = front-stream j d l in
-        grind (arith, rises i j, cases_lt i j)
+        grind (arith, rises i j, cases_lt i j, front-stream j d l, front-stream i d (omega (arith, le, l)))
 
     -- and where it does not
     pub none-from_front : (stream i : ℕ)
@@ -76,8 +74,7 @@ module _ (streams : List ℕ) (index : RowIndex) (is : IsIndex streams index) wh
   behind-front place stream at =
       let e = rw is.others at at in
       let l = slice_get_within (drop index.rising streams) place stream e in
-      let n = length-drop index.rising streams in
-      slice_get-get_or streams (index.rising + place) 0 (omega (arith, l, n))
+      slice_get-get_or streams (index.rising + place) 0 (omega (arith, l, length-drop index.rising streams))
       ∙ ap Some (sym (get_or-drop index.rising streams place 0)
       ∙ get_or_from_slice_get (drop index.rising streams) place stream 0 e)
 

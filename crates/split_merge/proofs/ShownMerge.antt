@@ -43,14 +43,11 @@ module _ {X : Type 0} (after : X → X → Bool) (o : IsAfter after) (is_kept : 
   put-kept x (y ∷ ys) h =
       let none : after x y ≡ false → NoneBefore after o x (filter is_kept (y ∷ ys)) =
       λ e. none-kept x (y ∷ ys) (e, none-below x y ys e h.0) in
-      let front = put-front after o x (filter is_kept (y ∷ ys)) in
-      grind (arith, put-kept x ys h.1)
+      grind (arith, put-kept x ys h.1, put-front after o x (filter is_kept (y ∷ ys)))
 
   kept-ordered : (xs : List X) → ordered_by after (filter is_kept xs) ≡ filter is_kept (ordered_by after xs)
   kept-ordered [] = refl
-  kept-ordered (x ∷ xs) =
-      let put = put-kept x (ordered_by after xs) (in_order-ordered after o xs) in
-      grind (arith, kept-ordered xs)
+  kept-ordered (x ∷ xs) = grind (arith, kept-ordered xs, put-kept x (ordered_by after xs) (in_order-ordered after o xs))
 
 -- what is shown of findings in order is in order
 pub in_order-shown : (credits_shown : Bool) (xs : List Finding) →

@@ -106,8 +106,7 @@ stream-at rows k d l = get_or-map (λ (row : Visited). row.stream) rows k d 0 l
 -- where the stream of a row stands, the row stands
 pub row_inside : (rows : List Visited) (row stream : ℕ) → slice_get (streams_in rows) row ≡ Some stream
     → row < length rows
-row_inside rows row stream at =
-    omega (arith, slice_get_within (streams_in rows) row stream at, length-streams_in rows)
+row_inside rows row stream at = omega (arith, slice_get_within (streams_in rows) row stream at, length-streams_in rows)
 
 pub row-at : (rows : List Visited) (k : ℕ) (d : Visited) → k < length rows →
     slice_get (streams_in rows) k ≡ Some (get_or rows k d).stream

@@ -42,8 +42,7 @@ order-with low (step ∷ steps) change least most h =
 
 order-frames : (low : ℕ) (frames : List Frame) → IsOrderlyFrom low frames → AreInOrder low (map frame_step frames)
 order-frames low [] h = tt
-order-frames low (frame ∷ frames) h =
-    (h.0, omega (arith, h.1.number), refl, order-frames (frame.number + 1) frames h.2)
+order-frames low (frame ∷ frames) h = (h.0, omega (arith, h.1.number), refl, order-frames (frame.number + 1) frames h.2)
 
 pub order-steps : (low : ℕ) (frames : List Frame) (changes : List Change) → IsOrderly frames
     → AreOrderlyFrom low changes → AreInOrder 0 (steps_of frames changes)

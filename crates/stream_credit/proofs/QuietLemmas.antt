@@ -82,17 +82,15 @@ module _ (stream : ℕ) (life : StreamLife) (frame : Frame) (some : is_some life
   pub granted-move : (amount : ℕ) → frame.body ≡ WindowUpdate amount → frame.stream ≡ stream → 0 < amount
       → (one : Move) → one ≡ granted frame amount → HasRoom (2 ^ 32) one.amount → IsMove stream life frame one
   granted-move amount b own above one is small =
-      let here = eq-eqb frame.stream stream own in
-      let zero = ne_eqb amount 0 (λ e. absurd (omega (arith, above, e))) in
       let end : sends_end frame.side frame ≡ false = simp (b, and-false) in
       rw is (record {
         opens = rw (none-of life.opened some) refl;
         kept = kept (ap is_reset b) (ap is_promise b) end;
         opened = used (ap is_reset b) (ap is_promise b) end;
         in_time = rw b refl;
-        grants = rw (b, zero) refl;
+        grants = rw (b, ne_eqb amount 0 (λ e. absurd (omega (arith, above, e)))) refl;
         goes_on = goes-on (ap is_reset b) (ap is_promise b) end;
-        amount = simp (b, other-twice, own-side, here, and-false) (omega (arith, ints));
+        amount = simp (b, other-twice, own-side, eq-eqb frame.stream stream own, and-false) (omega (arith, ints));
         within = λ before left. simp (b, and-false);
         other_grant = simp (other-twice, apart);
         other_content = simp (b, and-false);
@@ -117,10 +115,9 @@ module _ (stream : ℕ) (initial : Sides ℕ) (entry : Stream) (frame : Frame) (
   own-calm =
       let raised = q.credit.raised in
       let moved = raised.moved in
-      let amount = m.amount in
       rw (q.credit.live, q.own)
       (calm-some one.side stream initial (alone frame) q.credit.before q.after
-      (rw amount (omega (arith, ints, moved))) raised.fits
+      (rw m.amount (omega (arith, ints, moved))) raised.fits
       (m.within q.credit.before (ap is_used_up (sym moved) ∙ raised.left)) (m.goes_on one.side)
       (raised.some ∙ sym raised.left))
 
@@ -164,6 +161,5 @@ quiet-room entry number one next small q room =
     (λ x e.
     let was = room one.side q.credit.before q.credit.live in
     let same : q.after ≡ x = same_Some q.after x (sym q.own ∙ e) in
-    let moved = q.credit.raised.moved in
-    omega (arith, ints, was, small, moved, same))
+    omega (arith, ints, was, small, q.credit.raised.moved, same))
     (λ x e. let was = room (other one.side) x (sym q.rest ∙ e) in omega (arith, ints, was))

@@ -87,7 +87,6 @@ module _ {stream : ℕ} {changes : List Change} {all rest : List Frame} {old : Q
       → slice_get changes old.met ≡ Some change → change.number < number → after ≡ initial_after (Some change) initial
       → IsPassed initial after old new → IsAhead stream changes all rest new
   ahead-change {new} {change} {after} number s e below a p =
-      let within = slice_get_within changes old.met change e in
       let calm = calm-changes stream initial change.number (Some change) after (stream_of old).window
       (stream_of new).window a p.client.moved p.server.moved p.client.silent p.server.silent in
       let step = change_step change in
@@ -95,7 +94,7 @@ module _ {stream : ℕ} {changes : List Change} {all rest : List Frame} {old : Q
       rw (p.opened, p.client.ended, p.server.ended)
       (sym (stream-moved stream initial (stream_of old) step (stream_of new).window refl calm)) in
       let met = p.met in
-      ahead-by (omega (arith, within, met)) h.orderly h.acknowledged
+      ahead-by (omega (arith, slice_get_within changes old.met change e, met)) h.orderly h.acknowledged
       (rw (
         met,
         initial-next old.met changes change e,

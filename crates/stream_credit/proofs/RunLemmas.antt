@@ -105,14 +105,13 @@ pub run-starts : {L : Type 0} {answers : L → List Finding → Option ℕ → L
     → IsSound answers (whole_run start stream credits_shown frames changes) now walk changes 0 frames
 run-starts {frames = frames} {changes = changes} {walk = walk} range orderly rise acknowledged begun =
     let order = order-steps 0 frames changes orderly rise in
-    let is = steps_of-merged 0 frames changes rise in
     record {
       rise = rise;
       within = omega arith;
       acknowledged = acknowledge-all frames changes acknowledged;
       initial = begun.initial;
       low = 0;
-      at = rw (← is) (record {
+      at = rw (← steps_of-merged 0 frames changes rise) (record {
         streamed = rw begun.own range;
         room = rw begun.entry room-idle;
         below = rw begun.found tt;

@@ -122,8 +122,7 @@ module _ (stream : ℕ) (initial : Sides ℕ) (entry : Stream) (step : Step) (ne
     (calm : (d : Side) → IsCalm d stream initial step (side_of d entry.window) (side_of d next)) where
   pub stream-unshown : AreUnshown (say_of (frame_said stream entry step) step.frame)
       → AreUnshown (stream_said stream initial entry step)
-  stream-unshown frame =
-      both _ _ (both _ _ frame (rw unopened (calm Client).said)) (rw unopened (calm Server).said)
+  stream-unshown frame = both _ _ (both _ _ frame (rw unopened (calm Client).said)) (rw unopened (calm Server).said)
 
   pub stream-shown : AreUnshown (say_of (frame_said stream entry step) step.frame)
       → shown false (in_order (stream_said stream initial entry step)) ≡ []
@@ -146,8 +145,7 @@ calm-change d stream initial number change after None (Some next) a e h = cc
 calm-change d stream initial number change after (Some credit) None a e h = cc
 calm-change d stream initial number change after (Some credit) (Some next) a e h =
     let one = h credit refl next refl in
-    let i = side_of d initial in
-    let to : next ≡ moved i after credit = cc in
+    let to : next ≡ moved (side_of d initial) after credit = cc in
     let now : counted d stream initial (change_alone number change) credit ≡ next =
     rw (← a) (omega (arith, ints, to)) in
     calm-some d stream initial (change_alone number change) credit next now one.1 refl refl one.0

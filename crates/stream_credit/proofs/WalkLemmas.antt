@@ -3,14 +3,13 @@ use Rattle.std.proofs.Common.{length-append}
 use Rattle.stream_credit.proofs.Words.{◌≡◌, ℕ, ℤ, ◌+◌, ◌-◌, ◌*◌, ◌^◌, ◌<◌, ◌≤◌, inl, inr, Bool, true, false, ◌&&◌, ◌||◌}
 use Rattle.stream_credit.proofs.Words.{if◌then◌else◌, List, [], ◌∷◌, ◌++◌, append_assoc, length, Option, Some, None}
 use Rattle.stream_credit.proofs.Words.{is_some, is_none, refl, sym, ap, ◌∙◌, subst, arith, AllByRecursion}
-use Rattle.stream_credit.proofs.Words.{option_map_or, cases_Bool, ints, filter-append, Side, Client, Server}
-use Rattle.stream_credit.proofs.Words.{Sides, StreamLife, Frame, Change, Step, Stream, Finding, side_of, life_after}
-use Rattle.stream_credit.proofs.Words.{shown, is_shown, is_past, found_before, change_step, initial_after}
-use Rattle.stream_credit.proofs.Words.{stream_run_from, stream_after_all, stream_after, WindowHasRoom, Watches}
-use Rattle.stream_credit.proofs.Words.{IsStopped, NeverFallFrom, Walk, is_live, is_met, met_from, opened_up_to, met_by}
-use Rattle.stream_credit.proofs.Words.{numbers_of, IsNumbered, AreInOrder, IsCounted, HasRoomAt, WholeRun, IsAt}
-use Rattle.stream_credit.proofs.Words.{HasStopped, window_after, place_number, in_order, stream_said, up_to}
-use Rattle.stream_credit.proofs.Words.{steps_between}
+use Rattle.stream_credit.proofs.Words.{option_map_or, cases_Bool, ints, filter-append, Side, Client, Server, Sides}
+use Rattle.stream_credit.proofs.Words.{StreamLife, Frame, Change, Step, Stream, Finding, side_of, life_after, shown}
+use Rattle.stream_credit.proofs.Words.{is_shown, is_past, found_before, change_step, initial_after, stream_run_from}
+use Rattle.stream_credit.proofs.Words.{stream_after_all, stream_after, WindowHasRoom, Watches, IsStopped, NeverFallFrom}
+use Rattle.stream_credit.proofs.Words.{Walk, is_live, is_met, met_from, opened_up_to, met_by, numbers_of, IsNumbered}
+use Rattle.stream_credit.proofs.Words.{AreInOrder, IsCounted, HasRoomAt, WholeRun, IsAt, HasStopped, window_after}
+use Rattle.stream_credit.proofs.Words.{place_number, in_order, stream_said, up_to, steps_between}
 use Rattle.audit_terms.proofs.FindingLists.{each-append, each-filter, each-in_order, each-weaker}
 use Rattle.audit_terms.proofs.SaidPlaces.{before-front, at-stream, numbered-at}
 use Rattle.audit_terms.proofs.Watching.{past-higher}
@@ -95,8 +94,7 @@ module _ (stream : ℕ) (initial : Sides ℕ) (entry : Stream) (change : Change)
   dead-window d (Some credit) e = cc
 
   dead-after : stream_after stream initial entry (change_step change) ≡ entry
-  dead-after =
-      rw (dead-window Client _ dead-windows.0, dead-window Server _ dead-windows.1) refl
+  dead-after = rw (dead-window Client _ dead-windows.0, dead-window Server _ dead-windows.1) refl
 
 -- a change ends no window
 pub live-on : (stream : ℕ) (initial : Sides ℕ) (entry : Stream) (change : Change)
@@ -239,13 +237,12 @@ pub step-passed : {L : Type 0} {answers : L → List Finding → Option ℕ → 
     → IsAt answers run now walk low (change_step change ∷ rest)
     → IsAt answers run now (record walk { initial = initial_after (Some change) walk.initial }) low rest
 step-passed {walk = walk} {low = low} {change = change} {rest = rest} dead h =
-    let said = dead-said walk.stream walk.initial walk.entry change dead in
     let after = dead-after walk.stream walk.initial walk.entry change dead in
     record {
       streamed = h.streamed;
       room = h.room;
       below = h.below;
-      found = rw (said, after) at h.found;
+      found = rw (dead-said walk.stream walk.initial walk.entry change dead, after) at h.found;
       entry = rw after at h.entry;
       met = h.met;
       count = h.count;

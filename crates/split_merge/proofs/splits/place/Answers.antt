@@ -1,12 +1,6 @@
-use Rattle.split_merge.proofs.Terms.{[], refl, length, ◌≡◌, ◌∙◌, sym, arith, notes_from, at_drop_all, append-nil}
+use Rattle.split_merge.proofs.Terms.{refl, ◌∙◌, sym, arith, notes_from, at_drop_all, append-nil}
 use Rattle.split_merge.proofs.Positions.{came-more, notes-next}
 use Rattle.split_merge.proofs.splits.place.Goals as goal
-
-pub loop-frame-init : goal.loop-frame-init
-loop-frame-init c =
-    let long : length c.in_ok-positions.positions.items ≡ c.args.total =
-    omega (arith, c.in_ok-positions.ensures.len, c.in_ok-positions.positions.ok.0) in
-    record { position = refl; placing = λ loud room. ([], refl, room _ long) }
 
 pub visit-requires : goal.visit-requires
 visit-requires c =
@@ -42,5 +36,4 @@ returns c = λ loud room.
     let (came, all, h) = c.loop-frame.invariant.placing loud room in
     let none = at_drop_all (notes_from c.loop-frame.frame-index) c.args.frames.now c.loop-frame.frame-index
     c.loop-frame-test.false in
-    let is = sym (append-nil came) ∙ (rw none at all) in
-    rw (all, is) at h.filled
+    rw (all, sym (append-nil came) ∙ (rw none at all)) at h.filled

@@ -1,6 +1,6 @@
-use Rattle.split_merge.proofs.Terms.{[], get_or, arith, frames_of, take_all, IsAheadOf, Visited, streams_in}
+use Rattle.split_merge.proofs.Terms.{[], get_or, frames_of, IsAheadOf, Visited}
 use Rattle.std.proofs.lemmas.Slice.Zip.{AllZip-long}
-use Rattle.split_merge.proofs.Visited.{length-streams_in, row-at}
+use Rattle.split_merge.proofs.Visited.{row-at}
 use Rattle.split_merge.proofs.Ahead.{ended-next, ended-more}
 use Rattle.split_merge.proofs.visits.finish.Goals as goal
 
@@ -30,12 +30,3 @@ loop-row-preserved c = λ all h.
     let stream = (get_or c.args.rows.now c.loop-row.row none).stream in
     ended-more stream at part c.index_mut.result.now c.end.new.quiet (c.end.ensures (frames_of stream all)
     (rw c.index_mut.ensures.value (ended-next stream at part c.index_mut.result.now)))
-
-pub returns : goal.returns
-returns c = λ all h.
-    let part = c.loop-row.invariant all h in
-    let n = length-streams_in c.args.rows.now in
-    rw (
-      take_all c.loop-row.row (streams_in c.args.rows.now) (omega (arith, n, c.loop-row-test.false)),
-      take_all c.loop-row.row c.loop-row.quiets.items (omega (arith, n, part.long, c.loop-row-test.false)),
-    ) at part.hushed

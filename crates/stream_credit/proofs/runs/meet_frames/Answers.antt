@@ -1,4 +1,4 @@
-use Rattle.stream_credit.proofs.Words.{◌≤◌, length, arith, when_false, when_true, drop_all, drop_more}
+use Rattle.stream_credit.proofs.Words.{when_false, drop_more}
 use Rattle.stream_credit.proofs.runs.meet_frames.Goals as goal
 
 pub meet_frame-requires : goal.meet_frame-requires
@@ -12,14 +12,3 @@ returns-then-not-branch g c = λ run rest h.
     let next = drop_more c.args.frames.now c.loop-frame.frame-index c.frame-item.result c.loop-frame-test.true in
     when_false _ _ c.if-not-branch.true (c.in_ok-meet_frame.ensures run _
     (rw (next, ← c.frame-item.is) at (c.loop-frame.invariant rest run h)))
-
-pub loop-frame-preserved : goal.loop-frame-preserved
-loop-frame-preserved g c = λ rest run h.
-    let next = drop_more c.args.frames.now c.loop-frame.frame-index c.frame-item.result c.loop-frame-test.true in
-    when_true _ _ c.if-not-branch.false (c.in_ok-meet_frame.ensures run _
-    (rw (next, ← c.frame-item.is) at (c.loop-frame.invariant rest run h)))
-
-pub returns : goal.returns
-returns g c = λ run rest h.
-    let past : length c.args.frames.now ≤ c.loop-frame.frame-index = omega arith in
-    rw drop_all at (c.loop-frame.invariant rest run h)

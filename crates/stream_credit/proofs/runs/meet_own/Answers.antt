@@ -1,6 +1,6 @@
-use Rattle.stream_credit.proofs.Words.{◌≡◌, ℕ, ◌<◌, ◌++◌, List, Option, length, slice_get, sym, ◌∙◌, option_to_list}
-use Rattle.stream_credit.proofs.Words.{flat_map-append, nil_from_length, when_false, when_true, All-take, All-drop}
-use Rattle.stream_credit.proofs.Words.{eqb-true, Change, Finding, Frame, Walk, frames_at}
+use Rattle.stream_credit.proofs.Words.{◌≡◌, ℕ, ◌<◌, ◌++◌, List, Option, length, slice_get, ◌∙◌, option_to_list}
+use Rattle.stream_credit.proofs.Words.{flat_map-append, when_false, when_true, All-drop}
+use Rattle.stream_credit.proofs.Words.{Change, Finding, Frame, Walk, frames_at}
 use Rattle.stream_credit.proofs.RunLemmas.{MeetsFrames}
 use Rattle.stream_credit.proofs.runs.meet_own.Goals as goal
 
@@ -12,14 +12,6 @@ turn : {L : Type 0} {answers : L → List Finding → Option ℕ → L → Type 
     → MeetsFrames answers changes before old old_met all now walk met (near ++ frames_at frames later)
 turn frames some later rest near e n meets run h =
     rw (e, flat_map-append (λ position. option_to_list (slice_get frames position)) some later, ← n) at (meets run h)
-
-pub loop-rest-init : goal.loop-rest-init
-loop-rest-init g c = record { within = c.requires.own.within; meets = λ run h. h }
-
-pub gather-requires : goal.gather-requires
-gather-requires g c =
-    rw c.split_at.ensures.front (All-take (λ (position : ℕ). position < length c.args.own.now.frames.now) _ _
-    c.loop-rest.invariant.within)
 
 pub meet_frames-requires : goal.meet_frames-requires
 meet_frames-requires g c =
@@ -45,8 +37,3 @@ loop-rest-preserved g c = record {
       (turn c.args.own.now.frames.now _ _ _ _ c.split_at.ensures.by_index.0
       (c.as_slice.ensures.value ∙ c.in_ok-gather.ensures) c.loop-rest.invariant.meets run h));
 }
-
-pub returns : goal.returns
-returns g c = λ run h.
-    let none = nil_from_length c.loop-rest.rest.now (eqb-true _ _ (sym c.is_empty.ensures ∙ c.loop-rest-test.false)) in
-    rw none at (c.loop-rest.invariant.meets run h)

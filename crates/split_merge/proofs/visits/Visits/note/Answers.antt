@@ -43,14 +43,13 @@ returns-then-stream-eq0-clause-ahead c = λ all rest h.
 
 pub returns : goal.returns
 returns c =
-    let before = c.args.self.now.rows.items in
     let rows = c.row_of.new.self.rows.items in
     let row = c.in_ok-row.row in
     let stream = c.args.stream in
     let found = c.in_ok-row.ensures in
     let is = c.count.ensures ∙ ap counted c.index_mut.ensures.value in
     record {
-      named = rw (is, streams-counted, found.rows) (named-row stream before c.if-stream-eq0.false);
+      named = rw (is, streams-counted, found.rows) (named-row stream c.args.self.now.rows.items c.if-stream-eq0.false);
       table = λ notes position h. table-visited rows stream position row c.index_mut.result.now h c.if-stream-eq0.false
           found.rows found.row found.index (ap (λ one. set rows row one) is);
       ahead = λ all rest h.

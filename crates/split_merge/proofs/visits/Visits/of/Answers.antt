@@ -50,8 +50,7 @@ note-requires-in-loop-frame-clause-table c =
     let i = c.loop-frame.frame-index in
     let next = notes-next i i _ c.args.frames.now c.frame-item.result c.loop-frame-test.true c.frame-item.is refl
     refl in
-    let own = noted c.frame-item.result.stream i in
-    let once = append_assoc was.came own _ ∙ (rw next at was.noted) in
+    let once = append_assoc was.came (noted c.frame-item.result.stream i) _ ∙ (rw next at was.noted) in
     (_, c.in_ok-note.ensures.table was.came i was.table, came-fits c.args.frames.now _ _ once c.requires.length)
 
 pub note-requires-in-loop-frame-clause-streamed : goal.note-requires-in-loop-frame-clause-streamed
@@ -97,8 +96,7 @@ returns-clause-table c =
     let was = c.loop-frame.invariant in
     let none = at_drop_all (notes_from c.loop-frame.frame-index) c.args.frames.now c.loop-frame.frame-index
     c.loop-frame-test.false in
-    let came = sym (append-nil was.came) ∙ (rw none at was.noted) in
-    rw (← came) was.table
+    rw (← (sym (append-nil was.came) ∙ rw none at was.noted)) was.table
 
 pub returns-clause-ahead : goal.returns-clause-ahead
 returns-clause-ahead c =

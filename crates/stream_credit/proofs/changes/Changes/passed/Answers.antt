@@ -7,9 +7,8 @@ use Rattle.stream_credit.proofs.changes.Changes.passed.Goals as goal
 fits : (met count : ℕ) (all changes : List Change) → all ≡ changes → AreOrderly changes → met ≤ length changes
     → count ≤ length (take (length all - met) (drop met all)) → met + count < 2 ^ 28
 fits met count all changes is orderly within bound =
-    let few = few-changes changes orderly in
     let most : count ≤ length (drop met changes) = rw (take_rest, is) at bound in
-    omega (arith, few, most, within, length-drop met changes)
+    omega (arith, few-changes changes orderly, most, within, length-drop met changes)
 
 pub overflow_cast-result : goal.overflow_cast-result
 overflow_cast-result c =

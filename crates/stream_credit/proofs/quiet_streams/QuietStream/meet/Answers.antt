@@ -2,16 +2,6 @@ use Rattle.stream_credit.proofs.Words.{◌∷◌, refl, OnTrue_at}
 use Rattle.stream_credit.proofs.QuietStreams.{ahead-told}
 use Rattle.stream_credit.proofs.quiet_streams.QuietStream.meet.Goals as goal
 
-pub meet_changes-requires : goal.meet_changes-requires
-meet_changes-requires c =
-    let r = c.requires in record {
-      stream = c.args.stream;
-      all = r.0;
-      rest = c.args.frame.now ∷ r.1;
-      starts = refl;
-      ahead = r.2 c.if-not-self.false;
-    }
-
 pub meet_frame-requires-clause-ahead : goal.meet_frame-requires-clause-ahead
 meet_frame-requires-clause-ahead c =
     let r = c.requires in (

@@ -8,8 +8,7 @@ returns-then-moves c = λ all rest h.
 
 pub returns : goal.returns
 returns c =
-    let initial = rw c.get-2.ensures at c.initial_at-initial.ensures in
     OnTrue_from c.in_ok-is_quiet.is_quiet _ (λ quiet. λ all rest h.
     ahead-frame (rw (← c.if-moves.ensures.kept) at h)
     (rw c.if-moves.ensures.kept ((rw c.get.ensures at c.in_default.ensures) c.requires.passed))
-    (rw initial at (OnTrue_at quiet c.in_ok-is_quiet.ensures)))
+    (rw (rw c.get-2.ensures at c.initial_at-initial.ensures) at (OnTrue_at quiet c.in_ok-is_quiet.ensures)))

@@ -2,10 +2,6 @@ use Rattle.stream_credit.proofs.Words.{sym, ◌∙◌}
 use Rattle.stream_credit.proofs.RunLemmas.{sound-passed}
 use Rattle.stream_credit.proofs.walks.Walk.meet_changes.Goals as goal
 
-pub passed-requires : goal.passed-requires
-passed-requires g c =
-    let (run, rest, starts, h) = c.requires in record { orderly = h.rise; met = h.within }
-
 pub returns : goal.returns
 returns g c = λ run rest starts h. (
   rw (c.pass.ensures, c.initial_at.ensures)

@@ -4,9 +4,6 @@ use Rattle.stream_credit.proofs.WalkLemmas.{step-room, step-due, step-on, step-s
 use Rattle.stream_credit.proofs.RunLemmas.{change-at, sound-next}
 use Rattle.stream_credit.proofs.walks.Walk.meet_each.Goals as goal
 
-pub loop-change-init : goal.loop-change-init
-loop-change-init g c = record { live = c.requires.live; meets = λ rest starts run h. h }
-
 pub goes_on-requires : goal.goes_on-requires
 goes_on-requires g c =
     let (run, rest, starts, h) = c.requires.sound in
@@ -40,8 +37,7 @@ overflow_add-met g c =
 pub loop-change-smaller : goal.loop-change-smaller
 loop-change-smaller g c =
     let due = c.before-in-loop-change.ensures.change _ c.in-Some.is in
-    let there = slice_get_within c.args.changes.now c.loop-change.met c.in-Some.change due.at in
-    omega arith
+    omega (arith, slice_get_within c.args.changes.now c.loop-change.met c.in-Some.change due.at)
 
 pub loop-change-preserved : goal.loop-change-preserved
 loop-change-preserved g c =
@@ -57,7 +53,3 @@ loop-change-preserved g c =
           (step-on (change-at sound starts due) c.loop-change.invariant.live c.if-not-goes_on.ensures.kept
           c.if-not-goes_on.ensures.goes_on c.in_ok-count.ensures.counted c.in_ok-count.ensures.room);
     }
-
-pub returns : goal.returns
-returns g c = λ run rest starts h.
-    (c.loop-change.invariant.meets rest starts run h, c.before-in-loop-change.ensures.none c.in_default.is)

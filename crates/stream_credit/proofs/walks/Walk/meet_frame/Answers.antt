@@ -4,9 +4,6 @@ use Rattle.stream_credit.proofs.WalkLemmas.{step-room, step-due, step-on, step-s
 use Rattle.stream_credit.proofs.RunLemmas.{frame-at, frame-acknowledged, sound-next}
 use Rattle.stream_credit.proofs.walks.Walk.meet_frame.Goals as goal
 
-pub meet_changes-requires : goal.meet_changes-requires
-meet_changes-requires g c = let (run, frames, h) = c.requires in (run, _, refl, h)
-
 pub returns-then-not-branch : goal.returns-then-not-branch
 returns-then-not-branch g c = λ run frames h.
     when_false _ _ c.if-not-branch.true (c.in_ok-meet_changes.ensures run _ refl h)
