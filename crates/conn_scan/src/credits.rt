@@ -44,7 +44,6 @@ impl Credit {
     }
 
     /// These changes, and then those of a later summary, all of them far from what a word holds.
-    #[tactic(auto, using(std::proofs::lemmas::Int::ints, std::proofs::lemmas::Int::clamps))]
     fn with(&self, later: &Self) -> Self
         requires mine { IsRoomy self.now }
         requires later { IsRoomy later.now }

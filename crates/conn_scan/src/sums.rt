@@ -44,7 +44,7 @@ fn take_moves(frame: &Frame, own: &mut Credit, other: &mut Credit, zero_grant: &
     if frame.stream == 0 {
         own.meet(-i64::from(frame.content_by(frame.side)));
         other.meet(i64::from(frame.body.increment()));
-        *zero_grant = *zero_grant || frame.body.is_zero_grant();
+        *zero_grant |= frame.body.is_zero_grant();
     } else if frame.body.is_content() {
         own.meet(-i64::from(frame.length.get()));
     }

@@ -9,8 +9,3 @@ four-and o p q a b d e w f g = g ∙ rw f (simp append_assoc)
 -- three in turn
 pub three : {A : Type 0} (o p q r a b d : List A) → p ≡ o ++ a → q ≡ p ++ b → r ≡ q ++ d → r ≡ o ++ (a ++ b ++ d)
 three o p q r a b d h i j = j ∙ rw (i, h) (simp append_assoc)
-
--- six in turn
-pub six : {A : Type 0} (o p q r s t u a b d e f g : List A) → p ≡ o ++ a → q ≡ p ++ b → r ≡ q ++ d → s ≡ r ++ e
-    → t ≡ s ++ f → u ≡ t ++ g → u ≡ o ++ (a ++ b ++ d ++ e ++ f ++ g)
-six o p q r s t u a b d e f g h i j k l m = m ∙ rw (l, k, j, i, h) (simp append_assoc)

@@ -1,9 +1,16 @@
 //! What an item shows of the connection, and what it makes of it (RFC 9113, 4.2, 5.1.1, 6.9, 8.4).
 
 ghost use Rattle.std.specs.Prelude.{◌≡◌, ℕ, ℤ, pos, ◌+◌, ◌-◌, ◌^◌, ◌<◌, ◌++◌, max, if◌then◌else◌, IfOk, OnOk};
-ghost use Rattle.std.specs.Prelude.{OnErr};
+ghost use Rattle.std.specs.Prelude.{OnErr, not, ◌≤◌};
+ghost use Rattle.std.specs.Ordering.{int_eq};
+ghost use Rattle.audit_terms.specs.Finding.{finding_at, say};
+ghost use Rattle.audit_terms.specs.Window.{overflows, overruns, stall_begins, stall_ends};
+ghost use Rattle.audit_terms.specs.declared.kinds.Kind.TheVariants.{ConnectionCredit, ConnectionOverflow};
+ghost use Rattle.audit_terms.specs.declared.kinds.Kind.TheVariants.{ConnectionOverrun, ConnectionStallBegin};
+ghost use Rattle.audit_terms.specs.declared.kinds.Kind.TheVariants.{ConnectionStallEnd, ZeroConnectionGrant};
+ghost use Rattle.audit_terms.specs.Side.{other};
 ghost use Rattle.audit_terms.specs.Sides.{side_of, each_side};
-ghost use Rattle.audit_terms.specs.Frame.{content_by, promised_in};
+ghost use Rattle.audit_terms.specs.Frame.{content_by, grants_nothing, promised_in};
 ghost use Rattle.audit_terms.specs.Change.{new_limit};
 ghost use Rattle.audit_terms.specs.Connection.{connection_said, connection_after, connection_window_said};
 ghost use Rattle.audit_terms.specs.Connection.{connection_windows_said, credit_after, length_said, push_said};
@@ -84,14 +91,50 @@ fn say_window(
         number: frame.number,
         stream: 0,
     };
+    say_faults(found, &count, frame, spot)?;
+    say_stalls(found, &count, spot)?;
+    Ok(count.after)
+}
+
+/// Adds which rules of the connection window a frame breaks.
+fn say_faults(
+    found: &mut Vec<Finding>,
+    count: &Count,
+    frame: &Frame,
+    spot: Spot,
+) -> Result<(), AllocError>
+    requires numbered { spot.number ≤ 2 ^ 28 - 2 }
+    requires streamed { spot.stream < 2 ^ 31 }
+    ensures { OnOk result (found.new.items ≡ found.old.items
+        ++ say (grants_nothing spot.side 0 frame.now)
+        (finding_at ZeroConnectionGrant spot.number spot.stream (other spot.side) (pos 0))
+        ++ say (overflows count.now.before count.now.after)
+        (finding_at ConnectionOverflow spot.number spot.stream spot.side count.now.after)
+        ++ say (overruns count.now.before count.now.content)
+        (finding_at ConnectionOverrun spot.number spot.stream spot.side count.now.after)) }
+{
     let granter = Spot {
-        side: side.other(),
+        side: spot.side.other(),
         ..spot
     };
-    let is_zero = frame.grants_nothing(side, 0);
+    let is_zero = frame.grants_nothing(spot.side, 0);
     say_at(found, is_zero, Kind::ZeroConnectionGrant, granter, 0)?;
     count.say(found, count.overflows(), Kind::ConnectionOverflow, spot)?;
-    count.say(found, count.overruns(), Kind::ConnectionOverrun, spot)?;
+    count.say(found, count.overruns(), Kind::ConnectionOverrun, spot)
+}
+
+/// Adds whether the connection credit is used up, or there again, and what it becomes.
+fn say_stalls(found: &mut Vec<Finding>, count: &Count, spot: Spot) -> Result<(), AllocError>
+    requires numbered { spot.number ≤ 2 ^ 28 - 2 }
+    requires streamed { spot.stream < 2 ^ 31 }
+    ensures { OnOk result (found.new.items ≡ found.old.items
+        ++ say (stall_ends count.now.before count.now.after)
+        (finding_at ConnectionStallEnd spot.number spot.stream spot.side count.now.after)
+        ++ say (stall_begins count.now.before count.now.after)
+        (finding_at ConnectionStallBegin spot.number spot.stream spot.side count.now.after)
+        ++ say (not (int_eq count.now.before count.now.after))
+        (finding_at ConnectionCredit spot.number spot.stream spot.side count.now.after)) }
+{
     count.say(found, count.stall_ends(), Kind::ConnectionStallEnd, spot)?;
     count.say(
         found,
@@ -99,8 +142,7 @@ fn say_window(
         Kind::ConnectionStallBegin,
         spot,
     )?;
-    count.say(found, count.moves(), Kind::ConnectionCredit, spot)?;
-    Ok(count.after)
+    count.say(found, count.moves(), Kind::ConnectionCredit, spot)
 }
 
 /// Adds what a frame shows of both connection windows, and counts it in them (RFC 9113, 6.9.1). Without memory the
