@@ -120,14 +120,14 @@ module _ {L : Type 0} {answers : L → List Finding → Option ℕ → L → Typ
         (block-from item.frame.number item.frame.number state (item ∷ left) (omega arith)
         (omega arith, h.orderly.1, h.orderly.2))))
 
-    pub goes : (after : L) (next : ConnectionState) (said new : List Finding) (then : Watch)
+    pub goes : (after : L) (next : ConnectionState) (new : List Finding) (then : Watch)
         → ((start : L) (all : List Finding) (met rest : List ℕ) → found ≡ found_before item.frame.number all
         → Watches answers start now all met (item.frame.number ∷ rest) watch
         → Watches answers start after all (met ++ item.frame.number ∷ []) rest then)
-        → next ≡ connection_after state item → said ≡ shown credits (in_order (connection_said state item))
-        → new ≡ found ++ said
+        → next ≡ connection_after state item
+        → new ≡ found ++ shown credits (in_order (connection_said state item))
         → Halfway answers before after credits numbers whole new next left then
-    goes after next said new then on later here added =
+    goes after next new then on later added =
         let few = h.few in
         let first = h.orderly.0 in
         let range = h.orderly.1.number in
@@ -141,9 +141,9 @@ module _ {L : Type 0} {answers : L → List Finding → Option ℕ → L → Typ
           few = omega arith;
           narrow = omega arith;
           orderly = h.orderly.2;
-          said = rw (h.said, added, here, later, filter-append (is_shown credits) own rest)
+          said = rw (h.said, added, later, filter-append (is_shown credits) own rest)
               (sym (append_assoc found (shown credits own) (shown credits rest)));
-          below = rw (added, here) (each-append _ found (shown credits own)
+          below = rw added (each-append _ found (shown credits own)
               (each-weaker (IsBelow h.low) _ (λ x lt. omega arith) found h.below)
               (each-filter _ (is_shown credits) own
               (item-shows (IsBelow (item.frame.number + 1)) state item h.orderly.1 (λ one at. omega arith))));

@@ -1,4 +1,4 @@
-ghost use Rattle.std.specs.Prelude.{◌≡◌, ℕ, ◌+◌, ◌-◌, ◌^◌, ◌≤◌, All, map, IfOk, OnOk};
+ghost use Rattle.std.specs.Prelude.{◌≡◌, ℕ, ◌+◌, ◌-◌, ◌^◌, ◌≤◌, ◌++◌, All, map, IfOk, OnOk};
 ghost use Rattle.audit_terms.specs.declared.findings.Finding.{Finding as FindingTerm};
 ghost use Rattle.audit_terms.specs.declared.frames.Frame.{Frame as FrameTerm};
 ghost use Rattle.audit_terms.specs.Place.{place_number};
@@ -66,8 +66,7 @@ pub fn block_findings<L: Look>(
                 looks: watch.looks,
             });
         }
-        say_item(&mut said, &mut state, &item, credits_shown)?;
-        findings.extend_from_slice(said.as_slice())?;
+        add_item(&mut findings, &mut said, &mut state, &item, credits_shown)?;
     }
     Ok(BlockRun {
         findings,
@@ -85,8 +84,10 @@ fn goes_on<L: Look>(watch: &mut Watch, look: &mut L, found: &[Finding], item: &I
     watch.goes_on(look, found, item.frame.number)
 }
 
-/// Makes of `said` what an item shows, in order, and brings the connection to its state after the item.
-fn say_item(
+/// Adds what an item shows, in order, and brings the connection to its state after the item. What `said` holds is of no
+/// account: it is kept for its memory.
+fn add_item(
+    found: &mut Vec<Finding>,
     said: &mut Vec<Finding>,
     state: &mut ConnectionState,
     item: &Item,
@@ -95,8 +96,8 @@ fn say_item(
     requires frame { IsInRange item.now.frame }
     requires client { HasRoom (2 ^ 60) state.old.credit.client }
     requires server { HasRoom (2 ^ 60) state.old.credit.server }
-    ensures said { OnOk result (said.new.items
-        ≡ shown credits_shown (in_order (connection_said state.old item.now))) }
+    ensures found { OnOk result (found.new.items
+        ≡ found.old.items ++ shown credits_shown (in_order (connection_said state.old item.now))) }
     ensures after { OnOk result (state.new ≡ connection_after state.old item.now) }
     ensures client { (n : ℕ) → HasRoom n state.old.credit.client → HasRoom (n + 2 ^ 32) state.new.credit.client }
     ensures server { (n : ℕ) → HasRoom n state.old.credit.server → HasRoom (n + 2 ^ 32) state.new.credit.server }
@@ -105,5 +106,5 @@ fn say_item(
     say_connection(said, state, item)?;
     put_in_order(said)?;
     keep_shown(said, credits_shown);
-    Ok(())
+    found.extend_from_slice(said.as_slice())
 }

@@ -26,21 +26,20 @@ returns-then-not-goes_on-clause-numbered g c =
     stops-numbered (rw c.in-Some.ensures.steps at c.loop-item.invariant.halfway)
     c.keep_up_to.new.found.items c.goes_on.new.watch.stop c.keep_up_to.ensures
 
-pub say_item-requires-clause-client : goal.say_item-requires-clause-client
-say_item-requires-clause-client g c = room-wider _ (2 ^ 60) _ (omega arith) c.loop-item.invariant.fits.client
+pub add_item-requires-clause-client : goal.add_item-requires-clause-client
+add_item-requires-clause-client g c = room-wider _ (2 ^ 60) _ (omega arith) c.loop-item.invariant.fits.client
 
-pub say_item-requires-clause-server : goal.say_item-requires-clause-server
-say_item-requires-clause-server g c = room-wider _ (2 ^ 60) _ (omega arith) c.loop-item.invariant.fits.server
+pub add_item-requires-clause-server : goal.add_item-requires-clause-server
+add_item-requires-clause-server g c = room-wider _ (2 ^ 60) _ (omega arith) c.loop-item.invariant.fits.server
 
 pub loop-item-preserved : goal.loop-item-preserved
 loop-item-preserved g c =
-    let meets = c.in_ok-say_item.ensures in
+    let meets = c.in_ok-add_item.ensures in
     record {
       fits = fits_next _ _ _ _ (rw c.in-Some.ensures.steps at c.loop-item.invariant.fits) meets.client meets.server;
       halfway = goes (rw c.in-Some.ensures.steps at c.loop-item.invariant.halfway)
-          c.goes_on.new.look c.say_item.new.state c.say_item.new.said.items c.extend_from_slice.new.self.items
-          c.goes_on.new.watch (rw c.as_slice.ensures.value at c.if-not-goes_on.ensures) meets.after meets.said
-          (rw c.as_slice-in-loop-item.ensures.value at c.in_ok-extend_from_slice.ensures.items);
+          c.goes_on.new.look c.add_item.new.state c.add_item.new.found.items c.goes_on.new.watch
+          (rw c.as_slice.ensures.value at c.if-not-goes_on.ensures) meets.after meets.found;
     }
 
 pub returns-clause-run : goal.returns-clause-run
