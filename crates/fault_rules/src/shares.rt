@@ -36,21 +36,7 @@ pub fn local_faults(
         return faults_after(alloc, none_before(), frames);
     }
     let befores = befores(alloc, size, frames)?;
-    faults_by_share(rt, alloc, size, frames, befores.as_slice())
-}
-
-/// The local faults of all shares, joined, from the last frame of each side before each.
-fn faults_by_share(
-    rt: &(impl Threads + Sync),
-    alloc: Global,
-    size: usize,
-    frames: &[Frame],
-    befores: &[Sides<Option<Frame>>],
-) -> Result<Vec<Finding>, AllocError>
-    requires in_range { All IsInRange frames.now }
-    requires befores { AreBefores size frames.now befores.now }
-    ensures { IfOk result (λ found. found.items ≡ local_run frames.now) }
-{
+    let befores = befores.as_slice();
     let shares = (0..befores.len())
         .into_par_iter()
         .map(
