@@ -1,7 +1,7 @@
 //! The sections of connections by several workers: in batches, of which halves are written side by side. So no more
 //! than a batch's text is in memory twice.
 
-ghost use Rattle.std.specs.Prelude.{◌≡◌, ◌+◌, ◌<◌, ◌≤◌, ◌^◌, ◌++◌, IfOk, All, length};
+ghost use Rattle.std.specs.Prelude.{◌≡◌, ◌+◌, ◌<◌, ◌≤◌, ◌^◌, ◌++◌, IfOk, All, List, ℕ, length};
 ghost use Rattle.std.specs.String.{string_bytes};
 ghost use Rattle.std.specs.Thread.{IsSync};
 ghost use Rattle.audit_report.specs.code.Reported.{HasOrderlyOutcome, told_text};
@@ -56,6 +56,20 @@ fn count_within(told: &[Told], most: usize) -> usize
         count += 1;
     }
     count
+}
+
+/// One text with the other behind it, where both were made.
+fn behind(
+    text: Result<String, AllocError>,
+    more: Result<String, AllocError>,
+) -> Result<String, AllocError>
+    ensures { (before after : List ℕ) → IfOk text (λ text. string_bytes text ≡ before)
+        → IfOk more (λ more. string_bytes more ≡ after)
+        → IfOk result (λ all. string_bytes all ≡ before ++ after) }
+{
+    let mut all = text?;
+    all.push_str(more?.as_str())?;
+    Ok(all)
 }
 
 /// The text with the sections of connections behind it, before which there are so many others.
@@ -134,10 +148,7 @@ fn with_halves<R: Threads + Sync>(
                 ++ told_text telling.frames_shown (before + 1) front.entry.now told_front.entry.now) }
         { with_sections(rt, telling.by(others), text, before, front, told_front) },
     );
-    let mut all = earlier?;
-    let more = later?;
-    all.push_str(more.as_str())?;
-    Ok(all)
+    behind(earlier, later)
 }
 
 /// The text with the sections of all connections behind it.
