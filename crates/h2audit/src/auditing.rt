@@ -1,16 +1,20 @@
-ghost use Rattle.std.specs.Prelude.{◌≡◌, ◌<◌, ◌^◌, All, IfOk, IfErr, None, length};
+ghost use Rattle.std.specs.Prelude.{◌≡◌, ◌<◌, ◌^◌, All, IfOk, IfErr, None, length, string_bytes};
+ghost use Rattle.audit_report.specs.code.Reported.{HasOrderlyOutcome};
+ghost use Rattle.audit_report.specs.declared.told.Told.{Told as ToldTerm};
 ghost use Rattle.pcap_records.specs.Refusal.{refusal};
 ghost use Rattle.packet_heads.specs.code.Walk.{AreInOrder, ArePacketsOf, packets_in};
 ghost use Rattle.tcp_streams.specs.Membership.{AreConnections, strays_of};
 ghost use Rattle.tcp_streams.specs.code.Orderly.{AreMembers};
 ghost use Rattle.tcp_streams.specs.code.Walk.{IsConnectionWalkIn};
 ghost use Rattle.h2audit.specs.Report.{IsNoReport, IsReport};
+ghost use Rattle.h2audit.specs.code.Flows.{AreSources, AreToldFlows};
+ghost use Rattle.h2audit.specs.code.Writing.{AreLinesOf, IsToldBehind};
 
 use crate::command_line::Options;
 use crate::connection::{audit_each, flows_each, verdict_on};
 use crate::fault::AuditFault;
 use crate::verdict::Verdict;
-use audit_report::{Telling, capture_lines, headings_of, report};
+use audit_report::{Heading, Telling, Told, capture_lines, headings_of, report};
 use audit_rounds::Division;
 use input_output::{Capture, TableHash};
 use packet_heads::{CapturePackets, Packets};
@@ -18,8 +22,8 @@ use pcap_records::PcapFault;
 use std::alloc::{AllocError, Global};
 use std::random::RandomSource;
 use std::thread::Threads;
-use stop_desk::{Gate, Team};
-use tcp_streams::{ConnectionWalk, Connections};
+use stop_desk::{Gate, Part, Team};
+use tcp_streams::{Connection, ConnectionWalk, Connections, Stray};
 
 /// The report of a capture, and its verdict.
 ///
@@ -36,13 +40,12 @@ pub fn audit(
     ensures refused { IfErr result (λ e. IsNoReport capture.now e) }
 {
     // A refusal takes no memory, so it comes before the chunks.
-    let walk = match ConnectionWalk::begin(alloc, TableHash::drawn(rt), capture) {
-        Ok(walk) => walk,
-        Err(refusal) => return Err(AuditFault::Pcap(refusal)),
-    };
-    match Capture::of_slice(alloc, capture) {
-        Ok(chunks) => audit_chunks(rt, alloc, options, walk, &chunks, gate),
-        Err(_) => Err(AuditFault::OutOfMemory),
+    match ConnectionWalk::begin(alloc, TableHash::drawn(rt), capture) {
+        Ok(walk) => match Capture::of_slice(alloc, capture) {
+            Ok(chunks) => audit_chunks(rt, alloc, options, walk, &chunks, gate),
+            Err(_) => Err(AuditFault::OutOfMemory),
+        },
+        Err(refusal) => Err(AuditFault::Pcap(refusal)),
     }
 }
 
@@ -97,37 +100,60 @@ fn audit_records<R: Threads + Sync, G: Gate>(
     requires members { All (λ c. AreMembers 0 (packets_in found) c.members.items) connections.opened.items }
     ensures { IfOk result (λ r. IsReport capture.now options.now.frames_shown r.0.items r.1) }
 {
-    let alloc = team.alloc;
-    let CapturePackets { packets: made, cut } = found;
-    let packets = Packets::of(alloc, &made)?;
     let Connections { opened, strays } = connections;
-    // From here on there are no strays, whose memory frames may take.
-    let begun = capture_lines(alloc, cut, &packets, strays)?;
-    let lent = opened.as_slice();
-    let parts = flows_each(team, options, capture, &packets, lent)?;
-    // Nor are there packets and lists of members once there are flows.
-    drop(packets);
-    drop(made);
-    let headings = headings_of(alloc, opened)?;
+    // From here on there are no packets and strays, whose memory frames may take.
+    let (lines, parts) = lines_and_flows(team, options, capture, found, strays, opened.as_slice())?;
+    // Nor are there lists of members.
+    let headings = headings_of(team.alloc, opened)?;
     let division = Division {
         workers: options.workers(),
         groups: options.groups(),
         block: options.block(),
         hash,
     };
-    let told = audit_each(team.rt, alloc, options, &division, parts, team.gate)?;
+    let told = audit_each(team.rt, team.alloc, options, &division, parts, team.gate)?;
+    report_told(team, options, lines, headings.as_slice(), told.as_slice())
+}
+
+/// The lines of a capture, and what the flows of its connections hold.
+fn lines_and_flows<R: Threads + Sync, G: Gate>(
+    team: &Team<'_, R, G>,
+    options: &Options,
+    capture: &Capture<'_>,
+    found: CapturePackets,
+    strays: Vec<Stray>,
+    opened: &[Connection],
+) -> Result<(String, Vec<Part<Told>>), AllocError>
+    requires few { length opened.now < 2 ^ 32 }
+    requires sources { All (AreSources capture.now (packets_in found)) opened.now }
+    ensures lines { IfOk result (λ r. AreLinesOf (packets_in found) found.cut strays.items (string_bytes r.0)) }
+    ensures flows { IfOk result (λ r. AreToldFlows options.now.frames_shown capture.now (packets_in found) opened.now
+        r.1.items) }
+{
+    let packets = Packets::of(team.alloc, &found.packets)?;
+    let lines = capture_lines(team.alloc, found.cut, &packets, strays)?;
+    let parts = flows_each(team, options, capture, &packets, opened)?;
+    Ok((lines, parts))
+}
+
+/// The report of connections of which this is told, behind the lines of the capture, and its verdict.
+fn report_told<R: Threads + Sync, G: Gate>(
+    team: &Team<'_, R, G>,
+    options: &Options,
+    lines: String,
+    headings: &[Heading],
+    told: &[Told],
+) -> Result<(Vec<u8>, Verdict), AllocError>
+    requires each { length told.now ≡ length headings.now }
+    requires orderly { All (λ (one : ToldTerm). HasOrderlyOutcome one.outcome) told.now }
+    ensures { IfOk result (λ r. IsToldBehind options.now.frames_shown (string_bytes lines) headings.now told.now
+        r.0.items r.1) }
+{
     let telling = Telling {
-        alloc,
+        alloc: team.alloc,
         workers: options.workers(),
         frames_shown: options.frames_shown(),
     };
-    let text = report(
-        team.rt,
-        telling,
-        begun,
-        headings.as_slice(),
-        told.as_slice(),
-    )?;
-    let verdict = verdict_on(told.as_slice());
-    Ok((text, verdict))
+    let text = report(team.rt, telling, lines, headings, told)?;
+    Ok((text, verdict_on(told)))
 }

@@ -48,26 +48,32 @@ pub(crate) fn flows_each<R: Threads + Sync, G: Gate>(
     stops.resize(opened.len(), None)?;
     let round = FlowRound {
         rt: team.rt,
-        threads: (team.workers as usize)
-            .checked_div(opened.len())
-            .unwrap_or(1),
+        threads: team.workers as usize / opened.len().max(1),
         credits_shown: options.frames_shown(),
         capture,
         packets,
         opened,
     };
-    let is_worth = opened.len() <= packets.len() / WORTH_SHARING;
     let team = Team {
         rt: team.rt,
         alloc: team.alloc,
-        workers: if is_worth { team.workers } else { 1 },
+        workers: sharers(team.workers, packets.len(), opened.len()),
         gate: team.gate,
     };
     let settled = settle(&team, AuditRound::Flows, stops.as_slice(), &round)?;
     Ok(settled.parts)
 }
 
-/// What is told of each connection, in order, from what its flows hold.
+/// How many of the workers share out so many connections, which have so many packets.
+fn sharers(workers: u32, packets: usize, opened: usize) -> u32
+    requires { 0 < workers }
+    ensures { 0 < result }
+{
+    let is_worth = opened <= packets / WORTH_SHARING;
+    if is_worth { workers } else { 1 }
+}
+
+/// What is told of each connection, in order: what its flows hold, with what is found in the frames that are kept.
 pub(crate) fn audit_each(
     rt: &(impl Threads + Sync),
     alloc: Global,
@@ -79,27 +85,12 @@ pub(crate) fn audit_each(
     requires { All (λ (part : Part Told). HasOrderlyOutcome part.made.outcome) parts.items }
     ensures { IfOk result (λ told. AreFound options.now.frames_shown parts.items told.items) }
 {
-    let found = find_each(rt, alloc, options, division, parts.as_slice(), gate)?;
+    let found = {
+        let kept = kept_in(alloc, parts.as_slice())?;
+        let credits_shown = options.frames_shown();
+        findings_of_each(rt, alloc, division, gate, credits_shown, kept.as_slice())?
+    };
     together(alloc, parts, found)
-}
-
-/// What is found in the frames of each connection of which they are kept, in order.
-fn find_each(
-    rt: &(impl Threads + Sync),
-    alloc: Global,
-    options: &Options,
-    division: &Division,
-    parts: &[Part<Told>],
-    gate: &impl Gate,
-) -> Result<Vec<Vec<Finding>>, AllocError>
-    requires { All (λ (part : Part Told). HasOrderlyOutcome part.made.outcome) parts.now }
-    ensures { IfOk result (λ found. map (λ one. one.items) found.items
-        ≡ found_in options.now.frames_shown parts.now) }
-{
-    let kept = kept_in(alloc, parts)?;
-    let credits_shown = options.frames_shown();
-    let found = findings_of_each(rt, alloc, division, gate, credits_shown, kept.as_slice())?;
-    Ok(found)
 }
 
 /// The frames that are kept, of each connection that has some.
@@ -153,17 +144,11 @@ fn with_next(told: Told, found: &mut IntoIter<Vec<Finding>>) -> Told
 pub(crate) fn verdict_on(told: &[Told]) -> Verdict
     ensures { (audited : List Audited) → AreToldOf told.now audited → result ≡ verdict_of audited }
 {
-    if any_has_fault(told) {
+    if told.iter().any(|one| has_fault_in(&one.outcome)) {
         Verdict::Faults
     } else {
         Verdict::Clean
     }
-}
-
-fn any_has_fault(told: &[Told]) -> bool
-    ensures { result ≡ list_any (λ (one : Told). has_fault_in one.outcome) told.now }
-{
-    told.iter().any(|one| has_fault_in(&one.outcome))
 }
 
 fn has_fault_in(outcome: &Outcome) -> bool

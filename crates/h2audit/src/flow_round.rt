@@ -4,7 +4,7 @@ ghost use Rattle.std.specs.Prelude.{◌≡◌, ◌+◌, ◌<◌, ◌^◌, IfOk, 
 ghost use Rattle.audit_report.specs.code.Reported.{HasGapAtEnd};
 ghost use Rattle.audit_terms.specs.declared.sides.Side.{Side};
 ghost use Rattle.audit_terms.specs.declared.sides.Side.TheVariants.{Client, Server};
-ghost use Rattle.h2audit.specs.code.Flows.{AreFlows, AreSources, IsHeldBy, IsToldOfFlows, KeepsCut};
+ghost use Rattle.h2audit.specs.code.Flows.{AreSources, IsHeldBy, IsToldFlows, IsToldOfFlows, KeepsCut};
 ghost use Rattle.tcp_streams.specs.Bytes.{bytes_of};
 ghost use Rattle.tcp_streams.specs.code.Orderly.{IsOrderly};
 
@@ -148,29 +148,36 @@ impl<R: Threads + Sync> Round for FlowRound<'_, R> {
         job: u32,
         _look: &mut L,
     ) -> Result<Work<Told>, AllocError> {
-        let connection = &self.opened[job as usize];
-        let flows = flows_of(
-            self.rt,
+        let sources = Sources {
             alloc,
-            self.threads,
-            self.capture,
-            self.packets,
-            connection,
-        )?;
-        let made = told_of(
-            self.rt,
-            alloc,
-            self.threads,
-            self.credits_shown,
-            &flows.0,
-            &flows.1,
-        )?;
+            capture: self.capture,
+            packets: self.packets,
+            connection: &self.opened[job as usize],
+        };
+        let made = told_from(self.rt, self.threads, self.credits_shown, &sources)?;
         Ok(Work {
             findings: Vec::new(alloc),
             upto: None,
             made,
         })
     }
+}
+
+/// What is told of a connection, with nothing found yet. Two threads make its flows, where there are as many.
+fn told_from<R: Threads>(
+    rt: &R,
+    threads: usize,
+    credits_shown: bool,
+    sources: &Sources<'_, '_>,
+) -> Result<Told, AllocError>
+    requires { AreSources sources.now.capture.now sources.now.packets.now sources.now.connection.now }
+    ensures { IfOk result (IsToldFlows credits_shown sources.now.capture.now sources.now.packets.now
+        sources.now.connection.now) }
+{
+    let (client, server) = both(rt, threads, sources);
+    let client = client?;
+    let server = server?;
+    told_of(rt, sources.alloc, threads, credits_shown, &client, &server)
 }
 
 /// What the flows of one connection hold, with nothing found yet.
@@ -236,28 +243,4 @@ fn outcome_in(alloc: Global, cut: Cut) -> Result<Outcome, AllocError>
         Cut::NoPreface => Ok(Outcome::NoPreface),
         Cut::NoHandshake => Ok(Outcome::NoHandshake),
     }
-}
-
-/// The flows of both sides, by two threads where there are as many.
-fn flows_of<'a, R: Threads>(
-    rt: &R,
-    alloc: Global,
-    threads: usize,
-    capture: &Capture<'a>,
-    packets: &Packets<'_>,
-    connection: &Connection,
-) -> Result<(Flow<'a>, Flow<'a>), AllocError>
-    requires { AreSources capture.now packets.now connection.now }
-    ensures { IfOk result (AreFlows capture.now packets.now connection.now) }
-{
-    let sources = Sources {
-        alloc,
-        capture,
-        packets,
-        connection,
-    };
-    let (client, server) = both(rt, threads, &sources);
-    let client = client?;
-    let server = server?;
-    Ok((client, server))
 }

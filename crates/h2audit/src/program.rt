@@ -85,10 +85,7 @@ fn asked(alloc: Global, words: io::Result<Vec<String>>) -> Result<Parsed, AllocE
     ensures { IfOk result (AreAsked words) }
 {
     match words {
-        Ok(words) => {
-            let asked = parse_strings(alloc, words.as_slice())?;
-            Ok(asked)
-        }
+        Ok(words) => parse_strings(alloc, words.as_slice()),
         Err(error) if error.kind() == ErrorKind::OutOfMemory => Err(AllocError),
         Err(_) => Ok(Parsed::Refused(String::from_str(alloc, "error: a word is not text")?)),
     }
@@ -98,8 +95,7 @@ fn parse_strings(alloc: Global, words: &[String]) -> Result<Parsed, AllocError>
     ensures { IfOk result (Asks (map string_bytes words.now)) }
 {
     let words = texts(alloc, words)?;
-    let asked = parse(alloc, words.as_slice())?;
-    Ok(asked)
+    parse(alloc, words.as_slice())
 }
 
 fn texts<'a>(alloc: Global, words: &'a [String]) -> Result<Vec<&'a str>, AllocError>
@@ -196,8 +192,9 @@ fn end<S: FnMut(&str)>(answer: &Result<Verdict, AuditFault>, say: &mut S) -> Exi
     ensures silent { (ending_of answer.now).1 ≡ [] → say.new ≡ say.old }
 {
     let (status, line) = ending(answer);
-    if !line.is_empty() {
-        say(line);
+    if line.is_empty() {
+        return ExitCode::from(status);
     }
+    say(line);
     ExitCode::from(status)
 }

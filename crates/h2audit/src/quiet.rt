@@ -1,11 +1,10 @@
 //! Connections of which nothing is shown: no list of their frames is made.
 
-ghost use Rattle.std.specs.Prelude.{◌≡◌, ◌+◌, ◌<◌, ◌^◌, ◌++◌, IfOk, IfSome, IsTrue, List, length};
-ghost use Rattle.std.specs.Bool.{OnTrue};
+ghost use Rattle.std.specs.Prelude.{◌+◌, ◌<◌, ◌^◌, IfOk, IfSome, IsTrue, List, length};
 ghost use Rattle.audit_terms.specs.declared.frames.Frame.{Frame as FrameTerm};
-ghost use Rattle.h2_frames.specs.code.Batch.{IsNumbered, frames_of};
-ghost use Rattle.h2_frames.specs.code.Walk.{IsFreshWalk, IsReadyWalk, IsWalkAfter, weight_of};
-ghost use Rattle.h2audit.specs.code.Quiet.{AreTaken, IsQuietOf, IsWholeWalk};
+ghost use Rattle.h2_frames.specs.code.Batch.{IsNumbered};
+ghost use Rattle.h2_frames.specs.code.Walk.{IsFreshWalk, IsReadyWalk};
+ghost use Rattle.h2audit.specs.code.Quiet.{HasMet, HasMetAll, HasTaken, IsQuietOf, IsWholeWalk};
 ghost use Rattle.quiet_pass.specs.code.QuietPass.{IsQuietAfter};
 ghost use Rattle.quiet_pass.specs.declared.passes.QuietPass.{QuietPass as PassTerm};
 ghost use Rattle.tcp_streams.specs.Bytes.{bytes_of};
@@ -31,7 +30,7 @@ const LONG: u64 = 1_048_576;
 /// The number of frames and the tails of a connection of HTTP/2 of which nothing is shown, where credits are not.
 ///
 /// The frames are met by a machine that keeps none of them, and gives up at the first of which something may be shown:
-/// so no answer tells nothing. With two `threads` or more, several work on long flows.
+/// where there is no answer, nothing is known. With two `threads` or more, several work on long flows.
 pub(crate) fn quiet_connection<R: Threads>(
     rt: &R,
     alloc: Global,
@@ -75,26 +74,43 @@ fn quiet_in_batches<R: Threads>(
     rt: &R,
     alloc: Global,
     threads: usize,
-    walk: FrameWalk<'_>,
+    mut walk: FrameWalk<'_>,
 ) -> Result<Option<QuietConnection>, AllocError>
     requires { IsReadyWalk walk }
     ensures { (client server : Flow) → IsFreshWalk client server walk.entry
         → IfOk result (λ found. IfSome found (IsQuietOf client server)) }
 {
-    let mut walk = walk;
     let mut pass = QuietPass::begin(alloc);
     let mut batch = FrameBatch::new(alloc);
     let mut next = FrameBatch::new(alloc);
-    let mut more = take_batch(rt, threads, &mut walk, &mut batch)?;
+    if meet_all(rt, threads, &mut pass, &mut walk, &mut batch, &mut next)? {
+        return Ok(Some(quiet_by(&walk)));
+    }
+    Ok(None)
+}
+
+/// Meets all frames of a walk, in batches. Is nothing of them shown?
+fn meet_all<R: Threads>(
+    rt: &R,
+    threads: usize,
+    pass: &mut QuietPass,
+    walk: &mut FrameWalk<'_>,
+    batch: &mut FrameBatch,
+    next: &mut FrameBatch,
+) -> Result<bool, AllocError>
+    requires { IsReadyWalk walk.old }
+    ensures { IfOk result (HasMetAll walk.old pass.old walk.new pass.new) }
+{
+    let mut more = take_batch(rt, threads, walk, batch)?;
     while more {
-        let (met, taken) = meet_and_take(rt, threads, &mut pass, &batch, &mut walk, &mut next);
+        let (met, taken) = meet_and_take(rt, threads, pass, batch, walk, next);
         if !met? {
-            return Ok(None);
+            return Ok(false);
         }
         more = taken?;
-        mem::swap(&mut batch, &mut next);
+        mem::swap(batch, next);
     }
-    Ok(Some(quiet_by(&walk)))
+    Ok(true)
 }
 
 /// Meets a batch, on a thread of its own where one can be had, and takes the next one meanwhile. A short batch is done
@@ -109,13 +125,8 @@ fn meet_and_take<R: Threads>(
 ) -> (Result<bool, AllocError>, Result<bool, AllocError>)
     requires ready { IsReadyWalk walk.old }
     requires numbered { IsNumbered batch.now }
-    ensures met { IfOk result.0 (λ met. OnTrue met ((frames : List FrameTerm) → IsQuietAfter frames pass.old
-        → IsQuietAfter (frames ++ frames_of batch.now) pass.new)) }
-    ensures ready { IfOk result.1 (λ more. IsReadyWalk walk.new) }
-    ensures numbered { IfOk result.1 (λ more. OnTrue more (IsNumbered next.new)) }
-    ensures weight { IfOk result.1 (λ more. OnTrue more (weight_of walk.new < weight_of walk.old)) }
-    ensures taken { IfOk result.1 (λ more. (client server : Flow) → (frames : List FrameTerm)
-        → IsWalkAfter client server frames walk.old → AreTaken more client server frames next.new walk.new) }
+    ensures met { IfOk result.0 (HasMet batch.now pass.old pass.new) }
+    ensures taken { IfOk result.1 (HasTaken walk.old walk.new next.new) }
 {
     if batch.len() < FEW {
         let met = meet_batch(pass, batch);
@@ -136,11 +147,7 @@ fn take_batch<R: Threads>(
     batch: &mut FrameBatch,
 ) -> Result<bool, AllocError>
     requires { IsReadyWalk walk.old }
-    ensures ready { IfOk result (λ more. IsReadyWalk walk.new) }
-    ensures numbered { IfOk result (λ more. OnTrue more (IsNumbered batch.new)) }
-    ensures weight { IfOk result (λ more. OnTrue more (weight_of walk.new < weight_of walk.old)) }
-    ensures taken { IfOk result (λ more. (client server : Flow) → (frames : List FrameTerm)
-        → IsWalkAfter client server frames walk.old → AreTaken more client server frames batch.new walk.new) }
+    ensures { IfOk result (HasTaken walk.old walk.new batch.new) }
 {
     let more = walk.take_batch(rt, threads, batch)?;
     Ok(more)
@@ -150,8 +157,7 @@ fn take_batch<R: Threads>(
 /// it lies beside what others write.
 fn meet_batch(pass: &mut QuietPass, batch: &FrameBatch) -> Result<bool, AllocError>
     requires { IsNumbered batch.now }
-    ensures { IfOk result (λ met. OnTrue met ((frames : List FrameTerm) → IsQuietAfter frames pass.old
-        → IsQuietAfter (frames ++ frames_of batch.now) pass.new)) }
+    ensures { IfOk result (HasMet batch.now pass.old pass.new) }
 {
     let mut own = mem::replace(pass, QuietPass::begin(batch.alloc()));
     let met = meet_each(&mut own, batch);
@@ -162,8 +168,7 @@ fn meet_batch(pass: &mut QuietPass, batch: &FrameBatch) -> Result<bool, AllocErr
 /// The same, of the frames one after the other.
 fn meet_each(pass: &mut QuietPass, batch: &FrameBatch) -> Result<bool, AllocError>
     requires { IsNumbered batch.now }
-    ensures { IfOk result (λ met. OnTrue met ((frames : List FrameTerm) → IsQuietAfter frames pass.old
-        → IsQuietAfter (frames ++ frames_of batch.now) pass.new)) }
+    ensures { IfOk result (HasMet batch.now pass.old pass.new) }
 {
     let mut merge = batch.merge();
     while let Some(frame) = merge.take_next() {

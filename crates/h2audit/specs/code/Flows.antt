@@ -41,11 +41,6 @@ pub record IsSideFlow (capture : List ℕ) (packets : List Packet) (connection :
   pub within : length (bytes_of flow) ≤ payload_sum (side_segments packets connection side)
   pub orderly : IsOrderly flow
 
--- the flows of the client and of the server
-abbrev pub AreFlows : List ℕ → List Packet → Connection → Flow × Flow → Type 0
-AreFlows capture packets connection flows =
-    IsSideFlow capture packets connection Client flows.0 × IsSideFlow capture packets connection Server flows.1
-
 -- what an outcome keeps of a cut
 abbrev pub KeepsCut : Outcome → Cut → Type 0
 KeepsCut (outcome.Audited audited) (Http2 frames tails) =

@@ -1,13 +1,14 @@
 -- A connection of which nothing is shown.
-use Rattle.std.specs.Prelude.{◌≡◌, Bool, true, false, List, [], ◌++◌, length, IsTrue}
+use Rattle.std.specs.Bool.{OnTrue}
+use Rattle.std.specs.Prelude.{◌≡◌, ◌<◌, Bool, true, false, List, [], ◌++◌, length, IsTrue}
 use Rattle.audit_report.specs.declared.told.QuietConnection.{QuietConnection}
 use Rattle.audit_terms.specs.Finding.{shown}
 use Rattle.audit_terms.specs.Pass.{pass}
 use Rattle.audit_terms.specs.code.runs.Orderly as runs
 use Rattle.audit_terms.specs.declared.frames.Frame.{Frame}
 use Rattle.h2_frames.specs.Cut.{IsHttp2}
-use Rattle.h2_frames.specs.code.Batch.{frames_of}
-use Rattle.h2_frames.specs.code.Walk.{IsWalkAfter, tails_of, taken_of}
+use Rattle.h2_frames.specs.code.Batch.{IsNumbered, frames_of}
+use Rattle.h2_frames.specs.code.Walk.{IsReadyWalk, IsWalkAfter, tails_of, taken_of, weight_of}
 use Rattle.h2_frames.specs.declared.batches.FrameBatch.{FrameBatch}
 use Rattle.h2_frames.specs.declared.walk.FrameWalk.{FrameWalk}
 use Rattle.quiet_pass.specs.code.QuietPass.{IsQuietAfter}
@@ -40,9 +41,29 @@ abbrev pub AreTaken : (more : Bool) → (client server : Flow) → List Frame �
 AreTaken true client server frames batch walk = IsWalkAfter client server (frames ++ frames_of batch) walk
 AreTaken false client server frames batch walk = IsWholeWalk client server frames walk
 
+-- a batch was taken, or there was none left; after one the walk goes on
+pub record HasTaken (old new : FrameWalk) (batch : FrameBatch) (more : Bool) : Type 0 where
+  pub ready : IsReadyWalk new
+  pub numbered : OnTrue more (IsNumbered batch)
+  pub weight : OnTrue more (weight_of new < weight_of old)
+  pub taken : (client server : Flow) → (frames : List Frame) → IsWalkAfter client server frames old
+      → AreTaken more client server frames batch new
+
+-- the frames of a batch were met after others, and show nothing
+abbrev pub HasMet : FrameBatch → (old new : QuietPass) → (met : Bool) → Type 0
+HasMet batch old new met =
+    OnTrue met ((frames : List Frame) → IsQuietAfter frames old → IsQuietAfter (frames ++ frames_of batch) new)
+
 -- of the frames taken so far all but a batch were met, and show nothing
 pub record IsMetButFor (batch : FrameBatch) (more : Bool) (client server : Flow) (walk : FrameWalk)
     (machine : QuietPass) : Type 0 where
   pub frames : List Frame
   pub taken : AreTaken more client server frames batch walk
   pub quiet : IsQuietAfter frames machine
+
+-- where they are met, all frames of the connection were taken and met, and show nothing
+pub record HasMetAll (old : FrameWalk) (before : QuietPass) (new : FrameWalk) (after : QuietPass) (met : Bool)
+    : Type 0 where
+  pub ready : OnTrue met (IsReadyWalk new)
+  pub quiet : OnTrue met ((client server : Flow) → IsWalkAfter client server [] old → IsQuietAfter [] before
+      → (frames : List Frame) × IsWholeWalk client server frames new × IsQuietAfter frames after)

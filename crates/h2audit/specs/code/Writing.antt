@@ -1,5 +1,18 @@
--- How a text is written.
-use Rattle.std.specs.Prelude.{◌≡◌, ℕ, List, take, Result, Ok, Err}
+-- What a text tells, and how it is written.
+use Rattle.std.specs.Prelude.{◌≡◌, ℕ, Bool, List, ◌++◌, map, take, Option, Result, Ok, Err}
+use Rattle.audit_report.specs.CaptureLines.{capture_text}
+use Rattle.audit_report.specs.Section.{sections_text}
+use Rattle.audit_report.specs.code.Heading.{heading_of}
+use Rattle.audit_report.specs.code.Packets.{AreRecordsOf}
+use Rattle.audit_report.specs.code.Reported.{AreToldOf}
+use Rattle.audit_report.specs.declared.audited.Audited.{Audited}
+use Rattle.audit_report.specs.declared.headings.Heading.{Heading}
+use Rattle.audit_report.specs.declared.told.Told.{Told}
+use Rattle.packet_heads.specs.declared.packets.Packet.{Packet}
+use Rattle.pcap_records.specs.declared.capture.Records.{Records}
+use Rattle.tcp_streams.specs.declared.members.Connection.{Connection}
+use Rattle.tcp_streams.specs.declared.members.Stray.{Stray}
+use Rattle.h2audit.specs.Audited.{verdict_of}
 use Rattle.input_output.specs.Account.{HasWriteFailed, IsFlushed, written}
 use Rattle.input_output.specs.declared.report_writer.ReportWriter.{ReportWriter}
 use Rattle.h2audit.specs.declared.fault.AuditFault.{AuditFault}
@@ -11,3 +24,16 @@ abbrev pub IsWritten : {W : Type 0} → (text : List ℕ) → Verdict → Report
 IsWritten text verdict writer (Ok judged) = (judged ≡ verdict) × (written writer ≡ text) × IsFlushed writer
 IsWritten text verdict writer (Err fault.Write) = HasWriteFailed writer × ((n : ℕ) × (written writer ≡ take n text))
 IsWritten text verdict writer (Err _) = ⊥
+
+-- the first lines of a report, of the packets, the cut record and the strays of a capture
+abbrev pub AreLinesOf : List Packet → (cut : Option ℕ) → List Stray → (lines : List ℕ) → Type 0
+AreLinesOf packets cut strays lines =
+    (records : Records) → AreRecordsOf packets cut records → lines ≡ capture_text records packets strays
+
+-- behind these lines the text has what is told of connections under these headings, and this is the verdict on them
+abbrev pub IsToldBehind : (credits_shown : Bool) → (lines : List ℕ) → List Heading → List Told → (text : List ℕ)
+    → Verdict → Type 0
+IsToldBehind credits_shown lines headings told text verdict =
+    (connections : List Connection) → (audited : List Audited) → headings ≡ map heading_of connections
+    → AreToldOf told audited
+    → (text ≡ lines ++ sections_text credits_shown 1 connections audited) × (verdict ≡ verdict_of audited)

@@ -1,7 +1,7 @@
 ghost use Rattle.std.specs.Prelude.{◌≡◌, IfOk, Some, false, map, pos};
 ghost use Rattle.clap.specs.Words.{app_of, fault_of, found_of, matches_of, new_app, rows_of, rule_of, FailsBy};
 ghost use Rattle.clap.specs.declared.builder.value_parser.ValueParser.{ValueParser};
-ghost use Rattle.h2audit.specs.CommandLine.{app, command_start};
+ghost use Rattle.h2audit.specs.CommandLine.{app, command_start, command_with_numbers};
 ghost use Rattle.h2audit.specs.CommandLine.{file_rule, frames_rule, number_rule, option_rule};
 
 use crate::command_line::options::Options;
@@ -31,15 +31,19 @@ pub(crate) fn matches<'a>(alloc: Global, words: &'a [&'a str]) -> Result<ArgMatc
 fn command<'a>(alloc: Global) -> Result<Command<'a>, AllocError>
     ensures { IfOk result (λ c. app_of c ≡ app) }
 {
-    let workers = numbered(alloc, WORKERS, Options::MOST_WORKERS, "4", WORKERS_HELP);
-    let groups = numbered(alloc, GROUPS, Options::MOST_GROUPS, "16", GROUPS_HELP);
-    let block = numbered(alloc, BLOCK, Options::LONGEST_BLOCK, "4096", BLOCK_HELP);
-    bare_command(alloc)
-        .arg(workers)?
-        .arg(groups)?
-        .arg(block)?
+    command_with_numbers(alloc)?
         .arg(frames_flag(alloc))?
         .arg(file_word(alloc))
+}
+
+/// The same, so far as its arguments are numbers.
+fn command_with_numbers<'a>(alloc: Global) -> Result<Command<'a>, AllocError>
+    ensures { IfOk result (λ c. app_of c ≡ command_with_numbers) }
+{
+    bare_command(alloc)
+        .arg(numbered(alloc, WORKERS, Options::MOST_WORKERS, "4", WORKERS_HELP))?
+        .arg(numbered(alloc, GROUPS, Options::MOST_GROUPS, "16", GROUPS_HELP))?
+        .arg(numbered(alloc, BLOCK, Options::LONGEST_BLOCK, "4096", BLOCK_HELP))
 }
 
 /// The version of the program and of its report.

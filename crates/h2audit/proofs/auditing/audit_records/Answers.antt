@@ -1,12 +1,13 @@
-use Rattle.std.proofs.Common.{◌≡◌, ℕ, arith, ◌∙◌, sym, Bool, List, ◌++◌, length, subst, ap, All}
+use Rattle.std.proofs.Common.{◌≡◌, ℕ, arith, ◌∙◌, sym, List, ◌++◌, length, subst, ap, All}
 use Rattle.std.specs.List.{enumerate_from}
 use Rattle.std.proofs.lemmas.List.{length-map}
+use Rattle.std.proofs.lemmas.Result.{IfOk-weaker}
 use Rattle.std.proofs.lemmas.Slice.Zip.{AllZip-long}
 use Rattle.std.proofs.lemmas.List.FromFn.{length-enumerate_from}
 use Rattle.audit_report.specs.CaptureLines.{capture_text}
 use Rattle.audit_report.specs.Section.{sections_text}
 use Rattle.audit_report.specs.code.Heading.{heading_of}
-use Rattle.audit_report.specs.code.Reported.{AreToldOf, HasOrderlyOutcome}
+use Rattle.audit_report.specs.code.Reported.{AreToldOf, HasOrderlyOutcome, IsToldOf}
 use Rattle.audit_report.specs.code.Packets.{AreRecordsOf}
 use Rattle.audit_report.specs.declared.told.Told.{Told}
 use Rattle.packet_heads.specs.Decision.{packet_decision, packet_decisions}
@@ -19,7 +20,6 @@ use Rattle.tcp_streams.specs.Membership.{AreConnections, strays_of}
 use Rattle.h2audit.specs.Report.{packets_of}
 use Rattle.h2audit.specs.Audited.{IsAudited}
 use Rattle.h2audit.specs.code.Flows.{AreToldAudits}
-use Rattle.audit_report.specs.code.Reported.{IsToldOf}
 use Rattle.h2audit.proofs.Opened.{opened-few}
 use Rattle.h2audit.proofs.Flows.{told-orderly}
 use Rattle.h2audit.proofs.Found.{found-audits}
@@ -33,49 +33,49 @@ decisions-length link rows capture =
     (λ (numbered : ℕ × Record). packet_decision link numbered.0 numbered.1 capture)
     ∙ length-enumerate_from 1 rows
 
-pub flows_each-requires-clause-few : goal.flows_each-requires-clause-few
-flows_each-requires-clause-few g c κs within =
+pub lines_and_flows-requires-clause-few : goal.lines_and_flows-requires-clause-few
+lines_and_flows-requires-clause-few g c κs within =
     let few = opened-few (packets_in c.args.found) c.args.connections.opened.items c.requires.opened in
-    let lent : length c.as_slice-lent.result.now ≡ length c.args.connections.opened.items =
-    ap length c.as_slice-lent.ensures.value in
+    let lent = ap length c.as_slice.ensures.value in
     omega (arith, few, lent, c.requires.order.few)
 
-pub flows_each-requires-clause-sources : goal.flows_each-requires-clause-sources
-flows_each-requires-clause-sources g c κs within = λ k d low. record {
+pub lines_and_flows-requires-clause-sources : goal.lines_and_flows-requires-clause-sources
+lines_and_flows-requires-clause-sources g c κs within = λ k d low. record {
   size = c.requires.size;
-  numbered = rw c.in_ok-packets.ensures c.requires.order.numbered;
-  payloads = rw c.in_ok-packets.ensures c.requires.order.payloads;
-  times = rw c.in_ok-packets.ensures c.requires.order.times;
-  members = (rw (← c.as_slice-lent.ensures.value, ← c.in_ok-packets.ensures) at c.requires.members) k d low;
+  numbered = c.requires.order.numbered;
+  payloads = c.requires.order.payloads;
+  times = c.requires.order.times;
+  members = (rw (← c.as_slice.ensures.value) at c.requires.members) k d low;
 }
 
 pub audit_each-requires-after_bounds : goal.audit_each-requires-after_bounds
 audit_each-requires-after_bounds g c κs within =
-    told-orderly c.args.options.now.frames_shown c.args.capture.now c.in_ok-packets.packets
-    c.as_slice-lent.result.now c.in_ok-parts.parts.items c.in_ok-parts.ensures
+    told-orderly c.args.options.now.frames_shown c.args.capture.now (packets_in c.args.found) c.as_slice.result.now
+    c.in_ok-lines.parts.items c.in_ok-lines.ensures.flows
 
-pub report-requires-clause-each : goal.report-requires-clause-each
-report-requires-clause-each g c κs within =
+pub report_told-requires-clause-each : goal.report_told-requires-clause-each
+report_told-requires-clause-each g c κs within =
     let credits = c.args.options.now.frames_shown in
-    let packets = c.in_ok-packets.packets in
-    let lent = c.as_slice-lent.result.now in
-    let opened = c.args.connections.opened.items in
-    let audits = found-audits credits c.args.capture.now packets lent c.in_ok-parts.parts.items
-    c.in_ok-told.told.items c.in_ok-parts.ensures c.in_ok-told.ensures in
-    ap length c.as_slice-2.ensures.value
-    ∙ sym (AllZip-long IsToldOf c.in_ok-told.told.items audits.audited audits.stands)
-    ∙ AllZip-long (IsAudited credits c.args.capture.now packets) lent audits.audited audits.audits
-    ∙ ap length c.as_slice-lent.ensures.value
-    ∙ sym (length-map opened heading_of)
+    let capture = c.args.capture.now in
+    let packets = packets_in c.args.found in
+    let lent = c.as_slice.result.now in
+    let told = c.in_ok-told.told.items in
+    let audits = found-audits credits capture packets lent c.in_ok-lines.parts.items told
+    c.in_ok-lines.ensures.flows c.in_ok-told.ensures in
+    ap length c.as_slice-3.ensures.value
+    ∙ sym (AllZip-long IsToldOf told audits.audited audits.stands)
+    ∙ AllZip-long (IsAudited credits capture packets) lent audits.audited audits.audits
+    ∙ ap length c.as_slice.ensures.value
+    ∙ sym (length-map c.args.connections.opened.items heading_of)
     ∙ sym (ap length c.in_ok-headings.ensures)
-    ∙ sym (ap length c.as_slice.ensures.value)
+    ∙ sym (ap length c.as_slice-2.ensures.value)
 
-pub report-requires-clause-orderly : goal.report-requires-clause-orderly
-report-requires-clause-orderly g c κs within =
-    let audits = found-audits c.args.options.now.frames_shown c.args.capture.now c.in_ok-packets.packets
-    c.as_slice-lent.result.now c.in_ok-parts.parts.items c.in_ok-told.told.items c.in_ok-parts.ensures
+pub report_told-requires-clause-orderly : goal.report_told-requires-clause-orderly
+report_told-requires-clause-orderly g c κs within =
+    let audits = found-audits c.args.options.now.frames_shown c.args.capture.now (packets_in c.args.found)
+    c.as_slice.result.now c.in_ok-lines.parts.items c.in_ok-told.told.items c.in_ok-lines.ensures.flows
     c.in_ok-told.ensures in
-    subst (λ (l : List Told). All (λ (t : Told). HasOrderlyOutcome t.outcome) l) (sym c.as_slice-2.ensures.value)
+    subst (λ (l : List Told). All (λ (t : Told). HasOrderlyOutcome t.outcome) l) (sym c.as_slice-3.ensures.value)
     audits.orderly
 
 pub returns : goal.returns
@@ -87,18 +87,21 @@ returns g c =
     let opened = c.args.connections.opened.items in
     let strays = c.args.connections.strays.items in
     let told = c.in_ok-told.told.items in
-    let given : c.in_ok-packets.packets ≡ packets = c.in_ok-packets.ensures ∙ c.requires.packets.exact in
-    let lent = c.as_slice-lent.ensures.value in
+    let given : packets_in c.args.found ≡ packets = c.requires.packets.exact in
     let audits : AreToldAudits credits capture packets opened told =
     subst (λ (p : List Packet). AreToldAudits credits capture p opened told) given
-    (subst (λ (cs : List Connection). AreToldAudits credits capture c.in_ok-packets.packets cs told) lent
-    (found-audits credits capture c.in_ok-packets.packets c.as_slice-lent.result.now c.in_ok-parts.parts.items told
-    c.in_ok-parts.ensures c.in_ok-told.ensures)) in
+    (subst (λ (cs : List Connection). AreToldAudits credits capture (packets_in c.args.found) cs told)
+    c.as_slice.ensures.value
+    (found-audits credits capture (packets_in c.args.found) c.as_slice.result.now c.in_ok-lines.parts.items told
+    c.in_ok-lines.ensures.flows c.in_ok-told.ensures)) in
     let audited = audits.audited in
-    let are : AreRecordsOf c.in_ok-packets.packets c.args.found.cut found = record {
+    let are : AreRecordsOf (packets_in c.args.found) c.args.found.cut found = record {
       count = sym (ap length given ∙ decisions-length found.link found.rows.items capture);
       cut_is = c.requires.packets.cut;
     } in
+    IfOk-weaker c.report_told.result _ _ (λ r is.
+    let text = is opened audited (c.as_slice-2.ensures.value ∙ c.in_ok-headings.ensures)
+    (subst (λ (l : List Told). AreToldOf l audited) (sym c.as_slice-3.ensures.value) audits.stands) in
     record {
       found = found;
       taken = c.requires.taken;
@@ -106,20 +109,13 @@ returns g c =
       report = record {
         opened = opened;
         audited = audited;
-        connections = subst (λ (p : List Packet). AreConnections p opened) c.requires.packets.exact c.requires.opened;
+        connections = subst (λ (p : List Packet). AreConnections p opened) given c.requires.opened;
         audits = audits.audits;
-        spelled = c.in_ok-text.ensures opened audited (c.as_slice.ensures.value ∙ c.in_ok-headings.ensures)
-            (subst (λ (l : List Told). AreToldOf l audited) (sym c.as_slice-2.ensures.value) audits.stands)
-            ∙ ap (λ (l : List ℕ). l ++ sections_text c.frames_shown.result 1 opened audited)
-            (c.in_ok-begun.ensures found are)
-            ∙ ap (λ (b : Bool). capture_text found c.in_ok-packets.packets strays
-            ++ sections_text b 1 opened audited) c.frames_shown.ensures
-            ∙ ap (λ (p : List Packet). capture_text found p strays
-            ++ sections_text credits 1 opened audited) given
-            ∙ ap (λ (s : List Stray). capture_text found packets s
-            ++ sections_text credits 1 opened audited)
-            (c.requires.strays ∙ ap strays_of c.requires.packets.exact);
-        judged = c.verdict_on-verdict.ensures audited
-            (subst (λ (l : List Told). AreToldOf l audited) (sym c.as_slice-3.ensures.value) audits.stands);
+        spelled = text.0
+            ∙ ap (λ (l : List ℕ). l ++ sections_text credits 1 opened audited) (c.in_ok-lines.ensures.lines found are)
+            ∙ ap (λ (p : List Packet). capture_text found p strays ++ sections_text credits 1 opened audited) given
+            ∙ ap (λ (s : List Stray). capture_text found packets s ++ sections_text credits 1 opened audited)
+            (c.requires.strays ∙ ap strays_of given);
+        judged = text.1;
       };
-    }
+    }) c.report_told.ensures
