@@ -4,7 +4,7 @@ ghost use Rattle.std.specs.Prelude.{◌+◌, ◌<◌, ◌^◌, IfOk, IfSome, IsT
 ghost use Rattle.audit_terms.specs.declared.frames.Frame.{Frame as FrameTerm};
 ghost use Rattle.h2_frames.specs.code.Batch.{IsNumbered};
 ghost use Rattle.h2_frames.specs.code.Walk.{IsFreshWalk, IsReadyWalk};
-ghost use Rattle.h2audit.specs.code.Quiet.{HasMet, HasMetAll, HasTaken, IsQuietOf, IsWholeWalk};
+ghost use Rattle.h2audit.specs.code.Quiet.{HasMet, HasTaken, IsQuietOf, IsWholeWalk};
 ghost use Rattle.quiet_pass.specs.code.QuietPass.{IsQuietAfter};
 ghost use Rattle.quiet_pass.specs.declared.passes.QuietPass.{QuietPass as PassTerm};
 ghost use Rattle.tcp_streams.specs.Bytes.{bytes_of};
@@ -83,34 +83,16 @@ fn quiet_in_batches<R: Threads>(
     let mut pass = QuietPass::begin(alloc);
     let mut batch = FrameBatch::new(alloc);
     let mut next = FrameBatch::new(alloc);
-    if meet_all(rt, threads, &mut pass, &mut walk, &mut batch, &mut next)? {
-        return Ok(Some(quiet_by(&walk)));
-    }
-    Ok(None)
-}
-
-/// Meets all frames of a walk, in batches. Is nothing of them shown?
-fn meet_all<R: Threads>(
-    rt: &R,
-    threads: usize,
-    pass: &mut QuietPass,
-    walk: &mut FrameWalk<'_>,
-    batch: &mut FrameBatch,
-    next: &mut FrameBatch,
-) -> Result<bool, AllocError>
-    requires { IsReadyWalk walk.old }
-    ensures { IfOk result (HasMetAll walk.old pass.old walk.new pass.new) }
-{
-    let mut more = take_batch(rt, threads, walk, batch)?;
+    let mut more = take_batch(rt, threads, &mut walk, &mut batch)?;
     while more {
-        let (met, taken) = meet_and_take(rt, threads, pass, batch, walk, next);
+        let (met, taken) = meet_and_take(rt, threads, &mut pass, &batch, &mut walk, &mut next);
         if !met? {
-            return Ok(false);
+            return Ok(None);
         }
         more = taken?;
-        mem::swap(batch, next);
+        mem::swap(&mut batch, &mut next);
     }
-    Ok(true)
+    Ok(Some(quiet_by(&walk)))
 }
 
 /// Meets a batch, on a thread of its own where one can be had, and takes the next one meanwhile. A short batch is done

@@ -60,10 +60,3 @@ pub record IsMetButFor (batch : FrameBatch) (more : Bool) (client server : Flow)
   pub frames : List Frame
   pub taken : AreTaken more client server frames batch walk
   pub quiet : IsQuietAfter frames machine
-
--- where they are met, all frames of the connection were taken and met, and show nothing
-pub record HasMetAll (old : FrameWalk) (before : QuietPass) (new : FrameWalk) (after : QuietPass) (met : Bool)
-    : Type 0 where
-  pub ready : OnTrue met (IsReadyWalk new)
-  pub quiet : OnTrue met ((client server : Flow) → IsWalkAfter client server [] old → IsQuietAfter [] before
-      → (frames : List Frame) × IsWholeWalk client server frames new × IsQuietAfter frames after)

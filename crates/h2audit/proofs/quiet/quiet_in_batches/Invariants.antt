@@ -3,15 +3,14 @@ use Rattle.std.specs.Bool.{OnTrue}
 use Rattle.h2_frames.specs.code.Batch.{IsNumbered}
 use Rattle.h2_frames.specs.code.Walk.{IsReadyWalk, IsWalkAfter, weight_of}
 use Rattle.h2audit.specs.code.Quiet.{IsMetButFor}
-use Rattle.h2audit.proofs.quiet.meet_all.Given as goal
-use Rattle.quiet_pass.specs.code.QuietPass.{IsQuietAfter}
+use Rattle.h2audit.proofs.quiet.quiet_in_batches.Given as goal
 use Rattle.tcp_streams.specs.declared.streams.Flow.{Flow}
 
 abbrev pub invariant-loop-more : goal.invariant-loop-more
 invariant-loop-more g l = record {
   ready : IsReadyWalk l.walk;
   numbered : OnTrue l.more (IsNumbered l.batch);
-  met : (client server : Flow) → IsWalkAfter client server [] l.fn.walk → IsQuietAfter [] l.fn.pass
+  met : (client server : Flow) → IsWalkAfter client server [] l.fn.walk
       → IsMetButFor l.batch l.more client server l.walk l.pass;
 }
 
