@@ -9,7 +9,7 @@ use Rattle.audit_rounds.proofs.Words.{get_or-zip, length-zip, eqb-true, Frame, F
 use Rattle.audit_rounds.proofs.Words.{◌^◌, length-orderly, pass, promised_by, first_of, streams_of, IsOrderly, Block}
 use Rattle.audit_rounds.proofs.Words.{StreamRow, SplitFrames, IsSplit, groups, Streams, Prepared, MadeReady, IsPrepared}
 use Rattle.audit_rounds.proofs.Words.{AreMadeReady, AreReady, AreRests, RowsAreFew, IsBatch, has_frames, spread}
-use Rattle.audit_rounds.proofs.Words.{front_of, chosen_of, job_at, plan_from, IsStreamsOf}
+use Rattle.audit_rounds.proofs.Words.{front_of, chosen_of, found_before, job_at, plan_from, IsStreamsOf, All-push}
 use Rattle.std.proofs.Common.{◌/◌}
 use Rattle.std.proofs.Math.Nat.{min-le_right}
 use Rattle.std.proofs.lemmas.List.{length-take}
@@ -72,13 +72,25 @@ module _ (said : List Frame → List Finding) (silent : said [] ≡ []) where
 
 -- ---- connections made ready
 
+-- one more
+pub made-more : (credits_shown : Bool) (all : List (Bor (List Frame))) (frames : Bor (List Frame)) (ready : Prepared)
+    (before after : MadeReady) → after.prepared.items ≡ before.prepared.items ++ ready ∷ []
+    → map items_in after.found.items ≡ map items_in before.found.items ++ found_before ready ∷ []
+    → ready.frames.now ≡ frames.now → IsPrepared credits_shown ready → AreMadeReady credits_shown all before
+    → AreMadeReady credits_shown (all ++ frames ∷ []) after
+made-more credits_shown all frames ready before after e f is p h = record {
+  frames = rw e (simp (map-append, h.frames, is));
+  prepared = rw e (All-push (IsPrepared credits_shown) before.prepared.items ready h.prepared p);
+  before = rw (e, f) (simp (map-append, h.before));
+}
+
 -- those of one half, and then those of the other
-pub made-whole : (credits_shown : Bool) (all front back : List (Bor (List Frame))) (one other both : MadeReady)
-    → front ++ back ≡ all → both.prepared.items ≡ one.prepared.items ++ other.prepared.items
+pub made-whole : (credits_shown : Bool) (front back : List (Bor (List Frame))) (one other both : MadeReady)
+    → both.prepared.items ≡ one.prepared.items ++ other.prepared.items
     → both.found.items ≡ one.found.items ++ other.found.items → AreMadeReady credits_shown front one
-    → AreMadeReady credits_shown back other → AreMadeReady credits_shown all both
-made-whole credits_shown all front back one other both whole e f h k = record {
-  frames = rw (e, ← whole) (simp (map-append, h.frames, k.frames));
+    → AreMadeReady credits_shown back other → AreMadeReady credits_shown (front ++ back) both
+made-whole credits_shown front back one other both e f h k = record {
+  frames = rw e (simp (map-append, h.frames, k.frames));
   prepared = rw e (All-append (IsPrepared credits_shown) _ _ h.prepared k.prepared);
   before = rw (e, f) (simp (map-append, h.before, k.before));
 }

@@ -120,8 +120,8 @@ module _ {X : Type 0} (said : StreamJob → List X) (n count : ℕ) where
 
 -- the rows of a split, and at most two for each frame
 module _ (streams : Streams) (o : IsOrderly streams.frames.now)
-    (a : AreAcknowledged streams.frames.now streams.changes.now)
-    (credits_shown : Bool) (s : IsSplit credits_shown streams.changes.now streams.frames.now streams.split.now) where
+    (a : AreAcknowledged streams.frames.now streams.changes)
+    (credits_shown : Bool) (s : IsSplit credits_shown streams.changes streams.frames.now streams.split.now) where
   rows-are : All (IsRow streams) streams.split.now.rows.items
   rows-are k d l =
       let rows = streams.split.now.rows.items in
@@ -136,12 +136,12 @@ module _ (streams : Streams) (o : IsOrderly streams.frames.now)
             (All-from_recursion IsSmall (streams_of frames) (streams-streams_of 0 frames o))) k d l;
         within = own.within;
         orderly = rw own.frames (orderly-of row.stream frames o);
-        acknowledged = rw own.frames (acknowledged-of row.stream frames streams.changes.now a);
+        acknowledged = rw own.frames (acknowledged-of row.stream frames streams.changes a);
       }
 
   few-rows : length streams.split.now.rows.items < 2 ^ 32
   few-rows =
-      let rows = length-rows credits_shown streams.changes.now streams.frames.now streams.split.now s in
+      let rows = length-rows credits_shown streams.changes streams.frames.now streams.split.now s in
       let frames = length-orderly 0 streams.frames.now (omega arith) o in
       omega (arith, rows, frames)
 
@@ -149,9 +149,9 @@ ready-one : (credits_shown : Bool) (connection : Prepared) (streams : Streams) �
     → IsStreamsOf connection streams → IsReady streams
 ready-one credits_shown connection streams p is =
     let orderly : IsOrderly streams.frames.now = rw is.frames p.orderly in
-    let acknowledged : AreAcknowledged streams.frames.now streams.changes.now =
+    let acknowledged : AreAcknowledged streams.frames.now streams.changes =
     rw (is.frames, is.changes) p.acknowledged in
-    let split : IsSplit credits_shown streams.changes.now streams.frames.now streams.split.now =
+    let split : IsSplit credits_shown streams.changes streams.frames.now streams.split.now =
     rw (is.frames, is.changes, is.split) p.split in
     record {
       changes = rw is.changes p.changes_orderly;
@@ -327,19 +327,19 @@ module _ (credits_shown : Bool) (count : ℕ) (some : 1 ≤ count) (connections 
     -- what is said of its jobs is said of the streams of its rows, each from its frames and all changes
     of-streams : {X : Type 0} (said : ℕ → List Frame → List Change → List X)
         → flat_map (of_connection (of_rows (λ streams rows. flat_map (λ (row : StreamRow). said row.stream
-        (row_frames streams row) streams.changes.now) rows) streams) n) plan
+        (row_frames streams row) streams.changes) rows) streams) n) plan
         ≡ flat_map (λ stream. said stream (frames_of stream frames) (changes_of frames)) row_streams
     of-streams said =
         let (own, at, is) = zip-at IsStreamsOf connections streams n one h.of there in
-        let of_row = λ (row : StreamRow). said row.stream (row_frames own row) own.changes.now in
+        let of_row = λ (row : StreamRow). said row.stream (row_frames own row) own.changes in
         let rows = own.split.now.rows.items in
         let each = λ (streams : Streams) (rows : List StreamRow). flat_map (λ (row : StreamRow). said row.stream
-        (row_frames streams row) streams.changes.now) rows in
+        (row_frames streams row) streams.changes) rows in
         let joined : flat_map (λ (range : ℕ × ℕ). of_rows each streams (job_at n range)) (groups_of count own)
         ≡ flat_map of_row rows =
         rw at (flat_map-flat_map of_row (λ (range : ℕ × ℕ). between range.0 range.1 rows) (groups_of count own)
         ∙ ap (flat_map of_row) (groups-joined rows count some)) in
-        let changes : own.changes.now ≡ changes_of frames = is.changes ∙ is_prepared.changes in
+        let changes : own.changes ≡ changes_of frames = is.changes ∙ is_prepared.changes in
         let streamed : flat_map of_row rows
         ≡ flat_map (λ stream. said stream (frames_of stream frames) (changes_of frames)) row_streams =
         rw (is.frames, is.split, changes)

@@ -173,14 +173,14 @@ module _ {L : Type 0} (answers : L → List Finding → Option ℕ → L → Typ
       frames = frames_at streams.frames.now positions
 
       abbrev whole : List Finding
-      whole = shown credits_shown (stream_run row.stream frames streams.changes.now)
+      whole = shown credits_shown (stream_run row.stream frames streams.changes)
 
       abbrev opening : Option ℕ
-      opening = (stream_at_end row.stream frames streams.changes.now).life.opened
+      opening = (stream_at_end row.stream frames streams.changes).life.opened
 
       pub row-work : {E : Type 0} (r : Result StreamRun E) → IsRow streams row
           → positions ≡ row_positions streams.split.now row
-          → IfOk r (λ run. IsRun answers before after (step_numbers row.stream frames streams.changes.now) whole
+          → IfOk r (λ run. IsRun answers before after (step_numbers row.stream frames streams.changes) whole
           run.findings.items run.upto run.last_look run.looks)
           → IfOk r (λ run. run.opened_at ≡ opened_up_to run.upto opening)
           → IfOk r (λ run. All (λ (found : Finding). place_number found.place ≤ 2 ^ 28 - 2) run.findings.items)
@@ -188,9 +188,9 @@ module _ {L : Type 0} (answers : L → List Finding → Option ℕ → L → Typ
       row-work (Err e) is_row e' h k n = tt
       row-work (Ok run) is_row e h k n =
           let orderly : IsOrderly frames = rw e is_row.orderly in
-          rw e at (work-of_run answers before after (step_numbers row.stream frames streams.changes.now) whole
+          rw e at (work-of_run answers before after (step_numbers row.stream frames streams.changes) whole
           run.findings.items run.upto run.last_look run.looks opening run.opened_at
-          (shown-ordered row.stream is_row.in_range credits_shown frames streams.changes.now orderly) h k n)
+          (shown-ordered row.stream is_row.in_range credits_shown frames streams.changes orderly) h k n)
 
 -- ---- a job
 

@@ -49,15 +49,15 @@ pub use Rattle.audit_rounds.specs.code.Prepared.{IsPrepared, found_before}
 pub use Rattle.audit_rounds.specs.code.Remaining.{IsRemaining, AreRemaining, AreGoneThrough}
 pub use Rattle.audit_rounds.specs.code.Shown.{streams_shown, blocks_shown}
 pub use Rattle.audit_rounds.specs.code.StreamJobs.{IsReady, IsJobOf, job_of, job_at, of_rows, plan_from}
-pub use Rattle.audit_rounds.specs.code.StreamRound.{IsFirstStop, IsStreamsOf, changes_in}
+pub use Rattle.audit_rounds.specs.code.StreamRound.{IsFirstStop, IsStreamsOf}
 pub use Rattle.audit_rounds.specs.code.Streams.{IsRow, rows_opened, lesser, AreOpenedUpTo, RowsLook, rows_shown, IsWork}
 pub use Rattle.audit_rounds.specs.code.Streams.{row_shown, row_opened}
 pub use Rattle.audit_rounds.specs.code.Within.{AgreeWithin, IsAfterStreams, frames_within}
 pub use Rattle.audit_rounds.specs.declared.block_plans.ReadyBlock.{ReadyBlock}
 pub use Rattle.audit_rounds.specs.declared.blocks.ConnectionBlock.{ConnectionBlock}
-pub use Rattle.audit_rounds.specs.declared.connections.MadeReady.{MadeReady}
+pub use Rattle.audit_rounds.specs.declared.prepared.MadeReady.{MadeReady}
 pub use Rattle.audit_rounds.specs.declared.prepared.Prepared.{Prepared}
-pub use Rattle.audit_rounds.specs.declared.stream_plan.StreamJob.{StreamJob}
+pub use Rattle.audit_rounds.specs.declared.stream_jobs.StreamJob.{StreamJob}
 pub use Rattle.audit_rounds.specs.declared.streams.Streams.{Streams}
 pub use Rattle.audit_rounds.specs.laws.Settling.{Reaches}
 pub use Rattle.audit_terms.proofs.FindingOrder.{comes_after_is, in_order-append_left}

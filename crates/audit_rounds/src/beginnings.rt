@@ -4,7 +4,7 @@ ghost use Rattle.std.specs.Prelude.{◌≡◌, if◌then◌else◌, IfOk, Some};
 ghost use Rattle.std.specs.List.{AllZip};
 ghost use Rattle.audit_terms.specs.Finding.{stops};
 ghost use Rattle.audit_rounds.specs.code.Streams.{lesser};
-ghost use Rattle.audit_rounds.specs.code.StreamRound.{IsFirstStop, IsStreamsOf, changes_in};
+ghost use Rattle.audit_rounds.specs.code.StreamRound.{IsFirstStop, IsStreamsOf};
 
 use crate::prepared::Prepared;
 use crate::streams::{Streams, lesser};
@@ -12,35 +12,20 @@ use audit_terms::{Finding, Place};
 use std::alloc::{AllocError, Global};
 use stream_credit::Changes;
 
-/// The changes of each connection, made ready for its streams.
-pub(crate) fn changes_each<'a>(
-    alloc: Global,
-    connections: &'a [Prepared<'_>],
-) -> Result<Vec<Changes<'a>>, AllocError>
-    ensures { IfOk result (λ all. all.items ≡ changes_in connections.now) }
-{
-    let mut all = Vec::new(alloc);
-    for connection in connections {
-        all.push(Changes::of(alloc, connection.changes.as_slice())?)?;
-    }
-    Ok(all)
-}
-
-/// The streams of each connection.
+/// The streams of each connection, with its changes made ready for them.
 pub(crate) fn streams_each<'a>(
     alloc: Global,
     connections: &'a [Prepared<'_>],
-    changes: &'a [Changes<'a>],
 ) -> Result<Vec<Streams<'a>>, AllocError>
-    requires { changes.now ≡ changes_in connections.now }
     ensures { IfOk result (λ all. AllZip IsStreamsOf connections.now all.items) }
 {
     let mut all = Vec::new(alloc);
-    for (n, connection) in connections.iter().enumerate() {
+    for connection in connections {
+        let changes = Changes::of(alloc, connection.changes.as_slice())?;
         all.push(Streams {
             frames: connection.frames,
             split: &connection.split,
-            changes: &changes[n],
+            changes,
         })?;
     }
     Ok(all)

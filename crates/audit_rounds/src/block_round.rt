@@ -1,14 +1,57 @@
-//! The round in which blocks are gone through.
+//! The rounds in which blocks are summed, and gone through.
 
-ghost use Rattle.std.specs.Prelude.{◌-◌, ◌<◌, ◌^◌, length, map, ⊤};
-ghost use Rattle.audit_rounds.specs.code.Plans.{block_job, AreReady, BlockLooks};
-ghost use Rattle.audit_rounds.specs.code.Props.{ready-props};
+ghost use Rattle.std.specs.Prelude.{◌≡◌, ◌-◌, ◌<◌, ◌^◌, [], length, map, slice_index_or, ⊤};
+ghost use Rattle.audit_rounds.specs.declared.blocks.ConnectionBlock.{ConnectionBlock as BlockTerm};
+ghost use Rattle.audit_rounds.specs.code.Blocks.{AreShort, IsSum};
+ghost use Rattle.audit_rounds.specs.code.Plans.{block_job, sum_job, AreReady, BlockLooks};
+ghost use Rattle.audit_rounds.specs.code.Props.{ready-props, short-props};
 
 use crate::block_plans::ReadyBlock;
+use crate::blocks::ConnectionBlock;
 use audit_terms::Look;
-use conn_scan::block_findings;
+use conn_scan::{ConnSum, block_findings, block_sum};
 use std::alloc::{AllocError, Global};
 use stop_desk::{Round, Work};
+
+/// Blocks to be summed, each a job.
+#[derive(Drop)]
+pub(crate) struct SumRound<'a> {
+    pub(crate) blocks: &'a [ConnectionBlock<'a>],
+    ghost few: { length blocks.now < 2 ^ 32 },
+    ghost short: { AreShort blocks.now } by { short-props blocks.now },
+}
+
+impl Round for SumRound<'_> {
+    type Made = ConnSum;
+
+    ghost jobs = { λ round. map sum_job round.blocks.now };
+
+    ghost makes = { λ round job upto made.
+        (one : BlockTerm) → IsSum (slice_index_or round.blocks.now job one).block made };
+
+    ghost looks = { λ round job asked upto. asked ≡ [] };
+
+    fn count(&self) -> u32 {
+        self.blocks.len() as u32
+    }
+
+    fn connection(&self, job: u32) -> usize {
+        self.blocks[job as usize].connection
+    }
+
+    fn work<L: Look>(
+        &self,
+        alloc: Global,
+        job: u32,
+        look: &mut L,
+    ) -> Result<Work<ConnSum>, AllocError> {
+        Ok(Work {
+            findings: Vec::new(alloc),
+            upto: None,
+            made: block_sum(&self.blocks[job as usize].block),
+        })
+    }
+}
 
 /// Blocks to be gone through, each a job.
 #[derive(Drop)]

@@ -1,7 +1,7 @@
 //! The connections' own findings, by blocks of frames: the blocks of all connections are summed in one round, and gone
 //! through in another, each from the state that the sums of the blocks before it lead to.
 
-ghost use Rattle.std.specs.Prelude.{◌≡◌, ◌^◌, ◌<◌, All, IfOk, length};
+ghost use Rattle.std.specs.Prelude.{◌≡◌, ◌^◌, ◌<◌, All, IfOk, length, map};
 ghost use Rattle.audit_terms.specs.Connection.{connection_start};
 ghost use Rattle.stop_desk.specs.code.Stop.{IsStop};
 ghost use Rattle.conn_scan.specs.code.Items.{IsBlock};
@@ -12,17 +12,27 @@ ghost use Rattle.audit_rounds.specs.code.Plans.{IsPlan, shown_at};
 ghost use Rattle.audit_rounds.specs.code.Remaining.{AreGoneThrough, AreRemaining};
 
 use crate::block_plans::{ReadyBlock, plan_of};
-use crate::block_round::BlockRound;
+use crate::block_round::{BlockRound, SumRound};
 use crate::blocks::{ConnectionBlock, in_blocks};
 use crate::crew::Crew;
 use crate::gathering::{gathered, none_of_each};
 use crate::merging::merged_each;
-use crate::sum_round::SumRound;
 use audit_terms::{Finding, Place};
 use conn_scan::{Block, ConnSum};
 use std::alloc::{AllocError, Global};
 use std::thread::Threads;
-use stop_desk::{AuditRound, Gate, settle};
+use stop_desk::{AuditRound, Gate, Part, settle};
+
+/// The summaries that parts hold.
+fn sums_in(alloc: Global, parts: &[Part<ConnSum>]) -> Result<Vec<ConnSum>, AllocError>
+    ensures { IfOk result (λ sums. sums.items ≡ map (λ part. part.made) parts.now) }
+{
+    let mut sums = Vec::with_capacity(alloc, parts.len())?;
+    for part in parts {
+        sums.push(part.made)?;
+    }
+    Ok(sums)
+}
 
 /// The summary of each block.
 fn sums_of<R: Threads + Sync, G: Gate>(
@@ -38,11 +48,7 @@ fn sums_of<R: Threads + Sync, G: Gate>(
 {
     let round = SumRound { blocks };
     let settled = settle(&crew.team(), AuditRound::Sums, stops, &round)?;
-    settled
-        .parts
-        .into_iter()
-        .map(|part| part.made)
-        .collect(crew.setup.alloc)
+    sums_in(crew.setup.alloc, settled.parts.as_slice())
 }
 
 /// The blocks of all connections of which anything may be shown, each with the connection before it.

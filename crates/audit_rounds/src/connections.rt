@@ -7,14 +7,14 @@ ghost use Rattle.audit_terms.specs.code.runs.Orderly.{IsOrderly};
 ghost use Rattle.audit_terms.specs.Finding.{in_order, upto_stop, shown};
 ghost use Rattle.audit_terms.specs.Pass.{pass};
 ghost use Rattle.audit_rounds.specs.code.Within.{frames_within};
-ghost use Rattle.audit_rounds.specs.code.MadeReady.{AreMadeReady};
+ghost use Rattle.audit_rounds.specs.code.MadeReady.{AreBothReady, AreMadeReady};
 ghost use Rattle.audit_rounds.specs.code.Connections.{AreRests};
 ghost use Rattle.audit_rounds.specs.code.Batch.{AreReady, AreShown, IsBatch};
 
 use crate::block_rounds::rounds_over_blocks;
 use crate::crew::Crew;
 use crate::framed::{spread, with_frames};
-use crate::prepared::{Prepared, prepare};
+use crate::prepared::{MadeReady, Prepared, prepare};
 use crate::stream_round::{AfterStreams, round_over_streams};
 use audit_terms::{Finding, Frame, Place};
 use conn_scan::Block;
@@ -22,13 +22,6 @@ use split_merge::merge;
 use std::alloc::{AllocError, Global};
 use std::thread::{Threads, join};
 use stop_desk::Gate;
-
-/// Connections made ready, and what is found of each before the rounds.
-#[derive(Drop)]
-struct MadeReady<'a> {
-    prepared: Vec<Prepared<'a>>,
-    found: Vec<Vec<Finding>>,
-}
 
 /// What is shown of each connection of a batch. Those that have no frame go through no round.
 pub(crate) fn findings_of_batch<R: Threads + Sync, G: Gate>(
@@ -75,14 +68,13 @@ fn prepare_in_turn<'a, R: Threads + Sync, G: Gate>(
     requires { IsBatch connections.now }
     ensures { IfOk result (AreMadeReady crew.now.setup.credits_shown connections.now) }
 {
-    let mut prepared = Vec::with_capacity(crew.setup.alloc, connections.len())?;
-    let mut found = Vec::with_capacity(crew.setup.alloc, connections.len())?;
+    let prepared = Vec::with_capacity(crew.setup.alloc, connections.len())?;
+    let found = Vec::with_capacity(crew.setup.alloc, connections.len())?;
+    let mut made = MadeReady { prepared, found };
     for frames in connections {
-        let (ready, before) = prepare(crew, *frames)?;
-        prepared.push(ready)?;
-        found.push(before)?;
+        prepare(crew, &mut made, *frames)?;
     }
-    Ok(MadeReady { prepared, found })
+    Ok(made)
 }
 
 /// How many frames connections have together.
@@ -114,6 +106,20 @@ pub(crate) fn in_halves<'a, 'b>(
     connections.split_at(count)
 }
 
+/// The connections of both halves, made ready.
+fn both_ready<'a>(
+    one: Result<MadeReady<'a>, AllocError>,
+    other: Result<MadeReady<'a>, AllocError>,
+) -> Result<MadeReady<'a>, AllocError>
+    ensures { AreBothReady one.entry other.entry result }
+{
+    let mut made = one?;
+    let mut more = other?;
+    made.prepared.append(&mut more.prepared)?;
+    made.found.append(&mut more.found)?;
+    Ok(made)
+}
+
 /// Makes each connection ready, halves of them side by side where there are workers, and answers what is found of each
 /// before the rounds.
 fn prepare_each<'a, R: Threads + Sync, G: Gate>(
@@ -141,11 +147,7 @@ fn prepare_each<'a, R: Threads + Sync, G: Gate>(
             ensures { IfOk result (AreMadeReady setup.credits_shown back.entry.now) }
         { prepare_each(&Crew::of(rt, gate, setup, others), back) },
     );
-    let mut made = one?;
-    let mut more = other?;
-    made.prepared.append(&mut more.prepared)?;
-    made.found.append(&mut more.found)?;
-    Ok(made)
+    both_ready(one, other)
 }
 
 /// The frames up to the one at which the connection stops, that one included.

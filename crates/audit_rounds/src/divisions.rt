@@ -4,8 +4,8 @@ ghost use Rattle.audit_terms.specs.Finding.{shown};
 ghost use Rattle.audit_terms.specs.Pass.{pass};
 ghost use Rattle.audit_rounds.specs.code.Few.{AreFew};
 
+use crate::batch::by_halves;
 use crate::crew::{Crew, Setup};
-use crate::halves::by_halves;
 use audit_terms::{Finding, Frame};
 use input_output::TableHash;
 use std::alloc::{AllocError, Global};

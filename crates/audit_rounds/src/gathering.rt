@@ -1,9 +1,12 @@
-//! What rounds found, connection by connection.
+//! What rounds found, connection by connection: findings, and which frames open streams, as the parts of the round over
+//! streams and the splits tell.
 
-ghost use Rattle.std.specs.Prelude.{◌≡◌, ℕ, [], ◌++◌, ◌<◌, All, IfOk, map, length, slice_index_or};
+ghost use Rattle.std.specs.Prelude.{◌≡◌, ℕ, [], ◌++◌, ◌<◌, All, IfOk, OnOk, map, length, slice_index_or};
 ghost use Rattle.stop_desk.specs.code.Board.{findings_of_parts};
 ghost use Rattle.stop_desk.specs.code.Laid.{part_of};
+ghost use Rattle.audit_rounds.specs.code.Opened.{numbers_told, IsInOrder};
 
+use crate::prepared::Prepared;
 use audit_terms::Finding;
 use std::alloc::{AllocError, Global};
 use stop_desk::Part;
@@ -37,6 +40,37 @@ pub(crate) fn gathered<M: Drop>(
     let mut all = found;
     for mut part in parts {
         all[part.connection].append(&mut part.findings)?;
+    }
+    Ok(all)
+}
+
+/// Adds the numbers that a split tells, of the frames that open quiet streams, and puts all of them in order.
+fn with_quiet(told: &mut Vec<u32>, quiet: &[u32]) -> Result<(), AllocError>
+    ensures { OnOk result (IsInOrder (told.old.items ++ quiet.now) told.new.items) }
+{
+    told.extend_from_slice(quiet)?;
+    told.sort_unstable();
+    Ok(())
+}
+
+/// The numbers that the parts and the split tell of each connection, in order.
+pub(crate) fn opened_each(
+    alloc: Global,
+    connections: &[Prepared<'_>],
+    parts: &[Part<Vec<u32>>],
+) -> Result<Vec<Vec<u32>>, AllocError>
+    requires { All (λ part. part.connection < length connections.now) parts.now }
+    ensures number { IfOk result (λ all. length all.items ≡ length connections.now) }
+    ensures each { IfOk result (λ all. (n : ℕ) (list : _) (connection : _) → n < length connections.now
+        → IsInOrder (numbers_told n parts.now ++ (slice_index_or connections.now n connection).split.opened.items)
+        (slice_index_or all.items n list).items) }
+{
+    let mut all = none_of_each(alloc, connections.len())?;
+    for part in parts {
+        all[part.connection].extend_from_slice(part.made.as_slice())?;
+    }
+    for (n, connection) in connections.iter().enumerate() {
+        with_quiet(&mut all[n], connection.split.opened.as_slice())?;
     }
     Ok(all)
 }

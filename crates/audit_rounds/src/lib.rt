@@ -41,6 +41,7 @@
 //! - Trusted: the port of `itertools`.
 #![tactic(auto)]
 
+mod batch;
 mod beginnings;
 mod block_plans;
 mod block_round;
@@ -49,18 +50,13 @@ mod blocks;
 mod connections;
 mod crew;
 mod divisions;
-mod early_stops;
 mod framed;
 mod gathering;
-mod halves;
 pub mod laws;
 mod merging;
-mod opened;
 mod prepared;
 mod stream_jobs;
-mod stream_plan;
 mod stream_round;
 mod streams;
-mod sum_round;
 
 pub use divisions::{Division, findings_of_each};

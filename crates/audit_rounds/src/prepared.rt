@@ -1,17 +1,17 @@
-//! A connection made ready for the rounds.
+//! Connections made ready for the rounds.
 
-ghost use Rattle.std.specs.Prelude.{◌≡◌, ◌<◌, ◌^◌, IfOk, length};
+ghost use Rattle.std.specs.Prelude.{◌≡◌, ◌<◌, ◌^◌, [], ◌∷◌, ◌++◌, IfOk, OnOk, length, map};
 ghost use Rattle.std.specs.Thread.{IsSync};
 ghost use Rattle.audit_terms.specs.code.runs.Orderly.{IsOrderly};
 ghost use Rattle.audit_terms.specs.code.runs.LocalFaults.{local_run};
 ghost use Rattle.settings_pair.specs.code.Changes.{AreOrderly, AreAcknowledged};
 ghost use Rattle.split_merge.specs.code.Split.{IsSplit};
-ghost use Rattle.audit_rounds.specs.code.Prepared.{IsPrepared, found_before};
+ghost use Rattle.audit_rounds.specs.code.MadeReady.{AddsReady};
 
 use crate::crew::{Crew, LONG};
 use audit_terms::{Change, Finding, Frame};
 use fault_rules::local_faults;
-use settings_pair::pair;
+use settings_pair::{Pairs, pair};
 use split_merge::{SplitFrames, split};
 use std::alloc::AllocError;
 use std::thread::{Threads, join};
@@ -25,6 +25,14 @@ pub(crate) struct Prepared<'a> {
     pub(crate) changes: Vec<Change>,
     /// Its frames by stream, but for the streams of which nothing is shown.
     pub(crate) split: SplitFrames,
+}
+
+/// Connections made ready, and of each what is found before the rounds: the faults of its single frames, then its
+/// unmatched acknowledgements.
+#[derive(Drop)]
+pub(crate) struct MadeReady<'a> {
+    pub(crate) prepared: Vec<Prepared<'a>>,
+    pub(crate) found: Vec<Vec<Finding>>,
 }
 
 /// The faults of single frames, and the frames by stream: side by side, where there are many frames and workers.
@@ -66,25 +74,41 @@ fn faults_and_split<R: Threads + Sync, G: Gate>(
     )
 }
 
-/// Makes a connection ready by so many workers at most, and answers what is found of it before the rounds: the faults
-/// of its single frames, then its unmatched acknowledgements.
-pub(crate) fn prepare<'a, R: Threads + Sync, G: Gate>(
-    crew: &Crew<'_, R, G>,
+/// Adds a connection with what was made of it: these faults are found of it, and what its pairs show.
+fn add<'a>(
+    made: &mut MadeReady<'a>,
     frames: &'a [Frame],
-) -> Result<(Prepared<'a>, Vec<Finding>), AllocError>
-    requires frames { IsOrderly frames.now }
-    ensures frames { IfOk result (λ made. made.0.frames.now ≡ frames.now) }
-    ensures prepared { IfOk result (λ made. IsPrepared crew.now.setup.credits_shown made.0) }
-    ensures found { IfOk result (λ made. made.1.items ≡ found_before made.0) }
+    mut pairs: Pairs,
+    mut found: Vec<Finding>,
+    split: SplitFrames,
+) -> Result<(), AllocError>
+    ensures { OnOk result ((made.new.prepared.items
+        ≡ made.old.prepared.items ++ record { frames = frames.entry; changes = pairs.changes; split = split } ∷ [])
+        × (map (λ one. one.items) made.new.found.items
+        ≡ map (λ one. one.items) made.old.found.items ++ (found.items ++ pairs.findings.items) ∷ [])) }
 {
-    let mut pairs = pair(crew.setup.alloc, frames)?;
-    let (found, split) = faults_and_split(crew, pairs.changes.as_slice(), frames);
-    let mut found = found?;
     found.append(&mut pairs.findings)?;
-    let prepared = Prepared {
+    made.found.push(found)?;
+    made.prepared.push(Prepared {
         frames,
         changes: pairs.changes,
-        split: split?,
-    };
-    Ok((prepared, found))
+        split,
+    })?;
+    Ok(())
+}
+
+/// Makes one connection more ready, by so many workers at most.
+pub(crate) fn prepare<'a, R: Threads + Sync, G: Gate>(
+    crew: &Crew<'_, R, G>,
+    made: &mut MadeReady<'a>,
+    frames: &'a [Frame],
+) -> Result<(), AllocError>
+    requires { IsOrderly frames.now }
+    ensures { OnOk result (AddsReady crew.now.setup.credits_shown frames.entry made.old made.new) }
+{
+    let pairs = pair(crew.setup.alloc, frames)?;
+    let (found, split) = faults_and_split(crew, pairs.changes.as_slice(), frames);
+    let found = found?;
+    let split = split?;
+    add(made, frames, pairs, found, split)
 }

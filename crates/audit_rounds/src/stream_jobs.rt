@@ -1,15 +1,68 @@
-//! The jobs of the round over streams.
+//! The jobs of the round over streams: groups of the streams of each connection.
 
-ghost use Rattle.std.specs.Prelude.{◌^◌, ◌<◌, All, length, map};
+ghost use Rattle.std.specs.Prelude.{◌≡◌, ◌^◌, ◌<◌, ◌≤◌, ◌++◌, All, IfOk, OnOk, length, map};
 ghost use Rattle.std.proofs.Props.{props};
-ghost use Rattle.audit_rounds.specs.code.StreamJobs.{IsReady, IsJobOf, JobLooks, Makes, job_of};
+ghost use Rattle.split_merge.specs.code.Groups.{groups};
+ghost use Rattle.audit_rounds.specs.code.Few.{RowsAreFew};
+ghost use Rattle.audit_rounds.specs.code.StreamJobs.{IsReady, IsJobOf, JobLooks, Makes, job_at, job_of, plan_from};
 ghost use Rattle.audit_rounds.specs.code.JobProps.{frames-prop, changes-prop};
 
-use crate::stream_plan::StreamJob;
 use crate::streams::{Streams, run_of_rows};
 use audit_terms::Look;
+use split_merge::groups;
 use std::alloc::{AllocError, Global};
 use stop_desk::{Round, Work};
+
+/// Consecutive rows of a connection's split, from the first up to the first of the next.
+#[derive(Clone, Copy)]
+pub(crate) struct StreamJob {
+    pub(crate) connection: usize,
+    pub(crate) from: usize,
+    pub(crate) to: usize,
+}
+
+/// Adds so many groups of the streams of a connection at most.
+fn add_groups(
+    plan: &mut Vec<StreamJob>,
+    alloc: Global,
+    count: usize,
+    connection: usize,
+    rows: usize,
+) -> Result<(), AllocError>
+    requires some { 1 ≤ count }
+    requires rows { rows < 2 ^ 32 }
+    ensures { OnOk result (plan.new.items ≡ plan.old.items ++ map (job_at connection) (groups rows count)) }
+{
+    let ranges = groups(alloc, rows, count)?;
+    for range in ranges.as_slice() {
+        plan.push(StreamJob {
+            connection,
+            from: range.0,
+            to: range.1,
+        })?;
+    }
+    Ok(())
+}
+
+/// So many groups of the streams of each connection at most, one connection after the other.
+pub(crate) fn stream_plan(
+    alloc: Global,
+    count: usize,
+    connections: &[Streams<'_>],
+) -> Result<Vec<StreamJob>, AllocError>
+    requires some { 1 ≤ count }
+    requires ready { All IsReady connections.now }
+    requires few { RowsAreFew connections.now }
+    ensures plan { IfOk result (λ plan. plan.items ≡ plan_from count 0 connections.now) }
+    ensures numbered { IfOk result (λ plan. length plan.items < 2 ^ 32) }
+{
+    let mut plan = Vec::new(alloc);
+    for (connection, streams) in connections.iter().enumerate() {
+        let rows = streams.split.rows.len();
+        add_groups(&mut plan, alloc, count, connection, rows)?;
+    }
+    Ok(plan)
+}
 
 /// A round of which each job is a group of the streams of one connection.
 #[derive(Drop)]

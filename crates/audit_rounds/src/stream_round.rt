@@ -1,16 +1,18 @@
 //! The round over streams: each job is a group of the streams of one connection.
 
-ghost use Rattle.std.specs.Prelude.{IfOk};
+ghost use Rattle.std.specs.Prelude.{◌≡◌, All, IfOk, length};
+ghost use Rattle.stop_desk.specs.code.Stop.{IsStop};
 ghost use Rattle.audit_rounds.specs.code.Batch.{AreReady};
-ghost use Rattle.audit_rounds.specs.code.AfterStreams.{AreAfterStreams, HaveSettledOver};
+ghost use Rattle.audit_rounds.specs.code.AfterStreams.{AreAfterStreams, HaveSettled, HaveSettledOver};
+ghost use Rattle.audit_rounds.specs.code.Few.{RowsAreFew};
+ghost use Rattle.audit_rounds.specs.code.StreamJobs.{IsReady};
 
-use crate::beginnings::{changes_each, opening_stops, streams_each};
+use crate::beginnings::{opening_stops, streams_each};
 use crate::crew::Crew;
-use crate::gathering::gathered;
-use crate::opened::opened_each;
+use crate::gathering::{gathered, opened_each};
 use crate::prepared::Prepared;
-use crate::stream_jobs::StreamsRound;
-use crate::stream_plan::stream_plan;
+use crate::stream_jobs::{StreamsRound, stream_plan};
+use crate::streams::Streams;
 use audit_terms::{Finding, Place};
 use std::alloc::AllocError;
 use std::thread::Threads;
@@ -27,6 +29,27 @@ pub(crate) struct AfterStreams {
     pub(crate) opened: Vec<Vec<u32>>,
 }
 
+/// What is found of these streams, in groups, where it is known of some connections where they stop.
+fn settled_streams<R: Threads + Sync, G: Gate>(
+    crew: &Crew<'_, R, G>,
+    streams: &[Streams<'_>],
+    stops: &[Option<Place>],
+) -> Result<Settled<Vec<u32>>, AllocError>
+    requires ready { All IsReady streams.now }
+    requires few { RowsAreFew streams.now }
+    requires number { length stops.now ≡ length streams.now }
+    requires places { All IsStop stops.now }
+    ensures { IfOk result (HaveSettled crew.now.setup.credits_shown crew.now.setup.groups streams.now stops.now) }
+{
+    let plan = stream_plan(crew.setup.alloc, crew.setup.groups as usize, streams)?;
+    let round = StreamsRound {
+        connections: streams,
+        plan: plan.as_slice(),
+        credits_shown: crew.setup.credits_shown,
+    };
+    settle(&crew.team(), AuditRound::Streams, stops, &round)
+}
+
 /// What is found of the streams of connections that are ready, of each of which this was found before.
 fn settled_over<R: Threads + Sync, G: Gate>(
     crew: &Crew<'_, R, G>,
@@ -38,16 +61,8 @@ fn settled_over<R: Threads + Sync, G: Gate>(
         found.now settled) }
 {
     let stops = opening_stops(crew.setup.alloc, found)?;
-    let changes = changes_each(crew.setup.alloc, connections)?;
-    let streams = streams_each(crew.setup.alloc, connections, changes.as_slice())?;
-    let streams = streams.as_slice();
-    let plan = stream_plan(crew.setup.alloc, crew.setup.groups as usize, streams)?;
-    let round = StreamsRound {
-        connections: streams,
-        plan: plan.as_slice(),
-        credits_shown: crew.setup.credits_shown,
-    };
-    settle(&crew.team(), AuditRound::Streams, stops.as_slice(), &round)
+    let streams = streams_each(crew.setup.alloc, connections)?;
+    settled_streams(crew, streams.as_slice(), stops.as_slice())
 }
 
 /// Goes through the streams of all connections, of each of which this was found before.

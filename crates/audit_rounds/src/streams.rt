@@ -13,11 +13,11 @@ use stop_desk::Work;
 use stream_credit::{Changes, StreamPart, StreamRun, stream_run};
 
 /// A connection's frames by stream, and the changes that settings bring to it.
-#[derive(Clone, Copy)]
+#[derive(Drop)]
 pub struct Streams<'a> {
     pub frames: &'a [Frame],
     pub split: &'a SplitFrames,
-    pub changes: &'a Changes<'a>,
+    pub changes: Changes<'a>,
 }
 
 /// What one stream shows, with a look.
@@ -28,7 +28,7 @@ fn run_of_row<L: Look>(
     credits_shown: bool,
     look: &mut L,
 ) -> Result<StreamRun, AllocError>
-    requires changes { AreOrderly streams.now.changes.now }
+    requires changes { AreOrderly streams.now.changes }
     requires row { IsRow streams.now row.now }
     ensures { IfOk result (λ run. IsWork L.answers (RowLooks credits_shown streams.now row.now) look.old look.new
         (row_shown credits_shown streams.now row.now) (option_to_list (row_opened streams.now row.now)) run.upto
@@ -39,7 +39,7 @@ fn run_of_row<L: Look>(
         frames: streams.frames,
         positions: streams.split.positions_of(row),
     };
-    stream_run(alloc, &own, streams.changes, credits_shown, look)
+    stream_run(alloc, &own, &streams.changes, credits_shown, look)
 }
 
 /// The lesser of two places up to which runs went.
@@ -75,7 +75,7 @@ pub fn run_of_rows<L: Look>(
     credits_shown: bool,
     look: &mut L,
 ) -> Result<Work<Vec<u32>>, AllocError>
-    requires changes { AreOrderly streams.now.changes.now }
+    requires changes { AreOrderly streams.now.changes }
     requires rows { All (IsRow streams.now) rows.now }
     ensures { IfOk result (λ work. IsWork L.answers (RowsLook credits_shown streams.now rows.now) look.old look.new
         (rows_shown credits_shown streams.now rows.now) (rows_opened streams.now rows.now) work.upto

@@ -9,12 +9,12 @@ use Rattle.split_merge.specs.declared.splits.StreamRow.{StreamRow}
 use Rattle.split_merge.specs.code.Groups.{groups}
 use Rattle.stop_desk.specs.code.Board.{Job}
 use Rattle.audit_rounds.specs.declared.streams.Streams.{Streams}
-use Rattle.audit_rounds.specs.declared.stream_plan.StreamJob.{StreamJob}
+use Rattle.audit_rounds.specs.declared.stream_jobs.StreamJob.{StreamJob}
 use Rattle.audit_rounds.specs.code.Streams.{IsRow, AreOpenedUpTo, RowsLook, rows_shown, rows_opened}
 
 -- the streams of a connection that may be gone through
 pub record IsReady (streams : Streams) : Type 0 where
-  pub changes : AreOrderly streams.changes.now
+  pub changes : AreOrderly streams.changes
   pub rows : All (IsRow streams) streams.split.now.rows.items
   pub counted : length streams.split.now.rows.items < 2 ^ 32
 

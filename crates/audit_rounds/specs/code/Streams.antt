@@ -31,12 +31,12 @@ row_frames streams row = frames_at streams.frames.now (row_positions streams.spl
 -- what is shown of the stream of a row
 abbrev pub row_shown : (credits_shown : Bool) → Streams → StreamRow → List Finding
 row_shown credits_shown streams row =
-    shown credits_shown (stream_run row.stream (row_frames streams row) streams.changes.now)
+    shown credits_shown (stream_run row.stream (row_frames streams row) streams.changes)
 
 -- the number of the frame that opens the stream of a row
 abbrev pub row_opened : Streams → StreamRow → Option ℕ
 row_opened streams row =
-    (stream_at_end row.stream (row_frames streams row) streams.changes.now).life.opened
+    (stream_at_end row.stream (row_frames streams row) streams.changes).life.opened
 
 -- the same of several rows
 abbrev pub rows_shown : (credits_shown : Bool) → Streams → List StreamRow → List Finding
@@ -51,7 +51,7 @@ pub record IsRow (streams : Streams) (row : StreamRow) : Type 0 where
   pub in_range : row.stream < 2 ^ 31
   pub within : All (λ (position : ℕ). position < length streams.frames.now) (row_positions streams.split.now row)
   pub orderly : IsOrderly (row_frames streams row)
-  pub acknowledged : AreAcknowledged (row_frames streams row) streams.changes.now
+  pub acknowledged : AreAcknowledged (row_frames streams row) streams.changes
 
 -- the lesser of two places up to which runs went, of which none is the greatest
 abbrev pub lesser : (one other : Option ℕ) → Option ℕ
@@ -67,7 +67,7 @@ AreOpenedUpTo upto opened all = (number : ℕ) → is_past upto number ≡ false
 -- the looks of the run of one stream, and the place up to which it goes
 abbrev pub RowLooks : (credits_shown : Bool) → Streams → StreamRow → List Asked → (upto : Option ℕ) → Type 0
 RowLooks credits_shown streams row =
-    RunLooks (step_numbers row.stream (row_frames streams row) streams.changes.now)
+    RunLooks (step_numbers row.stream (row_frames streams row) streams.changes)
     (row_shown credits_shown streams row)
 
 -- those of the runs of several, one run after the other, and the lesser of the places

@@ -1,18 +1,17 @@
-use Rattle.audit_rounds.proofs.Words.{ap, ◌∙◌, get_or-map, Prepared, IsStreamsOf}
+use Rattle.audit_rounds.proofs.Words.{ap, ◌∙◌, Prepared, IsStreamsOf}
 use Rattle.audit_rounds.proofs.Lists.{zip-more}
 use Rattle.audit_rounds.proofs.beginnings.streams_each.Goals as goal
 
-pub loop-n-preserved : goal.loop-n-preserved
-loop-n-preserved c =
-    let here = c.index-connections-n in
-    let own = c.index-changes-n.result in
-    let changes = λ (one : Prepared). one.changes.items in
-    zip-more IsStreamsOf c.args.connections.now c.loop-n.n here.result c.loop-n.all.items c.push.new.self.items _
-    c.loop-n-test.true c.loop-n.invariant
+pub loop-connection-preserved : goal.loop-connection-preserved
+loop-connection-preserved c =
+    let at = c.loop-connection in
+    let here = c.connection-item in
+    zip-more IsStreamsOf c.args.connections.now at.connection-index here.result at.all.items c.push.new.self.items _
+    c.loop-connection-test.true at.invariant
     (record {
       frames = ap (λ (one : Prepared). one.frames.now) here.is;
       split = ap (λ (one : Prepared). one.split) here.is;
-      changes = c.index-changes-n.is ∙ rw c.requires
-          (get_or-map changes c.args.connections.now c.loop-n.n here.result own c.loop-n-test.true);
+      changes = c.in_ok-changes.ensures ∙ c.as_slice.ensures.value
+          ∙ ap (λ (one : Prepared). one.changes.items) here.is;
     })
     c.in_ok-push.ensures.items
