@@ -44,12 +44,6 @@ module _ {X Y Z : Type 0} (f : X → Z) (g : Y → Z) where
       sum_by (λ x. h (f x)) xs ≡ sum_by (λ y. h (g y)) ys
   sums-alike h xs ys e = sym (sum-map (λ x. h (f x)) xs) ∙ ap sum (maps-alike h xs ys e) ∙ sum-map (λ y. h (g y)) ys
 
-  -- one element more
-  pub map-grows : (made : List X) (one : X) (all : List Y) (at : ℕ) (d : Y) → at < length all →
-      f one ≡ g (get_or all at d) → map f made ≡ map g (take at all) →
-      map f (made ++ one ∷ []) ≡ map g (take (at + 1) all)
-  map-grows made one all at d l is e = rw (map_more g all at d l) (simp (map-append, e, is))
-
   -- of what was taken so far
   pub known-more : (taken : List Y) (y : Y) (made new : List X) (x : X) → new ≡ made ++ x ∷ [] → f x ≡ g y
       → map f made ≡ map g taken → map f new ≡ map g (taken ++ y ∷ [])

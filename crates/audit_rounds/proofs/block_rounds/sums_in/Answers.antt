@@ -1,4 +1,4 @@
-use Rattle.audit_rounds.proofs.Words.{ap, ◌∙◌, Part, ConnSum}
+use Rattle.audit_rounds.proofs.Words.{ap, Part, ConnSum}
 use Rattle.std.proofs.lemmas.List.{map_more}
 use Rattle.audit_rounds.proofs.block_rounds.sums_in.Goals as goal
 
