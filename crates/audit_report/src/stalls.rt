@@ -82,19 +82,13 @@ fn stall_between(frames: &[Frame], begin: Finding, end: Option<Finding>) -> Stal
     ensures { result ≡ stall_of frames.now begin end }
 {
     let from = begin.place.number();
-    let (to, nanos) = match end {
-        Some(end) => {
-            let to = end.place.number();
-            (Some(to), time_of(frames, to) - time_of(frames, from))
-        }
-        None => (None, 0),
-    };
+    let to = end.map(|end| end.place.number());
     Stall {
         side: begin.side,
         stream: begin.place.stream(),
         from,
         to,
-        nanos,
+        nanos: to.map_or(0, |to| time_of(frames, to) - time_of(frames, from)),
     }
 }
 
