@@ -2,13 +2,13 @@
 pub use Rattle.std.proofs.{lemmas.Bool.Decides.nat_tests, lemmas.List.append-nil, lemmas.List.take-append-drop}
 pub use Rattle.std.specs.{List.AllByRecursion, Option.ForSome, Prelude.nat_lt, Prelude.◌==◌, Prelude.Ok, Prelude.Result}
 pub use Rattle.std.specs.{Prelude.Err}
-pub use Rattle.std.proofs.lemmas.Bool.{cond_both}
-pub use Rattle.std.proofs.lemmas.List.{take-append-drop}
+pub use Rattle.std.proofs.lemmas.Bool.{cond_both, ltb-false, ltb-true, not-true}
+pub use Rattle.std.proofs.lemmas.List.{take-append-drop, length-take-le}
 pub use Rattle.audit_terms.specs.{Frame.promised_in, Order.ordered_by, Order.put_by, Side.side_order}
 pub use Rattle.audit_terms.specs.code.runs.Orderly.{IsOrderlyFrom, IsInRange}
-pub use Rattle.audit_terms.specs.declared.{frames.Frame.Frame, settings.Settings.Settings, sides.Side.Side}
-pub use Rattle.audit_terms.specs.declared.{sides.Side.TheVariants.Server, sides.Side.TheVariants.Client}
-pub use Rattle.audit_terms.specs.declared.{sides.Sides.Sides}
+pub use Rattle.audit_terms.specs.declared.{frames.Body.Body, frames.Frame.Frame, settings.Settings.Settings}
+pub use Rattle.audit_terms.specs.declared.{sides.Side.Side, sides.Side.TheVariants.Server}
+pub use Rattle.audit_terms.specs.declared.{sides.Side.TheVariants.Client, sides.Sides.Sides}
 pub use Rattle.tcp_streams.specs.{Arrivals.Rises, Bytes.bytes_of, code.Orderly.IsOrderly}
 pub use Rattle.tcp_streams.specs.{declared.streams.Arrival.Arrival, declared.streams.Flow.Flow}
 pub use Rattle.h2_frames.specs.{Body.body_of, Cut.IsHttp2, Cut.IsCut, Header.header_of, Spelling.Makes}
@@ -23,11 +23,12 @@ pub use Rattle.h2_frames.specs.CaptureOrder.{numbered, captured_from, captured, 
 pub use Rattle.h2_frames.specs.CaptureOrder.{comes_after}
 pub use Rattle.h2_frames.specs.Preface.{BeginsWithPreface, preface, IsPrefaceCutShort}
 pub use Rattle.h2_frames.specs.Settings.{settings_of, is_in_range, first_bad, settings_in, setting_at, last_value}
-pub use Rattle.h2_frames.specs.code.Merge.{merged, merged_with}
+pub use Rattle.h2_frames.specs.code.Merge.{merged, is_server_first, merged_with}
 pub use Rattle.h2_frames.specs.code.Pieces.{joined, IsCounted, bytes_of as bytes_left, IsOneTaken}
 pub use Rattle.h2_frames.specs.code.Steps.{arrivals_from, IsReadable, with_setting}
-pub use Rattle.h2_frames.specs.code.Unread.{AreAhead, AreMerged, IsPlaced, AreLeftAfter, AreLeft, IsReady, IsKnown}
-pub use Rattle.h2_frames.specs.code.Limit.{AreTakenUpTo, IsPassed, is_past}
+pub use Rattle.h2_frames.specs.code.Unread.{AreAhead, AreMerged, IsPlaced, AreLeftAfter, AreLeft, IsReady, IsNext}
+pub use Rattle.h2_frames.specs.code.Unread.{IsKnown}
+pub use Rattle.h2_frames.specs.code.Limit.{AreTakenUpTo, IsPassed, IsReached, is_past}
 pub use Rattle.h2_frames.specs.declared.limits.Limit.{Limit}
 pub use Rattle.h2_frames.specs.code.Walk.{IsWalkAfter, taken_of, weight_of, IsReadyWalk}
 pub use Rattle.h2_frames.specs.declared.connections.Cut.TheVariants.{Http2, NoPreface, NoHandshake, NotHttp2}
