@@ -52,9 +52,9 @@ pub fn moved(standing: u32, before: u32, after: u32) -> Option<u32>
     if !has_credit(standing) {
         return Some(standing);
     }
-    let credit = balance(standing, after, before)?;
-    if credit == 0 {
+    let credit = i64::from(standing) + i64::from(after) - i64::from(before);
+    if credit <= 0 || credit > i64::from(LARGEST_WINDOW) {
         return None;
     }
-    Some(credit)
+    Some(credit as u32)
 }
