@@ -61,7 +61,7 @@ fn window_of(standing: u32) -> Option<i64>
 }
 
 /// A credit as it is kept, if some is left and it is no more than the largest (RFC 9113, 6.9.1).
-fn kept(credit: i64) -> Option<u32>
+pub(crate) fn kept(credit: i64) -> Option<u32>
     ensures { ForSome result (IsCreditOf credit) }
 {
     if credit <= 0 || credit > i64::from(LARGEST_WINDOW) {

@@ -5,6 +5,7 @@ ghost use Rattle.std.specs.Prelude.{◌≡◌};
 ghost use Rattle.std.specs.Option.{ForSome};
 ghost use Rattle.stream_credit.specs.code.QuietStream.{has_credit, has_ended, mark, IsBalance, IsMovedBy};
 
+use crate::quiet_streams::kept;
 use audit_terms::LARGEST_WINDOW;
 
 /// What stands for a credit where the side has ended the stream: its window is not live then. It is one more than any
@@ -52,9 +53,5 @@ pub fn moved(standing: u32, before: u32, after: u32) -> Option<u32>
     if !has_credit(standing) {
         return Some(standing);
     }
-    let credit = i64::from(standing) + i64::from(after) - i64::from(before);
-    if credit <= 0 || credit > i64::from(LARGEST_WINDOW) {
-        return None;
-    }
-    Some(credit as u32)
+    kept(i64::from(standing) + i64::from(after) - i64::from(before))
 }
