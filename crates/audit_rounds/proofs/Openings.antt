@@ -93,8 +93,6 @@ openings_are_told_lem frames runs stop opened s h p number e =
 
 -- ---- a stream at its end is the stream in the pass
 
--- ---- a stream at its end is the stream in the pass
-
 one_step : (stream number : ℕ) (initial : Sides ℕ) (entry : Stream) (o : Option Frame) (c : Option Change)
     (rest : List Step)
     → stream_after_all stream initial entry (step_if_any (record { number = number; frame = o; change = c }) ++ rest)
