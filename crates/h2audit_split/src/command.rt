@@ -3,6 +3,7 @@
 ghost use Rattle.std.specs.Prelude.{◌<◌};
 
 use crate::failure::Failure;
+use capture_parts::part_count;
 use clap::error::ErrorKind;
 use clap::{Arg, ArgAction, ArgMatches, Command, Error, value_parser};
 use std::alloc::{AllocError, Global};
@@ -34,7 +35,7 @@ pub struct Words {
 /// Reads the words of the command line, without the program's name.
 pub fn parse_words(alloc: Global, words: &[&str]) -> Result<Asked, Failure> {
     match matches(alloc, words) {
-        Ok(found) => Ok(Asked::Split(words_in(alloc, &found)?)),
+        Ok(found) => split_asked(alloc, &found),
         Err(error) => unparsed(alloc, &error),
     }
 }
@@ -51,31 +52,22 @@ fn unparsed(alloc: Global, error: &Error) -> Result<Asked, Failure> {
     }
 }
 
-fn words_in(alloc: Global, found: &ArgMatches<'_>) -> Result<Words, AllocError> {
+fn split_asked(alloc: Global, found: &ArgMatches<'_>) -> Result<Asked, Failure> {
     let folder = String::from_str(alloc, found.get_str("output").unwrap_or(""))?;
-    let files = files_in(alloc, found)?;
-    Ok(Words {
-        parts: parts_in(found),
+    let files = copies(alloc, found.get_strs("FILE").unwrap_or(&[]))?;
+    Ok(Asked::Split(Words {
+        parts: part_count(found.get_one("parts").unwrap_or(1)),
         folder,
         files,
-    })
+    }))
 }
 
-fn parts_in(found: &ArgMatches<'_>) -> usize
-    ensures { 0 < result }
-{
-    let parts = found.get_one::<u32>("parts").unwrap_or(1);
-    parts.max(1) as usize
-}
-
-fn files_in(alloc: Global, found: &ArgMatches<'_>) -> Result<Vec<String>, AllocError> {
-    let mut files = Vec::new(alloc);
-    if let Some(paths) = found.get_strs("FILE") {
-        for path in paths {
-            files.push(String::from_str(alloc, path)?)?;
-        }
+fn copies(alloc: Global, texts: &[&str]) -> Result<Vec<String>, AllocError> {
+    let mut copies = Vec::new(alloc);
+    for text in texts {
+        copies.push(String::from_str(alloc, text)?)?;
     }
-    Ok(files)
+    Ok(copies)
 }
 
 fn matches<'a>(alloc: Global, words: &'a [&'a str]) -> Result<ArgMatches<'a>, Error> {
@@ -83,10 +75,12 @@ fn matches<'a>(alloc: Global, words: &'a [&'a str]) -> Result<ArgMatches<'a>, Er
 }
 
 fn command<'a>(alloc: Global) -> Result<Command<'a>, AllocError> {
-    described(alloc)
-        .arg(parts_option(alloc))?
-        .arg(output_option(alloc))?
-        .arg(file_words(alloc))
+    let args = vec![in alloc;
+        parts_option(alloc),
+        output_option(alloc),
+        file_words(alloc),
+    ]?;
+    described(alloc).args(args)
 }
 
 fn described<'a>(alloc: Global) -> Command<'a> {
@@ -96,23 +90,24 @@ fn described<'a>(alloc: Global) -> Command<'a> {
         .no_binary_name(true)
 }
 
-fn parts_option<'a>(alloc: Global) -> Arg<'a> {
-    Arg::new(alloc, "parts")
-        .long("parts")
+/// `--NAME VALUE`, which has to be there.
+fn option<'a>(alloc: Global, name: &'a str, value: &'a str) -> Arg<'a> {
+    Arg::new(alloc, name)
+        .long(name)
         .action(ArgAction::Set)
-        .value_name("N")
-        .value_parser(value_parser!(u32).range(1..=MOST_PARTS))
+        .value_name(value)
         .required(true)
+}
+
+fn parts_option<'a>(alloc: Global) -> Arg<'a> {
+    option(alloc, "parts", "N")
+        .value_parser(value_parser!(u32).range(1..=MOST_PARTS))
         .help("How many parts to make, from 1 to 500")
 }
 
 fn output_option<'a>(alloc: Global) -> Arg<'a> {
-    Arg::new(alloc, "output")
+    option(alloc, "output", "DIR")
         .short('o')
-        .long("output")
-        .action(ArgAction::Set)
-        .value_name("DIR")
-        .required(true)
         .help("The folder for the parts, which must not exist")
 }
 

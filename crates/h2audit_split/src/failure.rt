@@ -1,8 +1,8 @@
 //! How the program ends.
 
-use crate::fault::SplitFault;
+use capture_parts::SplitFault;
 use pcap_records::PcapFault;
-use std::alloc::{AllocError, AllocFailed};
+use std::alloc::{AllocError, AllocFailed, Global};
 use std::io;
 use std::process::ExitCode;
 
@@ -31,6 +31,24 @@ pub enum Failure {
     /// This path could not be opened, or made.
     Path(&'static str, String),
     OutOfMemory,
+}
+
+impl Failure {
+    /// This path could not be opened, or made.
+    pub fn at(alloc: Global, what: &'static str, path: &str) -> Failure {
+        match String::from_str(alloc, path) {
+            Ok(path) => Failure::Path(what, path),
+            Err(_) => Failure::OutOfMemory,
+        }
+    }
+
+    /// The file with this path is refused by this name.
+    pub fn of_file(alloc: Global, path: &str, name: &'static str) -> Failure {
+        match String::from_str(alloc, path) {
+            Ok(path) => Failure::File(path, name),
+            Err(_) => Failure::OutOfMemory,
+        }
+    }
 }
 
 impl From<AllocError> for Failure {
@@ -87,19 +105,27 @@ fn show(rt: &(impl Print + Eprint), text: &str) -> ExitCode {
 }
 
 fn fail(rt: &impl Eprint, failure: &Failure) -> ExitCode {
-    let said: io::Result<()> = match failure {
-        Failure::Words(text) => {
-            let text = text.as_str().trim_end();
-            eprintln!(rt; "{text}")
-        }
+    let _ = say(rt, failure);
+    ExitCode::from(status(failure))
+}
+
+fn say(rt: &impl Eprint, failure: &Failure) -> io::Result<()> {
+    match failure {
+        Failure::Words(text) => say_words(rt, text.as_str().trim_end()),
         Failure::Capture(name) => eprintln!(rt; "h2audit-split: capture refused: {name}"),
         Failure::File(path, name) => eprintln!(rt; "h2audit-split: {path} refused: {name}"),
-        Failure::Io(what) => eprintln!(rt; "h2audit-split: {what}"),
+        Failure::Io(what) => say_fault(rt, what),
         Failure::Path(what, path) => eprintln!(rt; "h2audit-split: {what}: {path}"),
-        Failure::OutOfMemory => eprintln!(rt; "h2audit-split: out of memory"),
-    };
-    let _ = said;
-    ExitCode::from(status(failure))
+        Failure::OutOfMemory => say_fault(rt, "out of memory"),
+    }
+}
+
+fn say_words(rt: &impl Eprint, text: &str) -> io::Result<()> {
+    eprintln!(rt; "{text}")
+}
+
+fn say_fault(rt: &impl Eprint, what: &str) -> io::Result<()> {
+    eprintln!(rt; "h2audit-split: {what}")
 }
 
 fn status(failure: &Failure) -> u8 {

@@ -2,12 +2,8 @@
 
 ghost use Rattle.std.specs.Prelude.{◌<◌, ◌≤◌, length};
 
-use crate::dealer::Dealer;
 use crate::failure::Failure;
-use crate::fault::SplitFault;
-use crate::header::link_type;
-use crate::part::Part;
-use crate::splitting::{read_header, split_file, split_last};
+use capture_parts::{Dealer, Part, SplitFault, link_type, read_header, split_file, split_last};
 use pcap_records::{FILE_HEADER, refusal};
 use std::alloc::Global;
 use std::fs::File;
@@ -37,7 +33,7 @@ pub fn begin<R: Read>(reader: &mut R) -> Result<Header, Failure> {
 pub fn open<R: Files + AllocGlobal>(rt: &R, path: &str) -> Result<R::File, Failure> {
     match File::open(rt, path) {
         Ok(file) => Ok(file),
-        Err(_) => Err(Failure::Path("cannot open", String::from_str(rt.alloc(), path)?)),
+        Err(_) => Err(Failure::at(rt.alloc(), "cannot open", path)),
     }
 }
 
@@ -54,9 +50,19 @@ pub fn split_later<R: Files + AllocGlobal, W: Write + Drop>(
     requires buffer { 98 ≤ length buffer.old }
     ensures { dealer.new.part < length parts.new }
 {
-    let mut file = open(rt, later.path)?;
-    begin_later(rt.alloc(), later.path, &mut file, header)?;
-    split_named(rt, later, &mut file, dealer, buffer, parts)
+    let mut file = open_later(rt, later.path, header)?;
+    split_named(rt.alloc(), later, &mut file, dealer, buffer, parts)
+}
+
+/// Opens a later file, and reads its header.
+fn open_later<R: Files + AllocGlobal>(
+    rt: &R,
+    path: &str,
+    header: &Header,
+) -> Result<R::File, Failure> {
+    let mut file = open(rt, path)?;
+    begin_later(rt.alloc(), path, &mut file, header)?;
+    Ok(file)
 }
 
 /// Reads the header of a later file, or tells why the file is refused behind one with this header.
@@ -68,10 +74,10 @@ fn begin_later<R: Read>(
 ) -> Result<(), Failure> {
     match begin(reader) {
         Ok(own) => match difference(&own, header) {
-            Some(name) => Err(refused(alloc, path, name)),
+            Some(name) => Err(Failure::of_file(alloc, path, name)),
             None => Ok(()),
         },
-        Err(Failure::Capture(name)) => Err(refused(alloc, path, name)),
+        Err(Failure::Capture(name)) => Err(Failure::of_file(alloc, path, name)),
         Err(failure) => Err(failure),
     }
 }
@@ -88,8 +94,8 @@ fn difference(own: &Header, header: &Header) -> Option<&'static str> {
 }
 
 /// Splits what stands behind the header of a file.
-pub fn split_named<R: AllocGlobal, F: Read, W: Write + Drop>(
-    rt: &R,
+pub fn split_named<F: Read, W: Write + Drop>(
+    alloc: Global,
     named: CaptureFile<'_>,
     file: &mut F,
     dealer: &mut Dealer,
@@ -105,16 +111,14 @@ pub fn split_named<R: AllocGlobal, F: Read, W: Write + Drop>(
     } else {
         split_file(dealer, file, buffer, parts)
     };
-    match split {
-        Ok(()) => Ok(()),
-        Err(SplitFault::CutRecord) => Err(refused(rt.alloc(), named.path, "cut-record")),
-        Err(fault) => Err(Failure::from(fault)),
-    }
+    in_file(alloc, named.path, split)
 }
 
-fn refused(alloc: Global, path: &str, name: &'static str) -> Failure {
-    match String::from_str(alloc, path) {
-        Ok(path) => Failure::File(path, name),
-        Err(_) => Failure::OutOfMemory,
+/// Tells a fault of a file with its path, where the file is what is wrong.
+fn in_file(alloc: Global, path: &str, split: Result<(), SplitFault>) -> Result<(), Failure> {
+    match split {
+        Ok(()) => Ok(()),
+        Err(SplitFault::CutRecord) => Err(Failure::of_file(alloc, path, "cut-record")),
+        Err(fault) => Err(Failure::from(fault)),
     }
 }

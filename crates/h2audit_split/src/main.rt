@@ -1,43 +1,18 @@
 //! The program: `h2audit-split --parts N -o DIR [FILE..]`. It makes parts of a capture of any size, each of which is a
 //! capture that h2audit reads.
 //!
-//! - The records of a classic pcap capture are dealt to parts by the unordered pair of endpoints that a packet names,
-//!   so a TCP connection lies in one part, in order. [`splitting::split_capture`] splits a capture from behind its file
-//!   header on; [`dealer::Dealer`], [`splitting::split_file`] and [`splitting::split_last`] do so with one that comes
-//!   in several files. Bytes are read once, into a buffer of at least 98, and are written as they come: nothing is kept
-//!   of a record but where it goes.
-//! - What stands behind the file header is records, one after the other, and a rest that holds no whole one
-//!   (`AreRecords` of `specs/Dealt.antt`). Part i gets what `part_bytes` says: the bytes of its own records and of a
-//!   cut one, in their order; `part_numbers` are the numbers that its records have in the whole, each in 8 bytes.
-//! - The part of a record hangs on the front of its packet, 82 bytes (`part_at`): on its endpoints, where those of an
-//!   IPv4 datagram of TCP stand there (`specs/Pair.antt`), else on the record's number, which spreads all other
-//!   traffic.
-//! - The contract of `split_capture` (`AreSplit` of `specs/Parts.antt`) says this of any reader and any writers: the
-//!   reader gave some bytes to its end, and each part grew by its own of these. A part that would reach 2^31 bytes is
-//!   full: it gets nothing more, names the endpoints of the record that it had no room for ([`part::Part::full`]), and
-//!   its size with that record is proved to be 2^31 or more. Of a file no contract can say what it gives or takes.
-//! - [`laws`]: a record goes to one part, whole; a packet in which `packet_heads` finds a segment names that segment's
-//!   endpoints in its front; either order of two endpoints goes to the same part; the records are those that the reader
-//!   of the whole capture finds.
+//! - Which record goes to which part, and that each goes to one, whole and in order, `capture_parts` promises.
 //! - What the program does with words, files and folders is proved safe and total: there is a part, there are as many
 //!   as were asked for, and the buffer is long enough for a packet's front.
-//! - Refused by the prover: a pair of a sender alone, a record without its header, a part that gets another part's
-//!   bytes, one number for all records, a full part that goes on; no parts, a buffer that is too short.
-//! - Tested, in `tests/` at the root: the parts of whole captures, beside a model; reports of parts, merged.
+//! - Tested, in `tests/` at the root: the texts of help and of refused words, each status; that the right files are
+//!   opened, named and removed; the parts of whole captures, beside a model; reports of parts, merged.
 #![tactic(auto)]
 
 mod command;
-mod dealer;
 mod failure;
-mod fault;
-mod header;
 mod inputs;
-pub mod laws;
 mod outputs;
-mod pair;
-mod part;
 mod program;
-mod splitting;
 
 use failure::end;
 use program::run;

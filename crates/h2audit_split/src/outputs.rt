@@ -1,14 +1,14 @@
 //! The files that the program writes.
 
-ghost use Rattle.std.specs.Prelude.{◌≡◌, IfOk, vec_len};
+ghost use Rattle.std.specs.Prelude.{◌≡◌, ◌+◌, IfOk, OnOk, vec_len};
 
-use crate::failure::Failure;
+use crate::failure::{Ending, Failure};
 use crate::inputs::Header;
-use crate::part::{FullPart, Part};
+use capture_parts::{FullPart, Part};
 use packet_heads::Endpoint;
 use std::alloc::{AllocError, Global};
 use std::fs::File;
-use std::io::BufWriter;
+use std::io::{BufWriter, Write};
 use std::rt::Files;
 use std::{fmt, fs};
 
@@ -32,15 +32,27 @@ pub fn create_parts<R: Files + AllocGlobal>(
 ) -> Result<Vec<FilePart<R>>, Failure>
     ensures { IfOk result (λ parts. vec_len parts ≡ count) }
 {
-    let alloc = rt.alloc();
-    if fs::create_dir(rt, folder).is_err() {
-        return Err(Failure::Path("cannot make folder", String::from_str(alloc, folder)?));
-    }
-    let mut parts = Vec::new(alloc);
+    create_folder(rt, folder)?;
+    let mut parts = Vec::new(rt.alloc());
     for index in 0..count {
-        parts.push(create_part(rt, folder, index + 1, header)?)?;
+        add(&mut parts, create_part(rt, folder, index + 1, header))?;
     }
     Ok(parts)
+}
+
+fn create_folder<R: Files + AllocGlobal>(rt: &R, folder: &str) -> Result<(), Failure> {
+    match fs::create_dir(rt, folder) {
+        Ok(()) => Ok(()),
+        Err(_) => Err(Failure::at(rt.alloc(), "cannot make folder", folder)),
+    }
+}
+
+/// Adds what was made, if it was.
+fn add<T: Drop>(list: &mut Vec<T>, made: Result<T, Failure>) -> Result<(), Failure>
+    ensures { OnOk result (vec_len list.new ≡ vec_len list.old + 1) }
+{
+    list.push(made?)?;
+    Ok(())
 }
 
 /// Makes the files of one part.
@@ -51,8 +63,16 @@ fn create_part<R: Files + AllocGlobal>(
     header: &Header,
 ) -> Result<FilePart<R>, Failure> {
     let packets = create_file(rt, folder, number, "pcap", PACKETS_BUFFER)?;
-    let numbers = create_file(rt, folder, number, "records", NUMBERS_BUFFER)?;
-    Ok(Part::begin(packets, numbers, header)?)
+    let numbers = create_file(rt, folder, number, "records", NUMBERS_BUFFER);
+    begin_part(packets, numbers, header)
+}
+
+fn begin_part<W: Write + Drop>(
+    packets: W,
+    numbers: Result<W, Failure>,
+    header: &Header,
+) -> Result<Part<W>, Failure> {
+    Ok(Part::begin(packets, numbers?, header)?)
 }
 
 fn create_file<R: Files + AllocGlobal>(
@@ -64,11 +84,19 @@ fn create_file<R: Files + AllocGlobal>(
 ) -> Result<BufWriter<R::File>, Failure> {
     let path = part_path(rt.alloc(), folder, number, kind)?;
     match File::create(rt, path.as_str()) {
-        Ok(file) => match BufWriter::with_capacity(rt.alloc(), buffer, file) {
-            Ok(writer) => Ok(writer),
-            Err(_) => Err(Failure::OutOfMemory),
-        },
+        Ok(file) => buffered(rt.alloc(), buffer, file),
         Err(_) => Err(Failure::Path("cannot create", path)),
+    }
+}
+
+fn buffered<W: Write + Drop>(
+    alloc: Global,
+    buffer: usize,
+    file: W,
+) -> Result<BufWriter<W>, Failure> {
+    match BufWriter::with_capacity(alloc, buffer, file) {
+        Ok(writer) => Ok(writer),
+        Err(_) => Err(Failure::OutOfMemory),
     }
 }
 
@@ -77,15 +105,24 @@ pub fn finish_parts<R: Files + AllocGlobal + Eprint>(
     rt: &R,
     folder: &str,
     parts: &mut [FilePart<R>],
-) -> Result<bool, Failure> {
+) -> Result<Ending, Failure> {
     let mut summary = begin_summary(rt.alloc(), parts.len())?;
-    let are_refused = finish_each(rt, folder, parts, &mut summary)?;
-    write_summary(rt, folder, summary.as_str())?;
-    Ok(are_refused)
+    finish_with(rt, folder, parts, &mut summary)
 }
 
 fn begin_summary(alloc: Global, count: usize) -> Result<String, AllocError> {
     format!(in alloc; "h2audit-split 1\nparts {count}\n")
+}
+
+fn finish_with<R: Files + AllocGlobal + Eprint>(
+    rt: &R,
+    folder: &str,
+    parts: &mut [FilePart<R>],
+    summary: &mut String,
+) -> Result<Ending, Failure> {
+    let ending = finish_each(rt, folder, parts, summary)?;
+    write_summary(rt, folder, summary.as_str())?;
+    Ok(ending)
 }
 
 fn finish_each<R: Files + AllocGlobal + Eprint>(
@@ -93,12 +130,16 @@ fn finish_each<R: Files + AllocGlobal + Eprint>(
     folder: &str,
     parts: &mut [FilePart<R>],
     summary: &mut String,
-) -> Result<bool, Failure> {
+) -> Result<Ending, Failure> {
     let mut are_refused = false;
     for index in 0..parts.len() {
         are_refused |= finish_part(rt, folder, index + 1, &mut parts[index], summary)?;
     }
-    Ok(are_refused)
+    Ok(if are_refused {
+        Ending::PartsRefused
+    } else {
+        Ending::Split
+    })
 }
 
 /// Completes the files of one part, and answers whether it is full. A full one is written down and removed.
@@ -110,26 +151,43 @@ fn finish_part<R: Files + AllocGlobal + Eprint>(
     summary: &mut String,
 ) -> Result<bool, Failure> {
     part.flush()?;
-    let Some(full) = part.full() else {
-        return Ok(false);
-    };
-    let reason = full_reason(rt.alloc(), full)?;
-    refuse_part(rt, number, reason.as_str(), summary)?;
+    match part.full() {
+        Some(full) => refuse_part(rt, folder, number, full, summary),
+        None => Ok(false),
+    }
+}
+
+/// Says why a part is refused, writes it down, and removes the part.
+fn refuse_part<R: Files + AllocGlobal + Eprint>(
+    rt: &R,
+    folder: &str,
+    number: usize,
+    full: FullPart,
+    summary: &mut String,
+) -> Result<bool, Failure> {
+    write_down(rt, number, full, summary)?;
     remove_part(rt, folder, number)?;
     Ok(true)
 }
 
-/// Says why a part is refused, and writes it down.
-fn refuse_part<R: AllocGlobal + Eprint>(
+fn write_down<R: AllocGlobal + Eprint>(
     rt: &R,
     number: usize,
-    reason: &str,
+    full: FullPart,
     summary: &mut String,
 ) -> Result<(), AllocError> {
-    let line = format!(in rt.alloc(); "part {number} refused {reason}\n")?;
-    summary.push_str(line.as_str())?;
-    let _ = eprintln!(rt; "h2audit-split: part {number} refused: {reason}");
+    let reason = full_reason(rt.alloc(), full)?;
+    add_line(summary, number, reason.as_str())?;
+    say_refused(rt, number, reason.as_str());
     Ok(())
+}
+
+fn add_line(summary: &mut String, number: usize, reason: &str) -> Result<(), AllocError> {
+    writeln!(summary, "part {number} refused {reason}")
+}
+
+fn say_refused(rt: &impl Eprint, number: usize, reason: &str) {
+    let _ = eprintln!(rt; "h2audit-split: part {number} refused: {reason}");
 }
 
 fn write_summary<R: Files + AllocGlobal>(
@@ -145,13 +203,21 @@ fn write_summary<R: Files + AllocGlobal>(
 }
 
 fn remove_part<R: Files + AllocGlobal>(rt: &R, folder: &str, number: usize) -> Result<(), Failure> {
-    for kind in ["pcap", "records"] {
-        let path = part_path(rt.alloc(), folder, number, kind)?;
-        if fs::remove_file(rt, path.as_str()).is_err() {
-            return Err(Failure::Path("cannot remove", path));
-        }
+    remove_file(rt, folder, number, "pcap")?;
+    remove_file(rt, folder, number, "records")
+}
+
+fn remove_file<R: Files + AllocGlobal>(
+    rt: &R,
+    folder: &str,
+    number: usize,
+    kind: &str,
+) -> Result<(), Failure> {
+    let path = part_path(rt.alloc(), folder, number, kind)?;
+    match fs::remove_file(rt, path.as_str()) {
+        Ok(()) => Ok(()),
+        Err(_) => Err(Failure::Path("cannot remove", path)),
     }
-    Ok(())
 }
 
 /// Why a part is refused: the connection of the record that had no room, or a record of none.

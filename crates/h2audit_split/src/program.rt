@@ -1,21 +1,16 @@
 //! What the program does.
 
-ghost use Rattle.std.specs.Prelude.{◌≡◌, ◌<◌, ◌≤◌, IfOk, length, vec_len};
+ghost use Rattle.std.specs.Prelude.{◌<◌, ◌≤◌, length};
 
 use crate::command::{Asked, Words, parse_words};
-use crate::dealer::Dealer;
 use crate::failure::{Ending, Failure};
 use crate::inputs::{CaptureFile, Header, begin, open, split_later, split_named};
 use crate::outputs::{create_parts, finish_parts};
-use crate::part::Part;
-use crate::splitting::split_capture;
-use std::alloc::Global;
+use capture_parts::{Dealer, Part, make_buffer, split_capture};
+use std::alloc::{AllocError, Global};
 use std::env;
 use std::io::{Read, Write};
 use std::rt::{Env, Files};
-
-/// The bytes that are read at a time.
-const BUFFER: usize = 262_144;
 
 /// Does what the words of the command line ask for.
 pub fn run<R: Files + Env + AllocGlobal + Eprint, I: Read>(
@@ -24,54 +19,47 @@ pub fn run<R: Files + Env + AllocGlobal + Eprint, I: Read>(
 ) -> Result<Ending, Failure> {
     match words_asked(rt)? {
         Asked::Text(text) => Ok(Ending::Text(text)),
-        Asked::Split(words) => {
-            let are_refused = split(rt, &words, input)?;
-            Ok(ending(are_refused))
-        }
-    }
-}
-
-fn ending(are_refused: bool) -> Ending {
-    if are_refused {
-        Ending::PartsRefused
-    } else {
-        Ending::Split
+        Asked::Split(words) => split(rt, &words, input),
     }
 }
 
 fn words_asked<R: Env + AllocGlobal>(rt: &R) -> Result<Asked, Failure> {
-    let alloc = rt.alloc();
-    let Ok(words) = env::args(rt) else {
-        return Err(Failure::Words(String::from_str(alloc, "error: a word is not text")?));
-    };
-    let words: Vec<String> = words.skip(1).collect(alloc)?;
-    let mut texts = Vec::new(alloc);
-    for word in &words {
-        texts.push(word.as_str())?;
+    let words = given_words(rt)?;
+    let texts = texts_of(rt.alloc(), words.as_slice())?;
+    parse_words(rt.alloc(), texts.as_slice())
+}
+
+/// The words of the command line, without the program's name.
+fn given_words<R: Env + AllocGlobal>(rt: &R) -> Result<Vec<String>, Failure> {
+    match env::args(rt) {
+        Ok(words) => Ok(words.skip(1).collect(rt.alloc())?),
+        Err(_) => Err(no_text(rt.alloc())),
     }
-    parse_words(alloc, texts.as_slice())
 }
 
-fn make_buffer(alloc: Global) -> Result<Vec<u8>, Failure>
-    ensures { IfOk result (λ buffer. vec_len buffer ≡ 262144) }
-{
-    let buffer = vec![in alloc; 0; BUFFER]?;
-    Ok(buffer)
+fn no_text(alloc: Global) -> Failure {
+    match String::from_str(alloc, "error: a word is not text") {
+        Ok(text) => Failure::Words(text),
+        Err(_) => Failure::OutOfMemory,
+    }
 }
 
-/// Splits the capture that the words name, and answers whether a part is refused.
+fn texts_of<'a>(alloc: Global, words: &'a [String]) -> Result<Vec<&'a str>, AllocError> {
+    words.iter().map(|word| word.as_str()).collect(alloc)
+}
+
+/// Splits the capture that the words name.
 fn split<R: Files + AllocGlobal + Eprint, I: Read>(
     rt: &R,
     words: &Words,
     input: &mut I,
-) -> Result<bool, Failure> {
-    let mut buffer = make_buffer(rt.alloc())?;
+) -> Result<Ending, Failure> {
     match words.files.as_slice().first() {
         Some(first) => {
             let mut file = open(rt, first.as_str())?;
-            split_from(rt, words, &mut file, buffer.as_mut_slice())
+            split_from(rt, words, &mut file)
         }
-        None => split_from(rt, words, input, buffer.as_mut_slice()),
+        None => split_from(rt, words, input),
     }
 }
 
@@ -80,16 +68,26 @@ fn split_from<R: Files + AllocGlobal + Eprint, I: Read>(
     rt: &R,
     words: &Words,
     reader: &mut I,
+) -> Result<Ending, Failure> {
+    let mut buffer = make_buffer(rt.alloc())?;
+    let header = begin(reader)?;
+    split_behind(rt, words, reader, &header, buffer.as_mut_slice())
+}
+
+/// Splits it from behind its header on, into parts that it makes.
+fn split_behind<R: Files + AllocGlobal + Eprint, I: Read>(
+    rt: &R,
+    words: &Words,
+    reader: &mut I,
+    header: &Header,
     buffer: &mut [u8],
-) -> Result<bool, Failure>
+) -> Result<Ending, Failure>
     requires { 98 ≤ length buffer.old }
 {
-    let header = begin(reader)?;
-    let folder = words.folder.as_str();
-    let mut parts = create_parts(rt, folder, words.parts, &header)?;
-    let files = words.files.as_slice();
-    split_files(rt, files, reader, &header, buffer, parts.as_mut_slice())?;
-    finish_parts(rt, folder, parts.as_mut_slice())
+    let mut parts = create_parts(rt, words.folder.as_str(), words.parts, header)?;
+    let parts = parts.as_mut_slice();
+    split_files(rt, words.files.as_slice(), reader, header, buffer, parts)?;
+    finish_parts(rt, words.folder.as_str(), parts)
 }
 
 /// Splits files, which make one capture in their order. The reader stands behind the header of the first.
@@ -104,16 +102,16 @@ fn split_files<R: Files + AllocGlobal, I: Read, W: Write + Drop>(
     requires some { 0 < length parts.old }
     requires buffer { 98 ≤ length buffer.old }
 {
-    let Some((first, later)) = files.split_first() else {
+    if files.is_empty() {
         return Ok(split_capture(header, reader, buffer, parts)?);
-    };
+    }
     let mut dealer = Dealer::behind(header);
-    let named = CaptureFile {
-        path: first.as_str(),
-        is_last: later.is_empty(),
+    let first = CaptureFile {
+        path: files[0].as_str(),
+        is_last: files.len() == 1,
     };
-    split_named(rt, named, reader, &mut dealer, buffer, parts)?;
-    split_others(rt, later, header, &mut dealer, buffer, parts)
+    split_named(rt.alloc(), first, reader, &mut dealer, buffer, parts)?;
+    split_others(rt, &files[1..], header, &mut dealer, buffer, parts)
 }
 
 /// Splits the files behind the first one.

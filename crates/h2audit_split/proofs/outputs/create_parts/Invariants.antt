@@ -1,4 +1,4 @@
-use Rattle.h2audit_split.proofs.Terms.{vec_len, ◌≡◌}
+use Rattle.std.proofs.Common.{vec_len, ◌≡◌}
 use Rattle.h2audit_split.proofs.outputs.create_parts.Given as goal
 
 abbrev pub invariant-loop-index : goal.invariant-loop-index

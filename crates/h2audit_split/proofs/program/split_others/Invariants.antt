@@ -1,4 +1,4 @@
-use Rattle.h2audit_split.proofs.Terms.{length, ◌<◌}
+use Rattle.std.proofs.Common.{length, ◌<◌}
 use Rattle.h2audit_split.proofs.program.split_others.Given as goal
 
 abbrev pub invariant-loop-index : goal.invariant-loop-index

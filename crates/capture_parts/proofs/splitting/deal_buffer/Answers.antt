@@ -1,0 +1,19 @@
+use Rattle.capture_parts.proofs.Terms.{arith, length-take-le}
+use Rattle.capture_parts.proofs.Buffer.{moved_to_front}
+use Rattle.capture_parts.proofs.splitting.deal_buffer.Goals as goal
+
+pub returns-clause-moved : goal.returns-clause-moved
+returns-clause-moved g c =
+    (moved_to_front _ _ _ _ c.in_ok-dealt.ensures.within c.requires.filled c.copy_within.ensures.after).2
+
+pub returns-clause-rest : goal.returns-clause-rest
+returns-clause-rest g c = λ some.
+    let within = c.requires.filled in
+    let moved = moved_to_front _ _ _ _ c.in_ok-dealt.ensures.within within c.copy_within.ensures.after in
+    let rest = c.in_ok-dealt.ensures.rest (omega (arith, some, length-take-le _ _ within)) in
+    (rest.0, rw (← moved.1) rest.1)
+
+pub returns-clause-dealt : goal.returns-clause-dealt
+returns-clause-dealt g c =
+    let moved = moved_to_front _ _ _ _ c.in_ok-dealt.ensures.within c.requires.filled c.copy_within.ensures.after in
+    rw (← moved.0) c.in_ok-dealt.ensures.dealt

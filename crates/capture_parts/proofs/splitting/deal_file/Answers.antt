@@ -1,0 +1,42 @@
+use Rattle.capture_parts.proofs.Terms.{List, [], append-nil, arith, length, length-take, rules, sym, take}
+use Rattle.capture_parts.proofs.Terms.{take-put_mid_below, ℕ, ◌-◌, ◌∙◌, ◌≤◌}
+use Rattle.capture_parts.proofs.Buffer.{read_behind}
+use Rattle.capture_parts.proofs.Turns.{Deals-nil, next_turn, no_turn}
+use Rattle.capture_parts.proofs.splitting.deal_file.Goals as goal
+
+pub loop-init : goal.loop-init
+loop-init g c = record {
+  few = search rules;
+  part = search rules;
+  turned = no_turn g.W.Write.contents g.R.Read.remaining c.args.dealer.now c.args.parts.now c.args.reader.now;
+}
+
+pub returns-in-Ok-eq0-clause-turned : goal.returns-in-Ok-eq0-clause-turned
+returns-in-Ok-eq0-clause-turned g c =
+    let a : ℕ = c.loop.filled in
+    let old : List ℕ = c.loop.buffer in
+    let was = c.loop.invariant in
+    let within : a ≤ length old = omega (arith, was.few, c.loop.auto.buffer, c.requires.buffer) in
+    let read = rw c.in-Ok-eq0.field-0-test at c.in-Ok-eq0.ensures.bytes.0 in
+    rw (take-put_mid_below a (length old - a) old c.read.new.buf a (omega arith) within)
+    (next_turn g.W.Write.contents g.R.Read.remaining _ _ c.read.new.self [] [] (take a old) read
+    (append-nil (take a old)) was.turned.none_whole (Deals-nil g.W.Write.contents c.loop.dealer c.loop.parts)
+    was.turned)
+
+pub loop-preserved : goal.loop-preserved
+loop-preserved g c =
+    let a : ℕ = c.loop.filled in
+    let old : List ℕ = c.loop.buffer in
+    let n : ℕ = c.in_ok-filled-in-Ok.filled in
+    let done = c.in_ok-filled-in-Ok.ensures in
+    let read = c.in-Ok.ensures in
+    let within : a ≤ length old = omega (arith, c.loop.invariant.few, c.loop.auto.buffer, c.requires.buffer) in
+    let same = read_behind a (length old - a) c.in-Ok.count old c.read.new.buf within read.bound.0 in
+    record {
+      few = search rules;
+      part = search rules;
+      turned = next_turn g.W.Write.contents g.R.Read.remaining c.deal_buffer.new.dealer c.deal_buffer.new.parts
+          c.read.new.self _ _ (take n c.deal_buffer.new.buffer) read.bytes.0 (sym same ∙ done.moved)
+          (λ some. done.rest (omega (arith, some, length-take n c.deal_buffer.new.buffer)))
+          done.dealt c.loop.invariant.turned;
+    }

@@ -1,0 +1,49 @@
+-- What a dealer does with the bytes at hand.
+use Rattle.std.specs.Prelude.{◌≡◌, ◌≢◌, ℕ, ◌+◌, ◌<◌, ◌≤◌, Option, List, [], ◌++◌, drop, length, min, slice_index_or, take}
+use Rattle.std.specs.Io.KnownBytes.{Consumes}
+use Rattle.byteorder.specs.Endian.{big_bytes}
+use Rattle.pcap_records.specs.Record.{BeginsWithRecord, captured_length}
+use Rattle.capture_parts.specs.Files.{IsDealt, order_of}
+use Rattle.capture_parts.specs.Pair.{front_of, pair_of, part_of}
+use Rattle.capture_parts.specs.Parts.{Grows}
+use Rattle.capture_parts.specs.declared.dealer.Dealer.{Dealer}
+use Rattle.capture_parts.specs.declared.part.Part.{Part}
+
+module _ {W : Type 0} (contents : W → Option (List ℕ)) where
+  -- one part grows, and all others are as they were
+  pub record OneGrows (old new : List (Part W)) (i : ℕ) (bytes numbers : List ℕ) : Type 0 where
+    pub count : length new ≡ length old
+    pub one : (d : Part W) → Grows contents (slice_index_or old i d) (slice_index_or new i d) bytes numbers
+    pub others : (j : ℕ) (d : Part W) → j ≢ i → slice_index_or new j d ≡ slice_index_or old j d
+
+  -- a record was entered whose packet has this front: it has the next number, which its part got
+  pub record HasEntered (d e : Dealer) (old new : List (Part W)) (front : List ℕ) : Type 0 where
+    pub link : e.link ≡ d.link
+    pub is_little : e.is_little ≡ d.is_little
+    pub number : e.number ≡ d.number + 1
+    pub part : e.part ≡ part_of (length new) e.number (pair_of e.link front)
+    pub grows : OneGrows old new e.part [] (big_bytes 8 e.number)
+
+  -- the record that begins these bytes was begun: enough of it is there to tell its part, and all of it is to be dealt
+  pub record HasBegun (d e : Dealer) (old new : List (Part W)) (unread : List ℕ) : Type 0 where
+    pub entered : HasEntered d e old new
+        (front_of (drop 16 (take (16 + captured_length (order_of d.is_little) unread) unread)))
+    pub left : e.left ≡ 16 + captured_length (order_of d.is_little) unread
+    pub front : 16 + min 82 (captured_length (order_of d.is_little) unread) ≤ length unread
+
+  -- these bytes were dealt, of the same capture: they stand behind all that was dealt before
+  pub record Deals (d e : Dealer) (old new : List (Part W)) (given : List ℕ) : Type 0 where
+    pub link : e.link ≡ d.link
+    pub is_little : e.is_little ≡ d.is_little
+    pub behind : (first : List (Part W)) (bytes : List ℕ) → IsDealt contents d first old bytes
+        → IsDealt contents e first new (bytes ++ given)
+
+  -- a reader gave bytes, which were dealt but for some at their end; those hold no whole record. `left` tells the bytes
+  -- that a reader will give, where they are known
+  pub record HasTurned {R : Type 0} (left : R → Option (List ℕ)) (d e : Dealer) (old new : List (Part W))
+      (before after : R)
+      (unread : List ℕ) : Type 0 where
+    pub given : List ℕ
+    pub consumed : Consumes (left before) (left after) (given ++ unread)
+    pub none_whole : 0 < length unread → (e.left ≡ 0) × ¬ BeginsWithRecord (order_of e.is_little) unread
+    pub dealt : Deals d e old new given

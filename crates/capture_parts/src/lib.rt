@@ -1,0 +1,39 @@
+//! Parts of a capture of any size, each of which is a capture that h2audit reads.
+//!
+//! - The records of a classic pcap capture are dealt to parts by the unordered pair of endpoints that a packet names,
+//!   so a TCP connection lies in one part, in order. [`split_capture`] splits a capture from behind its file header on;
+//!   [`Dealer`], [`split_file`] and [`split_last`] do so with one that comes in several files. Bytes are read once,
+//!   into a buffer of at least 98, and are written as they come: nothing is kept of a record but where it goes.
+//! - What stands behind the file header is records, one after the other, and a rest that holds no whole one
+//!   (`AreRecords` of `specs/Dealt.antt`). Part i gets what `part_bytes` says: the bytes of its own records and of a
+//!   cut one, in their order; `part_numbers` are the numbers that its records have in the whole, each in 8 bytes.
+//! - The part of a record hangs on the front of its packet, 82 bytes (`part_at`): on its endpoints, where those of an
+//!   IPv4 datagram of TCP stand there (`specs/Pair.antt`), else on the record's number, which spreads all other
+//!   traffic.
+//! - The contract of `split_capture` (`AreSplit` of `specs/Parts.antt`) says this of any reader and any writers: the
+//!   reader gave some bytes to its end, and each part grew by its own of these. A part that would reach 2^31 bytes is
+//!   full: it gets nothing more, names the endpoints of the record that it had no room for ([`Part::full`]), and its
+//!   size with that record is proved to be 2^31 or more. Of a file no contract can say what it gives or takes.
+//! - There is a part ([`part_count`]), and the buffer is long enough for a packet's front ([`make_buffer`]).
+//! - [`laws`]: a record goes to one part, whole; a packet in which `packet_heads` finds a segment names that segment's
+//!   endpoints in its front; either order of two endpoints goes to the same part; the records are those that the reader
+//!   of the whole capture finds.
+//! - Refused by the prover: a pair of a sender alone, a record without its header, a part that gets another part's
+//!   bytes, one number for all records, a full part that goes on; no parts, a buffer that is too short.
+//! - Tested, in `tests/` at the root: the parts of whole captures, beside a model; reports of parts, merged.
+#![tactic(auto)]
+
+mod dealer;
+mod fault;
+mod header;
+pub mod laws;
+mod pair;
+mod part;
+mod splitting;
+
+pub use dealer::Dealer;
+pub use fault::SplitFault;
+pub use header::link_type;
+pub use pair::Pair;
+pub use part::{FullPart, Part, part_count};
+pub use splitting::{make_buffer, read_header, split_capture, split_file, split_last};

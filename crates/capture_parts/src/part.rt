@@ -1,0 +1,112 @@
+//! A part of a capture that is being written.
+
+ghost use Rattle.std.specs.Prelude.{◌≡◌, ◌<◌, ◌^◌, [], None, OnOk, IfOk, length};
+ghost use Rattle.std.specs.Io.KnownBytes.{Appends, Keeps};
+ghost use Rattle.byteorder.specs.Endian.{big_bytes};
+
+use crate::fault::SplitFault;
+use crate::pair::Pair;
+use pcap_records::MOST_BYTES;
+use std::io::Write;
+
+/// How many parts are made where so many are asked for: one at least.
+pub fn part_count(asked: u32) -> usize
+    ensures { 0 < result }
+{
+    asked.max(1) as usize
+}
+
+/// The record that a part has no room for.
+#[derive(Clone, Copy)]
+pub struct FullPart {
+    /// Its endpoints, if it names any.
+    pub pair: Option<Pair>,
+}
+
+/// A part: a capture, and the number of each of its records in the whole.
+#[derive(Drop)]
+pub struct Part<W: Drop> {
+    packets: W,
+    numbers: W,
+    /// How many bytes the capture has.
+    size: u64,
+    /// Nothing is written from here on.
+    full: Option<FullPart>,
+    ghost small: { size < 2 ^ 31 },
+}
+
+impl<W: Write + Drop> Part<W> {
+    ghost use Rattle.capture_parts.specs.Parts.{Grows};
+
+    /// A part that begins with this file header.
+    pub fn begin(mut packets: W, numbers: W, header: &[u8]) -> Result<Part<W>, SplitFault>
+        requires { length header.now < 2 ^ 31 }
+        ensures packets { IfOk result (λ part. Appends (W.contents packets) (W.contents part.packets) header.now) }
+        ensures numbers { IfOk result (λ part. part.numbers ≡ numbers) }
+        ensures size { IfOk result (λ part. part.size ≡ length header.now) }
+        ensures full { IfOk result (λ part. part.full ≡ None) }
+    {
+        if packets.write_all(header).is_err() {
+            return Err(SplitFault::Write);
+        }
+        Ok(Part {
+            packets,
+            numbers,
+            size: header.len() as u64,
+            full: None,
+        })
+    }
+
+    /// Takes the number of a record.
+    pub(crate) fn take_number(&mut self, number: u64) -> Result<(), SplitFault>
+        ensures { OnOk result (Grows W.contents self.old self.new [] (big_bytes 8 number)) }
+    {
+        if self.full.is_some() {
+            return Ok(());
+        }
+        match self.numbers.write_all(&number.to_be_bytes()) {
+            Ok(()) => Ok(()),
+            Err(_) => Err(SplitFault::Write),
+        }
+    }
+
+    /// Takes bytes of a record with this pair, where there is room.
+    pub(crate) fn take_bytes(&mut self, bytes: &[u8], pair: Option<Pair>) -> Result<(), SplitFault>
+        ensures { OnOk result (Grows W.contents self.old self.new bytes.now []) }
+    {
+        if self.full.is_some() {
+            return Ok(());
+        }
+        let count = bytes.len() as u64;
+        if count > MOST_BYTES as u64 - self.size {
+            self.full = Some(FullPart { pair });
+            return Ok(());
+        }
+        match self.packets.write_all(bytes) {
+            Ok(()) => {
+                self.size += count;
+                Ok(())
+            }
+            Err(_) => Err(SplitFault::Write),
+        }
+    }
+
+    /// Flushes both files.
+    pub fn flush(&mut self) -> Result<(), SplitFault>
+        ensures packets { Keeps (W.contents self.old.packets) (W.contents self.new.packets) }
+        ensures numbers { Keeps (W.contents self.old.numbers) (W.contents self.new.numbers) }
+        ensures full { self.new.full ≡ self.old.full }
+    {
+        if self.packets.flush().is_err() || self.numbers.flush().is_err() {
+            return Err(SplitFault::Write);
+        }
+        Ok(())
+    }
+
+    /// Whether it is full, and by which record.
+    pub fn full(&self) -> Option<FullPart>
+        ensures { result ≡ self.now.full }
+    {
+        self.full
+    }
+}

@@ -1,7 +1,0 @@
-use Rattle.h2audit_split.proofs.Terms.{on_ok_weaker}
-use Rattle.h2audit_split.proofs.Growth.{OneGrows-put}
-use Rattle.h2audit_split.proofs.dealer.give.Goals as goal
-
-pub returns : goal.returns
-returns g c = on_ok_weaker c.take_bytes.result
-    (OneGrows-put g.W.Write.contents _ _ _ _ _ _ c.requires c.index-parts-part.is) c.take_bytes.ensures
