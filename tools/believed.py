@@ -29,8 +29,8 @@ CALLS = {
     "h2audit/src/command_line/words.rt": ["parse"],
 }
 SPLITTER_CALLS = {
-    "h2audit_split/src/splitting.rt": ["split_capture", "split_file", "split_last"],
-    "h2audit_split/src/laws.rt": ["one_part", "segments_name", "either_order", "same_records"],
+    "capture_parts/src/splitting.rt": ["split_capture", "split_file", "split_last"],
+    "capture_parts/src/laws.rt": ["one_part", "segments_name", "either_order", "same_records"],
 }
 VIEWS = {"input_output/src/kept_bytes.rt": ["KeptBytes"]}
 # The folders of specs/ that hold what is not believed.
