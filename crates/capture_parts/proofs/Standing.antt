@@ -1,11 +1,11 @@
 -- From one place of a dealer in a capture to the next.
-use Rattle.capture_parts.proofs.Terms.{AllByRecursion, AllGrow, AreSplit, BeginsWithRecord, Bool, Dealer, Deals, HasBegun}
+use Rattle.capture_parts.proofs.Terms.{AllByRecursion, AllGrow, AreSplit, BeginsWithRecord, Bool, Dealer, Deals}
 use Rattle.capture_parts.proofs.Terms.{HasEntered, IsDealt, IsRecord, List, OneGrows, Option, Part, [], ap, append-nil}
 use Rattle.capture_parts.proofs.Terms.{append_assoc, arith, big_bytes, big_from-append, captured_length, cases_eq}
 use Rattle.capture_parts.proofs.Terms.{concat, drop, false, front_of, if◌then◌else◌, inl, inr, length, length-append}
 use Rattle.capture_parts.proofs.Terms.{length-take-le, little_from-append, min, order_of, part_at, part_bytes}
 use Rattle.capture_parts.proofs.Terms.{part_numbers, refl, subst, sym, take, take-append-drop, take_min, true, ℕ, ◌++◌}
-use Rattle.capture_parts.proofs.Terms.{◌+◌, ◌-◌, ◌<◌, ◌==◌, ◌∙◌, ◌∷◌, ◌≡◌, ◌≤◌}
+use Rattle.capture_parts.proofs.Terms.{HasBegun, ◌+◌, ◌-◌, ◌<◌, ◌==◌, ◌∙◌, ◌∷◌, ◌≡◌, ◌≤◌}
 use Rattle.std.proofs.lemmas.List.Elements.{All-from_recursion, All-push, recursion_from_All}
 use Rattle.std.proofs.lemmas.List.Folds.{concat-append}
 use Rattle.pcap_records.proofs.Fronts.{ReadsFirst, in_front}

@@ -1,5 +1,6 @@
 -- What a dealer does with the bytes at hand.
-use Rattle.std.specs.Prelude.{◌≡◌, ◌≢◌, ℕ, ◌+◌, ◌<◌, ◌≤◌, Option, List, [], ◌++◌, drop, length, min, slice_index_or, take}
+use Rattle.std.specs.Prelude.{◌≡◌, ◌≢◌, ℕ, ◌+◌, ◌<◌, ◌≤◌, Option, List, [], ◌++◌, drop, length, min, take}
+use Rattle.std.specs.Prelude.{slice_index_or}
 use Rattle.std.specs.Io.KnownBytes.{Consumes}
 use Rattle.byteorder.specs.Endian.{big_bytes}
 use Rattle.pcap_records.specs.Record.{BeginsWithRecord, captured_length}
