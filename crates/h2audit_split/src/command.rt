@@ -35,9 +35,13 @@ pub struct Words {
 /// Reads the words of the command line, without the program's name.
 pub fn parse_words(alloc: Global, words: &[&str]) -> Result<Asked, Failure> {
     match matches(alloc, words) {
-        Ok(found) => split_asked(alloc, &found),
+        Ok(found) => split_asked(words_in(alloc, &found)),
         Err(error) => unparsed(alloc, &error),
     }
+}
+
+fn split_asked(words: Result<Words, AllocError>) -> Result<Asked, Failure> {
+    Ok(Asked::Split(words?))
 }
 
 fn unparsed(alloc: Global, error: &Error) -> Result<Asked, Failure> {
@@ -52,14 +56,14 @@ fn unparsed(alloc: Global, error: &Error) -> Result<Asked, Failure> {
     }
 }
 
-fn split_asked(alloc: Global, found: &ArgMatches<'_>) -> Result<Asked, Failure> {
+fn words_in(alloc: Global, found: &ArgMatches<'_>) -> Result<Words, AllocError> {
     let folder = String::from_str(alloc, found.get_str("output").unwrap_or(""))?;
     let files = copies(alloc, found.get_strs("FILE").unwrap_or(&[]))?;
-    Ok(Asked::Split(Words {
+    Ok(Words {
         parts: part_count(found.get_one("parts").unwrap_or(1)),
         folder,
         files,
-    }))
+    })
 }
 
 fn copies(alloc: Global, texts: &[&str]) -> Result<Vec<String>, AllocError> {
@@ -75,12 +79,13 @@ fn matches<'a>(alloc: Global, words: &'a [&'a str]) -> Result<ArgMatches<'a>, Er
 }
 
 fn command<'a>(alloc: Global) -> Result<Command<'a>, AllocError> {
-    let args = vec![in alloc;
-        parts_option(alloc),
-        output_option(alloc),
-        file_words(alloc),
-    ]?;
-    described(alloc).args(args)
+    command_with_options(alloc)?.arg(file_words(alloc))
+}
+
+fn command_with_options<'a>(alloc: Global) -> Result<Command<'a>, AllocError> {
+    described(alloc)
+        .arg(parts_option(alloc))?
+        .arg(output_option(alloc))
 }
 
 fn described<'a>(alloc: Global) -> Command<'a> {

@@ -105,27 +105,19 @@ fn show(rt: &(impl Print + Eprint), text: &str) -> ExitCode {
 }
 
 fn fail(rt: &impl Eprint, failure: &Failure) -> ExitCode {
-    let _ = say(rt, failure);
-    ExitCode::from(status(failure))
-}
-
-fn say(rt: &impl Eprint, failure: &Failure) -> io::Result<()> {
-    match failure {
-        Failure::Words(text) => say_words(rt, text.as_str().trim_end()),
+    let said: io::Result<()> = match failure {
+        Failure::Words(text) => {
+            let text = text.as_str().trim_end();
+            eprintln!(rt; "{text}")
+        }
         Failure::Capture(name) => eprintln!(rt; "h2audit-split: capture refused: {name}"),
         Failure::File(path, name) => eprintln!(rt; "h2audit-split: {path} refused: {name}"),
-        Failure::Io(what) => say_fault(rt, what),
+        Failure::Io(what) => eprintln!(rt; "h2audit-split: {what}"),
         Failure::Path(what, path) => eprintln!(rt; "h2audit-split: {what}: {path}"),
-        Failure::OutOfMemory => say_fault(rt, "out of memory"),
-    }
-}
-
-fn say_words(rt: &impl Eprint, text: &str) -> io::Result<()> {
-    eprintln!(rt; "{text}")
-}
-
-fn say_fault(rt: &impl Eprint, what: &str) -> io::Result<()> {
-    eprintln!(rt; "h2audit-split: {what}")
+        Failure::OutOfMemory => eprintln!(rt; "h2audit-split: out of memory"),
+    };
+    let _ = said;
+    ExitCode::from(status(failure))
 }
 
 fn status(failure: &Failure) -> u8 {

@@ -120,9 +120,17 @@ fn finish_with<R: Files + AllocGlobal + Eprint>(
     parts: &mut [FilePart<R>],
     summary: &mut String,
 ) -> Result<Ending, Failure> {
-    let ending = finish_each(rt, folder, parts, summary)?;
+    let are_refused = finish_each(rt, folder, parts, summary)?;
     write_summary(rt, folder, summary.as_str())?;
-    Ok(ending)
+    Ok(ending(are_refused))
+}
+
+fn ending(are_refused: bool) -> Ending {
+    if are_refused {
+        Ending::PartsRefused
+    } else {
+        Ending::Split
+    }
 }
 
 fn finish_each<R: Files + AllocGlobal + Eprint>(
@@ -130,16 +138,12 @@ fn finish_each<R: Files + AllocGlobal + Eprint>(
     folder: &str,
     parts: &mut [FilePart<R>],
     summary: &mut String,
-) -> Result<Ending, Failure> {
+) -> Result<bool, Failure> {
     let mut are_refused = false;
     for index in 0..parts.len() {
         are_refused |= finish_part(rt, folder, index + 1, &mut parts[index], summary)?;
     }
-    Ok(if are_refused {
-        Ending::PartsRefused
-    } else {
-        Ending::Split
-    })
+    Ok(are_refused)
 }
 
 /// Completes the files of one part, and answers whether it is full. A full one is written down and removed.
@@ -177,17 +181,18 @@ fn write_down<R: AllocGlobal + Eprint>(
     summary: &mut String,
 ) -> Result<(), AllocError> {
     let reason = full_reason(rt.alloc(), full)?;
-    add_line(summary, number, reason.as_str())?;
-    say_refused(rt, number, reason.as_str());
-    Ok(())
+    tell_refused(rt, number, reason.as_str(), summary)
 }
 
-fn add_line(summary: &mut String, number: usize, reason: &str) -> Result<(), AllocError> {
-    writeln!(summary, "part {number} refused {reason}")
-}
-
-fn say_refused(rt: &impl Eprint, number: usize, reason: &str) {
+fn tell_refused(
+    rt: &impl Eprint,
+    number: usize,
+    reason: &str,
+    summary: &mut String,
+) -> Result<(), AllocError> {
+    writeln!(summary, "part {number} refused {reason}")?;
     let _ = eprintln!(rt; "h2audit-split: part {number} refused: {reason}");
+    Ok(())
 }
 
 fn write_summary<R: Files + AllocGlobal>(
