@@ -130,16 +130,16 @@ module _ {W : Type 0} (contents : W → Option (List ℕ)) where
 
   -- a record was begun, and its first bytes were dealt
   pub dealt_first : {d : Dealer} (e : Dealer) {old mid new : List (Part W)} (unread : List ℕ) (n : ℕ) → d.left ≡ 0
-      → HasBegun contents d e old mid unread → n ≡ min e.left (length unread)
-      → OneGrows contents mid new e.part (take n unread) []
+      → HasBegun contents d e old mid unread → e.left ≡ 16 + captured_length (order_of d.is_little) unread
+      → n ≡ min e.left (length unread) → OneGrows contents mid new e.part (take n unread) []
       → Deals contents d (record e { left = e.left - n }) old new (take n unread)
-  dealt_first {d} e {old} {mid} {new} unread n none started count one =
+  dealt_first {d} e {old} {mid} {new} unread n none started left count one =
       record { link = started.entered.link; is_little = started.entered.is_little; behind = behind }
     where
       behind : (first : List (Part W)) (bytes : List ℕ) → IsDealt contents d first old bytes
           → IsDealt contents (record e { left = e.left - n }) first new (bytes ++ take n unread)
       behind first bytes was =
-          let record { entered = entered; left = left; front = enough } = started in
+          let record { entered = entered; front = enough } = started in
           let little = entered.is_little in
           let chunk : List ℕ = take n unread in
           let size : length chunk ≡ n = length-take-le n unread (omega (arith, count)) in

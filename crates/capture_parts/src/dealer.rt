@@ -122,6 +122,8 @@ impl Dealer {
             × (length unread.now < 98) × ¬ BeginsWithRecord (order_of self.old.is_little) unread.now) }
         ensures begun { IfOk result (λ begun. IsTrue begun
             → HasBegun W.contents self.old self.new parts.old parts.new unread.now) }
+        ensures left { IfOk result (λ begun. IsTrue begun
+            → self.new.left ≡ 16 + captured_length (order_of self.old.is_little) unread.now) }
         ensures in_range { self.new.part < length parts.new }
     {
         if unread.len() < RECORD_HEADER {

@@ -25,11 +25,10 @@ module _ {W : Type 0} (contents : W → Option (List ℕ)) where
     pub part : e.part ≡ part_of (length new) e.number (pair_of e.link front)
     pub grows : OneGrows old new e.part [] (big_bytes 8 e.number)
 
-  -- the record that begins these bytes was begun: enough of it is there to tell its part, and all of it is to be dealt
+  -- the record that begins these bytes was entered, of which enough is there to tell its part
   pub record HasBegun (d e : Dealer) (old new : List (Part W)) (unread : List ℕ) : Type 0 where
     pub entered : HasEntered d e old new
         (front_of (drop 16 (take (16 + captured_length (order_of d.is_little) unread) unread)))
-    pub left : e.left ≡ 16 + captured_length (order_of d.is_little) unread
     pub front : 16 + min 82 (captured_length (order_of d.is_little) unread) ≤ length unread
 
   -- these bytes were dealt, of the same capture: they stand behind all that was dealt before

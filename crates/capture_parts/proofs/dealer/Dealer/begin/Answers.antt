@@ -16,6 +16,5 @@ returns-clause-begun g c = λ _.
         part = rw (← length, drop-take 16 captured c.args.unread.now, take-min, ← front) entered.part;
         grows = entered.grows;
       };
-      left = search rules;
       front = search rules;
     }

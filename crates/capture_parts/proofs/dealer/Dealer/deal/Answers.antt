@@ -18,9 +18,11 @@ loop-at-preserved g c =
     (take n rest) =
     rw done.left (elim c.else-self-eq0.branch [
       | else-self-eq0-via-then-self-eq0+in_ok-begin+else-not-branch w ↦
-          let begun = w.in_ok-begin.ensures.begun w.if-not-branch.false in
+          let test = w.if-not-branch.false in
+          let begun = w.in_ok-begin.ensures in
           dealt_first g.W.Write.contents c.else-self-eq0.self rest n (omega (arith, w.if-self-eq0.true))
-          (rw (← w.self-is, ← w.parts-is) at begun) done.count done.grows
+          (rw (← w.self-is, ← w.parts-is) at (begun.begun test)) (rw (← w.self-is) at (begun.left test))
+          done.count done.grows
       | else-self-eq0-via-else-self-eq0 w ↦
           let left : c.loop-at.self.left ≡ c.else-self-eq0.self.left =
           ap (λ (d : Dealer). d.left) (sym w.self-is) in
