@@ -12,7 +12,8 @@ use Rattle.std.proofs.lemmas.Result.{on_ok_weaker}
 use Rattle.std.proofs.lemmas.List.{append-nil, append_assoc, nil_from_length, take_all}
 use Rattle.input_output.specs.code.Front.{Lasts}
 use Rattle.input_output.specs.Account.{HaveGiven, IsReadToEnd, kept}
-use Rattle.input_output.specs.code.Reading.{HasConsumed, HasGrown, HasPassed, HasReadOn, IsReadingFault, IsSound}
+use Rattle.input_output.specs.code.Reading.{HasConsumed, HasGrown, HasPassed, HasReadOn, HaveAnswered, IsReadingFault}
+use Rattle.input_output.specs.code.Reading.{IsSound}
 use Rattle.input_output.specs.code.Reads.{HasRead}
 use Rattle.input_output.specs.declared.capture_reader.CaptureReader.{CaptureReader}
 use Rattle.input_output.specs.declared.capture_reader.ReadState.{ReadState}
@@ -91,31 +92,42 @@ module _ {R : Type 0} where
       let front = starts_with_trans (kept new) (kept old) (kept first) grown.front before.front in
       grind (arith, grown, front)
 
+  pub answered_more : (left : R → Option (List ℕ)) (limit : ℕ) (first old new : CaptureReader R)
+      (read : Result (Unit {0}) ReadFault) → HasGrown limit (kept first) old → HasConsumed left first old
+      → HaveAnswered left limit old.reader (kept old) new read → HaveAnswered left limit first.reader (kept first) new read
+  answered_more left limit first old new read before bytes answered = record {
+    grown = grown_more limit first old new before answered.grown;
+    read = on_ok_weaker read (read_more left limit first old new before bytes answered.grown) answered.read;
+    err = answered.err;
+  }
+
   pub read_on : (left : R → Option (List ℕ)) (limit : ℕ) (first old new : CaptureReader R)
       (last read : Result (Unit {0}) ReadFault) → IsReading left limit first old last → old.state ≡ Open
-      → HasGrown limit (kept old) new → OnOk read (HasReadOn left old.reader (kept old) new)
-      → IfErr read (λ e. IsReadingFault e new) → IsReading left limit first new read
-  read_on left limit first old new last read on unended grown more err = record {
-    grown = grown_more limit first old new on.grown grown;
-    sound = on_ok_weaker read (λ more. more.sound) more;
-    end = on_ok_weaker read (λ more. more.end) more;
-    bytes = on_ok_weaker read
-        (λ more.
-        (read_more left limit first old new on.grown (went_well old last unended on.err on.bytes) grown more).bytes)
-        more;
-    err = err;
-  }
+      → HaveAnswered left limit old.reader (kept old) new read → IsReading left limit first new read
+  read_on left limit first old new last read on unended answered =
+      let all = answered_more left limit first old new read on.grown (went_well old last unended on.err on.bytes)
+      answered in record {
+        grown = all.grown;
+        sound = on_ok_weaker read (λ more. more.sound) all.read;
+        end = on_ok_weaker read (λ more. more.end) all.read;
+        bytes = on_ok_weaker read (λ more. more.bytes) all.read;
+        err = all.err;
+      }
 
   pub fewer_left : (left : R → Option (List ℕ)) (limit : ℕ) (old new : CaptureReader R)
       (read : Result (Unit {0}) ReadFault) → old.state ≡ Open → length (kept old) < limit
-      → OnOk read (HasReadOn left old.reader (kept old) new) → IfErr read (λ e. IsReadingFault e new)
+      → HaveAnswered left limit old.reader (kept old) new read
       → reads_left new.state (limit - length (kept new)) < reads_left old.state (limit - length (kept old))
-  fewer_left left limit old new (Ok _) unended below more err = rw unended (elim more.sound.well [
-    | inl on ↦ rw on (omega (arith, more.more on, below))
-    | inr ended ↦ rw ended (omega arith)
-  ])
-  fewer_left left limit old new (Err fault.Failed) unended below more err = rw (unended, err) (omega arith)
-  fewer_left left limit old new (Err fault.OutOfMemory) unended below more err = rw (unended, err) (omega arith)
+  fewer_left left limit old new (Ok _) unended below answered =
+      let more = answered.read in
+      rw unended (elim more.sound.well [
+        | inl on ↦ rw on (omega (arith, more.more on, below))
+        | inr ended ↦ rw ended (omega arith)
+      ])
+  fewer_left left limit old new (Err fault.Failed) unended below answered =
+      rw (unended, answered.err) (omega arith)
+  fewer_left left limit old new (Err fault.OutOfMemory) unended below answered =
+      rw (unended, answered.err) (omega arith)
 
   -- what was read while these bytes were taken out, once they stand in front again
   pub read_behind : (left : R → Option (List ℕ)) (before : R) (front : List ℕ) (now new : CaptureReader R)

@@ -2,8 +2,7 @@ ghost use Rattle.std.specs.Prelude.{◌≡◌, ◌+◌, ◌^◌, ◌<◌, ◌≤
 ghost use Rattle.std.specs.Bool.{Decides};
 ghost use Rattle.input_output.specs.Account.{IsUnread, kept};
 ghost use Rattle.input_output.specs.code.Front.{Lasts};
-ghost use Rattle.input_output.specs.code.Reading.{HasGrown, HasReadOn, IsOpenBehind, IsOpenBelow};
-ghost use Rattle.input_output.specs.code.Reading.{IsReadingFault};
+ghost use Rattle.input_output.specs.code.Reading.{HasTaken, HaveAnswered, IsOpenBehind, IsOpenBelow};
 ghost use Rattle.input_output.specs.code.Reads.{HasRead, IsStateAfter};
 
 use crate::chunks_ahead::ChunksAhead;
@@ -38,7 +37,7 @@ pub enum ReadState {
 /// A type of reader tells which bytes it will give, if any, and not whether a read failed; of a file or a pipe it tells
 /// nothing. The account does: `enter_read` enters what a read answered, for `read_once` and `pass_once`. `pass_once`
 /// calls `read` itself, `read_once` through `read_once` and `read_into` of `kept_bytes`, of which `read_into` calls it.
-/// `walk_where_full` takes what is kept out of it for a walk that goes on over that, and `read_behind` puts it back in
+/// `take_full` takes what is kept out of it for a walk that goes on over that, and `read_behind` puts it back in
 /// front of what was read meanwhile. `lack_memory` enters want of memory, also for `enter_memory`. Nothing else changes
 /// an account.
 #[derive(Drop)]
@@ -168,9 +167,7 @@ impl<R: Read> CaptureReader<R> {
         ahead: &mut ChunksAhead<'_, T>,
     ) -> Result<(), ReadFault>
         requires { IsOpenBelow limit self.old }
-        ensures grown { HasGrown limit (kept self.old) self.new }
-        ensures read { OnOk result (HasReadOn R.remaining self.old.reader (kept self.old) self.new) }
-        ensures err { IfErr result (λ e. IsReadingFault e self.new) }
+        ensures { HaveAnswered R.remaining limit self.old.reader (kept self.old) self.new result }
     {
         let room = self.bytes.make_room(limit, ahead);
         self.enter_memory(room)?;
@@ -189,55 +186,33 @@ impl<R: Read> CaptureReader<R> {
     ) -> Result<(), ReadFault>
         requires reader { IsOpenBelow (2 ^ 31) self.old }
         requires walk { Lasts W.stands (kept self.old) walk.old }
-        ensures grown { HasGrown (2 ^ 31) (kept self.old) self.new }
-        ensures read { OnOk result (HasReadOn R.remaining self.old.reader (kept self.old) self.new) }
+        ensures read { HaveAnswered R.remaining (2 ^ 31) self.old.reader (kept self.old) self.new result }
         ensures walk { OnOk result (Lasts W.stands (kept self.new) walk.new) }
-        ensures err { IfErr result (λ e. IsReadingFault e self.new) }
     {
-        if ahead.is_alone() {
-            self.read_then_walk(ahead, walk)
-        } else {
-            self.walk_where_full(ahead, walk)
+        if let Some(full) = self.take_full(ahead)? {
+            return self.read_behind(full, ahead, walk);
         }
-    }
-
-    /// Reads once, and walks where a piece is full.
-    fn read_then_walk<T: Threads, W: FrontWalk + Send>(
-        &mut self,
-        ahead: &mut ChunksAhead<'_, T>,
-        walk: &mut W,
-    ) -> Result<(), ReadFault>
-        requires reader { IsOpenBelow (2 ^ 31) self.old }
-        requires walk { Lasts W.stands (kept self.old) walk.old }
-        ensures grown { HasGrown (2 ^ 31) (kept self.old) self.new }
-        ensures read { OnOk result (HasReadOn R.remaining self.old.reader (kept self.old) self.new) }
-        ensures walk { OnOk result (Lasts W.stands (kept self.new) walk.new) }
-        ensures err { IfErr result (λ e. IsReadingFault e self.new) }
-    {
         self.read_once(LIMIT, ahead)?;
-        let walked = self.bytes.walk_where_filled(ahead.alloc, walk);
+        let walked = self.bytes.walk_where_filled(ahead, walk);
         self.enter_memory(walked)
     }
 
-    /// Reads once, or, where a chunk begins, on beside a walk over those before it.
-    fn walk_where_full<T: Threads, W: FrontWalk + Send>(
+    /// Takes out what is kept, where a chunk begins and another thread can walk over those before it.
+    fn take_full<T: Threads>(
         &mut self,
         ahead: &mut ChunksAhead<'_, T>,
-        walk: &mut W,
-    ) -> Result<(), ReadFault>
-        requires reader { IsOpenBelow (2 ^ 31) self.old }
-        requires walk { Lasts W.stands (kept self.old) walk.old }
-        ensures grown { HasGrown (2 ^ 31) (kept self.old) self.new }
-        ensures read { OnOk result (HasReadOn R.remaining self.old.reader (kept self.old) self.new) }
-        ensures walk { OnOk result (Lasts W.stands (kept self.new) walk.new) }
-        ensures err { IfErr result (λ e. IsReadingFault e self.new) }
+    ) -> Result<Option<FullChunks>, ReadFault>
+        requires { IsOpenBelow (2 ^ 31) self.old }
+        ensures taken { IfOk result (HasTaken self.old self.new) }
+        ensures err { IfErr result (λ e.
+            HaveAnswered R.remaining (2 ^ 31) self.old.reader (kept self.old) self.new (Err e)) }
     {
+        if ahead.is_alone() {
+            return Ok(None);
+        }
         let room = self.bytes.make_room(LIMIT, ahead);
         self.enter_memory(room)?;
-        match self.bytes.take_full(ahead.alloc) {
-            Some(full) => self.read_behind(full, ahead, walk),
-            None => self.read_once(LIMIT, ahead),
-        }
+        Ok(self.bytes.take_full(ahead.alloc))
     }
 
     /// Reads on beside a walk over full chunks that were taken out, and puts these back in front.
@@ -249,10 +224,8 @@ impl<R: Read> CaptureReader<R> {
     ) -> Result<(), ReadFault>
         requires reader { IsOpenBehind full self.old }
         requires walk { Lasts W.stands full walk.old }
-        ensures grown { HasGrown (2 ^ 31) full self.new }
-        ensures read { OnOk result (HasReadOn R.remaining self.old.reader full self.new) }
+        ensures read { HaveAnswered R.remaining (2 ^ 31) self.old.reader full self.new result }
         ensures walk { OnOk result (Lasts W.stands (kept self.new) walk.new) }
-        ensures err { IfErr result (λ e. IsReadingFault e self.new) }
     {
         let limit = BESIDE.min(LIMIT - full.len());
         let read = self.read_beside(limit, ahead, &full, walk);
@@ -272,10 +245,8 @@ impl<R: Read> CaptureReader<R> {
     ) -> Result<(), ReadFault>
         requires reader { IsOpenBelow limit self.old }
         requires walk { Lasts W.stands full.now walk.old }
-        ensures grown { HasGrown limit (kept self.old) self.new }
-        ensures read { OnOk result (HasReadOn R.remaining self.old.reader (kept self.old) self.new) }
+        ensures read { HaveAnswered R.remaining limit self.old.reader (kept self.old) self.new result }
         ensures walk { OnOk result (Lasts W.stands full.now walk.new) }
-        ensures err { IfErr result (λ e. IsReadingFault e self.new) }
     {
         let rt = ahead.rt;
         let alloc = ahead.alloc;
@@ -296,9 +267,7 @@ impl<R: Read> CaptureReader<R> {
         full: &FullChunks,
     ) -> Result<(), ReadFault>
         requires { IsOpenBelow limit self.old }
-        ensures grown { HasGrown limit (kept self.old) self.new }
-        ensures read { OnOk result (HasReadOn R.remaining self.old.reader (kept self.old) self.new) }
-        ensures err { IfErr result (λ e. IsReadingFault e self.new) }
+        ensures { HaveAnswered R.remaining limit self.old.reader (kept self.old) self.new result }
     {
         loop {
             let read = self.read_once(limit, ahead);

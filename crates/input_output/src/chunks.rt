@@ -123,11 +123,11 @@ impl<'a, T, const N: usize> Chunks<'a, T, N> {
         requires length { length full.now * N + length last.now < 2 ^ 64 }
         ensures { IfOk result (λ all. all ≡ joined (map (λ chunk. chunk.items) full.now) ++ last.now) }
     {
-        let mut all = Vec::with_capacity(alloc, full.len())?;
+        let mut all = Vec::with_capacity(alloc, full.len() + 1)?;
         for chunk in full {
-            all.extend_from_slice(&[chunk.as_slice()])?;
+            all.push_reserved(chunk.as_slice());
         }
-        all.extend_from_slice(&[last])?;
+        all.push_reserved(last);
         Ok(Chunks {
             chunks: all,
             count: full.len() * N + last.len(),

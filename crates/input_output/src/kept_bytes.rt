@@ -155,21 +155,21 @@ impl KeptBytes {
         put
     }
 
-    /// Lets a walk go on over the bytes, where there is no room for one more.
-    pub(crate) fn walk_where_filled<W: FrontWalk>(
+    /// Lets a walk go on over the bytes, where there is no room for one more, and no other thread to walk over them.
+    pub(crate) fn walk_where_filled<T: Threads, W: FrontWalk>(
         &self,
-        alloc: Global,
+        ahead: &ChunksAhead<'_, T>,
         walk: &mut W,
     ) -> Result<(), AllocError>
         requires walk { Lasts W.stands self.now.kept walk.old }
         requires short { length self.now.kept ≤ 2 ^ 31 }
         ensures { OnOk result (Lasts W.stands self.now.kept walk.new) }
     {
-        if self.filled < self.last.len() {
+        if self.filled < self.last.len() || !ahead.is_alone() {
             return Ok(());
         }
-        let capture = self.capture(alloc)?;
-        walk.advance(alloc, &capture)
+        let capture = self.capture(ahead.alloc)?;
+        walk.advance(ahead.alloc, &capture)
     }
 }
 

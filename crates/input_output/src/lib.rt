@@ -22,15 +22,15 @@
 //! enters what a read gave, for `read_once` and `pass_once`, over `read_once` and `read_into` of `kept_bytes`;
 //! `write_once` and `flush_once` of [`ReportWriter`] enter what a write took; they ask that none follows one that
 //! failed. `read_into`, `pass_once`, `write_once` and `flush_once` alone call `read`, `write` and `flush`.
-//! `walk_where_full` takes bytes out for a walk that goes on over them (`take_full`), and `read_behind` puts them back
-//! in front of what was read meanwhile (`put_back`). `lack_memory` enters want of memory, also for `enter_memory`. A
+//! `take_full` takes bytes out for a walk that goes on over them, and `read_behind` puts them back in front of what was
+//! read meanwhile (`put_back`). `lack_memory` enters want of memory, also for `enter_memory`. A
 //! reader sees this at once; no contract says it.
 //!
 //! A [`TableHash`] hashes by SipHash under a key that is drawn anew at each start, so which pairs or streams of a
 //! capture collide nobody can foresee. A table keeps its entries in the order of first sight and answers by equality,
 //! so no answer depends on the key: no contract of a table names it.
 //!
-//! Wrong bodies that the prover refuses: a read or a write that is told to have filled or taken all; a reading that
+//! Refused by the prover: a read that is told to have filled, a write that is told to have taken all; a reading that
 //! ends at half of 2^31 bytes; a capture without half of its last chunk; chunks that are put back behind what was read
 //! after them; a range that ends with its first chunk. Tested, in `crate_tests`: which calls readers and writers get.
 //! Trusted: that a file or a pipe gives and keeps its bytes.

@@ -1,5 +1,5 @@
 -- How the bytes of a capture are read, and how that fails.
-use Rattle.std.specs.Prelude.{◌≡◌, ℕ, ◌+◌, ◌^◌, ◌<◌, ◌≤◌, ◌⊎◌, List, [], Option, length}
+use Rattle.std.specs.Prelude.{◌≡◌, ℕ, ◌+◌, ◌^◌, ◌<◌, ◌≤◌, ◌⊎◌, List, [], Option, Some, None, Result, IfErr, OnOk, length}
 use Rattle.std.specs.Io.{StartsWith, appended_bytes}
 use Rattle.std.specs.Io.KnownBytes.{Consumes, IsAtEnd}
 use Rattle.input_output.specs.Account.{HasReadFailed, kept}
@@ -62,3 +62,15 @@ module _ {R : Type 0} where
   abbrev pub IsReadingFault : ReadFault → CaptureReader R → Type 0
   IsReadingFault fault.Failed reader = HasReadFailed reader
   IsReadingFault fault.OutOfMemory reader = reader.state ≡ LackedMemory
+
+  -- what one read or more answered that are kept behind these bytes, up to a limit
+  pub record HaveAnswered (left : R → Option (List ℕ)) (limit : ℕ) (before : R) (front : List ℕ) (now : CaptureReader R)
+      (answer : Result (Unit {0}) ReadFault) : Type 0 where
+    pub grown : HasGrown limit front now
+    pub read : OnOk answer (HasReadOn left before front now)
+    pub err : IfErr answer (λ e. IsReadingFault e now)
+
+  -- what is kept was taken out, for a walk over it beside the reads, or nothing was
+  abbrev pub HasTaken : (old new : CaptureReader R) → Option (List ℕ) → Type 0
+  HasTaken old new (Some full) = (full ≡ kept old) × (new.reader ≡ old.reader) × IsOpenBehind full new
+  HasTaken old new None = (kept new ≡ kept old) × (new.reader ≡ old.reader) × IsOpenBelow (2 ^ 31) new

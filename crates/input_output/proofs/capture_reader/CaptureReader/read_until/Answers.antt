@@ -1,14 +1,11 @@
 use Rattle.std.proofs.Common.{arith}
-use Rattle.std.proofs.lemmas.Result.{on_ok_weaker}
-use Rattle.input_output.proofs.Kept.{grown_more, read_more, went_well}
+use Rattle.input_output.proofs.Kept.{answered_more, grown_more, read_more, went_well}
 use Rattle.input_output.proofs.capture_reader.CaptureReader.read_until.Goals as goal
 
-pub returns-then-is_walked-clause-read : goal.returns-then-is_walked-clause-read
-returns-then-is_walked-clause-read g c =
-    on_ok_weaker c.read_once-read.result
-    (read_more g.R.Read.remaining c.args.limit c.args.self.now c.loop-self.self c.read_once-read.new.self
-    c.loop-self.invariant.grown c.loop-self.invariant.bytes c.read_once-read.ensures.grown)
-    c.read_once-read.ensures.read
+pub returns-then-is_walked : goal.returns-then-is_walked
+returns-then-is_walked g c =
+    answered_more g.R.Read.remaining c.args.limit c.args.self.now c.loop-self.self c.read_once-read.new.self
+    c.read_once-read.result c.loop-self.invariant.grown c.loop-self.invariant.bytes c.read_once-read.ensures
 
 pub loop-self-preserved : goal.loop-self-preserved
 loop-self-preserved g c =

@@ -1,10 +1,23 @@
-use Rattle.std.proofs.Common.{◌≤◌, slice_index_or, ◌≡◌, ◌∙◌, ◌∷◌, [], ◌++◌, List, length, map, length-append, arith, ap}
+use Rattle.std.proofs.Common.{◌≤◌, slice_index_or, ◌≡◌, ◌∙◌, ◌∷◌, [], ◌++◌, List, length, map, length-append, arith, ap, take}
 use Rattle.std.proofs.Common.{sym, subst}
-use Rattle.std.proofs.lemmas.List.{map-append, take_all}
+use Rattle.std.proofs.lemmas.List.{map-append, map_more, take_all}
 use Rattle.input_output.specs.Chunks.{joined}
 use Rattle.input_output.specs.code.Sizes.{AreChunksOf}
 use Rattle.input_output.proofs.ChunkLemmas.{AreFull, full_and_last, full_count, joined-push}
+use Rattle.input_output.proofs.chunks.Chunks.with_last.Given.{Over}
 use Rattle.input_output.proofs.chunks.Chunks.with_last.Goals as goal
+
+-- the chunks, and the last one behind them
+pushed : (g : Over) (c : goal.After-push_reserved-2 g)
+    → map (λ chunk. chunk.now) c.push_reserved-2.new.self.items
+    ≡ map (λ chunk. chunk.items) c.args.full.now ++ c.args.last.now ∷ []
+pushed g c =
+    let whole : length c.args.full.now ≤ c.loop-chunk.chunk-index = omega arith in
+    ap (map (λ chunk. chunk.now)) c.push_reserved-2.ensures.items
+    ∙ map-append (λ chunk. chunk.now) c.loop-chunk.all.items (c.args.last ∷ [])
+    ∙ ap (λ l. l ++ c.args.last.now ∷ [])
+    (c.loop-chunk.invariant.items
+    ∙ ap (map (λ chunk. chunk.items)) (take_all c.loop-chunk.chunk-index c.args.full.now whole))
 
 pub invariant_of-result : goal.invariant_of-result
 invariant_of-result g c =
@@ -13,16 +26,27 @@ invariant_of-result g c =
     let before : List (List _) = map (λ chunk. chunk.items) full in
     let all : AreFull (λ chunk. chunk.items) g.row.N full =
     λ k d within. omega (arith, c.requires.full k d within, (slice_index_or full k d).ok.0) in
-    let whole : length full ≤ c.loop-chunk.chunk-index = omega arith in
-    let is : map (λ chunk. chunk.now) c.extend_from_slice-2.new.self.items ≡ before ++ last ∷ [] =
-    ap (map (λ chunk. chunk.now)) c.in_ok-extend_from_slice-2.ensures.items
-    ∙ map-append (λ chunk. chunk.now) c.loop-chunk.all.items (c.args.last ∷ [])
-    ∙ ap (λ l. l ++ last ∷ [])
-    (c.loop-chunk.invariant ∙ ap (map (λ chunk. chunk.items)) (take_all c.loop-chunk.chunk-index full whole)) in (
+    let count = full_count (λ chunk. chunk.items) g.row.N full all in
+    let size = ap length (ap joined (pushed g c) ∙ joined-push before last) ∙ length-append (joined before) last in (
       c.requires.size,
-      subst (AreChunksOf g.row.N) (sym is)
+      subst (AreChunksOf g.row.N) (sym (pushed g c))
           (full_and_last (λ chunk. chunk.items) g.row.N full last all c.requires.last),
-      (let count = full_count (λ chunk. chunk.items) g.row.N full all in
-          let size = ap length (ap joined is ∙ joined-push before last) ∙ length-append (joined before) last in
-          omega arith),
+      omega arith,
     )
+
+pub returns : goal.returns
+returns g c = ap joined (pushed g c) ∙ joined-push (map (λ chunk. chunk.items) c.args.full.now) c.args.last.now
+
+pub loop-chunk-preserved : goal.loop-chunk-preserved
+loop-chunk-preserved g c =
+    let before : List (List _) = map (λ chunk. chunk.items) (take c.loop-chunk.chunk-index c.args.full.now) in
+    record {
+      items = ap (map (λ chunk. chunk.now)) c.push_reserved.ensures.items
+          ∙ map-append (λ chunk. chunk.now) c.loop-chunk.all.items (c.as_slice.result ∷ [])
+          ∙ ap (λ l. l ++ c.as_slice.result.now ∷ []) c.loop-chunk.invariant.items
+          ∙ ap (λ chunk. before ++ chunk ∷ []) (c.as_slice.ensures.value ∙ ap (λ chunk. chunk.items) c.chunk-item.is)
+          ∙ sym (map_more (λ chunk. chunk.items) c.args.full.now c.loop-chunk.chunk-index c.chunk-item.result
+          c.loop-chunk-test.true);
+      count = omega arith;
+      room = omega arith;
+    }

@@ -1,8 +1,8 @@
 use Rattle.input_output.specs.Account.{kept}
 use Rattle.input_output.proofs.Kept.{walk_stays}
-use Rattle.input_output.proofs.capture_reader.CaptureReader.read_then_walk.Goals as goal
+use Rattle.input_output.proofs.capture_reader.CaptureReader.read_and_walk.Goals as goal
 
 pub walk_where_filled-walked-requires-clause-walk : goal.walk_where_filled-walked-requires-clause-walk
 walk_where_filled-walked-requires-clause-walk g c =
     walk_stays g.W.FrontWalk.stands (kept c.args.self.now) (kept c.read_once.new.self) c.args.walk.now
-    c.read_once.ensures.grown.front c.requires.walk
+    (rw (rw c.in_default.is at c.in_ok-full.ensures.taken).0 at c.read_once.ensures.grown.front) c.requires.walk
