@@ -4,6 +4,7 @@ ghost use Rattle.std.specs.Prelude.{◌≡◌, ◌+◌, ◌^◌, ◌<◌, ◌≤
 ghost use Rattle.pcap_records.specs.LinkType.{is_read};
 ghost use Rattle.packet_heads.specs.Decision.{decision_on, packet_decision, segment_of, is_partial};
 ghost use Rattle.packet_heads.specs.Ipv4.{segment_bytes};
+ghost use Rattle.packet_heads.specs.Link.{packet_of};
 ghost use Rattle.packet_heads.specs.code.Ipv4 as ipv4_code;
 ghost use Rattle.packet_heads.specs.code.Tcp as tcp_code;
 ghost use Rattle.packet_heads.specs.code.Standing.{StandsIn};
@@ -92,34 +93,23 @@ pub fn decode(
     ensures decided { IfOk result (λ packet. packet ≡ packet_decision link number row.now capture.now) }
     ensures placed { IfOk result (StandsIn number row.now) }
 {
-    let size = capture.len();
     let (start, length) = (row.start as usize, row.length as usize);
-    if start < size {
+    if start < capture.len() {
         let front = capture.from(start);
         if length <= front.len() {
             return Ok(decision_on(link, number, row, &front[..length]));
         }
     }
-    decode_gathered(alloc, link, number, row, capture)
+    let packet = gathered(alloc, row, capture)?;
+    Ok(decision_on(link, number, row, &packet))
 }
 
-/// The same of captured bytes in which chunks of the capture meet: they are gathered first.
+/// The captured bytes of a record in which chunks of the capture meet, gathered.
 #[cold]
-#[tactic(auto, unfolding(crate::specs::Decision::packet_decision))]
-fn decode_gathered(
-    alloc: Global,
-    link: u16,
-    number: u32,
-    row: &Record,
-    capture: &Capture<'_>,
-) -> Result<Packet, AllocError>
-    requires linked { IsTrue (is_read link) }
-    requires inside { row.now.start + row.now.length ≤ length capture.now }
-    requires short { length capture.now ≤ 2 ^ 31 }
-    ensures decided { IfOk result (λ packet. packet ≡ packet_decision link number row.now capture.now) }
-    ensures placed { IfOk result (StandsIn number row.now) }
+fn gathered(alloc: Global, row: &Record, capture: &Capture<'_>) -> Result<Vec<u8>, AllocError>
+    requires { row.now.start + row.now.length ≤ length capture.now }
+    ensures { IfOk result (λ packet. packet.items ≡ packet_of row.now capture.now) }
 {
     let start = row.start as usize;
-    let packet = capture.gathered(alloc, start, start + row.length as usize)?;
-    Ok(decision_on(link, number, row, &packet))
+    capture.gathered(alloc, start, start + row.length as usize)
 }

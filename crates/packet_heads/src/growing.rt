@@ -1,6 +1,6 @@
 //! A list that grows in chunks.
 
-ghost use Rattle.std.specs.Prelude.{◌≡◌, ◌<◌, ◌^◌, [], ◌∷◌, ◌++◌, IfOk, OnOk, length};
+ghost use Rattle.std.specs.Prelude.{◌≡◌, ◌<◌, ◌^◌, [], ◌∷◌, ◌++◌, IfOk, OnErr, OnOk, length};
 
 use crate::packets::PACKET_CHUNK;
 use input_output::Chunks;
@@ -56,13 +56,11 @@ impl<T: Copy> Growing<T> {
         ensures { OnOk result (self.new ≡ self.old ++ item ∷ []) }
     {
         if self.last.len() < PACKET_CHUNK {
-            self.last.push(item)?;
+            self.last.reserve(1)?;
+            self.last.push_reserved(item);
             return Ok(());
         }
-        let mut next = Vec::with_capacity(alloc, PACKET_CHUNK)?;
-        next.push(item)?;
-        self.full.push(mem::replace(&mut self.last, next))?;
-        Ok(())
+        begin_chunk(alloc, &mut self.full, &mut self.last, item)
     }
 
     /// The list, to be read.
@@ -71,4 +69,23 @@ impl<T: Copy> Growing<T> {
     {
         Chunks::with_last(alloc, self.full.as_slice(), self.last.as_slice())
     }
+}
+
+/// Puts a chunk behind full ones, and begins another with an item.
+#[cold]
+fn begin_chunk<T: Copy>(
+    alloc: Global,
+    full: &mut Vec<Vec<T>>,
+    last: &mut Vec<T>,
+    item: T,
+) -> Result<(), AllocError>
+    ensures ok { OnOk result ((full.new.items ≡ full.old.items ++ last.old ∷ [])
+        × (last.new.items ≡ item ∷ [])) }
+    ensures err { OnErr result ((full.new.items ≡ full.old.items) × (last.new ≡ last.old)) }
+{
+    full.reserve(1)?;
+    let mut next = Vec::with_capacity(alloc, PACKET_CHUNK)?;
+    next.push_reserved(item);
+    full.push_reserved(mem::replace(last, next));
+    Ok(())
 }
