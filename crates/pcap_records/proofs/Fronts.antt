@@ -3,7 +3,10 @@ use Rattle.std.proofs.Common.{◌≡◌, ◌≤◌, ◌<◌, ◌+◌, ◌-◌, �
 use Rattle.std.proofs.Common.{take-append-drop, sym, ap, ◌∙◌, arith, length-drop}
 use Rattle.std.proofs.lemmas.List.{drop-append-le}
 use Rattle.std.specs.Prelude.{IfSome, IfNone}
-use Rattle.pcap_records.specs.FileHeader.{ByteOrder}
+use Rattle.byteorder.specs.Numbers.{big_from-append, little_from-append}
+use Rattle.pcap_records.specs.declared.format.Endian.{Endian}
+use Rattle.pcap_records.specs.declared.format.Endian.TheVariants.{Big, Little}
+use Rattle.pcap_records.specs.FileHeader.{ByteOrder, number_of}
 use Rattle.pcap_records.specs.Record.{captured_length, record_at}
 use Rattle.pcap_records.specs.code.Walk.{IsNextRecord}
 use Rattle.pcap_records.specs.declared.capture.Record.{Record}
@@ -11,6 +14,11 @@ use Rattle.pcap_records.specs.declared.capture.Record.{Record}
 -- a number is read from its own bytes alone
 abbrev pub ReadsFirst : ByteOrder → Type 0
 ReadsFirst number = (n : ℕ) (xs ys : List ℕ) → n ≤ length xs → number n (xs ++ ys) ≡ number n xs
+
+-- and so it is in either order of bytes
+pub reads_first : (endian : Endian) → ReadsFirst (number_of endian)
+reads_first Big n xs ys fits = big_from-append n xs ys fits
+reads_first Little n xs ys fits = little_from-append n xs ys fits
 
 -- a number within a front of the bytes
 pub in_front : (number : ByteOrder) → ReadsFirst number → (at : ℕ) (front later : List ℕ) → at + 4 ≤ length front

@@ -1,14 +1,15 @@
 -- What the loop over the records keeps.
 use Rattle.std.proofs.Common.{◌≡◌, ◌≤◌, ◌<◌, ◌+◌, ◌-◌, ◌*◌, ◌^◌, ℕ, List, [], ◌∷◌, ◌++◌, length, drop, refl, sym, ap}
-use Rattle.std.proofs.Common.{Some, ◌∙◌, arith, length-append, length-drop, append_assoc, append-nil}
+use Rattle.std.proofs.Common.{Option, None, Some, IfSome, ◌∙◌, arith, length-append, length-drop, append_assoc, append-nil}
+use Rattle.std.specs.Prelude.{IfNone}
 use Rattle.std.proofs.lemmas.List.{drop-append-le, drop-drop, take-append-le}
 use Rattle.pcap_records.specs.FileHeader.{ByteOrder, format_of, header_of, link_of, number_of}
 use Rattle.pcap_records.specs.laws.Readings.{MoreBytesKeepAWalk}
 use Rattle.pcap_records.specs.code.Place.{AreTimely, RiseFrom}
 use Rattle.pcap_records.specs.Record.{AreRecords, BeginsWithRecord, captured_length, record_at}
 use Rattle.pcap_records.specs.Reading.{IsReading, cut_after}
-use Rattle.pcap_records.specs.code.Walk.{AreRead, Completes, HasPassed, IsNextRecord, IsThrough}
-use Rattle.pcap_records.proofs.Fronts.{ReadsFirst, same_record}
+use Rattle.pcap_records.specs.code.Walk.{AreRead, Completes, HasPassed, HasStepped, IsNextRecord, IsThrough}
+use Rattle.pcap_records.proofs.Fronts.{ReadsFirst, reads_first, same_record}
 use Rattle.pcap_records.specs.declared.capture.Record.{Record}
 use Rattle.pcap_records.specs.declared.capture.Records.{Records}
 use Rattle.pcap_records.specs.declared.walk.RecordWalk.{RecordWalk}
@@ -130,21 +131,27 @@ more_bytes_keep_a_walk_lem front more rows walk is =
     }
 
 -- a walk steps over the record that it found
-pub steps-over : (number : ByteOrder) → ReadsFirst number → (front : List ℕ) (rows : List Record) (old new : RecordWalk)
-    (row : Record)
-    → number ≡ number_of old.format.endian
+steps-over : (front : List ℕ) (rows : List Record) (old new : RecordWalk) (row : Record)
     → new ≡ record old { at = row.start + row.length }
-    → IsNextRecord number old.format.unit old.at (drop old.at front) (Some row)
+    → IsNextRecord (number_of old.format.endian) old.format.unit old.at (drop old.at front) (Some row)
     → HasPassed front rows old → HasPassed front (rows ++ row ∷ []) new
-steps-over number first front rows old new row order moved found passed =
+steps-over front rows old new row moved found passed =
     rw moved (record {
       magic = passed.magic;
       unit = passed.unit;
       link = passed.link;
       linked = passed.linked;
-      read = rw (← order) (AreRead-push number first old.format.unit front rows old.at row (rw (← order) at passed.read)
-          found.0 found.1 found.2);
+      read = AreRead-push (number_of old.format.endian) (reads_first old.format.endian) old.format.unit front rows
+          old.at row passed.read found.0 found.1 found.2;
     })
+
+-- a walk has stepped by what it found
+pub has_stepped : (front : List ℕ) (rows : List Record) (old new : RecordWalk) (found : Option Record)
+    → IsNextRecord (number_of old.format.endian) old.format.unit old.at (drop old.at front) found
+    → IfSome found (λ row. new ≡ record old { at = row.start + row.length }) → IfNone found (new ≡ old)
+    → HasPassed front rows old → HasStepped front rows new found
+has_stepped front rows old new None next some none passed = rw none (passed, next)
+has_stepped front rows old new (Some row) next some none passed = steps-over front rows old new row some next passed
 
 -- where a walk is through, its records are a reading of the capture
 pub all_passed : (capture : List ℕ) (walk : RecordWalk) (found : Records) → HasPassed capture found.rows.items walk

@@ -1,8 +1,10 @@
 ghost use Rattle.std.specs.Prelude.{◌≡◌, ◌≤◌, ◌<◌, ◌+◌, ◌-◌, ◌^◌, length, drop, IfSome, IfNone, IfOk};
+ghost use Rattle.pcap_records.specs.FileHeader.{number_of};
 ghost use Rattle.pcap_records.specs.Record.{captured_length, record_at};
 ghost use Rattle.pcap_records.specs.code.Walk.{IsNextRecord};
 
 use crate::capture::Record;
+use crate::format::Format;
 use crate::nanos::Nanos;
 use byteorder::ByteOrder;
 use input_output::Capture;
@@ -39,19 +41,21 @@ fn record_behind<T: ByteOrder>(front: &[u8], at: usize, size: usize, unit: u64) 
     })
 }
 
-/// The record that begins at an offset, if a whole one stands there.
+/// The record that begins at an offset of a capture of this format, if a whole one stands there. `T` is the format's
+/// order of bytes.
 ///
 /// Its header is read where it lies; one in which chunks of the capture meet is gathered first.
 pub fn next_record<T: ByteOrder>(
     alloc: Global,
     capture: &Capture<'_>,
     at: usize,
-    unit: u64,
+    format: Format,
 ) -> Result<Option<Record>, AllocError>
+    requires order { T.number_of ≡ number_of format.endian }
     requires offset { at ≤ length capture.now }
     requires short { length capture.now ≤ 2 ^ 31 }
-    requires unit { unit ≤ 1000 }
-    ensures { IfOk result (IsNextRecord T.number_of unit at (drop at capture.now)) }
+    requires unit { format.unit ≤ 1000 }
+    ensures { IfOk result (IsNextRecord (number_of format.endian) format.unit at (drop at capture.now)) }
 {
     let size = capture.len();
     if size - at < RECORD_HEADER {
@@ -59,8 +63,8 @@ pub fn next_record<T: ByteOrder>(
     }
     let front = capture.from(at);
     if RECORD_HEADER <= front.len() {
-        return Ok(record_behind::<T>(front, at, size, unit));
+        return Ok(record_behind::<T>(front, at, size, format.unit));
     }
     let header = capture.gathered(alloc, at, at + RECORD_HEADER)?;
-    Ok(record_behind::<T>(&header, at, size, unit))
+    Ok(record_behind::<T>(&header, at, size, format.unit))
 }

@@ -12,7 +12,7 @@ use crate::faults::PcapFault;
 use crate::format::{Endian, Format};
 use crate::header::{FILE_HEADER, format_or_refusal, header, link_type};
 use crate::rows::next_record;
-use byteorder::{BigEndian, ByteOrder, LittleEndian};
+use byteorder::{BigEndian, LittleEndian};
 use input_output::Capture;
 use std::alloc::{AllocError, Global};
 
@@ -86,28 +86,11 @@ impl RecordWalk {
         ensures within { IfOk result (λ found. IfSome found (λ row. row.start + row.length ≤ length capture.now)) }
         ensures link { self.new.link ≡ self.old.link }
     {
-        match self.format.endian {
-            Endian::Big => self.next_by::<BigEndian>(alloc, capture),
-            Endian::Little => self.next_by::<LittleEndian>(alloc, capture),
-        }
-    }
-
-    /// The same in the order of bytes that the magic told.
-    fn next_by<T: ByteOrder>(
-        &mut self,
-        alloc: Global,
-        capture: &Capture<'_>,
-    ) -> Result<Option<Record>, AllocError>
-        requires order { T.number_of ≡ number_of self.old.format.endian }
-        requires walk { (rows : List Record) × HasPassed capture.now rows self.old }
-        requires short { length capture.now ≤ 2 ^ 31 }
-        ensures next { IfOk result (λ found. (rows : List Record)
-            → HasPassed capture.now rows self.old → HasStepped capture.now rows self.new found) }
-        ensures on { IfOk result (λ found. IfSome found (λ _. self.old.at < self.new.at)) }
-        ensures within { IfOk result (λ found. IfSome found (λ row. row.start + row.length ≤ length capture.now)) }
-        ensures link { self.new.link ≡ self.old.link }
-    {
-        let found = next_record::<T>(alloc, capture, self.at, self.format.unit)?;
+        let next = match self.format.endian {
+            Endian::Big => next_record::<BigEndian>(alloc, capture, self.at, self.format),
+            Endian::Little => next_record::<LittleEndian>(alloc, capture, self.at, self.format),
+        };
+        let found = next?;
         if let Some(record) = &found {
             self.at = record.start as usize + record.length as usize;
         }

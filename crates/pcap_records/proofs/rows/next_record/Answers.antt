@@ -6,10 +6,10 @@ use Rattle.pcap_records.proofs.rows.next_record.Goals as goal
 pub returns-then-front-ge-RECORD_HEADER : goal.returns-then-front-ge-RECORD_HEADER
 returns-then-front-ge-RECORD_HEADER g c =
     let capture = c.args.capture.now in
-    next_by_front g.T.ByteOrder.number_of g.met.T.ByteOrder.reads_first c.args.unit c.args.at c.len-size.result _
-    c.from-front.result.now (drop c.args.at capture) (omega arith)
+    rw (← c.requires.order) (next_by_front g.T.ByteOrder.number_of g.met.T.ByteOrder.reads_first c.args.format.unit
+    c.args.at c.len-size.result _ c.from-front.result.now (drop c.args.at capture) (omega arith)
     (omega (arith, length-drop c.args.at capture)) c.from-front.ensures.front c.record_behind.result
-    c.record_behind.ensures.found c.record_behind.ensures.time c.record_behind.ensures.none
+    c.record_behind.ensures.found c.record_behind.ensures.time c.record_behind.ensures.none)
 
 pub returns : goal.returns
 returns g c =
@@ -17,7 +17,7 @@ returns g c =
     let left = length-drop c.args.at c.args.capture.now in
     let front = c.deref.ensures.value ∙ c.in_ok-header.ensures in
     let long = length-take-le (c.args.at + 16 - c.args.at) bytes (omega (arith, left)) in
-    next_by_front g.T.ByteOrder.number_of g.met.T.ByteOrder.reads_first c.args.unit c.args.at c.len-size.result _
-    c.deref.result.now bytes (omega (arith, ap length front, long)) (omega (arith, left)) front
-    c.record_behind-2.result c.record_behind-2.ensures.found c.record_behind-2.ensures.time
-    c.record_behind-2.ensures.none
+    rw (← c.requires.order) (next_by_front g.T.ByteOrder.number_of g.met.T.ByteOrder.reads_first c.args.format.unit
+    c.args.at c.len-size.result _ c.deref.result.now bytes (omega (arith, ap length front, long))
+    (omega (arith, left)) front c.record_behind-2.result c.record_behind-2.ensures.found
+    c.record_behind-2.ensures.time c.record_behind-2.ensures.none)
