@@ -1,6 +1,6 @@
 //! The bytes that are kept of a capture, in chunks of one length.
 
-ghost use Rattle.std.specs.Prelude.{◌≡◌, ◌+◌, ◌++◌, ◌^◌, ◌<◌, ◌≤◌, [], length, take, drop, vec_len, IfOk, OnOk};
+ghost use Rattle.std.specs.Prelude.{◌≡◌, ◌+◌, ◌++◌, ◌^◌, ◌<◌, ◌≤◌, [], length, min, take, drop, vec_len, IfOk, OnOk};
 ghost use Rattle.std.specs.Prelude.{◌∷◌, IfNone, IfSome, OnErr};
 ghost use Rattle.std.specs.Io.{StartsWith, appended_bytes};
 ghost use Rattle.input_output.specs.code.Front.{Lasts};
@@ -253,8 +253,8 @@ fn begin_chunk<T: Threads>(
         × (vec_len last.new ≤ most) × (vec_len last.new ≤ 1048576)) }
     ensures err { OnErr result ((full.new.items ≡ full.old.items) × (last.new ≡ last.old)) }
 {
-    let chunk = next_chunk(ahead, most)?;
     full.reserve(1)?;
+    let chunk = next_chunk(ahead, most)?;
     full.push_reserved(mem::replace(last, chunk));
     Ok(())
 }
@@ -270,15 +270,27 @@ fn next_chunk<T: Threads>(
     ensures most { IfOk result (λ chunk. vec_len chunk ≤ most) }
     ensures within { IfOk result (λ chunk. vec_len chunk ≤ 1048576) }
 {
-    let whole = CAPTURE_CHUNK.min(most);
     let mut chunk = ahead.chunk();
-    if chunk.is_empty() {
-        chunk.reserve(CAPTURE_CHUNK)?;
-        fill_up(&mut chunk, PIECE.min(whole))?;
+    let whole = CAPTURE_CHUNK.min(most);
+    let made = if chunk.is_empty() {
+        first_piece(&mut chunk, whole)
     } else {
-        chunk.resize(whole, 0)?;
+        chunk.resize(whole, 0)
+    };
+    match made {
+        Ok(()) => Ok(chunk),
+        Err(fault) => Err(fault),
     }
-    Ok(chunk)
+}
+
+/// Makes the first piece of a chunk that has no byte, up to `most`, in room for all of it.
+fn first_piece(chunk: &mut Vec<u8>, most: usize) -> Result<(), AllocError>
+    requires { vec_len chunk.old ≡ 0 }
+    ensures within { vec_len chunk.new ≤ most }
+    ensures piece { OnOk result (vec_len chunk.new ≡ min 262144 most) }
+{
+    chunk.reserve(CAPTURE_CHUNK)?;
+    fill_up(chunk, PIECE.min(most))
 }
 
 /// Reads once into a chunk, behind the bytes with which it is filled.
