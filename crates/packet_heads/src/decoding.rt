@@ -48,7 +48,7 @@ fn segment_of(number: u32, row: &Record, partial: bool, at: usize, datagram: &[u
 }
 
 /// What a record with these captured bytes holds: the first line of the table that applies.
-// Called once for each record that lies together, and from one other place.
+// Called for each record that lies together, and for one that was gathered.
 #[inline(always)]
 #[tactic(auto, using(crate::proofs::Headers::stands_anywhere))]
 fn decision_on(link: u16, number: u32, row: &Record, packet: &[u8]) -> Packet
