@@ -1,5 +1,5 @@
 -- What is kept of a capture, read by read.
-use Rattle.std.proofs.Common.{◌≡◌, ◌∙◌, ℕ, suc, ◌+◌, ◌-◌, ◌^◌, ◌<◌, ◌≤◌, List, [], ◌++◌, length, take, drop}
+use Rattle.std.proofs.Common.{◌≡◌, ◌∙◌, ℕ, suc, ◌+◌, ◌^◌, ◌≤◌, List, [], ◌++◌, length, take, drop}
 use Rattle.std.proofs.Common.{length-append, take_at, Option, Some, None, IfSome, inl, inr, refl, sym, ap, subst}
 use Rattle.std.proofs.Common.{Result, Ok, Err, IfErr, OnOk, arith}
 use Rattle.std.specs.Io.{StartsWith}
@@ -94,7 +94,8 @@ module _ {R : Type 0} where
 
   pub answered_more : (left : R → Option (List ℕ)) (limit : ℕ) (first old new : CaptureReader R)
       (read : Result (Unit {0}) ReadFault) → HasGrown limit (kept first) old → HasConsumed left first old
-      → HaveAnswered left limit old.reader (kept old) new read → HaveAnswered left limit first.reader (kept first) new read
+      → HaveAnswered left limit old.reader (kept old) new read
+      → HaveAnswered left limit first.reader (kept first) new read
   answered_more left limit first old new read before bytes answered = record {
     grown = grown_more limit first old new before answered.grown;
     read = on_ok_weaker read (read_more left limit first old new before bytes answered.grown) answered.read;
@@ -113,21 +114,6 @@ module _ {R : Type 0} where
         bytes = on_ok_weaker read (λ more. more.bytes) all.read;
         err = all.err;
       }
-
-  pub fewer_left : (left : R → Option (List ℕ)) (limit : ℕ) (old new : CaptureReader R)
-      (read : Result (Unit {0}) ReadFault) → old.state ≡ Open → length (kept old) < limit
-      → HaveAnswered left limit old.reader (kept old) new read
-      → reads_left new.state (limit - length (kept new)) < reads_left old.state (limit - length (kept old))
-  fewer_left left limit old new (Ok _) unended below answered =
-      let more = answered.read in
-      rw unended (elim more.sound.well [
-        | inl on ↦ rw on (omega (arith, more.more on, below))
-        | inr ended ↦ rw ended (omega arith)
-      ])
-  fewer_left left limit old new (Err fault.Failed) unended below answered =
-      rw (unended, answered.err) (omega arith)
-  fewer_left left limit old new (Err fault.OutOfMemory) unended below answered =
-      rw (unended, answered.err) (omega arith)
 
   -- what was read while these bytes were taken out, once they stand in front again
   pub read_behind : (left : R → Option (List ℕ)) (before : R) (front : List ℕ) (now new : CaptureReader R)

@@ -23,8 +23,8 @@
 //! `write_once` and `flush_once` of [`ReportWriter`] enter what a write took; they ask that none follows one that
 //! failed. `read_into`, `pass_once`, `write_once` and `flush_once` alone call `read`, `write` and `flush`.
 //! `take_full` takes bytes out for a walk that goes on over them, and `read_behind` puts them back in front of what was
-//! read meanwhile (`put_back`). `lack_memory` enters want of memory, also for `enter_memory`. A
-//! reader sees this at once; no contract says it.
+//! read meanwhile (`put_back`). `lack_memory` enters want of memory, also for `enter_memory`. A reader sees this at
+//! once; no contract says it.
 //!
 //! A [`TableHash`] hashes by SipHash under a key that is drawn anew at each start, so which pairs or streams of a
 //! capture collide nobody can foresee. A table keeps its entries in the order of first sight and answers by equality,

@@ -1,5 +1,5 @@
-use Rattle.std.proofs.Common.{◌≤◌, slice_index_or, ◌≡◌, ◌∙◌, ◌∷◌, [], ◌++◌, List, length, map, length-append, arith, ap, take}
-use Rattle.std.proofs.Common.{sym, subst}
+use Rattle.std.proofs.Common.{◌≤◌, slice_index_or, ◌≡◌, ◌∙◌, ◌∷◌, [], ◌++◌, List, length, map, length-append, arith, ap}
+use Rattle.std.proofs.Common.{sym, subst, take}
 use Rattle.std.proofs.lemmas.List.{map-append, map_more, take_all}
 use Rattle.input_output.specs.Chunks.{joined}
 use Rattle.input_output.specs.code.Sizes.{AreChunksOf}
