@@ -1,23 +1,25 @@
--- Batches of connections: made ready, those that have frames, fronts and what is gone through later. A batch has few
--- frames, and so its rounds have few jobs.
-use Rattle.audit_rounds.proofs.Words.{◌≡◌, ℕ, suc, ◌+◌, ◌*◌, ◌<◌, ◌≤◌, ◌==◌, ◌++◌, Bool, true, false, not, min, nat_lt}
+-- Batches of connections: made ready, those that are still to be gone through, and fronts. A batch has few frames, and
+-- so its rounds have few jobs.
+use Rattle.audit_rounds.proofs.Words.{◌≡◌, ℕ, zero, suc, ◌+◌, ◌*◌, ◌<◌, ◌≤◌, ◌==◌, ◌++◌, Bool, true, false, not, min, nat_lt}
 use Rattle.audit_rounds.proofs.Words.{if◌then◌else◌, List, [], ◌∷◌, map, take, drop, filter, length, get_or, All, refl}
 use Rattle.audit_rounds.proofs.Words.{sym, ap, ◌∙◌, arith, Option, None, Vec, Global, Bor, AllZip, sum_by, zip}
 use Rattle.audit_rounds.proofs.Words.{list_any, length-map, length-append, map-append, take-append-drop, sum_by-cons}
-use Rattle.audit_rounds.proofs.Words.{nil_from_length, All-take, All-drop, All-append, All-head, All-tail, All-filter}
-use Rattle.audit_rounds.proofs.Words.{get_or-zip, length-zip, eqb-true, Frame, Finding, Change, stops, shown, is_past}
+use Rattle.audit_rounds.proofs.Words.{nil_from_length, All-take, All-drop, All-append, All-head, All-tail, All-nil}
+use Rattle.audit_rounds.proofs.Words.{eqb-true, Frame, Finding, Change, stops, shown, is_past}
 use Rattle.audit_rounds.proofs.Words.{◌^◌, length-orderly, pass, promised_by, first_of, streams_of, IsOrderly, Block}
 use Rattle.audit_rounds.proofs.Words.{StreamRow, SplitFrames, IsSplit, groups, Streams, Prepared, MadeReady, IsPrepared}
-use Rattle.audit_rounds.proofs.Words.{AreMadeReady, AreReady, AreRests, RowsAreFew, IsBatch, has_frames, spread}
-use Rattle.audit_rounds.proofs.Words.{front_of, chosen_of, found_before, job_at, plan_from, IsStreamsOf, All-push}
+use Rattle.audit_rounds.proofs.Words.{AreMadeReady, AreReady, AreRests, RowsAreFew, IsBatch, ◌&&◌}
+use Rattle.audit_rounds.proofs.Words.{take_all, front_of, IsEarly, found_before, job_at, plan_from, IsStreamsOf, All-push}
 use Rattle.std.proofs.Common.{◌/◌}
 use Rattle.std.proofs.Math.Nat.{min-le_right}
 use Rattle.std.proofs.lemmas.List.{length-take}
+use Rattle.std.proofs.lemmas.List.Elements.{All-cons}
 use Rattle.std.proofs.lemmas.List.FromFn.{length-map-range_with_len}
 use Rattle.std.proofs.lemmas.List.Sums.{sum_by-take-drop, sum_by-le-sum_by, length-filter, count_by-le-length}
 use Rattle.split_merge.specs.code.Groups.{group_at}
-use Rattle.audit_rounds.specs.code.EarlyStops.{has_stopped, later_of}
+use Rattle.audit_rounds.specs.code.Batch.{AreShownAfter, shown_after}
 use Rattle.audit_rounds.specs.code.Few.{PreparedAreFew, RestsAreFew}
+use Rattle.audit_rounds.specs.code.Pending.{is_pending, pending_of, put_back}
 use Rattle.audit_rounds.proofs.EarlyStop.{fronts_settle_lem}
 use Rattle.audit_rounds.proofs.Lists.{items_in, frames_in, some_of, all-alike, sums-alike}
 use Rattle.audit_rounds.proofs.Parts.{orderly-take}
@@ -45,30 +47,59 @@ batch-parts all at batch =
       record { orderly = All-drop IsLent at all batch.orderly; few = omega (arith, parts, few) },
     )
 
--- those that have frames have no more of them than all
-framed-few : (all : List (Bor (List Frame))) → sum_by lent (filter has_frames all) ≤ sum_by lent all
-framed-few [] = omega arith
-framed-few (frames ∷ all) =
-    grind (arith, framed-few all, sum_by-cons lent frames (filter has_frames all), sum_by-cons lent frames all)
+-- ---- those that are still to be gone through
 
-pub framed-batch : (all : List (Bor (List Frame))) → IsBatch all → IsBatch (filter has_frames all)
-framed-batch all batch = record {
-  orderly = All-filter has_frames IsLent all batch.orderly;
-  few = let fewer = framed-few all in let few = batch.few in omega arith;
+pending-few : (all : List (Bor (List Frame))) (found : List (Vec Finding Global))
+    → sum_by lent (pending_of all found) ≤ sum_by lent all
+pending-few [] found = omega arith
+pending-few (frames ∷ all) [] = omega arith
+pending-few (frames ∷ all) (one ∷ found) =
+    grind (arith, pending-few all found, sum_by-cons lent frames (pending_of all found), sum_by-cons lent frames all)
+
+lent-or-not : (pending : Bool) (frames : Bor (List Frame)) (all : List (Bor (List Frame))) → IsLent frames
+    → All IsLent all → All IsLent (if pending then frames ∷ all else all)
+lent-or-not true frames all one h = All-cons IsLent frames all one h
+lent-or-not false frames all one h = h
+
+pending-lent : (all : List (Bor (List Frame))) (found : List (Vec Finding Global)) → All IsLent all
+    → All IsLent (pending_of all found)
+pending-lent [] found h = All-nil IsLent
+pending-lent (frames ∷ all) [] h = All-nil IsLent
+pending-lent (frames ∷ all) (one ∷ found) h =
+    lent-or-not (is_pending frames.now one.items) frames (pending_of all found) (All-head IsLent frames all h)
+    (pending-lent all found (All-tail IsLent frames all h))
+
+pub pending-batch : (all : List (Bor (List Frame))) (found : List (Vec Finding Global)) → IsBatch all
+    → IsBatch (pending_of all found)
+pending-batch all found batch = record {
+  orderly = pending-lent all found batch.orderly;
+  few = let fewer = pending-few all found in let few = batch.few in omega arith;
 }
 
--- where nothing is shown of no frame, the lists of those that have frames make those of all
-module _ (said : List Frame → List Finding) (silent : said [] ≡ []) where
-  silent-of : (frames : List Frame) → (length frames == 0) ≡ true → said frames ≡ []
-  silent-of frames e = ap said (nil_from_length frames (eqb-true _ _ e)) ∙ silent
+-- what is found of them later, put back, is what is shown after what was found of all
+pub back-shown : (credits_shown : Bool) (all : List (Bor (List Frame))) (found later : List (Vec Finding Global))
+    → map items_in later
+    ≡ map (λ (frames : Bor (List Frame)). shown credits_shown (pass frames.now)) (pending_of all found)
+    → put_back all found later
+    ≡ map (λ (one : Bor (List Frame) × Vec Finding Global). shown_after credits_shown one.0.now one.1.items)
+    (zip all found)
+back-shown credits_shown [] found later h = refl
+back-shown credits_shown (frames ∷ all) [] later h = refl
+back-shown credits_shown (frames ∷ all) (one ∷ found) [] h = grind (arith, back-shown credits_shown all found [])
+back-shown credits_shown (frames ∷ all) (one ∷ found) (list ∷ later) h =
+    grind (arith, back-shown credits_shown all found (list ∷ later), back-shown credits_shown all found later)
 
-  pub spread-said : (all : List (Bor (List Frame))) (lists : List (Vec Finding Global))
-      → map items_in lists ≡ map (λ (frames : Bor (List Frame)). said frames.now) (filter has_frames all)
-      → spread all lists ≡ map (λ (frames : Bor (List Frame)). said frames.now) all
-  spread-said [] lists h = refl
-  spread-said (frames ∷ all) [] h = grind (arith, spread-said all [], silent-of frames.now)
-  spread-said (frames ∷ all) (list ∷ lists) h =
-      grind (arith, spread-said all (list ∷ lists), spread-said all lists, silent-of frames.now)
+-- once all are gone over, that is what stands there
+pub back-all : (all : List (Bor (List Frame))) (found : List (Vec Finding Global)) (n : ℕ)
+    (rest : List (Vec Finding Global)) → n ≡ length all → length found ≡ length all
+    → map items_in (take n found) ++ put_back (drop n all) (drop n found) rest ≡ map items_in found
+back-all [] [] zero rest l e = refl
+back-all [] [] (suc n) rest l e = absurd (omega arith)
+back-all [] (y ∷ found) n rest l e = absurd (omega arith)
+back-all (x ∷ all) [] n rest l e = absurd (omega arith)
+back-all (x ∷ all) (y ∷ found) zero rest l e = absurd (omega arith)
+back-all (x ∷ all) (y ∷ found) (suc n) rest l e =
+    ap (λ l. y.items ∷ l) (back-all all found n rest (omega arith) (omega arith))
 
 -- ---- connections made ready
 
@@ -196,13 +227,10 @@ jobs-few count at (one ∷ rest) =
     let sum = sum_by-cons rows-in one rest in
     omega (arith, together, jobs, many, most, later, sum)
 
--- ---- fronts, and what is gone through later, make batches
+-- ---- fronts
 
 abbrev pub front_in : Bor (List Frame) → List Frame
 front_in frames = front_of frames.now
-
-abbrev pub later_in : Bor (List Frame) × Vec Finding Global → List Frame
-later_in one = later_of one.0.now one.1.items
 
 pub fronts-batch : (connections fronts : List (Bor (List Frame))) → map frames_in fronts ≡ map front_in connections
     → IsBatch connections → IsBatch fronts
@@ -217,71 +245,80 @@ fronts-batch connections fronts e batch =
       few = omega (arith, same, less, few);
     }
 
--- what is gone through later of a connection is none of its frames, or all
-later-is : (P : List Frame → Type 0) (frames : List Frame) (early : List Finding) → P [] → P frames
-    → P (later_of frames early)
-later-is P frames early none all = by_test (has_stopped early) where
-  by_test : (b : Bool) → P (if b then [] else frames)
-  by_test true = none
-  by_test false = all
-
-laters-shorter : (connections : List (Bor (List Frame))) (early : List (Vec Finding Global))
-    → sum_by (λ one. length (later_in one)) (zip connections early) ≤ sum_by lent connections
-laters-shorter [] early = omega arith
-laters-shorter (frames ∷ connections) [] = omega arith
-laters-shorter (frames ∷ connections) (found ∷ early) =
-    let first = later-is (λ later. length later ≤ length frames.now) frames.now found.items (omega arith)
-    (omega arith) in
-    let rest = laters-shorter connections early in
-    rw (
-      sum_by-cons (λ one. length (later_in one)) (frames, found) (zip connections early),
-      sum_by-cons lent frames connections,
-    ) (omega arith)
-
-pub laters-batch : (connections laters : List (Bor (List Frame))) (early : List (Vec Finding Global))
-    → map frames_in laters ≡ map later_in (zip connections early) → IsBatch connections → IsBatch laters
-laters-batch connections laters early e batch =
-    let same = sums-alike frames_in later_in length laters (zip connections early) e in
-    let less = laters-shorter connections early in
-    let few = batch.few in
-    let long = length-zip connections early in
-    record {
-      orderly = all-alike frames_in later_in IsOrderly laters (zip connections early) e (λ n d l.
-          let inside : n < length connections = omega (arith, l, long) in
-          rw (get_or-zip connections early n d inside (omega (arith, l, long)))
-          (later-is IsOrderly (get_or connections n d.0).now (get_or early n d.1).items tt
-          (batch.orderly n d.0 inside)));
-      few = omega (arith, same, less, few);
-    }
-
--- ---- what is chosen
-
 module _ (credits_shown : Bool) where
   abbrev passed : List Frame → List Finding
   passed frames = shown credits_shown (pass frames)
+
+  -- where nothing was found, that is what is shown of none of the frames
+  pub early-none : (connections : List (Bor (List Frame))) (none : List (Vec Finding Global))
+      → length none ≡ length connections → All (λ list. list.items ≡ []) none
+      → AllZip (IsEarly credits_shown) connections none
+  early-none [] [] l h = tt
+  early-none [] (list ∷ none) l h = absurd (omega arith)
+  early-none (frames ∷ connections) [] l h = absurd (omega arith)
+  early-none (frames ∷ connections) (list ∷ none) l h = (
+    (0, All-head (λ list. list.items ≡ []) list none h),
+    early-none connections none (omega arith) (All-tail (λ list. list.items ≡ []) list none h),
+  )
+
+  after-none : (frames : List Frame) → shown_after credits_shown frames [] ≡ passed frames
+  after-none frames = by_test (length frames == 0) refl where
+    by_test : (none : Bool) → (length frames == 0) ≡ none → (if not none && true then passed frames else [])
+        ≡ passed frames
+    by_test true e = ap passed (sym (nil_from_length frames (eqb-true _ _ e)))
+    by_test false e = refl
+
+  -- what is shown of fronts
+  pub early-fronts : (connections fronts : List (Bor (List Frame))) (none all : List (Vec Finding Global))
+      → length none ≡ length connections → All (λ list. list.items ≡ []) none
+      → map frames_in fronts ≡ map front_in connections → AreShownAfter credits_shown fronts none all
+      → AllZip (IsEarly credits_shown) connections all
+  early-fronts [] [] none [] l h e s = tt
+  early-fronts [] [] none (list ∷ all) l h e s = cc
+  early-fronts [] (front ∷ fronts) none all l h e s = cc
+  early-fronts (frames ∷ connections) [] none all l h e s = cc
+  early-fronts (frames ∷ connections) (front ∷ fronts) [] all l h e s = absurd (omega arith)
+  early-fronts (frames ∷ connections) (front ∷ fronts) (list ∷ none) [] l h e s = cc
+  early-fronts (frames ∷ connections) (front ∷ fronts) (list ∷ none) (one ∷ all) l h e s =
+      let same : front.now ≡ front_in frames = cc in
+      let nothing = All-head (λ list. list.items ≡ []) list none h in
+      let said : one.items ≡ shown_after credits_shown front.now list.items = cc in (
+        (
+          if nat_lt (length frames.now) 4096 then 0 else length frames.now / 32,
+          (rw nothing at said) ∙ after-none front.now ∙ ap passed same,
+        ),
+        early-fronts connections fronts none all (omega arith) (All-tail (λ list. list.items ≡ []) list none h) (cc)
+            (cc),
+      )
 
   whole : (n : ℕ) (frames : List Frame) → list_any stops (passed (take n frames)) ≡ true →
       passed (take n frames) ≡ passed frames
   whole n frames h = fronts_settle_lem credits_shown (take n frames) (drop n frames) h
       ∙ ap passed (take-append-drop n frames)
 
-  one-chosen : (frames : List Frame) (early later : Vec Finding Global) → early.items ≡ passed (front_of frames) →
-      later.items ≡ passed (later_of frames early.items) → (chosen_of (early, later)).items ≡ passed frames
-  one-chosen frames early later e f = by_test _ refl where
-    by_test : (b : Bool) → has_stopped early.items ≡ b → (chosen_of (early, later)).items ≡ passed frames
-    by_test true t = rw t (e ∙ whole (if nat_lt (length frames) 4096 then 0 else length frames / 32) frames
-        (sym (ap (list_any stops) e) ∙ t))
-    by_test false t = rw t (rw t at f)
+  -- after that of a front comes what is shown of all frames
+  after-early : (frames : List Frame) (early : List Finding) (n : ℕ) → early ≡ passed (take n frames)
+      → shown_after credits_shown frames early ≡ passed frames
+  after-early frames early n e = by_tests (length frames == 0) (list_any stops early) refl refl where
+    by_tests : (none stopped : Bool) → (length frames == 0) ≡ none → list_any stops early ≡ stopped
+        → (if not none && not stopped then passed frames else early) ≡ passed frames
+    by_tests true stopped f h =
+        let nil = nil_from_length frames (eqb-true _ _ f) in
+        e ∙ ap passed (take_all n frames (omega (arith, ap length nil)))
+    by_tests false true f h = e ∙ whole n frames (ap (list_any stops) (sym e) ∙ h)
+    by_tests false false f h = refl
 
-  pub chosen-pass : (connections : List (Bor (List Frame))) (early later : List (Vec Finding Global)) →
-      map items_in early ≡ map (λ frames. passed (front_in frames)) connections →
-      map items_in later ≡ map (λ one. passed (later_in one)) (zip connections early) →
-      map items_in (map chosen_of (zip early later)) ≡ map (λ frames. passed frames.now) connections
-  chosen-pass [] [] later e f = refl
-  chosen-pass [] (y ∷ ys) later e f = cc
-  chosen-pass (x ∷ xs) [] later e f = cc
-  chosen-pass (x ∷ xs) (y ∷ ys) [] e f = cc
-  chosen-pass (x ∷ xs) (y ∷ ys) (z ∷ zs) e f =
-      let one = one-chosen x.now y z (cc) (cc) in
-      let rest = chosen-pass xs ys zs (cc) (cc) in
-      cc
+  pub early-shown : (connections : List (Bor (List Frame))) (early all : List (Vec Finding Global))
+      → AllZip (IsEarly credits_shown) connections early → AreShownAfter credits_shown connections early all
+      → map items_in all ≡ map (λ (frames : Bor (List Frame)). passed frames.now) connections
+  early-shown connections early all h s = s ∙ each connections early h where
+    each : (connections : List (Bor (List Frame))) (early : List (Vec Finding Global))
+        → AllZip (IsEarly credits_shown) connections early
+        → map (λ (one : Bor (List Frame) × Vec Finding Global). shown_after credits_shown one.0.now one.1.items)
+        (zip connections early) ≡ map (λ (frames : Bor (List Frame)). passed frames.now) connections
+    each [] early h = refl
+    each (frames ∷ connections) [] h = absurd h
+    each (frames ∷ connections) (one ∷ early) h =
+        ap (λ l. l ∷ map (λ (one : Bor (List Frame) × Vec Finding Global). shown_after credits_shown one.0.now
+        one.1.items) (zip connections early)) (after-early frames.now one.items h.0.0 h.0.1)
+        ∙ ap (λ l. passed frames.now ∷ l) (each connections early h.1)

@@ -1,5 +1,5 @@
 -- What the round over streams begins from, connection after connection and finding after finding.
-use Rattle.audit_rounds.proofs.Words.{◌≡◌, ℕ, ◌+◌, ◌⊎◌, inl, inr, min, ⊎_elim, true, if◌then◌else◌, List, [], ◌∷◌, ◌++◌}
+use Rattle.audit_rounds.proofs.Words.{◌≡◌, ℕ, ◌⊎◌, inl, inr, min, ⊎_elim, true, if◌then◌else◌, List, [], ◌∷◌, ◌++◌}
 use Rattle.audit_rounds.proofs.Words.{Option, Some, None, refl, ap, ◌∙◌, arith, Contains-append_left, Finding, stops}
 use Rattle.audit_rounds.proofs.Words.{StopsAt, IsLeast, contains-none, lesser, IsFirstStop}
 use Rattle.std.proofs.lemmas.Bool.{cases_lt, cond_both}

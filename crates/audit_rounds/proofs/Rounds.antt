@@ -1,5 +1,5 @@
 -- The rounds make the pass.
-use Rattle.audit_rounds.proofs.Words.{◌==◌, ◌&&◌, true, not, is_none, pos, is_ack, taken, ◌≡◌, ℕ, ◌+◌, Bool}
+use Rattle.audit_rounds.proofs.Words.{◌==◌, ◌&&◌, not, is_none, pos, is_ack, taken, ◌≡◌, ℕ, ◌+◌, Bool}
 use Rattle.audit_rounds.proofs.Words.{false, List, [], ◌∷◌, ◌++◌, Option, Some, None, refl, sym, ap, ◌∙◌, append-nil}
 use Rattle.audit_rounds.proofs.Words.{AllByRecursion, Sides, Body, Unreadable, Frame, Finding, side_of, in_order}
 use Rattle.audit_rounds.proofs.Words.{upto_stop, shown, local_said, no_previous, previous_after, local_run}

@@ -1,5 +1,5 @@
 -- What settled rounds give, and what is merged of it.
-use Rattle.audit_rounds.proofs.Words.{◌≡◌, ℕ, ◌+◌, ◌<◌, ◌⊎◌, Bool, not, List, [], ◌∷◌, ◌++◌, map, length, get_or, All}
+use Rattle.audit_rounds.proofs.Words.{◌≡◌, ℕ, ◌+◌, ◌<◌, Bool, not, List, [], ◌∷◌, ◌++◌, map, length, get_or, All}
 use Rattle.audit_rounds.proofs.Words.{Option, None, refl, sym, ap, ◌∙◌, arith, Vec, Global, zip, length-map, get_or-map}
 use Rattle.audit_rounds.proofs.Words.{get_or-zip, length-zip, slice_get_within, get_or_from_slice_get, slice_get-get_or}
 use Rattle.audit_rounds.proofs.Words.{All-map, Finding, comes_after, in_order, upto_stop, in_order-ordered}
@@ -10,7 +10,6 @@ use Rattle.audit_rounds.proofs.Words.{sum_job, block_job, whole_shown, shown_at,
 use Rattle.audit_rounds.proofs.Words.{AreGoneThrough}
 use Rattle.itertools.specs.List.{merge_by}
 use Rattle.audit_terms.specs.Order.{put_by}
-use Rattle.audit_terms.proofs.FindingOrder.{in_order-in_order}
 use Rattle.audit_terms.proofs.OrderedLists.{IsAfter, NoneBefore, IsInOrder, ordered-append, put_all}
 use Rattle.audit_rounds.proofs.Lists.{items_in as list_items, as-many, some_of}
 use Rattle.audit_rounds.proofs.Plans.{shown-at}
@@ -49,16 +48,12 @@ merge-nil first (x ∷ xs) = refl
 
 -- what two lists of a connection are merged to
 abbrev pub both_in : Vec Finding Global × Vec Finding Global → List Finding
-both_in pair = in_order (pair.0.items ++ pair.1.items)
+both_in pair = upto_stop (in_order (pair.0.items ++ pair.1.items))
 
--- lists that were gone through side by side, until one of them was over, are those pairs
-pub zip-over : {X Y : Type 0} (pairs : List (X × Y)) (one : List X) (other : List Y)
-    → (length one ≡ 0) ⊎ (length other ≡ 0)
-    → zip (map (λ (pair : X × Y). pair.0) pairs ++ one) (map (λ (pair : X × Y). pair.1) pairs ++ other) ≡ pairs
-zip-over [] [] other h = refl
-zip-over [] (x ∷ one) [] h = refl
-zip-over [] (x ∷ one) (y ∷ other) h = absurd (omega (arith, h))
-zip-over (pair ∷ pairs) one other h = ap (λ l. pair ∷ l) (zip-over pairs one other h)
+-- nothing goes side by side with none
+pub zip-none : {X Y : Type 0} (xs : List X) → zip {X = Y} xs [] ≡ []
+zip-none [] = refl
+zip-none (x ∷ xs) = refl
 
 -- ---- the parts of settled rounds
 
@@ -139,14 +134,14 @@ module _ (connections : List Block) (stops : List (Option ℕ)) (found : List (V
         each = λ n whole list list' l.
             let before = (get_or found n list').items in
             let shows = findings_of_parts n (map part_of settled.parts.items) in
-            let merged : (get_or last n list).items ≡ in_order (before ++ shows) =
+            let merged : (get_or last n list).items ≡ upto_stop (in_order (before ++ shows)) =
             sym (get_or-map list_items last n list [] (omega arith)) ∙ ap (λ l. get_or l n []) is
             ∙ get_or-map both_in (zip found own) n (list', list') [] (omega arith)
             ∙ ap both_in (get_or-zip found own n (list', list') (omega arith) (omega arith))
-            ∙ ap (λ l. in_order (before ++ l)) (keeps n list' (omega arith)) in
+            ∙ ap (λ l. upto_stop (in_order (before ++ l))) (keeps n list' (omega arith)) in
             let number : length (wholes connections) ≡ length connections = length-map connections items_in in
             let at : n ≡ 0 + n = omega arith in
-            ap (λ l. upto_stop (in_order l)) merged ∙ ap upto_stop (in_order-in_order (before ++ shows))
+            merged
             ∙ (board_merges_lem (record { jobs = map (block_job c) plan; opening_stops = stops }) _ done.board n before
             (h.each n whole None list' l).least).findings
             ∙ ap (λ l. upto_stop (in_order (before ++ l)))

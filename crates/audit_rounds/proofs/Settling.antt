@@ -252,13 +252,12 @@ module _ (credits_shown : Bool) (connection : Prepared) (stop : Option ℕ) (ope
       ≡ items_with opened (changes_of connection.frames.now) (frames_within stop connection.frames.now)
   items-are = rw (is.opened, is.changes, prepared.changes, is.frames) refl
 
-  one-settles : (last : List Finding)
-      → upto_stop (in_order last)
-      ≡ upto_stop (in_order (found ++ shown credits_shown (block_run connection_start (items_in rest))))
-      → upto_stop (in_order last) ≡ shown credits_shown (pass connection.frames.now)
-  one-settles last e =
-      rounds_settle_lem credits_shown connection.frames.now found last stop opened prepared.orderly after
-      (rw items-are at e)
+  one-settles : upto_stop (in_order (found ++ shown credits_shown (block_run connection_start (items_in rest))))
+      ≡ shown credits_shown (pass connection.frames.now)
+  one-settles =
+      rounds_settle_lem credits_shown connection.frames.now found
+      (found ++ shown credits_shown (block_run connection_start (items_in rest))) stop opened prepared.orderly after
+      (ap (λ items. upto_stop (in_order (found ++ shown credits_shown (block_run connection_start items)))) items-are)
 
 -- ---- all connections of a batch
 
@@ -287,14 +286,14 @@ module _ (credits_shown : Bool) (connections : List Prepared) (found : List (Vec
       }
 
   pub all-settle : (last : List (Vec Finding Global)) → AreGoneThrough credits_shown rests found last
-      → map (λ (list : Vec Finding Global). upto_stop (in_order list.items)) last
+      → map (λ (list : Vec Finding Global). list.items) last
       ≡ map (λ (connection : Prepared). shown credits_shown (pass connection.frames.now)) connections
   all-settle last gone =
       let number = are.number in
       let founds = after.founds in
       let opens = after.opens in
       let lasts = gone.number in
-      let settled = λ (list : Vec Finding Global). upto_stop (in_order list.items) in
+      let settled = λ (list : Vec Finding Global). list.items in
       let passed = λ (connection : Prepared). shown credits_shown (pass connection.frames.now) in
       let long = length-map last settled in
       let many = length-map connections passed in
@@ -305,9 +304,9 @@ module _ (credits_shown : Bool) (connections : List Prepared) (found : List (Vec
       let list = some_of last 0 (omega arith) in
       let numbers = some_of opened 0 (omega arith) in
       get_or-map settled last n list [] (omega arith)
+      ∙ gone.each n rest list list (omega arith)
       ∙ one-settles credits_shown (get_or connections n connection) (get_or stops n None)
       (get_or opened n numbers).items (get_or rests n rest) (get_or found n list).items
       (prepared n connection inside) (are.each n connection None numbers rest inside)
-      (after.each n connection list None numbers inside) (get_or last n list).items
-      (gone.each n rest list list (omega arith))
+      (after.each n connection list None numbers inside)
       ∙ sym (get_or-map passed connections n connection [] inside))

@@ -3,7 +3,7 @@ use Rattle.audit_rounds.proofs.Words.{◌≡◌, ℕ, zero, suc, ◌+◌, ◌*�
 use Rattle.audit_rounds.proofs.Words.{List, [], ◌∷◌, ◌++◌, length, map, flat_map, get_or, slice_get, All, Option, Some}
 use Rattle.audit_rounds.proofs.Words.{None, refl, sym, ap, ◌∙◌, arith, append-nil, Vec, Global, AllZip, AllByRecursion}
 use Rattle.audit_rounds.proofs.Words.{flat_map-append, nat_tests, All-map, All-filter, All-contains, slice_get_within}
-use Rattle.audit_rounds.proofs.Words.{Frame, Finding, in_order, IsOrderly, initial_in_force, settings_run, no_previous}
+use Rattle.audit_rounds.proofs.Words.{Frame, Finding, IsOrderly, initial_in_force, settings_run, no_previous}
 use Rattle.audit_rounds.proofs.Words.{local_run, streams_of, length-orderly, AreAcknowledged, StreamRow, groups}
 use Rattle.audit_rounds.proofs.Words.{IsSplit, IsStop, Prepared, Streams, StreamJob, IsPrepared, found_before, IsReady}
 use Rattle.audit_rounds.proofs.Words.{IsJobOf, job_at, plan_from, IsFirstStop, IsStreamsOf, IsRow, true, filter, subst}

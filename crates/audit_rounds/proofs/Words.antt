@@ -38,9 +38,8 @@ pub use Rattle.audit_rounds.specs.code.Batch.{IsBatch, AreReady}
 pub use Rattle.audit_rounds.specs.code.Blocks.{IsSum, AreSums, wholes, IsShort, AreShort}
 pub use Rattle.audit_rounds.specs.code.Blocks.{blocks_of_connection, AddsBlocks}
 pub use Rattle.audit_rounds.specs.code.Connections.{AreRests, IsRest}
-pub use Rattle.audit_rounds.specs.code.EarlyStops.{front_of, chosen_of}
+pub use Rattle.audit_rounds.specs.code.EarlyStops.{front_of, IsEarly}
 pub use Rattle.audit_rounds.specs.code.Few.{AreFew, RowsAreFew}
-pub use Rattle.audit_rounds.specs.code.Framed.{has_frames, spread}
 pub use Rattle.audit_rounds.specs.code.MadeReady.{AreMadeReady}
 pub use Rattle.audit_rounds.specs.code.Opened.{numbers_told, IsInOrder}
 pub use Rattle.audit_rounds.specs.code.Openings.{openings_of}

@@ -4,13 +4,17 @@
 //! once.
 
 ghost use Rattle.std.specs.Prelude.{◌≡◌, ◌<◌, IfOk, length, map};
-ghost use Rattle.std.specs.List.{zip};
+ghost use Rattle.std.specs.List.{AllZip};
 ghost use Rattle.std.specs.Thread.{IsSync};
-ghost use Rattle.audit_rounds.specs.code.EarlyStops.{chosen_of, front_of, has_stopped, later_of};
-ghost use Rattle.audit_rounds.specs.code.Batch.{AreShown, IsBatch};
+ghost use Rattle.audit_rounds.specs.code.EarlyStops.{IsEarly, front_of};
+ghost use Rattle.audit_rounds.specs.code.Batch.{AreJoined, AreShown, AreShownAfter, IsBatch};
 
-use crate::connections::{findings_of_batch, in_halves, together};
+use crate::connections::findings_of_prepared;
 use crate::crew::{Crew, LONG};
+use crate::gathering::none_of_each;
+use crate::halves::{in_halves, together};
+use crate::pending::{pending_of, put_back};
+use crate::prepared::{MadeReady, prepare_each};
 use audit_terms::{Finding, Frame};
 use std::alloc::{AllocError, Global};
 use std::thread::{Threads, join};
@@ -34,84 +38,47 @@ fn fronts_of<'a>(alloc: Global, connections: &[&'a [Frame]]) -> Result<Vec<&'a [
     ensures { IfOk result (λ fronts. map (λ front. front.now) fronts.items
         ≡ map (λ frames. front_of frames.now) connections.now) }
 {
-    connections
-        .iter()
-        .map(|frames| front_of(*frames))
-        .collect(alloc)
-}
-
-/// Does one of these findings stop the connection?
-fn has_stopped(found: &[Finding]) -> bool
-    ensures { result ≡ has_stopped found.now }
-{
-    found.iter().any(|one| one.stops())
-}
-
-/// The frames of a connection that are gone through later: none, where this was found of its front and ends it.
-fn later_of<'a>(frames: &'a [Frame], early: &[Finding]) -> &'a [Frame]
-    ensures { result.now ≡ later_of frames.now early.now }
-{
-    if has_stopped(early) { &[] } else { frames }
-}
-
-/// What is gone through later of each connection, of whose fronts this was found.
-fn laters_of<'a>(
-    alloc: Global,
-    connections: &[&'a [Frame]],
-    early: &[Vec<Finding>],
-) -> Result<Vec<&'a [Frame]>, AllocError>
-    ensures { IfOk result (λ laters. map (λ later. later.now) laters.items
-        ≡ map (λ one. later_of one.0.now one.1.items) (zip connections.now early.now)) }
-{
-    connections
-        .iter()
-        .zip(early)
-        .map(|(frames, early)| later_of(*frames, early.as_slice()))
-        .collect(alloc)
-}
-
-/// What is shown of a connection, of whose front the first list was found, and the second later.
-fn choose(early: Vec<Finding>, later: Vec<Finding>) -> Vec<Finding>
-    ensures { result ≡ chosen_of (early, later) }
-{
-    if has_stopped(early.as_slice()) {
-        early
-    } else {
-        later
+    let mut fronts = Vec::with_capacity(alloc, connections.len())?;
+    for frames in connections {
+        fronts.extend_from_slice(&[front_of(*frames)])?;
     }
+    Ok(fronts)
 }
 
-/// That of each connection.
-fn choose_each(
-    alloc: Global,
-    early: Vec<Vec<Finding>>,
-    later: Vec<Vec<Finding>>,
+/// What is shown of each connection of which this was found: all of it, where it is still to be gone through.
+fn found_after<R: Threads + Sync, G: Gate>(
+    crew: &Crew<'_, R, G>,
+    connections: &[&[Frame]],
+    found: Vec<Vec<Finding>>,
 ) -> Result<Vec<Vec<Finding>>, AllocError>
-    ensures { IfOk result (λ all. all.items ≡ map chosen_of (zip early.items later.items)) }
+    requires batch { IsBatch connections.now }
+    requires number { length found.items ≡ length connections.now }
+    ensures { IfOk result (λ all. AreShownAfter crew.now.setup.credits_shown connections.now found.items all.items) }
 {
-    early
-        .into_iter()
-        .zip(later)
-        .map(|(early, later)| choose(early, later))
-        .collect(alloc)
+    let pending = pending_of(crew.setup.alloc, connections, found.as_slice())?;
+    let made = prepare_each(crew, pending.as_slice())?;
+    let MadeReady {
+        prepared,
+        found: before,
+    } = made;
+    let later = findings_of_prepared(crew, prepared.as_slice(), before)?;
+    Ok(put_back(connections, found, later))
 }
 
-/// What is shown of each connection of a batch. Where one is long, fronts are gone through first.
-fn findings_by_fronts<R: Threads + Sync, G: Gate>(
+/// What is shown of a front of each connection: of none of its frames, where no connection is long.
+fn found_early<R: Threads + Sync, G: Gate>(
     crew: &Crew<'_, R, G>,
     connections: &[&[Frame]],
 ) -> Result<Vec<Vec<Finding>>, AllocError>
     requires { IsBatch connections.now }
-    ensures { IfOk result (λ found. AreShown crew.now.setup.credits_shown connections.now found.items) }
+    ensures { IfOk result (λ early. AllZip (IsEarly crew.now.setup.credits_shown) connections.now early.items) }
 {
+    let none = none_of_each(crew.setup.alloc, connections.len())?;
     if connections.iter().all(|frames| frames.len() < LONG) {
-        return findings_of_batch(crew, connections);
+        return Ok(none);
     }
     let fronts = fronts_of(crew.setup.alloc, connections)?;
-    let early = findings_of_batch(crew, fronts.as_slice())?;
-    let laters = laters_of(crew.setup.alloc, connections, early.as_slice())?;
-    let later = findings_of_batch(crew, laters.as_slice())?;
-    choose_each(crew.setup.alloc, early, later)
+    found_after(crew, fronts.as_slice(), none)
 }
 
 /// So many connections and more are halved: then halves of as many frames are about as much work.
@@ -125,7 +92,20 @@ fn are_short(workers: u32, connections: &[&[Frame]]) -> bool
     connections.iter().all(|frames| frames.len() <= most)
 }
 
-/// What is shown of each connection of a batch.
+/// What is shown of the connections of both halves.
+fn both_shown(
+    one: Result<Vec<Vec<Finding>>, AllocError>,
+    other: Result<Vec<Vec<Finding>>, AllocError>,
+) -> Result<Vec<Vec<Finding>>, AllocError>
+    ensures { AreJoined (λ shows connections found. AreShown shows connections found.items) one other result }
+{
+    let mut found = one?;
+    let mut more = other?;
+    found.append(&mut more)?;
+    Ok(found)
+}
+
+/// What is shown of each connection of a batch. Where one is long, fronts are gone through first.
 pub(crate) fn by_halves<R: Threads + Sync, G: Gate>(
     crew: &Crew<'_, R, G>,
     connections: &[&[Frame]],
@@ -135,7 +115,8 @@ pub(crate) fn by_halves<R: Threads + Sync, G: Gate>(
 {
     let workers = crew.workers;
     if workers == 1 || connections.len() < MANY || !are_short(workers, connections) {
-        return findings_by_fronts(crew, connections);
+        let early = found_early(crew, connections)?;
+        return found_after(crew, connections, early);
     }
     let (front, back) = in_halves(connections);
     let (rt, gate, setup) = (crew.rt, crew.gate, crew.setup);
@@ -152,8 +133,5 @@ pub(crate) fn by_halves<R: Threads + Sync, G: Gate>(
             ensures { IfOk result (λ found. AreShown setup.credits_shown back.entry.now found.items) }
         { by_halves(&Crew::of(rt, gate, setup, others), back) },
     );
-    let mut found = one?;
-    let mut more = other?;
-    found.append(&mut more)?;
-    Ok(found)
+    both_shown(one, other)
 }

@@ -32,10 +32,9 @@
 //! - [`laws::openings_are_found`] and [`laws::items_are_found`]: the numbers that streams tell, and the changes, make
 //!   the items of the pass.
 //! - Refused by the prover: changes of settings, not handed on to the blocks; a look that answers nothing in place of
-//!   the worker's, in the round over streams and in that over blocks; what the blocks show, lost where nothing was
-//!   found before; openings of quiet streams, lost; streams split as if credits were not shown; what is found of a
-//!   connection, given to another; of the places up to which runs went, the greater taken for the lesser. Those of
-//!   single rounds stand in the crates below.
+//!   the worker's, in the round over streams; openings of quiet streams, lost; what is found of a connection, given to
+//!   another; of the places up to which runs went, the greater taken for the lesser. Those of single rounds stand in
+//!   the crates below.
 //! - Tested by whole reports, in many mixes of workers, groups and block lengths: that the call succeeds where there is
 //!   memory.
 //! - Trusted: the port of `itertools`.
@@ -50,10 +49,11 @@ mod blocks;
 mod connections;
 mod crew;
 mod divisions;
-mod framed;
 mod gathering;
+mod halves;
 pub mod laws;
 mod merging;
+mod pending;
 mod prepared;
 mod stream_jobs;
 mod stream_round;

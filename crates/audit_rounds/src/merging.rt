@@ -1,11 +1,11 @@
-//! What two runs of findings show of each connection, merged.
+//! What two runs of findings show of each connection, merged and cut at the first error.
 
 ghost use Rattle.std.specs.Prelude.{◌≡◌, ◌++◌, IfOk, map, not};
 ghost use Rattle.std.specs.List.{zip};
 ghost use Rattle.itertools.specs.List.{merge_by};
-ghost use Rattle.audit_terms.specs.Finding.{comes_after, in_order};
+ghost use Rattle.audit_terms.specs.Finding.{comes_after, in_order, upto_stop};
 
-use audit_terms::{Finding, put_in_order};
+use audit_terms::{Finding, cut_at_stop, put_in_order};
 use itertools::Itertools;
 use std::alloc::{AllocError, Global};
 
@@ -42,19 +42,23 @@ fn merged(
     merged_runs(alloc, found, more)
 }
 
-/// Of each connection the findings of its two lists in order.
+/// Of each connection the findings of its two lists in order, up to and including the first that stops.
 pub(crate) fn merged_each(
     alloc: Global,
     found: Vec<Vec<Finding>>,
     more: Vec<Vec<Finding>>,
 ) -> Result<Vec<Vec<Finding>>, AllocError>
     ensures { IfOk result (λ all. map (λ one. one.items) all.items
-        ≡ map (λ pair. in_order (pair.0.items ++ pair.1.items)) (zip found.items more.items)) }
+        ≡ map (λ pair. upto_stop (in_order (pair.0.items ++ pair.1.items))) (zip found.items more.items)) }
 {
     let mut all = Vec::with_capacity(alloc, found.len())?;
-    for pair in found.into_iter().zip(more) {
-        let (one, other) = pair;
-        all.push(merged(alloc, one, other)?)?;
+    let mut rest = more.into_iter();
+    for one in found {
+        if let Some(other) = rest.next() {
+            let mut last = merged(alloc, one, other)?;
+            cut_at_stop(&mut last);
+            all.push(last)?;
+        }
     }
     Ok(all)
 }

@@ -1,19 +1,21 @@
 //! Connections made ready for the rounds.
 
-ghost use Rattle.std.specs.Prelude.{◌≡◌, ◌<◌, ◌^◌, [], ◌∷◌, ◌++◌, IfOk, OnOk, length, map};
+ghost use Rattle.std.specs.Prelude.{◌≡◌, ◌<◌, ◌^◌, Bool, [], ◌∷◌, ◌++◌, IfOk, OnOk, length, map};
 ghost use Rattle.std.specs.Thread.{IsSync};
 ghost use Rattle.audit_terms.specs.code.runs.Orderly.{IsOrderly};
 ghost use Rattle.audit_terms.specs.code.runs.LocalFaults.{local_run};
 ghost use Rattle.settings_pair.specs.code.Changes.{AreOrderly, AreAcknowledged};
 ghost use Rattle.split_merge.specs.code.Split.{IsSplit};
-ghost use Rattle.audit_rounds.specs.code.MadeReady.{AddsReady};
+ghost use Rattle.audit_rounds.specs.code.Batch.{AreJoined, IsBatch};
+ghost use Rattle.audit_rounds.specs.code.MadeReady.{AddsReady, AreMadeReady};
 
 use crate::crew::{Crew, LONG};
+use crate::halves::in_halves;
 use audit_terms::{Change, Finding, Frame};
 use fault_rules::local_faults;
 use settings_pair::{Pairs, pair};
 use split_merge::{SplitFrames, split};
-use std::alloc::AllocError;
+use std::alloc::{AllocError, Global};
 use std::thread::{Threads, join};
 use stop_desk::Gate;
 
@@ -33,6 +35,17 @@ pub(crate) struct Prepared<'a> {
 pub(crate) struct MadeReady<'a> {
     pub(crate) prepared: Vec<Prepared<'a>>,
     pub(crate) found: Vec<Vec<Finding>>,
+}
+
+impl<'a> MadeReady<'a> {
+    /// None so far, with room for so many.
+    fn with_capacity(alloc: Global, connections: usize) -> Result<MadeReady<'a>, AllocError>
+        ensures { IfOk result (λ made. (credits_shown : Bool) → AreMadeReady credits_shown [] made) }
+    {
+        let prepared = Vec::with_capacity(alloc, connections)?;
+        let found = Vec::with_capacity(alloc, connections)?;
+        Ok(MadeReady { prepared, found })
+    }
 }
 
 /// The faults of single frames, and the frames by stream: side by side, where there are many frames and workers.
@@ -98,7 +111,7 @@ fn add<'a>(
 }
 
 /// Makes one connection more ready, by so many workers at most.
-pub(crate) fn prepare<'a, R: Threads + Sync, G: Gate>(
+fn prepare<'a, R: Threads + Sync, G: Gate>(
     crew: &Crew<'_, R, G>,
     made: &mut MadeReady<'a>,
     frames: &'a [Frame],
@@ -111,4 +124,52 @@ pub(crate) fn prepare<'a, R: Threads + Sync, G: Gate>(
     let found = found?;
     let split = split?;
     add(made, frames, pairs, found, split)
+}
+
+/// The connections of both halves, made ready.
+fn both_ready<'a>(
+    one: Result<MadeReady<'a>, AllocError>,
+    other: Result<MadeReady<'a>, AllocError>,
+) -> Result<MadeReady<'a>, AllocError>
+    ensures { AreJoined AreMadeReady one.entry other.entry result }
+{
+    let mut made = one?;
+    let mut more = other?;
+    made.prepared.append(&mut more.prepared)?;
+    made.found.append(&mut more.found)?;
+    Ok(made)
+}
+
+/// Makes each connection ready, halves of them side by side where there are workers, and answers what is found of each
+/// before the rounds.
+pub(crate) fn prepare_each<'a, R: Threads + Sync, G: Gate>(
+    crew: &Crew<'_, R, G>,
+    connections: &[&'a [Frame]],
+) -> Result<MadeReady<'a>, AllocError>
+    requires { IsBatch connections.now }
+    ensures { IfOk result (AreMadeReady crew.now.setup.credits_shown connections.now) }
+{
+    if crew.workers == 1 || connections.len() < 2 {
+        let mut made = MadeReady::with_capacity(crew.setup.alloc, connections.len())?;
+        for frames in connections {
+            prepare(crew, &mut made, *frames)?;
+        }
+        return Ok(made);
+    }
+    let (front, back) = in_halves(connections);
+    let (rt, gate, setup) = (crew.rt, crew.gate, crew.setup);
+    let few = crew.workers / 2;
+    let others = crew.workers - few;
+    let (one, other) = join(
+        rt,
+        || -> Result<MadeReady<'_>, AllocError>
+            requires { IsSync R.row × IsSync G.row × (0 < few) × IsBatch front.now }
+            ensures { IfOk result (AreMadeReady setup.credits_shown front.entry.now) }
+        { prepare_each(&Crew::of(rt, gate, setup, few), front) },
+        || -> Result<MadeReady<'_>, AllocError>
+            requires { IsSync R.row × IsSync G.row × (0 < others) × IsBatch back.now }
+            ensures { IfOk result (AreMadeReady setup.credits_shown back.entry.now) }
+        { prepare_each(&Crew::of(rt, gate, setup, others), back) },
+    );
+    both_ready(one, other)
 }

@@ -1,6 +1,7 @@
 -- A batch of connections, and what is found of each.
 use Rattle.std.specs.Global.{Global}
-use Rattle.std.specs.Prelude.{◌≡◌, All, Bool, List, Vec, map}
+use Rattle.std.specs.Prelude.{◌≡◌, ◌++◌, if◌then◌else◌, All, Bool, List, Vec, Result, IfOk, map}
+use Rattle.std.specs.List.{zip}
 use denote.Ref.{Bor}
 use Rattle.audit_terms.specs.declared.findings.Finding.{Finding}
 use Rattle.audit_terms.specs.declared.frames.Frame.{Frame}
@@ -9,6 +10,7 @@ use Rattle.audit_terms.specs.Finding.{shown}
 use Rattle.audit_terms.specs.Pass.{pass}
 use Rattle.audit_rounds.specs.declared.prepared.Prepared.{Prepared}
 use Rattle.audit_rounds.specs.code.Few.{AreFew, PreparedAreFew}
+use Rattle.audit_rounds.specs.code.Pending.{is_pending}
 use Rattle.audit_rounds.specs.code.Prepared.{IsPrepared, found_before}
 
 -- connections that may go through the rounds together
@@ -27,3 +29,22 @@ pub record AreReady (credits_shown : Bool) (connections : List Prepared) (found 
 abbrev pub AreShown : (credits_shown : Bool) → List (Bor (List Frame)) → List (Vec Finding Global) → Type 0
 AreShown credits_shown connections found = map (λ (one : Vec Finding Global). one.items) found
     ≡ map (λ (frames : Bor (List Frame)). shown credits_shown (pass frames.now)) connections
+
+-- where something is made of either half of some connections, it is made of all
+abbrev pub AreJoined : {Made E : Type 0} → (are : Bool → List (Bor (List Frame)) → Made → Type 0) →
+    (one other both : Result Made E) → Type 0
+AreJoined are one other both = (credits_shown : Bool) (front back : List (Bor (List Frame))) →
+    IfOk one (are credits_shown front) → IfOk other (are credits_shown back) →
+    IfOk both (are credits_shown (front ++ back))
+
+-- what is shown of a connection of which this was found: all of it, where it is still to be gone through
+abbrev pub shown_after : (credits_shown : Bool) → List Frame → (found : List Finding) → List Finding
+shown_after credits_shown frames found =
+    if is_pending frames found then shown credits_shown (pass frames) else found
+
+-- that of each connection
+abbrev pub AreShownAfter : (credits_shown : Bool) → List (Bor (List Frame)) → (found all : List (Vec Finding Global)) →
+    Type 0
+AreShownAfter credits_shown connections found all = map (λ (one : Vec Finding Global). one.items) all
+    ≡ map (λ (one : Bor (List Frame) × Vec Finding Global). shown_after credits_shown one.0.now one.1.items)
+    (zip connections found)

@@ -1,6 +1,6 @@
 -- What making connections ready gives.
 use Rattle.std.specs.Global.{Global}
-use Rattle.std.specs.Prelude.{◌≡◌, Bool, List, [], ◌∷◌, ◌++◌, Vec, All, Result, IfOk, map}
+use Rattle.std.specs.Prelude.{◌≡◌, Bool, List, [], ◌∷◌, ◌++◌, Vec, All, map}
 use denote.Ref.{Bor}
 use Rattle.audit_terms.specs.declared.findings.Finding.{Finding}
 use Rattle.audit_terms.specs.declared.frames.Frame.{Frame}
@@ -19,9 +19,3 @@ pub record AreMadeReady (credits_shown : Bool) (connections : List (Bor (List Fr
 abbrev pub AddsReady : (credits_shown : Bool) → Bor (List Frame) → (before after : MadeReady) → Type 0
 AddsReady credits_shown frames before after = (connections : List (Bor (List Frame))) →
     AreMadeReady credits_shown connections before → AreMadeReady credits_shown (connections ++ frames ∷ []) after
-
--- where both halves of some connections are made ready, so are all
-abbrev pub AreBothReady : {E : Type 0} → (one other both : Result MadeReady E) → Type 0
-AreBothReady one other both = (credits_shown : Bool) (front back : List (Bor (List Frame))) →
-    IfOk one (AreMadeReady credits_shown front) → IfOk other (AreMadeReady credits_shown back) →
-    IfOk both (AreMadeReady credits_shown (front ++ back))

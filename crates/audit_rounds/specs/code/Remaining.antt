@@ -32,6 +32,6 @@ pub record AreGoneThrough (credits_shown : Bool) (connections : List Block) (fou
     : Type 0 where
   pub number : length last ≡ length found
   pub each : (n : ℕ) (whole : Block) (list list' : Vec Finding Global) → n < length connections
-      → upto_stop (in_order (slice_index_or last n list).items)
+      → (slice_index_or last n list).items
       ≡ upto_stop (in_order ((slice_index_or found n list').items ++ shown credits_shown (block_run connection_start
       (items_in (slice_index_or connections n whole)))))

@@ -1,17 +1,21 @@
-use Rattle.audit_rounds.proofs.Words.{List, Bor, IfOk-at_ok, Frame, shown, pass}
+use Rattle.audit_rounds.proofs.Words.{subst, IfOk, AllZip-long}
 use Rattle.audit_rounds.specs.code.Batch.{AreShown}
-use Rattle.audit_rounds.proofs.Lists.{items_in, halves-whole}
+use Rattle.audit_rounds.proofs.Lists.{if_ok-then}
+use Rattle.audit_rounds.proofs.Batches.{early-shown}
 use Rattle.audit_rounds.proofs.batch.+by_halves+fn-by_halves-join+arg2+fn-by_halves-join+arg3.Goals as goal
+
+pub found_after-requires-clause-number : goal.found_after-requires-clause-number
+found_after-requires-clause-number g t c κs within = AllZip-long _ _ _ c.in_ok-early.ensures
+
+pub returns-then-workers-eq1 : goal.returns-then-workers-eq1
+returns-then-workers-eq1 g t c = if_ok-then c.found_after.result _ _ c.found_after.ensures (λ all is.
+    early-shown c.args.crew.now.setup.credits_shown c.args.connections.now c.in_ok-early.early.items all.items
+    c.in_ok-early.ensures is)
 
 pub returns : goal.returns
 returns g t c =
+    let shows = c.args.crew.now.setup.credits_shown in
     let front = c.in_halves.result.0.now in
     let back = c.in_halves.result.1.now in
-    let passed = λ (frames : Bor (List Frame)). shown c.args.crew.now.setup.credits_shown (pass frames.now) in
-    let one = c.in_ok-found in
-    let other = c.in_ok-more in
-    let first = IfOk-at_ok (λ found. AreShown _ front found.items) one.was c.join-one.ensures.first in
-    let second = IfOk-at_ok (λ found. AreShown _ back found.items) other.was c.join-one.ensures.second in
-    rw c.in_ok-append.ensures.items
-    (halves-whole items_in passed c.args.connections.now front back one.found.items other.more.items
-    c.in_halves.ensures.whole first second)
+    subst (λ all. IfOk c.both_shown.result (λ found. AreShown shows all found.items)) c.in_halves.ensures.whole
+    (c.both_shown.ensures shows front back c.join-one.ensures.first c.join-one.ensures.second)

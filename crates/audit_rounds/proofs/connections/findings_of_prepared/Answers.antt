@@ -1,4 +1,3 @@
-use Rattle.audit_rounds.proofs.Words.{◌∙◌}
 use Rattle.audit_rounds.proofs.Batches.{few-rests}
 use Rattle.audit_rounds.proofs.Settling.{all-remain, all-settle}
 use Rattle.audit_rounds.proofs.Lists.{if_ok-then}
@@ -17,7 +16,7 @@ rounds_over_blocks-requires-clause-few g c κs within =
 
 pub returns : goal.returns
 returns g c =
-    if_ok-then c.cut_each.result _ _ c.cut_each.ensures (λ found is. is
-    ∙ all-settle c.args.crew.now.setup.credits_shown c.args.connections.now _ _ _ _ c.requires.prepared
+    if_ok-then c.rounds_over_blocks.result _ _ c.rounds_over_blocks.ensures (λ last gone.
+    all-settle c.args.crew.now.setup.credits_shown c.args.connections.now _ _ _ _ c.requires.prepared
     (rw (c.as_slice-stops.ensures.value, c.as_slice.ensures.value) c.in_ok-after.ensures) c.in_ok-rests.ensures
-    c.in_ok-last.last.items (rw c.as_slice-2.ensures.value at c.in_ok-last.ensures))
+    last.items (rw c.as_slice-2.ensures.value at gone))

@@ -1,17 +1,11 @@
-use Rattle.audit_rounds.proofs.Words.{◌≡◌, ◌++◌, Vec, Global, ◌⊎◌, inl, inr, length, map, sym, ap, ◌∙◌, ⊎_elim, zip}
-use Rattle.audit_rounds.proofs.Words.{into_iter_items, zip_first, zip_second, Finding}
-use Rattle.audit_rounds.proofs.Settles.{both_in, zip-over}
+use Rattle.audit_rounds.proofs.Words.{◌≡◌, [], sym, ◌∙◌, nil_from_length, into_iter_items}
+use Rattle.audit_rounds.proofs.Settles.{zip-none}
 use Rattle.audit_rounds.proofs.merging.merged_each.Goals as goal
 
-pub returns : goal.returns
-returns c =
-    let at = c.loop-pair in
-    let seconds = λ (pair : Vec Finding Global × Vec Finding Global). pair.1 in
-    let one = into_iter_items (zip_first at.pair-iterator) in
-    let other = into_iter_items (zip_second at.pair-iterator) in
-    let over : (length one ≡ 0) ⊎ (length other ≡ 0) = ⊎_elim
-    (λ p. inl (sym at.pair-iterator.a.rest.ok.0 ∙ p.1.0)) (λ p. inr (sym at.pair-iterator.b.rest.ok.0 ∙ p.1.0))
-    c.in-None.ensures.steps in
-    at.invariant.all ∙ ap (map both_in) (sym (zip-over at.yielded one other over)
-    ∙ ap (λ l. zip l (map seconds at.yielded ++ other)) at.invariant.firsts
-    ∙ ap (zip c.args.found.items) at.invariant.seconds)
+pub loop-one-preserved : goal.loop-one-preserved
+loop-one-preserved c =
+    let over = c.in_default.ensures in
+    let was : into_iter_items c.loop-one.rest ≡ [] =
+    nil_from_length _ (sym c.loop-one.rest.rest.ok.0 ∙ over.cases.0) in
+    let is : into_iter_items c.next-in-loop-one.new.self ≡ [] = sym over.items ∙ was in
+    rw (is, zip-none) (rw (was, zip-none) at c.loop-one.invariant)

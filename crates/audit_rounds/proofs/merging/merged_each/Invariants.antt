@@ -1,14 +1,10 @@
-use Rattle.audit_rounds.proofs.Words.{◌≡◌, ◌++◌, map, Vec, Global, into_iter_items, zip_first, zip_second, Finding}
-use Rattle.audit_rounds.proofs.Words.{in_order}
+use Rattle.audit_rounds.proofs.Words.{◌≡◌, ◌++◌, map, zip, into_iter_items}
+use Rattle.audit_rounds.proofs.Lists.{items_in}
+use Rattle.audit_rounds.proofs.Settles.{both_in}
 use Rattle.audit_rounds.proofs.merging.merged_each.Given as goal
 
--- the lists so far and those that are left are all of them, and those so far are merged
-abbrev pub invariant-loop-pair : goal.invariant-loop-pair
-invariant-loop-pair l = record {
-  firsts : map (λ (pair : Vec Finding Global × Vec Finding Global). pair.0) l.yielded
-      ++ into_iter_items (zip_first l.pair-iterator) ≡ l.fn.found.items;
-  seconds : map (λ (pair : Vec Finding Global × Vec Finding Global). pair.1) l.yielded
-      ++ into_iter_items (zip_second l.pair-iterator) ≡ l.fn.more.items;
-  all : map (λ one. one.items) l.all.items
-      ≡ map (λ (pair : Vec Finding Global × Vec Finding Global). in_order (pair.0.items ++ pair.1.items)) l.yielded;
-}
+-- the lists so far, and those of what is left, are all
+abbrev pub invariant-loop-one : goal.invariant-loop-one
+invariant-loop-one l =
+    map items_in l.all.items ++ map both_in (zip (into_iter_items l.one-iterator) (into_iter_items l.rest))
+    ≡ map both_in (zip l.fn.found.items l.fn.more.items)

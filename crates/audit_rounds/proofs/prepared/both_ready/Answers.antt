@@ -1,6 +1,6 @@
 use Rattle.audit_rounds.proofs.Words.{IfOk-at_ok, AreMadeReady}
 use Rattle.audit_rounds.proofs.Batches.{made-whole}
-use Rattle.audit_rounds.proofs.connections.both_ready.Goals as goal
+use Rattle.audit_rounds.proofs.prepared.both_ready.Goals as goal
 
 pub returns : goal.returns
 returns c = λ credits_shown front back first second.

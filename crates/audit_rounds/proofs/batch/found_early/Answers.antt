@@ -1,0 +1,19 @@
+use Rattle.audit_rounds.proofs.Lists.{if_ok-then}
+use Rattle.audit_rounds.proofs.Batches.{early-none, early-fronts, fronts-batch}
+use Rattle.audit_rounds.proofs.batch.found_early.Goals as goal
+
+pub returns-then-all : goal.returns-then-all
+returns-then-all g c = early-none c.args.crew.now.setup.credits_shown c.args.connections.now c.in_ok-none.none.items
+    c.in_ok-none.ensures.number c.in_ok-none.ensures.each
+
+pub found_after-requires-clause-batch : goal.found_after-requires-clause-batch
+found_after-requires-clause-batch g c κs within =
+    rw c.as_slice.ensures.value
+    (fronts-batch c.args.connections.now c.in_ok-fronts.fronts.items c.in_ok-fronts.ensures c.requires)
+
+pub returns : goal.returns
+returns g c =
+    if_ok-then c.found_after.result _ _ c.found_after.ensures (λ all is.
+    early-fronts c.args.crew.now.setup.credits_shown c.args.connections.now c.in_ok-fronts.fronts.items
+    c.in_ok-none.none.items all.items c.in_ok-none.ensures.number c.in_ok-none.ensures.each c.in_ok-fronts.ensures
+    (rw c.as_slice.ensures.value at is))

@@ -1,0 +1,35 @@
+//! The halves of a batch, that are gone through side by side.
+
+ghost use Rattle.std.specs.Prelude.{◌≡◌, ◌≤◌, ◌++◌, length};
+ghost use Rattle.audit_rounds.specs.code.Batch.{IsBatch};
+
+use audit_terms::Frame;
+
+/// How many frames connections have together.
+pub(crate) fn together(connections: &[&[Frame]]) -> usize {
+    let mut together = 0usize;
+    for frames in connections {
+        together = together.saturating_add(frames.len());
+    }
+    together
+}
+
+/// The connections in two halves, with about as many frames each.
+pub(crate) fn in_halves<'a, 'b>(
+    connections: &'b [&'a [Frame]],
+) -> (&'b [&'a [Frame]], &'b [&'a [Frame]])
+    requires number { 2 ≤ length connections.now }
+    requires batch { IsBatch connections.now }
+    ensures whole { result.0.now ++ result.1.now ≡ connections.now }
+    ensures one { IsBatch result.0.now }
+    ensures other { IsBatch result.1.now }
+{
+    let half = together(connections) / 2;
+    let mut before = connections[0].len();
+    let mut count = 1;
+    while count < connections.len() - 1 && before < half {
+        before = before.saturating_add(connections[count].len());
+        count += 1;
+    }
+    connections.split_at(count)
+}

@@ -1,0 +1,62 @@
+//! The connections of a batch that are still to be gone through: those that have frames, and that nothing stops which
+//! was found of them so far. Any TCP connection may have no frame, and a SYN is enough to open one.
+
+ghost use Rattle.std.specs.Prelude.{◌≡◌, IfOk, length, map};
+ghost use Rattle.audit_rounds.specs.code.Pending.{has_stopped, is_pending, pending_of, put_back};
+
+use audit_terms::{Finding, Frame};
+use std::alloc::{AllocError, Global};
+
+/// Does one of these findings stop the connection?
+fn has_stopped(found: &[Finding]) -> bool
+    ensures { result ≡ has_stopped found.now }
+{
+    found.iter().any(|one| one.stops())
+}
+
+/// Is a connection of which this was found still to be gone through?
+fn is_pending(frames: &[Frame], found: &[Finding]) -> bool
+    ensures { result ≡ is_pending frames.now found.now }
+{
+    !frames.is_empty() && !has_stopped(found)
+}
+
+/// Those that are, of connections of each of which this was found.
+pub(crate) fn pending_of<'a>(
+    alloc: Global,
+    connections: &[&'a [Frame]],
+    found: &[Vec<Finding>],
+) -> Result<Vec<&'a [Frame]>, AllocError>
+    requires { length found.now ≡ length connections.now }
+    ensures { IfOk result (λ pending. pending.items ≡ pending_of connections.now found.now) }
+{
+    let mut pending = Vec::new(alloc);
+    for n in 0..connections.len() {
+        if is_pending(connections[n], found[n].as_slice()) {
+            pending.extend_from_slice(&[connections[n]])?;
+        }
+    }
+    Ok(pending)
+}
+
+/// What was found of each connection, with the next of these lists in place of it for one that was still to be gone
+/// through.
+pub(crate) fn put_back(
+    connections: &[&[Frame]],
+    found: Vec<Vec<Finding>>,
+    later: Vec<Vec<Finding>>,
+) -> Vec<Vec<Finding>>
+    requires { length found.items ≡ length connections.now }
+    ensures { map (λ one. one.items) result.items ≡ put_back connections.now found.items later.items }
+{
+    let mut all = found;
+    let mut rest = later.into_iter();
+    for n in 0..connections.len() {
+        if is_pending(connections[n], all[n].as_slice()) {
+            if let Some(list) = rest.next() {
+                all[n] = list;
+            }
+        }
+    }
+    all
+}
