@@ -3,7 +3,7 @@ use Rattle.audit_rounds.proofs.Words.{◌≡◌, ℕ, suc, ◌==◌, Bool, false
 use Rattle.audit_rounds.proofs.Words.{sym, ap, ◌∙◌, arith, Option, Some, None, nat_tests, option_to_list, list_any}
 use Rattle.audit_rounds.proofs.Words.{IsPermutation, flat_map, flat_map-append, list_any-append, list_any-IsPermutation}
 use Rattle.audit_rounds.proofs.Words.{Frame, changes_of, is_past, streams_of, frames_of, stream_at_end, opened_up_to}
-use Rattle.audit_rounds.proofs.Words.{openings_of, Reaches, AgreeWithin, ◌+◌, ◌<◌, ◌≤◌, true, ◌&&◌, is_none}
+use Rattle.audit_rounds.proofs.Words.{openings_of, Reaches, AgreeWithin, ◌+◌, ◌<◌, ◌≤◌, true, ◌&&◌, ◌||◌, eqb-true, is_none}
 use Rattle.audit_rounds.proofs.Words.{if◌then◌else◌, Sides, Body, Change, Item, Step, Stream, meets, is_headers}
 use Rattle.audit_rounds.proofs.Words.{IsOrderly, IsOrderlyFrom, initial_in_force, in_force_after, change_of}
 use Rattle.audit_rounds.proofs.Words.{idle_stream, stream_after, initial_after, PassState, pass_start, next, step_of}
@@ -182,6 +182,11 @@ headers-promise _ e = cc
 abbrev among : ℕ → List ℕ → Bool
 among stream streams = list_any (λ other. other == stream) streams
 
+absorbed : (x y : Bool) → (x || (y && x)) ≡ x
+absorbed true y = refl
+absorbed false true = refl
+absorbed false false = refl
+
 -- the openings at the end of the pass
 abbrev openings_at : PassState → List ℕ → List ℕ
 openings_at state streams = flat_map (λ stream. option_to_list (opened state stream)) streams
@@ -190,12 +195,23 @@ module _ (state : PassState) (frame : Frame) where
   opens-pass : opens_stream state frame ≡ opens_it state frame frame.stream
   opens-pass = grind (arith, nat_tests)
 
+  opens-other : (stream : ℕ) → is_headers frame.body ≡ true → (stream == frame.stream) ≡ false
+      → opens_it state frame stream ≡ false
+  opens-other stream h e = let none = headers-promise frame.body h in grind (arith, nat_tests)
+
   any-opens : (streams : List ℕ) → is_headers frame.body ≡ true
       → list_any (opens_it state frame) streams ≡ (among frame.stream streams && opens_it state frame frame.stream)
   any-opens [] h = refl
-  any-opens (stream ∷ streams) h =
-      let none = headers-promise frame.body h in
-      grind (arith, nat_tests, any-opens streams h)
+  any-opens (stream ∷ streams) h = by_test _ refl (any-opens streams h) where
+    by_test : (same : Bool) → (stream == frame.stream) ≡ same
+        → list_any (opens_it state frame) streams
+        ≡ (among frame.stream streams && opens_it state frame frame.stream)
+        → list_any (opens_it state frame) (stream ∷ streams)
+        ≡ ((same || among frame.stream streams) && opens_it state frame frame.stream)
+    by_test true e rest =
+        rw (eqb-true stream frame.stream e, rest)
+        (absorbed (opens_it state frame frame.stream) (among frame.stream streams))
+    by_test false e rest = rw (opens-other stream h e) rest
 
   opens-here : (frames : List Frame) (streams : List ℕ)
       → NoneFrom frame.number state → IsOrderlyFrom (frame.number + 1) frames
