@@ -28,7 +28,7 @@ abbrev pub lent : Bor (List Frame) → ℕ
 lent = λ (frames : Bor (List Frame)). length frames.now
 
 -- orderly frames, lent
-abbrev IsLent : Bor (List Frame) → Type 0
+abbrev pub IsLent : Bor (List Frame) → Type 0
 IsLent frames = IsOrderly frames.now
 
 pub lent-short : (all : List (Bor (List Frame))) → All IsLent all → (n : ℕ) (d : Bor (List Frame)) → n < length all

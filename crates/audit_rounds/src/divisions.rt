@@ -2,7 +2,7 @@ ghost use Rattle.std.specs.Prelude.{◌≡◌, ◌<◌, ◌≤◌, All, IfOk, le
 ghost use Rattle.audit_terms.specs.code.runs.Orderly.{IsOrderly};
 ghost use Rattle.audit_terms.specs.Finding.{shown};
 ghost use Rattle.audit_terms.specs.Pass.{pass};
-ghost use Rattle.audit_rounds.specs.code.Few.{AreFew};
+ghost use Rattle.audit_rounds.specs.code.Batch.{IsBatch};
 
 use crate::batch::by_halves;
 use crate::crew::{Crew, Setup};
@@ -29,13 +29,14 @@ pub struct Division {
 /// the frames is there for one batch at a time, and so many frames are enough to keep all workers at work.
 const BATCH: usize = 1 << 22;
 
-/// How many connections make the next batch.
-fn batch_length(connections: &[&[Frame]]) -> usize
+/// The next batch: the first of these connections.
+fn next_batch<'a, 'b>(connections: &'b [&'a [Frame]]) -> &'b [&'a [Frame]]
     requires some { 0 < length connections.now }
     requires frames { All (λ frames. IsOrderly frames.now) connections.now }
-    ensures some { 0 < result }
-    ensures within { result ≤ length connections.now }
-    ensures few { AreFew (take result connections.now) }
+    ensures some { 0 < length result.now }
+    ensures within { length result.now ≤ length connections.now }
+    ensures front { result.now ≡ take (length result.now) connections.now }
+    ensures batch { IsBatch result.now }
 {
     let most = connections.len().min(BATCH);
     let mut count = 1;
@@ -44,7 +45,8 @@ fn batch_length(connections: &[&[Frame]]) -> usize
         together += connections[count].len();
         count += 1;
     }
-    count
+    let (batch, _) = connections.split_at(count);
+    batch
 }
 
 /// What is shown of each connection, from its frames: what one pass over them says up to the first connection error
@@ -73,7 +75,7 @@ pub fn findings_of_each<R: Threads + Sync, G: Gate>(
     let mut done = 0;
     while done < connections.len() {
         let (_, rest) = connections.split_at(done);
-        let (batch, _) = rest.split_at(batch_length(rest));
+        let batch = next_batch(rest);
         let mut found = by_halves(&crew, batch)?;
         all.append(&mut found)?;
         done += batch.len();

@@ -1,6 +1,6 @@
-use Rattle.audit_rounds.proofs.Words.{ap, arith, get_or_default, sum_by_more}
-use Rattle.audit_rounds.proofs.Batches.{lent, lent-short}
-use Rattle.audit_rounds.proofs.divisions.batch_length.Goals as goal
+use Rattle.audit_rounds.proofs.Words.{ap, sym, subst, arith, All-take, get_or_default, sum_by_more, AreFew}
+use Rattle.audit_rounds.proofs.Batches.{IsLent, lent, lent-short}
+use Rattle.audit_rounds.proofs.divisions.next_batch.Goals as goal
 
 pub overflow_add-together : goal.overflow_add-together
 overflow_add-together c =
@@ -24,3 +24,15 @@ loop-count-preserved c =
     let more = sum_by_more lent all at one (omega arith) in
     let same = ap lent (get_or_default all at c.index-connections-count.result one (omega arith)) in
     record { some = omega arith; within = omega arith; is = omega arith; few = omega arith }
+
+pub returns-clause-front : goal.returns-clause-front
+returns-clause-front c = rw c.split_at.ensures.front_len c.split_at.ensures.front
+
+pub returns-clause-batch : goal.returns-clause-batch
+returns-clause-batch c =
+    let all = c.args.connections.now in
+    let at = c.loop-count in
+    let is = at.invariant.is in
+    let few = at.invariant.few in
+    rw c.split_at.ensures.front
+    (record { orderly = All-take IsLent at.count all c.requires.frames; few = omega arith })

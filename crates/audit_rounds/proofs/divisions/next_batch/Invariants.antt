@@ -1,6 +1,6 @@
 use Rattle.audit_rounds.proofs.Words.{◌≡◌, ◌≤◌, ◌-◌, ◌^◌, length, take, sum_by}
 use Rattle.audit_rounds.proofs.Batches.{lent}
-use Rattle.audit_rounds.proofs.divisions.batch_length.Given as goal
+use Rattle.audit_rounds.proofs.divisions.next_batch.Given as goal
 
 -- the connections so far have few frames: those of the first one, or no more than a batch has
 abbrev pub invariant-loop-count : goal.invariant-loop-count
