@@ -1,6 +1,7 @@
 -- Batches of connections: made ready, those that are still to be gone through, and fronts. A batch has few frames, and
 -- so its rounds have few jobs.
-use Rattle.audit_rounds.proofs.Words.{◌≡◌, ℕ, zero, suc, ◌+◌, ◌*◌, ◌<◌, ◌≤◌, ◌==◌, ◌++◌, Bool, true, false, not, min, nat_lt}
+use Rattle.audit_rounds.proofs.Words.{◌≡◌, ℕ, zero, suc, ◌+◌, ◌*◌, ◌<◌, ◌≤◌, ◌==◌, ◌++◌, Bool, true, false, not, min}
+use Rattle.audit_rounds.proofs.Words.{nat_lt}
 use Rattle.audit_rounds.proofs.Words.{if◌then◌else◌, List, [], ◌∷◌, map, take, drop, filter, length, get_or, All, refl}
 use Rattle.audit_rounds.proofs.Words.{sym, ap, ◌∙◌, arith, Option, None, Vec, Global, Bor, AllZip, sum_by, zip}
 use Rattle.audit_rounds.proofs.Words.{list_any, length-map, length-append, map-append, take-append-drop, sum_by-cons}
@@ -9,7 +10,8 @@ use Rattle.audit_rounds.proofs.Words.{eqb-true, Frame, Finding, Change, stops, s
 use Rattle.audit_rounds.proofs.Words.{◌^◌, length-orderly, pass, promised_by, first_of, streams_of, IsOrderly, Block}
 use Rattle.audit_rounds.proofs.Words.{StreamRow, SplitFrames, IsSplit, groups, Streams, Prepared, MadeReady, IsPrepared}
 use Rattle.audit_rounds.proofs.Words.{AreMadeReady, AreReady, AreRests, RowsAreFew, IsBatch, ◌&&◌}
-use Rattle.audit_rounds.proofs.Words.{take_all, front_of, IsEarly, found_before, job_at, plan_from, IsStreamsOf, All-push}
+use Rattle.audit_rounds.proofs.Words.{take_all, front_of, IsEarly, found_before, job_at, plan_from, IsStreamsOf}
+use Rattle.audit_rounds.proofs.Words.{All-push}
 use Rattle.std.proofs.Common.{◌/◌}
 use Rattle.std.proofs.Math.Nat.{min-le_right}
 use Rattle.std.proofs.lemmas.List.{length-take}

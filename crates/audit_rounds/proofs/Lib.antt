@@ -1,16 +1,16 @@
-pub mod Words
-pub mod Lists
-pub mod Openings
-pub mod Settling
-pub mod Parts
-pub mod Items
-pub mod Rounds
-pub mod Batches
-pub mod Plans
-pub mod Jobs
-pub mod Settles
-pub mod StreamOrder
-pub mod StreamWork
-pub mod Openers
-pub mod StreamRounds
-pub mod EarlyStop
+mod Words
+mod Lists
+mod Openings
+mod Settling
+mod Parts
+mod Items
+mod Rounds
+mod Batches
+mod Plans
+mod Jobs
+mod Settles
+mod StreamOrder
+mod StreamWork
+mod Openers
+mod StreamRounds
+mod EarlyStop
