@@ -1,4 +1,4 @@
-use Rattle.audit_rounds.proofs.Words.{ap, sym, subst, arith, All-take, get_or_default, sum_by_more, AreFew}
+use Rattle.audit_rounds.proofs.Words.{ap, arith, All-take, get_or_default, sum_by_more}
 use Rattle.audit_rounds.proofs.Batches.{IsLent, lent, lent-short}
 use Rattle.audit_rounds.proofs.divisions.next_batch.Goals as goal
 
