@@ -102,7 +102,12 @@ full-front front later state (frame ∷ left) rest h =
 
 any-kept : (xs ys : List Finding) → list_any stops (upto_stop xs) ≡ true → upto_stop xs ≡ upto_stop (xs ++ ys)
 any-kept [] ys h = cc
-any-kept (x ∷ xs) ys h = grind (arith, any-kept xs ys)
+any-kept (x ∷ xs) ys h = by_test (stops x) refl (any-kept xs ys) where
+  by_test : (stops_here : Bool) → stops x ≡ stops_here
+      → (list_any stops (upto_stop xs) ≡ true → upto_stop xs ≡ upto_stop (xs ++ ys))
+      → upto_stop (x ∷ xs) ≡ upto_stop (x ∷ (xs ++ ys))
+  by_test true e rest = rw e refl
+  by_test false e rest = rw e (ap (λ l. x ∷ l) (rest (rw (e, e) at h)))
 
 any-filter : (test : Finding → Bool) (xs : List Finding) → list_any stops (filter test xs) ≡ true →
     list_any stops xs ≡ true
