@@ -53,22 +53,7 @@ module _ (stream : ℕ) (initial : Sides ℕ) (entry : Stream) (frame : Frame) (
 
 -- ---- the walk that moves the window has counted the frame
 
-pub quiet-counted : (old : Walk) (frame : Frame) (change : Option Change) (one : Move) (next : Sides (Option ℤ))
-    → old.credits_shown ≡ false → is_some change ≡ false → IsMove old.stream old.entry.life frame one
-    → IsQuiet old.entry.window one next
-    → IsCounted old (frame_with frame change) (record old { entry = record { life = old.entry.life; window = next } })
-quiet-counted old frame (Some change) one next hidden none m q = cc
-quiet-counted old frame None one next hidden none m q = record {
-  stream = refl;
-  credits_shown = refl;
-  found = rw (hidden, quiet-unshown old.stream old.initial old.entry frame one next m q)
-      (sym (append-nil old.found.items));
-  entry = sym (quiet-after old.stream old.initial old.entry frame one next m q);
-  initial = refl;
-  watch = refl;
-}
-
-pub quiet-room : (entry : Stream) (number : ℕ) (one : Move) (next : Sides (Option ℤ)) → HasRoom (2 ^ 32) one.amount
+quiet-room : (entry : Stream) (number : ℕ) (one : Move) (next : Sides (Option ℤ)) → HasRoom (2 ^ 32) one.amount
     → IsQuiet entry.window one next → HasRoomAt number entry
     → HasRoomAt (number + 1) (record { life = entry.life; window = next })
 quiet-room entry number one next small q room =
@@ -78,3 +63,20 @@ quiet-room entry number one next small q room =
     let same : q.after ≡ x = same_Some q.after x (sym q.own ∙ e) in
     omega (arith, ints, was, small, q.credit.raised.moved, same))
     (λ x e. let was = room (other one.side) x (sym q.rest ∙ e) in omega (arith, ints, was))
+
+pub quiet-counted : (old : Walk) (frame : Frame) (change : Option Change) (one : Move) (next : Sides (Option ℤ))
+    → old.credits_shown ≡ false → is_some change ≡ false → HasRoomAt frame.number old.entry
+    → IsMove old.stream old.entry.life frame one → IsQuiet old.entry.window one next
+    → IsCounted old (frame_with frame change) (record old { entry = record { life = old.entry.life; window = next } })
+quiet-counted old frame (Some change) one next hidden none room m q = cc
+quiet-counted old frame None one next hidden none room m q = record {
+  stream = refl;
+  credits_shown = refl;
+  found = rw (hidden, quiet-unshown old.stream old.initial old.entry frame one next m q)
+      (sym (append-nil old.found.items));
+  entry = sym (quiet-after old.stream old.initial old.entry frame one next m q);
+  initial = refl;
+  met = refl;
+  watch = refl;
+  room = quiet-room old.entry frame.number one next m.small q room;
+}

@@ -7,7 +7,8 @@ use Rattle.stream_credit.proofs.Words.{stream_said, stream_after, IsOrderlyFrom,
 use Rattle.stream_credit.proofs.Words.{initial_after, stream_run_from, stream_after_all, AreOrderly, AreAcknowledged}
 use Rattle.stream_credit.proofs.Words.{QuietStream, Move, is_live, merged, Acknowledge, IsMove, IsRaised, IsQuiet}
 use Rattle.stream_credit.proofs.Words.{has_credit, has_ended, window_of, stream_of, initial_at, IsMovedBy, IsPassed}
-use Rattle.stream_credit.proofs.Words.{IsNext, AreFrom, ArePassed, StartsAt, IsAhead, ShowsNothing, Side}
+use Rattle.stream_credit.proofs.Words.{IsNext, AreFrom, ArePassed, StartsAt, IsAhead, ShowsNothing, Side, IsCreditOf}
+use Rattle.stream_credit.proofs.Words.{◌+ℤ◌, ◌-ℤ◌, ℤ, lt-ltb, ints, same_Some, is_used_up, overflows}
 use Rattle.audit_terms.proofs.FindingLists.{each-in_order}
 use Rattle.stream_credit.proofs.ChangeLemmas.{drop-next, initial-next, passed-each, none-left}
 use Rattle.stream_credit.proofs.MergedLemmas.{steps_of-merged, acknowledge-all, merged-first, merged-change}
@@ -106,7 +107,7 @@ module _ {stream : ℕ} {changes : List Change} {all rest : List Frame} {old : Q
       (stream-shown stream initial (stream_of old) step (stream_of new).window refl calm tt)))
 
 -- a change moves no window that is not live
-unmoved : (before after standing : ℕ) → window_of standing ≡ None → IsMovedBy before after standing standing
+pub unmoved : (before after standing : ℕ) → window_of standing ≡ None → IsMovedBy before after standing standing
 unmoved before after standing none = record {
   moved = rw none refl;
   silent = rw none (λ x e. cc);
@@ -186,3 +187,23 @@ unshown-of (x ∷ xs) e = grind (arith, unshown-of xs)
 
 pub none-in_order : (found : List Finding) → shown false found ≡ [] → shown false (in_order found) ≡ []
 none-in_order found e = none-shown (in_order found) (each-in_order IsUnshown found (unshown-of found e))
+
+-- ---- a change of the initial window
+
+-- two credits that are kept
+kept-silent : (credit next : ℕ) → 0 < credit → 0 < next → next < 2 ^ 31
+    → (is_used_up (pos credit) ≡ is_used_up (pos next)) × (overflows (pos credit) (pos next) ≡ false)
+kept-silent credit next some left within = grind (arith, nat_tests)
+
+-- a credit that is kept, after it moves
+pub kept-moved : (before after standing next : ℕ) (credit : ℤ) → credit ≡ pos standing +ℤ pos after -ℤ pos before
+    → has_credit standing ≡ true → IsCreditOf credit next → IsMovedBy before after standing next
+kept-moved before after standing next credit is live kept =
+    let some : 0 < standing = grind (arith, nat_tests, live) in
+    let left : has_credit next ≡ true = rw (lt-ltb 0 next kept.some, lt-ltb next (2 ^ 31) kept.within) refl in
+    record {
+      moved = rw (live, left) (ap Some (omega (arith, ints, kept.same, is)));
+      silent = rw (live, left) (λ x e y f.
+          rw (← same_Some _ x e, ← same_Some _ y f) (kept-silent standing next some kept.some kept.within));
+      ended = ended-none next left ∙ sym (ended-none standing live);
+    }

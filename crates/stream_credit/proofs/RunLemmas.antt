@@ -1,7 +1,7 @@
 -- The run of a stream: it begins as the definition does, meets each frame behind the changes before it, and ends whole
 -- or cut.
 use Rattle.std.proofs.Common.{All}
-use Rattle.stream_credit.proofs.Words.{◌≡◌, ℕ, ◌+◌, ◌-◌, ◌^◌, ◌<◌, ◌≤◌, Bool, true, false, List, [], ◌∷◌, if◌then◌else◌}
+use Rattle.stream_credit.proofs.Words.{◌≡◌, ℕ, ◌+◌, ◌-◌, ◌^◌, ◌<◌, ◌≤◌, Bool, true, false, subst, List, [], ◌∷◌, if◌then◌else◌}
 use Rattle.stream_credit.proofs.Words.{drop, Option, Some, None, MatchBool, refl, sym, ap, ◌∙◌, arith, append-nil}
 use Rattle.stream_credit.proofs.Words.{All-from_recursion, Client, Server, Frame, Change, Finding, place_number, shown}
 use Rattle.stream_credit.proofs.Words.{initial_in_force, idle_stream, up_to, IsRun, IsOrderly, change_step, steps_of}
@@ -19,59 +19,63 @@ use Rattle.stream_credit.proofs.WalkLemmas.{order-all, fall-met, HasNumber, upto
 -- ---- a walk before some frames
 
 module _ {L : Type 0} {answers : L → List Finding → Option ℕ → L → Type 0} {run : WholeRun L} {now : L} {old : Walk}
-    {changes : List Change} {met : ℕ} {frames : List Frame} (h : IsSound answers run now old changes met frames) where
+    {changes : List Change} {frames : List Frame} (h : IsSound answers run now old changes frames) where
   -- behind a step with the change that was next, or with none
   pub sound-next : {later : L} {new : Walk} {low : ℕ} {rest : List Frame} (number : ℕ) (change : Option Change)
-      → IsBrought number met changes change → Acknowledge rest changes → new.initial ≡ initial_after change old.initial
-      → IsAt answers run later new low (merged rest (drop (met_after met change) changes))
-      → IsSound answers run later new changes (met_after met change) rest
-  sound-next {low = low} number change brought acknowledged initial at = record {
+      → IsBrought number old.met changes change → Acknowledge rest changes
+      → new.initial ≡ initial_after change old.initial → new.met ≡ met_after old.met change
+      → IsAt answers run later new low (merged rest (drop (met_after old.met change) changes))
+      → IsSound answers run later new changes rest
+  sound-next {later} {new} {low} {rest} number change brought acknowledged initial met at = record {
     rise = h.rise;
-    within = within-brought number met changes change brought h.within;
+    within = rw met (within-brought number old.met changes change brought h.within);
     acknowledged = acknowledged;
-    initial = initial ∙ ap (initial_after change) h.initial ∙ sym (initial-brought number met changes change brought);
+    initial = rw met (initial ∙ ap (initial_after change) h.initial
+        ∙ sym (initial-brought number old.met changes change brought));
     low = low;
-    at = at;
+    at = subst (λ n. IsAt answers run later new low (merged rest (drop n changes))) (sym met) at;
   }
 
   -- a change before the next frame
-  pub change-at : {number : ℕ} {change : Change} → StartsAt number frames → IsDue number met changes change
-      → IsAt answers run now old h.low (change_step change ∷ merged frames (drop (met + 1) changes))
+  pub change-at : {number : ℕ} {change : Change} → StartsAt number frames → IsDue number old.met changes change
+      → IsAt answers run now old h.low (change_step change ∷ merged frames (drop (old.met + 1) changes))
   change-at {number} {change} starts due =
-      rw (drop-next met changes change due.at, merged-change number frames change _ starts due.below) at h.at
+      rw (drop-next old.met changes change due.at, merged-change number frames change _ starts due.below) at h.at
 
 -- changes that find no live window
 pub sound-passed : {L : Type 0} {answers : L → List Finding → Option ℕ → L → Type 0} {run : WholeRun L} {now : L}
-    {old : Walk} {changes : List Change} {met next number : ℕ} {frames : List Frame}
-    → IsSound answers run now old changes met frames → StartsAt number frames → is_live old.entry ≡ false
-    → ArePassed number changes met next
-    → IsSound answers run now (record old { initial = initial_at next changes }) changes next frames
+    {old : Walk} {changes : List Change} {next number : ℕ} {frames : List Frame}
+    → IsSound answers run now old changes frames → StartsAt number frames → is_live old.entry ≡ false
+    → ArePassed number changes old.met next
+    → IsSound answers run now (record old { initial = initial_at next changes; met = next }) changes frames
 sound-passed {answers = answers} {run = run} {now = now} {old = old} {changes = changes} {frames = frames} h starts dead
     passed =
-    passed-each (λ k. IsSound answers run now (record old { initial = initial_at k changes }) changes k frames) passed
+    passed-each (λ k. IsSound answers run now (record old { initial = initial_at k changes; met = k }) changes frames)
+    passed
     (λ k change is below was.
-    let passed = step-passed dead (change-at was starts (record { at = is; below = below })) in
+    let passed = step-passed (k + 1) dead (change-at was starts (record { at = is; below = below })) in
     rw (initial-brought change.number k changes (Some change) (is, refl))
-    (sound-next was change.number (Some change) (is, refl) was.acknowledged refl passed))
+    (sound-next was change.number (Some change) (is, refl) was.acknowledged refl refl passed))
     (rw (← h.initial) h)
 
 -- a frame, behind the changes before it
 module _ {L : Type 0} {answers : L → List Finding → Option ℕ → L → Type 0} {run : WholeRun L} {now : L} {walk : Walk}
-    {changes : List Change} {met : ℕ} {frame : Frame} {frames : List Frame}
-    (h : IsSound answers run now walk changes met (frame ∷ frames)) {change : Option Change}
-    (brought : IsBrought frame.number met changes change) where
-  pub frame-at : AreFrom frame.number (drop met changes)
-      → IsAt answers run now walk h.low (frame_with frame change ∷ merged frames (drop (met_after met change) changes))
-  frame-at from = rw (merged-brought frame frames met changes change brought from) at h.at
+    {changes : List Change} {frame : Frame} {frames : List Frame}
+    (h : IsSound answers run now walk changes (frame ∷ frames)) {change : Option Change}
+    (brought : IsBrought frame.number walk.met changes change) where
+  pub frame-at : AreFrom frame.number (drop walk.met changes)
+      → IsAt answers run now walk h.low
+      (frame_with frame change ∷ merged frames (drop (met_after walk.met change) changes))
+  frame-at from = rw (merged-brought frame frames walk.met changes change brought from) at h.at
 
   pub frame-acknowledged : IsAcknowledged (frame_with frame change)
-  frame-acknowledged = brought-acknowledged frame met changes change brought h.acknowledged.0
+  frame-acknowledged = brought-acknowledged frame walk.met changes change brought h.acknowledged.0
 
 -- the end
 pub sound-ends : {L : Type 0} {answers : L → List Finding → Option ℕ → L → Type 0} {run : WholeRun L} {now : L}
-    {walk : Walk} {changes : List Change} {met : ℕ} → IsSound answers run now walk changes met []
-    → AreFrom (2 ^ 32 - 1) (drop met changes) → HasEnded answers run now walk
-sound-ends {changes = changes} {met = met} h from = (h.low, rw (none-left 0 met changes h.rise from) at h.at)
+    {walk : Walk} {changes : List Change} → IsSound answers run now walk changes []
+    → AreFrom (2 ^ 32 - 1) (drop walk.met changes) → HasEnded answers run now walk
+sound-ends {walk = walk} {changes = changes} h from = (h.low, rw (none-left 0 walk.met changes h.rise from) at h.at)
 
 pub match-more : (holds : Bool) (P Q R : Type 0) → (P → Q) → MatchBool holds P R → MatchBool holds Q R
 match-more true P Q R more h = more h
@@ -79,10 +83,9 @@ match-more false P Q R more h = h
 
 -- a walk before some frames comes to be before those that are left
 abbrev pub MeetsFrames : {L : Type 0} → (L → List Finding → Option ℕ → L → Type 0) → List Change → (before : L) → Walk
-    → ℕ → List Frame → (now : L) → Walk → ℕ → List Frame → Type 0
-MeetsFrames {L} answers changes before old old_met frames now walk met rest =
-    (run : WholeRun L) → IsSound answers run before old changes old_met frames
-    → IsSound answers run now walk changes met rest
+    → List Frame → (now : L) → Walk → List Frame → Type 0
+MeetsFrames {L} answers changes before old frames now walk rest =
+    (run : WholeRun L) → IsSound answers run before old changes frames → IsSound answers run now walk changes rest
 
 -- ---- the beginning
 
@@ -102,16 +105,16 @@ pub run-starts : {L : Type 0} {answers : L → List Finding → Option ℕ → L
     {credits_shown : Bool} {frames : List Frame} {changes : List Change} {walk : Walk} → stream < 2 ^ 31
     → IsOrderly frames → AreOrderly changes → AreAcknowledged frames changes
     → IsBegun answers start now stream credits_shown walk
-    → IsSound answers (whole_run start stream credits_shown frames changes) now walk changes 0 frames
+    → IsSound answers (whole_run start stream credits_shown frames changes) now walk changes frames
 run-starts {frames = frames} {changes = changes} {walk = walk} range orderly rise acknowledged begun =
     let order = order-steps 0 frames changes orderly rise in
     record {
       rise = rise;
-      within = omega arith;
+      within = rw begun.met (omega arith);
       acknowledged = acknowledge-all frames changes acknowledged;
-      initial = begun.initial;
+      initial = rw begun.met begun.initial;
       low = 0;
-      at = rw (← steps_of-merged 0 frames changes rise) (record {
+      at = rw (begun.met, ← steps_of-merged 0 frames changes rise) (record {
         streamed = rw begun.own range;
         room = rw begun.entry room-idle;
         below = rw begun.found tt;

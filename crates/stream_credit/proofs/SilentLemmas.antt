@@ -8,7 +8,7 @@ use Rattle.stream_credit.proofs.Words.{is_after_end, is_used_up, overflows, over
 use Rattle.stream_credit.proofs.Words.{shown, step_test, step_amount, opens, life_at, WindowStep, window_step}
 use Rattle.stream_credit.proofs.Words.{window_after, frame_said, live_window_said, stream_said, stream_after}
 use Rattle.stream_credit.proofs.Words.{is_stalled, counted, is_overflowing_grant, frame_step, initial_after, Walk}
-use Rattle.stream_credit.proofs.Words.{moved, IsSilent, IsCounted}
+use Rattle.stream_credit.proofs.Words.{moved, IsSilent, IsCounted, HasRoomAt, ◌+◌}
 use Rattle.audit_terms.proofs.FindingLists.{each-append, each-in_order}
 
 -- ---- findings that are not shown
@@ -170,10 +170,11 @@ pub silent-counted : (old : Walk) (number : ℕ) (frame : Option Frame) (change 
     → next.client ≡ option_map (moved old.initial.client after.client) old.entry.window.client
     → next.server ≡ option_map (moved old.initial.server after.server) old.entry.window.server
     → IsSilent old.entry.window.client next.client → IsSilent old.entry.window.server next.server
+    → HasRoomAt (number + 1) (record { life = old.entry.life; window = next })
     → IsCounted old (record { number = number; frame = frame; change = change })
     (record old { entry = record { life = old.entry.life; window = next }; initial = after })
-silent-counted old number (Some frame) change after next hidden none a c s p q = cc
-silent-counted old number None change after next hidden none a c s p q =
+silent-counted old number (Some frame) change after next hidden none a c s p q room = cc
+silent-counted old number None change after next hidden none a c s p q room =
     let calm = calm-changes old.stream old.initial number change after old.entry.window next a c s p q in
     record {
       stream = refl;
@@ -182,5 +183,7 @@ silent-counted old number None change after next hidden none a c s p q =
           (sym (append-nil old.found.items));
       entry = sym (stream-moved old.stream old.initial old.entry (change_alone number change) next refl calm);
       initial = a;
+      met = refl;
       watch = refl;
+      room = room;
     }

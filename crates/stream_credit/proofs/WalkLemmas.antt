@@ -9,7 +9,8 @@ use Rattle.stream_credit.proofs.Words.{is_shown, is_past, found_before, change_s
 use Rattle.stream_credit.proofs.Words.{stream_after_all, stream_after, WindowHasRoom, Watches, IsStopped, NeverFallFrom}
 use Rattle.stream_credit.proofs.Words.{Walk, is_live, is_met, met_from, opened_up_to, met_by, numbers_of, IsNumbered}
 use Rattle.stream_credit.proofs.Words.{AreInOrder, IsCounted, HasRoomAt, WholeRun, IsAt, HasStopped, window_after}
-use Rattle.stream_credit.proofs.Words.{place_number, in_order, stream_said, up_to, steps_between}
+use Rattle.stream_credit.proofs.Words.{place_number, in_order, stream_said, up_to, steps_between, CanCount}
+use Rattle.stream_credit.proofs.Words.{IsAcknowledged}
 use Rattle.audit_terms.proofs.FindingLists.{each-append, each-filter, each-in_order, each-weaker}
 use Rattle.audit_terms.proofs.SaidPlaces.{before-front, at-stream, numbered-at}
 use Rattle.audit_terms.proofs.Watching.{past-higher}
@@ -149,8 +150,14 @@ upto-numbered P (Some place) xs h = each-filter (HasNumber P) _ xs h
 
 module _ {L : Type 0} {answers : L → List Finding → Option ℕ → L → Type 0} {run : WholeRun L} {before : L}
     {old : Walk} {low : ℕ} {step : Step} {rest : List Step} (h : IsAt answers run before old low (step ∷ rest)) where
-  pub step-room : HasRoomAt step.number old.entry
-  step-room d x e = omega (arith, ints, h.order.0, h.room d x e)
+  pub step-count : {asked : Walk} → asked ≡ record old { watch = asked.watch } → IsAcknowledged step
+      → CanCount asked step
+  step-count kept acknowledged = rw kept (record {
+    numbered = h.order.1;
+    streamed = h.streamed;
+    acknowledged = acknowledged;
+    room = λ d x e. omega (arith, ints, h.order.0, h.room d x e);
+  })
 
   pub step-due : (met : ℕ) × (met ≤ step.number) × (met + old.watch.left ≡ steps_between * old.watch.looks)
   step-due = (length h.met, omega (arith, h.count, h.order.0), h.watches.due)
@@ -179,21 +186,21 @@ module _ {L : Type 0} {answers : L → List Finding → Option ℕ → L → Typ
     watching = rw met-on at h.watches
 
     module _ {now : L} {asked : Walk} (kept : asked ≡ record old { watch = asked.watch }) where
-      pub step-on : {new : Walk}
+      pub step-on : {new : Walk} (to : ℕ)
           → ((start : L) (whole : List Finding) (met left : List ℕ)
           → old.found.items ≡ found_before step.number whole
           → Watches answers start before whole met (step.number ∷ left) old.watch
           → Watches answers start now whole (met ++ step.number ∷ []) left asked.watch)
-          → IsCounted asked step new → HasRoomAt (step.number + 1) new.entry
-          → IsAt answers run now new (step.number + 1) rest
-      step-on {new} goes counts room =
+          → IsCounted asked step new
+          → IsAt answers run now (record new { met = to }) (step.number + 1) rest
+      step-on {new} to goes counts =
           let counted : IsCounted (record old { watch = asked.watch }) step new = rw kept at counts in
           let said = said-numbered (λ n. n < step.number + 1) old.stream old.initial old.entry step h.streamed
           (omega arith) in
           let same : met_by new rest ≡ left = rw (counted.stream, counted.entry, counted.initial) refl in
           record {
             streamed = rw counted.stream h.streamed;
-            room = room;
+            room = counted.room;
             below = rw counted.found (each-append _ old.found.items _
                 (below-more low (step.number + 1) old.found.items (omega (arith, h.order.0)) h.below)
                 (each-filter _ _ _ said));
@@ -233,10 +240,10 @@ module _ {L : Type 0} {answers : L → List Finding → Option ℕ → L → Typ
 
 -- a change that finds no live window
 pub step-passed : {L : Type 0} {answers : L → List Finding → Option ℕ → L → Type 0} {run : WholeRun L} {now : L}
-    {walk : Walk} {low : ℕ} {change : Change} {rest : List Step} → is_live walk.entry ≡ false
+    {walk : Walk} {low : ℕ} {change : Change} {rest : List Step} (to : ℕ) → is_live walk.entry ≡ false
     → IsAt answers run now walk low (change_step change ∷ rest)
-    → IsAt answers run now (record walk { initial = initial_after (Some change) walk.initial }) low rest
-step-passed {walk = walk} {low = low} {change = change} {rest = rest} dead h =
+    → IsAt answers run now (record walk { initial = initial_after (Some change) walk.initial; met = to }) low rest
+step-passed {walk = walk} {low = low} {change = change} {rest = rest} to dead h =
     let after = dead-after walk.stream walk.initial walk.entry change dead in
     record {
       streamed = h.streamed;

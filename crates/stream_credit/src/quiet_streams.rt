@@ -12,17 +12,16 @@ ghost use Rattle.settings_pair.specs.code.Changes.{AreOrderly, AreAcknowledged};
 ghost use Rattle.stream_credit.specs.code.Looks.{is_live};
 ghost use Rattle.audit_terms.specs.code.Room.{HasRoom};
 ghost use Rattle.stream_credit.specs.code.Changes.{AreFrom};
-ghost use Rattle.stream_credit.specs.code.QuietStream.{CanMeet, HasMet, IsAhead, IsAheadIfQuiet, IsCreditOf};
+ghost use Rattle.stream_credit.specs.code.QuietStream.{CanMeet, HasMet, IsAhead, IsAheadIfQuiet};
 ghost use Rattle.stream_credit.specs.code.QuietStream.{IsNext, IsPassed, ShowsNothing, opened_of, stream_of};
 ghost use Rattle.stream_credit.specs.code.QuietStream.{has_credit, window_of, IsStanding};
 ghost use Rattle.stream_credit.specs.code.Quiet.{IsRaised};
 
 use crate::changes::Changes;
 use crate::quiet::{Move, move_of};
-use crate::standings::{has_credit, has_ended, mark, moved};
+use crate::standings::{has_credit, has_ended, kept, mark, moved};
 use audit_terms::{
-    Finding, Frame, LARGEST_WINDOW, Length, Side, Sides, Step, Stream, StreamLife, initial_after,
-    keep_shown,
+    Finding, Frame, Length, Side, Sides, Step, Stream, StreamLife, initial_after, keep_shown,
 };
 use fault_rules::say_stream;
 use std::alloc::AllocError;
@@ -58,16 +57,6 @@ fn window_of(standing: u32) -> Option<i64>
     } else {
         None
     }
-}
-
-/// A credit as it is kept, if some is left and it is no more than the largest (RFC 9113, 6.9.1).
-pub(crate) fn kept(credit: i64) -> Option<u32>
-    ensures { ForSome result (IsCreditOf credit) }
-{
-    if credit <= 0 || credit > i64::from(LARGEST_WINDOW) {
-        return None;
-    }
-    Some(credit as u32)
 }
 
 /// How a side stands, under the same conditions. Where it has ended the stream, its window is not live.

@@ -1,4 +1,4 @@
-ghost use Rattle.std.specs.Prelude.{◌≡◌, ℕ, ◌-◌, ◌^◌, ◌<◌, ◌≤◌, ◌++◌, [], All, List, IfOk, OnOk, length};
+ghost use Rattle.std.specs.Prelude.{◌≡◌, ℕ, ◌-◌, ◌^◌, ◌<◌, ◌≤◌, ◌++◌, All, List, IfOk, OnOk, length};
 ghost use Rattle.std.specs.Bool.{MatchBool};
 ghost use Rattle.audit_terms.specs.declared.frames.Frame.{Frame as FrameTerm};
 ghost use Rattle.audit_terms.specs.declared.findings.Finding.{Finding};
@@ -39,75 +39,48 @@ fn meet_frames<L: Look>(
     walk: &mut Walk,
     look: &mut L,
     changes: &Changes<'_>,
-    met: &mut u32,
     frames: &[Frame],
 ) -> Result<bool, AllocError>
     requires { (run : WholeRun L) × (rest : List FrameTerm)
-        × IsSound L.answers run look.old walk.old changes.now met.old (frames.now ++ rest) }
+        × IsSound L.answers run look.old walk.old changes.now (frames.now ++ rest) }
     ensures { IfOk result (λ goes_on. (run : WholeRun L) (rest : List FrameTerm)
-        → IsSound L.answers run look.old walk.old changes.now met.old (frames.now ++ rest)
-        → MatchBool goes_on (IsSound L.answers run look.new walk.new changes.now met.new rest)
+        → IsSound L.answers run look.old walk.old changes.now (frames.now ++ rest)
+        → MatchBool goes_on (IsSound L.answers run look.new walk.new changes.now rest)
         (HasStopped L.answers run look.new walk.new)) }
 {
     for frame in frames {
-        if !walk.meet_frame(look, changes, met, frame)? {
+        if !walk.meet_frame(look, changes, frame)? {
             return Ok(false);
         }
     }
     Ok(true)
 }
 
-/// Meets all frames of a stream, some at a time, and the changes before them, and answers whether it met them all.
-/// `near` is room for those of a time.
-fn meet_own<L: Look>(
+/// Meets all frames of a stream, some at a time, and all changes of its connection, and answers whether it met them
+/// all. `near` is room for the frames of a time.
+fn meet_all<L: Look>(
     near: &mut Vec<Frame>,
     walk: &mut Walk,
     look: &mut L,
     own: &StreamPart<'_>,
     changes: &Changes<'_>,
-    met: &mut u32,
 ) -> Result<bool, AllocError>
     requires own { IsStreamPart own.now }
-    requires sound { (run : WholeRun L)
-        × IsSound L.answers run look.old walk.old changes.now met.old (frames_met own.now) }
+    requires sound { (run : WholeRun L) × IsSound L.answers run look.old walk.old changes.now (frames_met own.now) }
     ensures { IfOk result (λ goes_on. (run : WholeRun L)
-        → IsSound L.answers run look.old walk.old changes.now met.old (frames_met own.now)
-        → MatchBool goes_on (IsSound L.answers run look.new walk.new changes.now met.new [])
-        (HasStopped L.answers run look.new walk.new)) }
+        → IsSound L.answers run look.old walk.old changes.now (frames_met own.now)
+        → MatchBool goes_on (HasEnded L.answers run look.new walk.new) (HasStopped L.answers run look.new walk.new)) }
 {
     let mut rest = own.positions;
     while !rest.is_empty() {
         let (some, later) = rest.split_at(rest.len().min(NEAR));
         gather(near, own.frames, some)?;
-        if !meet_frames(walk, look, changes, met, near.as_slice())? {
+        if !meet_frames(walk, look, changes, near.as_slice())? {
             return Ok(false);
         }
         rest = later;
     }
-    Ok(true)
-}
-
-/// Meets all frames of a stream, and all changes of its connection, and answers whether it met them all.
-fn meet_all<L: Look>(
-    alloc: Global,
-    walk: &mut Walk,
-    look: &mut L,
-    own: &StreamPart<'_>,
-    changes: &Changes<'_>,
-) -> Result<bool, AllocError>
-    requires own { IsStreamPart own.now }
-    requires sound { (run : WholeRun L) × IsSound L.answers run look.old walk.old changes.now 0 (frames_met own.now) }
-    ensures { IfOk result (λ goes_on. (run : WholeRun L)
-        → IsSound L.answers run look.old walk.old changes.now 0 (frames_met own.now)
-        → MatchBool goes_on (HasEnded L.answers run look.new walk.new) (HasStopped L.answers run look.new walk.new)) }
-{
-    let mut met = 0;
-    let mut near = Vec::with_capacity(alloc, own.positions.len().min(NEAR))?;
-    if !meet_own(&mut near, walk, look, own, changes, &mut met)? {
-        return Ok(false);
-    }
-    let is_met = walk.meet_changes(look, changes, &mut met, u32::MAX)?;
-    Ok(is_met)
+    walk.meet_changes(look, changes, u32::MAX)
 }
 
 /// The findings of one stream, from its frames and all changes of its connection, and its opening.
@@ -137,7 +110,8 @@ pub fn stream_run<L: Look>(
     ensures numbered { IfOk result (λ run.
         All (λ (found : Finding). place_number found.place ≤ 2 ^ 28 - 2) run.findings.items) }
 {
+    let mut near = Vec::with_capacity(alloc, own.positions.len().min(NEAR))?;
     let mut walk = Walk::idle(alloc, own.stream, credits_shown, look);
-    let is_whole = meet_all(alloc, &mut walk, look, own, changes)?;
+    let is_whole = meet_all(&mut near, &mut walk, look, own, changes)?;
     Ok(run_of(walk, is_whole))
 }

@@ -3,9 +3,8 @@
 
 ghost use Rattle.std.specs.Prelude.{◌≡◌};
 ghost use Rattle.std.specs.Option.{ForSome};
-ghost use Rattle.stream_credit.specs.code.QuietStream.{has_credit, has_ended, mark, IsBalance, IsMovedBy};
+ghost use Rattle.stream_credit.specs.code.QuietStream.{has_credit, has_ended, mark, IsBalance, IsCreditOf, IsMovedBy};
 
-use crate::quiet_streams::kept;
 use audit_terms::LARGEST_WINDOW;
 
 /// What stands for a credit where the side has ended the stream: its window is not live then. It is one more than any
@@ -43,6 +42,16 @@ pub fn balance(credit: u32, rise: u32, fall: u32) -> Option<u32>
         return None;
     }
     Some(after as u32)
+}
+
+/// A credit as it is kept, if some is left and it is no more than the largest (RFC 9113, 6.9.1).
+pub(crate) fn kept(credit: i64) -> Option<u32>
+    ensures { ForSome result (IsCreditOf credit) }
+{
+    if credit <= 0 || credit > i64::from(LARGEST_WINDOW) {
+        return None;
+    }
+    Some(credit as u32)
 }
 
 /// How a side stands after a change of the initial window, if its credit is still more than 0 and no more than the

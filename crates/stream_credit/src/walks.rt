@@ -1,14 +1,12 @@
-ghost use Rattle.std.specs.Prelude.{◌≡◌, ℕ, ◌+◌, ◌-◌, ◌^◌, ◌<◌, ◌≤◌, [], ◌∷◌, ◌++◌, drop, true, List, OnOk, IfOk};
+ghost use Rattle.std.specs.Prelude.{◌≡◌, ◌∷◌, true, List, OnOk, IfOk};
 ghost use Rattle.std.specs.Bool.{MatchBool, OnTrue, OnFalse};
 ghost use Rattle.audit_terms.specs.declared.frames.Frame.{Frame as FrameTerm};
-ghost use Rattle.audit_terms.specs.declared.findings.Finding.{Finding as FindingTerm};
-ghost use Rattle.audit_terms.specs.code.runs.Streams.{IsAcknowledged};
+ghost use Rattle.audit_terms.specs.code.runs.Streams.{change_step};
 ghost use Rattle.audit_terms.specs.code.Watch.{GoesOn, HasMetBefore};
 ghost use Rattle.stream_credit.specs.code.Looks.{is_live};
 ghost use Rattle.stream_credit.specs.code.Merged.{frame_with};
-ghost use Rattle.stream_credit.specs.code.Changes.{AreFrom};
-ghost use Rattle.stream_credit.specs.code.QuietStream.{StartsAt};
-ghost use Rattle.stream_credit.specs.code.Walk.{HasRoomAt, HasStopped, IsBegun, IsCounted, IsSound, WholeRun};
+ghost use Rattle.stream_credit.specs.code.Walk.{CanCount, CanMeetBefore, HasStopped, IsBegun, IsCounted, IsSound};
+ghost use Rattle.stream_credit.specs.code.Walk.{MeetsBefore, WholeRun};
 
 use crate::changes::{Changes, FIRST_WINDOWS, met_after};
 use crate::quiet::{move_of, moved_quietly};
@@ -29,6 +27,8 @@ pub(crate) struct Walk {
     pub(crate) entry: Stream,
     /// The initial windows in force.
     initial: Sides<u32>,
+    /// How many of the connection's changes it has met.
+    met: u32,
     pub(crate) found: Vec<Finding>,
     /// What one step shows: kept, so that its room serves the next.
     said: Vec<Finding>,
@@ -51,6 +51,7 @@ impl Walk {
             watch,
             entry: Stream::idle(),
             initial: FIRST_WINDOWS,
+            met: 0,
             found: Vec::new(alloc),
             said: Vec::new(alloc),
         }
@@ -63,27 +64,26 @@ impl Walk {
         self.entry.window.client.is_some() || self.entry.window.server.is_some()
     }
 
-    /// Counts one step in the stream, and adds what it shows.
-    fn count(&mut self, step: &Step) -> Result<(), AllocError>
-        requires numbered { step.now.number ≤ 2 ^ 28 - 2 }
-        requires streamed { self.old.stream < 2 ^ 31 }
-        requires acknowledged { IsAcknowledged step.now }
-        requires room { HasRoomAt step.now.number self.old.entry }
-        ensures counted { OnOk result (IsCounted self.old step.now self.new) }
-        ensures room { OnOk result (HasRoomAt (step.now.number + 1) self.new.entry) }
+    /// Counts a change, and adds what it shows.
+    fn count_change(&mut self, change: Change) -> Result<(), AllocError>
+        requires { CanCount self.old (change_step change) }
+        ensures { OnOk result (IsCounted self.old (change_step change) self.new) }
     {
-        if self.count_silent(step) {
+        let step = Step {
+            number: change.number,
+            frame: None,
+            change: Some(change),
+        };
+        if self.count_silent(&step) {
             return Ok(());
         }
-        self.count_shown(step)
+        self.count_shown(&step)
     }
 
     /// Counts a change of which nothing is shown, if the step is one, and answers whether it is.
     fn count_silent(&mut self, step: &Step) -> bool
-        requires numbered { step.now.number ≤ 2 ^ 28 - 2 }
-        requires room { HasRoomAt step.now.number self.old.entry }
+        requires { CanCount self.old step.now }
         ensures counted { OnTrue result (IsCounted self.old step.now self.new) }
-        ensures room { OnTrue result (HasRoomAt (step.now.number + 1) self.new.entry) }
         ensures otherwise { OnFalse result (self.new ≡ self.old) }
     {
         if self.credits_shown || step.frame.is_some() {
@@ -106,12 +106,8 @@ impl Walk {
 
     /// Counts a step that may show something.
     fn count_shown(&mut self, step: &Step) -> Result<(), AllocError>
-        requires numbered { step.now.number ≤ 2 ^ 28 - 2 }
-        requires streamed { self.old.stream < 2 ^ 31 }
-        requires acknowledged { IsAcknowledged step.now }
-        requires room { HasRoomAt step.now.number self.old.entry }
-        ensures counted { OnOk result (IsCounted self.old step.now self.new) }
-        ensures room { OnOk result (HasRoomAt (step.now.number + 1) self.new.entry) }
+        requires { CanCount self.old step.now }
+        ensures { OnOk result (IsCounted self.old step.now self.new) }
     {
         self.said.clear();
         say_stream(
@@ -146,28 +142,24 @@ impl Walk {
         &mut self,
         look: &mut L,
         changes: &Changes<'_>,
-        met: &mut u32,
         number: u32,
     ) -> Result<bool, AllocError>
-        requires { (run : WholeRun L) × (rest : List FrameTerm) × StartsAt number rest
-            × IsSound L.answers run look.old self.old changes.now met.old rest }
-        ensures { IfOk result (λ goes_on. (run : WholeRun L) (rest : List FrameTerm) → StartsAt number rest
-            → IsSound L.answers run look.old self.old changes.now met.old rest → MatchBool goes_on
-            (IsSound L.answers run look.new self.new changes.now met.new rest
-            × AreFrom number (drop met.new changes.now)) (HasStopped L.answers run look.new self.new)) }
+        requires { CanMeetBefore L.answers look.old self.old changes.now number }
+        ensures { IfOk result (MeetsBefore L.answers look.old look.new self.old self.new changes.now number) }
     {
         if self.is_live() {
-            return self.meet_each(look, changes, met, number);
+            return self.meet_each(look, changes, number);
         }
-        *met = changes.passed(*met, number);
-        self.pass(&changes.initial_at(*met));
+        let met = changes.passed(self.met, number);
+        self.pass(met, &changes.initial_at(met));
         Ok(true)
     }
 
-    /// Passes over changes: only what they leave in force counts.
-    fn pass(&mut self, initial: &Sides<u32>)
-        ensures { self.new ≡ record self.old { initial = initial.now } }
+    /// Passes over changes, and has met so many then: only what they leave in force counts.
+    fn pass(&mut self, met: u32, initial: &Sides<u32>)
+        ensures { self.new ≡ record self.old { initial = initial.now; met = met } }
     {
+        self.met = met;
         self.initial = *initial;
     }
 
@@ -176,28 +168,18 @@ impl Walk {
         &mut self,
         look: &mut L,
         changes: &Changes<'_>,
-        met: &mut u32,
         number: u32,
     ) -> Result<bool, AllocError>
         requires live { is_live self.old.entry ≡ true }
-        requires sound { (run : WholeRun L) × (rest : List FrameTerm) × StartsAt number rest
-            × IsSound L.answers run look.old self.old changes.now met.old rest }
-        ensures { IfOk result (λ goes_on. (run : WholeRun L) (rest : List FrameTerm) → StartsAt number rest
-            → IsSound L.answers run look.old self.old changes.now met.old rest → MatchBool goes_on
-            (IsSound L.answers run look.new self.new changes.now met.new rest
-            × AreFrom number (drop met.new changes.now)) (HasStopped L.answers run look.new self.new)) }
+        requires sound { CanMeetBefore L.answers look.old self.old changes.now number }
+        ensures { IfOk result (MeetsBefore L.answers look.old look.new self.old self.new changes.now number) }
     {
-        while let Some(change) = changes.before(*met, number) {
+        while let Some(change) = changes.before(self.met, number) {
             if !self.goes_on(look, change.number) {
                 return Ok(false);
             }
-            let step = Step {
-                number: change.number,
-                frame: None,
-                change: Some(change),
-            };
-            self.count(&step)?;
-            *met += 1;
+            self.count_change(change)?;
+            self.met += 1;
         }
         Ok(true)
     }
@@ -207,36 +189,31 @@ impl Walk {
         &mut self,
         look: &mut L,
         changes: &Changes<'_>,
-        met: &mut u32,
         frame: &Frame,
     ) -> Result<bool, AllocError>
         requires { (run : WholeRun L) × (frames : List FrameTerm)
-            × IsSound L.answers run look.old self.old changes.now met.old (frame.now ∷ frames) }
+            × IsSound L.answers run look.old self.old changes.now (frame.now ∷ frames) }
         ensures { IfOk result (λ goes_on. (run : WholeRun L) (frames : List FrameTerm)
-            → IsSound L.answers run look.old self.old changes.now met.old (frame.now ∷ frames)
-            → MatchBool goes_on (IsSound L.answers run look.new self.new changes.now met.new frames)
+            → IsSound L.answers run look.old self.old changes.now (frame.now ∷ frames)
+            → MatchBool goes_on (IsSound L.answers run look.new self.new changes.now frames)
             (HasStopped L.answers run look.new self.new)) }
     {
-        if !self.meet_changes(look, changes, met, frame.number)? {
+        if !self.meet_changes(look, changes, frame.number)? {
             return Ok(false);
         }
-        let change = changes.at(*met, frame.number);
+        let change = changes.at(self.met, frame.number);
         if !self.goes_on(look, frame.number) {
             return Ok(false);
         }
         self.count_frame(frame, &change)?;
-        *met = met_after(*met, &change);
+        self.met = met_after(self.met, &change);
         Ok(true)
     }
 
     /// Counts a frame and the change that it brings, if it brings one, and adds what they show.
     fn count_frame(&mut self, frame: &Frame, change: &Option<Change>) -> Result<(), AllocError>
-        requires numbered { frame.now.number ≤ 2 ^ 28 - 2 }
-        requires streamed { self.old.stream < 2 ^ 31 }
-        requires acknowledged { IsAcknowledged (frame_with frame.now change.now) }
-        requires room { HasRoomAt frame.now.number self.old.entry }
-        ensures counted { OnOk result (IsCounted self.old (frame_with frame.now change.now) self.new) }
-        ensures room { OnOk result (HasRoomAt (frame.now.number + 1) self.new.entry) }
+        requires { CanCount self.old (frame_with frame.now change.now) }
+        ensures { OnOk result (IsCounted self.old (frame_with frame.now change.now) self.new) }
     {
         if self.count_quiet(frame, change) {
             return Ok(());
@@ -250,10 +227,8 @@ impl Walk {
 
     /// Counts a frame of which nothing is shown and that brings no change, if it is one, and answers whether it is.
     fn count_quiet(&mut self, frame: &Frame, change: &Option<Change>) -> bool
-        requires numbered { frame.now.number ≤ 2 ^ 28 - 2 }
-        requires room { HasRoomAt frame.now.number self.old.entry }
+        requires { CanCount self.old (frame_with frame.now change.now) }
         ensures counted { OnTrue result (IsCounted self.old (frame_with frame.now change.now) self.new) }
-        ensures room { OnTrue result (HasRoomAt (frame.now.number + 1) self.new.entry) }
         ensures otherwise { OnFalse result (self.new ≡ self.old) }
     {
         if self.credits_shown || change.is_some() {

@@ -1,6 +1,7 @@
 -- A stream's run between two of its steps.
 use Rattle.std.specs.Prelude.{◌≡◌, ℕ, ◌+◌, ◌-◌, ◌*◌, ◌^◌, ◌<◌, ◌≤◌, Bool, List, [], ◌∷◌, ◌++◌, drop, length, map}
 use Rattle.std.specs.Prelude.{Option, Some, None}
+use Rattle.std.specs.Bool.{MatchBool}
 use Rattle.std.specs.List.{AllByRecursion}
 use Rattle.audit_terms.specs.declared.sides.Side.{Side}
 use Rattle.audit_terms.specs.declared.frames.Frame.{Frame}
@@ -14,14 +15,15 @@ use Rattle.audit_terms.specs.Finding.{in_order, shown}
 use Rattle.audit_terms.specs.code.runs.Look.{found_before}
 use Rattle.audit_terms.specs.InForce.{initial_in_force}
 use Rattle.audit_terms.specs.Stream.{idle_stream, stream_said, stream_after}
-use Rattle.audit_terms.specs.code.runs.Streams.{initial_after, stream_run_from, stream_after_all}
+use Rattle.audit_terms.specs.code.runs.Streams.{IsAcknowledged, initial_after, stream_run_from, stream_after_all}
 use Rattle.audit_terms.specs.code.Room.{WindowHasRoom}
 use Rattle.audit_terms.specs.code.Watch.{Watches, IsStopped, NeverFallFrom}
 use Rattle.settings_pair.specs.code.Changes.{AreOrderly}
 use Rattle.stream_credit.specs.declared.walks.Walk.{Walk}
 use Rattle.stream_credit.specs.code.Looks.{met_from, opened_up_to}
-use Rattle.stream_credit.specs.code.Changes.{initial_at}
+use Rattle.stream_credit.specs.code.Changes.{AreFrom, initial_at}
 use Rattle.stream_credit.specs.code.Merged.{merged, Acknowledge}
+use Rattle.stream_credit.specs.code.QuietStream.{StartsAt}
 
 -- what was found, with what some steps from here on show
 abbrev pub found_with : Walk → List Step → List Finding
@@ -51,6 +53,17 @@ AreInOrder low (step ∷ steps) =
     (low ≤ step.number) × (step.number ≤ 2 ^ 28 - 2) × IsNumbered step.number step.frame
     × AreInOrder (step.number + 1) steps
 
+-- before each step numbered `number` or above: each step moves a credit by less than 2^32
+abbrev pub HasRoomAt : (number : ℕ) → Stream → Type 0
+HasRoomAt number entry = (d : Side) → WindowHasRoom (number * 2 ^ 32) (side_of d entry.window)
+
+-- a walk can count the step next
+pub record CanCount (walk : Walk) (step : Step) : Type 0 where
+  pub numbered : step.number ≤ 2 ^ 28 - 2
+  pub streamed : walk.stream < 2 ^ 31
+  pub acknowledged : IsAcknowledged step
+  pub room : HasRoomAt step.number walk.entry
+
 -- one walk is another, with one more step
 pub record IsCounted (old : Walk) (step : Step) (new : Walk) : Type 0 where
   pub stream : new.stream ≡ old.stream
@@ -59,11 +72,9 @@ pub record IsCounted (old : Walk) (step : Step) (new : Walk) : Type 0 where
       ≡ old.found.items ++ shown old.credits_shown (in_order (stream_said old.stream old.initial old.entry step))
   pub entry : new.entry ≡ stream_after old.stream old.initial old.entry step
   pub initial : new.initial ≡ initial_after step.change old.initial
+  pub met : new.met ≡ old.met
   pub watch : new.watch ≡ old.watch
-
--- before each step numbered `number` or above: each step moves a credit by less than 2^32
-abbrev pub HasRoomAt : (number : ℕ) → Stream → Type 0
-HasRoomAt number entry = (d : Side) → WindowHasRoom (number * 2 ^ 32) (side_of d entry.window)
+  pub room : HasRoomAt (step.number + 1) new.entry
 
 -- a run of a stream as a whole: its looker before it, what all steps show, the numbers of those that it meets, the
 -- stream after all
@@ -87,15 +98,15 @@ pub record IsAt {L : Type 0} (answers : L → List Finding → Option ℕ → L 
   pub order : AreInOrder low steps
   pub watches : Watches answers run.start now run.found met (met_by walk steps) walk.watch
 
--- the same with the steps of some frames to come, and of the changes behind the first `met`
+-- the same with the steps of some frames to come, and of the changes that the walk has not met
 pub record IsSound {L : Type 0} (answers : L → List Finding → Option ℕ → L → Type 0) (run : WholeRun L) (now : L)
-    (walk : Walk) (changes : List Change) (met : ℕ) (frames : List Frame) : Type 0 where
+    (walk : Walk) (changes : List Change) (frames : List Frame) : Type 0 where
   pub rise : AreOrderly changes
-  pub within : met ≤ length changes
+  pub within : walk.met ≤ length changes
   pub acknowledged : Acknowledge frames changes
-  pub initial : walk.initial ≡ initial_at met changes
+  pub initial : walk.initial ≡ initial_at walk.met changes
   pub low : ℕ
-  pub at : IsAt answers run now walk low (merged frames (drop met changes))
+  pub at : IsAt answers run now walk low (merged frames (drop walk.met changes))
 
 -- a walk that has met all steps of such a run
 abbrev pub HasEnded : {L : Type 0} → (L → List Finding → Option ℕ → L → Type 0) → WholeRun L → L → Walk → Type 0
@@ -109,6 +120,22 @@ pub record HasStopped {L : Type 0} (answers : L → List Finding → Option ℕ 
   pub stopped : IsStopped answers run.start now run.found run.numbers number walk.watch
   pub opened : opened_up_to walk.watch.stop walk.entry.life.opened ≡ opened_up_to walk.watch.stop run.entry.life.opened
 
+-- a walk in some run, before frames that begin at the number, so it can meet the changes before that
+pub record CanMeetBefore {L : Type 0} (answers : L → List Finding → Option ℕ → L → Type 0) (now : L) (walk : Walk)
+    (changes : List Change) (number : ℕ) : Type 0 where
+  pub run : WholeRun L
+  pub rest : List Frame
+  pub starts : StartsAt number rest
+  pub sound : IsSound answers run now walk changes rest
+
+-- a walk comes to have met those changes and to stand before such frames, or has stopped before one of the changes
+abbrev pub MeetsBefore : {L : Type 0} → (L → List Finding → Option ℕ → L → Type 0) → (before now : L)
+    → (old new : Walk) → List Change → (number : ℕ) → (goes_on : Bool) → Type 0
+MeetsBefore {L} answers before now old new changes number goes_on =
+    (run : WholeRun L) (rest : List Frame) → StartsAt number rest → IsSound answers run before old changes rest
+    → MatchBool goes_on (IsSound answers run now new changes rest × AreFrom number (drop new.met changes))
+    (HasStopped answers run now new)
+
 -- a walk that has met no step, after the first look
 pub record IsBegun {L : Type 0} (answers : L → List Finding → Option ℕ → L → Type 0) (before now : L) (stream : ℕ)
     (credits_shown : Bool) (walk : Walk) : Type 0 where
@@ -118,4 +145,5 @@ pub record IsBegun {L : Type 0} (answers : L → List Finding → Option ℕ →
       → Watches answers before now whole [] numbers walk.watch
   pub entry : walk.entry ≡ idle_stream
   pub initial : walk.initial ≡ initial_in_force.initial
+  pub met : walk.met ≡ 0
   pub found : walk.found.items ≡ []

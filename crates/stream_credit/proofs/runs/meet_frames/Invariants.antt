@@ -4,5 +4,5 @@ use Rattle.stream_credit.proofs.runs.meet_frames.Given as goal
 
 abbrev pub invariant-loop-frame : goal.invariant-loop-frame
 invariant-loop-frame g l =
-    (rest : List Frame) → MeetsFrames g.L.Look.answers l.changes l.fn.look l.fn.walk l.fn.met (l.frames ++ rest)
-    l.look l.walk l.met (drop l.frame-index l.frames ++ rest)
+    (rest : List Frame) → MeetsFrames g.L.Look.answers l.changes l.fn.look l.fn.walk (l.frames ++ rest) l.look l.walk
+    (drop l.frame-index l.frames ++ rest)

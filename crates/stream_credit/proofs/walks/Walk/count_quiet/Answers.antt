@@ -1,6 +1,6 @@
 use Rattle.stream_credit.proofs.Words.{◌∙◌, refl, sym, Client, Server}
 use Rattle.stream_credit.proofs.WalkLemmas.{room-wide}
-use Rattle.stream_credit.proofs.QuietLemmas.{quiet-counted, quiet-room}
+use Rattle.stream_credit.proofs.QuietLemmas.{quiet-counted}
 use Rattle.stream_credit.proofs.walks.Walk.count_quiet.Goals as goal
 
 pub moved_quietly-requires-clause-client : goal.moved_quietly-requires-clause-client
@@ -14,11 +14,6 @@ moved_quietly-requires-clause-server c =
 pub returns-clause-counted : goal.returns-clause-counted
 returns-clause-counted c =
     quiet-counted c.args.self.now c.args.frame.now c.args.change.now c.in-Some.one c.in-Some-moved_quietly.windows
-    c.if-self.false (sym c.is_some.ensures ∙ c.if-is_some.false) (c.in-Some.ensures c.in-Some.one refl)
+    c.if-self.false (sym c.is_some.ensures ∙ c.if-is_some.false) c.requires.room
+    (c.in-Some.ensures c.in-Some.one refl)
     (c.in-Some-moved_quietly.ensures c.in-Some-moved_quietly.windows refl)
-
-pub returns-clause-room : goal.returns-clause-room
-returns-clause-room c =
-    quiet-room c.args.self.now.entry c.args.frame.now.number c.in-Some.one c.in-Some-moved_quietly.windows
-    (c.in-Some.ensures c.in-Some.one refl).small
-    (c.in-Some-moved_quietly.ensures c.in-Some-moved_quietly.windows refl) c.requires.room

@@ -1,4 +1,4 @@
-use Rattle.stream_credit.proofs.Words.{Client, Server}
+use Rattle.stream_credit.proofs.Words.{Client, Server, refl}
 use Rattle.stream_credit.proofs.WalkLemmas.{room-wide, room-next}
 use Rattle.stream_credit.proofs.walks.Walk.count_shown.Goals as goal
 
@@ -10,8 +10,24 @@ pub say_stream-requires-clause-server : goal.say_stream-requires-clause-server
 say_stream-requires-clause-server c =
     room-wide c.args.step.now.number c.args.self.now.entry c.requires.numbered c.requires.room Server
 
-pub returns-clause-room : goal.returns-clause-room
-returns-clause-room c =
-    room-next c.args.step.now.number c.say_stream.new.entry
-    (c.in_ok-say_stream.ensures.client _ (c.requires.room Client))
-    (c.in_ok-say_stream.ensures.server _ (c.requires.room Server))
+pub returns : goal.returns
+returns c =
+    let said = c.in_ok-say_stream.ensures in
+    record {
+      stream = refl;
+      credits_shown = refl;
+      found = rw (
+        c.in_ok-extend_from_slice.ensures.items,
+        c.as_slice.ensures.value,
+        c.keep_shown.ensures,
+        c.in_ok-put_in_order.ensures.ok,
+        said.said,
+        c.clear.ensures.items,
+      ) refl;
+      entry = said.after;
+      initial = c.initial_after-self.ensures;
+      met = refl;
+      watch = refl;
+      room = room-next c.args.step.now.number c.say_stream.new.entry (said.client _ (c.requires.room Client))
+          (said.server _ (c.requires.room Server));
+    }

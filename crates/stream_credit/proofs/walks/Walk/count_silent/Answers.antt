@@ -18,12 +18,9 @@ returns-clause-counted c =
     c.if-self.false (sym c.is_some.ensures ∙ c.if-is_some.false) c.initial_after-initial.ensures
     c.moved-next_client.ensures.moved c.moved-next_server.ensures.moved c.if-not-is_silent.ensures
     c.if-not-is_silent-2.ensures
-
-pub returns-clause-room : goal.returns-clause-room
-returns-clause-room c =
-    room-next c.args.step.now.number
+    (room-next step.number
     (record {
       life = c.args.self.now.entry.life;
       window = record { client = c.moved-next_client.result; server = c.moved-next_server.result };
     }) (c.moved-next_client.ensures.room _ (c.requires.room Client))
-    (c.moved-next_server.ensures.room _ (c.requires.room Server))
+    (c.moved-next_server.ensures.room _ (c.requires.room Server)))

@@ -1,12 +1,16 @@
-use Rattle.stream_credit.proofs.Words.{refl, arith, when_false, when_true}
+use Rattle.stream_credit.proofs.Words.{refl, ap, ◌∙◌, arith, when_false, when_true, met_after}
 use Rattle.stream_credit.proofs.ChangeLemmas.{few-changes}
-use Rattle.stream_credit.proofs.WalkLemmas.{step-room, step-due, step-on, step-stops}
+use Rattle.stream_credit.proofs.WalkLemmas.{step-count, step-due, step-on, step-stops}
 use Rattle.stream_credit.proofs.RunLemmas.{frame-at, frame-acknowledged, sound-next}
 use Rattle.stream_credit.proofs.walks.Walk.meet_frame.Goals as goal
 
 pub returns-then-not-branch : goal.returns-then-not-branch
 returns-then-not-branch g c = λ run frames h.
     when_false _ _ c.if-not-branch.true (c.in_ok-meet_changes.ensures run _ refl h)
+
+pub meet_changes-requires : goal.meet_changes-requires
+meet_changes-requires g c =
+    let (run, frames, h) = c.requires in record { run = run; rest = _; starts = refl; sound = h }
 
 pub goes_on-requires : goal.goes_on-requires
 goes_on-requires g c =
@@ -24,25 +28,21 @@ pub count_frame-requires : goal.count_frame-requires
 count_frame-requires g c =
     let (run, frames, h) = c.requires in
     let (sound, from) = when_true _ _ c.if-not-branch.false (c.in_ok-meet_changes.ensures run _ refl h) in
-    let at = frame-at sound c.at-change.ensures from in
-    rw c.if-not-goes_on.ensures.kept record {
-      numbered = at.order.1;
-      streamed = at.streamed;
-      acknowledged = frame-acknowledged sound c.at-change.ensures;
-      room = step-room at;
-    }
+    step-count (frame-at sound c.at-change.ensures from) c.if-not-goes_on.ensures.kept
+    (frame-acknowledged sound c.at-change.ensures)
 
-pub met_after-requires : goal.met_after-requires
-met_after-requires g c =
+pub met_after-self-requires : goal.met_after-self-requires
+met_after-self-requires g c =
     let (run, frames, h) = c.requires in
     let (sound, from) = when_true _ _ c.if-not-branch.false (c.in_ok-meet_changes.ensures run _ refl h) in
-    omega (arith, sound.within, few-changes c.args.changes.now sound.rise)
+    let counted = rw c.if-not-goes_on.ensures.kept at c.in_ok-count_frame.ensures in
+    omega (arith, counted.met, sound.within, few-changes c.args.changes.now sound.rise)
 
 pub returns : goal.returns
 returns g c = λ run frames h.
     let (sound, from) = when_true _ _ c.if-not-branch.false (c.in_ok-meet_changes.ensures run _ refl h) in
-    let counted = rw c.if-not-goes_on.ensures.kept at c.in_ok-count_frame.ensures.counted in
-    let step = step-on (frame-at sound c.at-change.ensures from) refl c.if-not-goes_on.ensures.kept
-    c.if-not-goes_on.ensures.goes_on c.in_ok-count_frame.ensures.counted c.in_ok-count_frame.ensures.room in
-    rw c.met_after.ensures (sound-next sound c.args.frame.now.number c.at-change.result c.at-change.ensures
-    sound.acknowledged.1 counted.initial step)
+    let counted = rw c.if-not-goes_on.ensures.kept at c.in_ok-count_frame.ensures in
+    sound-next sound c.args.frame.now.number c.at-change.result c.at-change.ensures sound.acknowledged.1
+    counted.initial (c.met_after-self.ensures ∙ ap (λ n. met_after n c.at-change.result) counted.met)
+    (step-on (frame-at sound c.at-change.ensures from) refl c.if-not-goes_on.ensures.kept _
+    c.if-not-goes_on.ensures.goes_on c.in_ok-count_frame.ensures)
