@@ -9,6 +9,9 @@ use Rattle.audit_terms.specs.Kind.{is_connection_error, is_credit}
 use Rattle.audit_terms.specs.Order.{put_by, ordered_by}
 use Rattle.audit_terms.proofs.OrderedLists.{IsAfter, NoneBefore, IsInOrder, put-front, in_order-ordered}
 use Rattle.audit_terms.proofs.FindingOrder.{comes_after_is}
+use Rattle.audit_terms.specs.Finding.{stops}
+use Rattle.split_merge.proofs.Terms.{inl, inr, not}
+use Rattle.std.proofs.lemmas.Bool.{cases_Bool}
 
 -- ---- of lists joined
 
@@ -47,7 +50,11 @@ module _ {X : Type 0} (after : X → X → Bool) (o : IsAfter after) (is_kept : 
 
   kept-ordered : (xs : List X) → ordered_by after (filter is_kept xs) ≡ filter is_kept (ordered_by after xs)
   kept-ordered [] = refl
-  kept-ordered (x ∷ xs) = grind (arith, kept-ordered xs, put-kept x (ordered_by after xs) (in_order-ordered after o xs))
+  kept-ordered (x ∷ xs) =
+      rw (put-kept x (ordered_by after xs) (in_order-ordered after o xs)) (elim (cases_Bool (is_kept x)) [
+        | inl e ↦ rw e (ap (put_by after x) (kept-ordered xs))
+        | inr e ↦ rw e (kept-ordered xs)
+      ])
 
 -- what is shown of findings in order is in order
 pub in_order-shown : (credits_shown : Bool) (xs : List Finding) →
@@ -61,12 +68,23 @@ error-no-credit ConnectionCredit e = cc
 error-no-credit StreamCredit e = cc
 error-no-credit _ e = refl
 
+stopping-shown : (credits_shown : Bool) (x : Finding) → stops x ≡ true → is_shown credits_shown x ≡ true
+stopping-shown true x e = refl
+stopping-shown false x e = ap not (error-no-credit x.kind e)
+
 -- the front of what is shown is what is shown of the front
 pub upto_stop-shown : (credits_shown : Bool) (xs : List Finding) →
     upto_stop (shown credits_shown xs) ≡ shown credits_shown (upto_stop xs)
 upto_stop-shown credits_shown [] = refl
 upto_stop-shown credits_shown (x ∷ xs) =
-    let error = error-no-credit x.kind in grind (arith, upto_stop-shown credits_shown xs)
+    let rest = upto_stop-shown credits_shown xs in
+    elim (cases_Bool (stops x)) [
+      | inl e ↦ rw (e, stopping-shown credits_shown x e, e) refl
+      | inr e ↦ elim (cases_Bool (is_shown credits_shown x)) [
+        | inl s ↦ rw (e, s, e) (ap (λ l. x ∷ l) rest)
+        | inr s ↦ rw (e, s) rest
+      ]
+    ]
 
 -- both together: a merge of what is shown is what is shown of the merge
 pub merge-shown : (credits_shown : Bool) (xs : List Finding) →

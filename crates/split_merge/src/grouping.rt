@@ -1,5 +1,5 @@
-ghost use Rattle.std.specs.Prelude.{◌≡◌, ◌*◌, ◌+◌, ◌/◌, ◌^◌, ◌<◌, ◌≤◌, IfOk};
-ghost use Rattle.split_merge.specs.code.Groups.{AreConsecutive, groups};
+ghost use Rattle.std.specs.Prelude.{◌≡◌, ◌^◌, ◌<◌, ◌≤◌, IfOk};
+ghost use Rattle.split_merge.specs.code.Groups.{AreConsecutive, group_at, groups};
 
 use std::alloc::{AllocError, Global};
 
@@ -12,12 +12,17 @@ pub fn groups(alloc: Global, count: usize, n: usize) -> Result<Vec<(usize, usize
     ensures consecutive { AreConsecutive 0 count (groups count n) }
 {
     let number = n.min(count);
-    (0..number)
-        .map(
-            |group| -> (usize, usize)
-                requires { (group < number) × (number ≤ count) × (count < 2 ^ 32) }
-                ensures { result ≡ (group * count / number, (group + 1) * count / number) }
-            { (group * count / number, (group + 1) * count / number) },
-        )
-        .collect(alloc)
+    let mut all = Vec::with_capacity(alloc, number)?;
+    for group in 0..number {
+        all.push(group_at(group, count, number))?;
+    }
+    Ok(all)
+}
+
+/// One group of so many.
+fn group_at(group: usize, count: usize, number: usize) -> (usize, usize)
+    requires { (group < number) × (number ≤ count) × (count < 2 ^ 32) }
+    ensures { result ≡ group_at count number group }
+{
+    (group * count / number, (group + 1) * count / number)
 }

@@ -4,15 +4,14 @@ ghost use Rattle.std.specs.Bool.{OnTrue};
 ghost use Rattle.std.specs.Option.{ForSome};
 ghost use Rattle.audit_terms.specs.declared.frames.Frame.{Frame as FrameTerm};
 ghost use Rattle.audit_terms.specs.declared.items.Change.{Change as ChangeTerm};
-ghost use Rattle.audit_terms.specs.Pass.{streams_of};
 ghost use Rattle.audit_terms.specs.code.runs.Orderly.{IsOrderly};
 ghost use Rattle.settings_pair.specs.code.Changes.{AreOrderly, AreAcknowledged};
 ghost use Rattle.stream_credit.specs.code.QuietStream.{IsAheadIfQuiet};
-ghost use Rattle.split_merge.specs.code.Visits.{IsIndex, IsTableOf, NotAmong, counted, noted, notes_from};
+ghost use Rattle.split_merge.specs.code.Visits.{AreVisits, IsEmpty, IsIndex, IsTableOf, NotAmong, counted, noted};
 ghost use Rattle.split_merge.specs.code.Visits.{streams_in, with_stream};
 ghost use Rattle.split_merge.specs.code.Loud.{IsKept};
-ghost use Rattle.split_merge.specs.code.Ahead.{AreAhead, AreHushed, CanHaveRow, HasRow, IsEnd, IsHushed, MeetsNext};
-ghost use Rattle.split_merge.specs.code.Ahead.{with_next};
+ghost use Rattle.split_merge.specs.code.Ahead.{AreAhead, AreHushed, CanHaveRow, CanVisit, HasRow, IsEnd, IsHushed};
+ghost use Rattle.split_merge.specs.code.Ahead.{MeetsNext, with_next};
 
 use crate::row_index::RowIndex;
 use audit_terms::{Finding, Frame};
@@ -59,16 +58,21 @@ impl Visits {
         changes: &Changes<'_>,
         frames: &[Frame],
     ) -> Result<Visits, AllocError>
-        requires length { length frames.now < 2 ^ 28 }
-        requires frames { IsOrderly frames.now }
-        requires changes { AreOrderly changes.now }
-        requires acknowledged { AreAcknowledged frames.now changes.now }
-        ensures streams { IfOk result (λ table. streams_in table.rows.items ≡ streams_of frames.now) }
-        ensures table { IfOk result (IsTableOf (notes_from 0 frames.now)) }
+        requires { CanVisit changes.now frames.now }
+        ensures visits { IfOk result (AreVisits frames.now) }
         ensures hushed { IfOk result (λ table.
             AreHushed credits_shown changes.now frames.now (streams_in table.rows.items) table.quiets.items) }
     {
-        let mut table = Visits::of(alloc, hash, credits_shown, changes, frames)?;
+        let hints = hints_for(alloc, frames.len())?;
+        let mut table = Visits {
+            rows: Vec::new(alloc),
+            quiets: Vec::new(alloc),
+            index: RowIndex::new(alloc, hash),
+            hints,
+            last: 0,
+        };
+        let mut said = Vec::new(alloc);
+        table.note_all(&mut said, credits_shown, changes, frames)?;
         finish(
             table.rows.as_slice(),
             &mut table.quiets,
@@ -78,45 +82,26 @@ impl Visits {
         Ok(table)
     }
 
-    /// The streams that meet some frames, each after its last one. Where credits are shown, none is quiet.
-    fn of(
-        alloc: Global,
-        hash: TableHash,
+    /// Notes the streams of some frames, the first of the connection. Where credits are shown, none is quiet. `said` is
+    /// room for what they show.
+    fn note_all(
+        &mut self,
+        said: &mut Vec<Finding>,
         credits_shown: bool,
         changes: &Changes<'_>,
         frames: &[Frame],
-    ) -> Result<Visits, AllocError>
-        requires length { length frames.now < 2 ^ 28 }
-        requires frames { IsOrderly frames.now }
-        requires changes { AreOrderly changes.now }
-        requires acknowledged { AreAcknowledged frames.now changes.now }
-        ensures streams { IfOk result (λ table. streams_in table.rows.items ≡ streams_of frames.now) }
-        ensures table { IfOk result (IsTableOf (notes_from 0 frames.now)) }
-        ensures ahead { IfOk result (λ table.
-            AreAhead changes.now frames.now (λ _. []) (streams_in table.rows.items) table.quiets.items) }
+    ) -> Result<(), AllocError>
+        requires can { CanVisit changes.now frames.now }
+        requires empty { IsEmpty self.old }
+        ensures visits { OnOk result (AreVisits frames.now self.new) }
+        ensures ahead { OnOk result (AreAhead changes.now frames.now (λ _. []) (streams_in self.new.rows.items)
+            self.new.quiets.items) }
     {
-        let rows = Vec::new(alloc);
-        let quiets = Vec::new(alloc);
-        let hints = hints_for(alloc, frames.len())?;
-        let mut said = Vec::new(alloc);
-        let mut table = Visits {
-            rows,
-            quiets,
-            index: RowIndex::new(alloc, hash),
-            hints,
-            last: 0,
-        };
         for frame in frames {
-            table.note(&mut said, credits_shown, frame.stream, changes, frame)?;
-            table.note(
-                &mut said,
-                credits_shown,
-                frame.promised_by(),
-                changes,
-                frame,
-            )?;
+            self.note(said, credits_shown, frame.stream, changes, frame)?;
+            self.note(said, credits_shown, frame.promised_by(), changes, frame)?;
         }
-        Ok(table)
+        Ok(())
     }
 
     /// Notes that a stream, unless it is 0, meets a frame. `said` is room for what it shows.
@@ -159,7 +144,14 @@ impl Visits {
         if let Some(row) = self.hinted_row(stream) {
             return Ok(row);
         }
-        self.sought_row(credits_shown, stream)
+        let (row, added) = self.index.insert(self.rows.as_slice(), stream)?;
+        remember(&mut self.hints, stream, row);
+        if !added {
+            return Ok(row);
+        }
+        self.rows.push(Visited { stream, count: 0 })?;
+        self.quiets.push(unmet(credits_shown))?;
+        Ok(row)
     }
 
     /// The index of a stream's row, if a hint leads to it.
@@ -171,21 +163,6 @@ impl Visits {
             return Some(hint);
         }
         None
-    }
-
-    /// The index of a stream's row, where no hint leads to it.
-    fn sought_row(&mut self, credits_shown: bool, stream: u32) -> Result<u32, AllocError>
-        requires { CanHaveRow stream self.old }
-        ensures { IfOk result (λ row. HasRow stream row self.old self.new) }
-    {
-        let (row, added) = self.index.insert(self.rows.as_slice(), stream)?;
-        remember(&mut self.hints, stream, row);
-        if !added {
-            return Ok(row);
-        }
-        self.rows.push(Visited { stream, count: 0 })?;
-        self.quiets.push(unmet(credits_shown))?;
-        Ok(row)
     }
 
     /// The index of a stream's row, if it has one.

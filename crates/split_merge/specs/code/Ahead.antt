@@ -30,6 +30,13 @@ pub record AreAhead (changes : List Change) (all : List Frame) (rest : ℕ → L
   pub ahead : AllZip (IsAheadOf changes all rest) streams quiets
   pub unmet : (stream : ℕ) → stream ≢ 0 → NotAmong stream streams → rest stream ≡ frames_of stream all
 
+-- the frames and the changes of a connection: its streams can meet them
+pub record CanVisit (changes : List Change) (frames : List Frame) : Type 0 where
+  pub short : length frames < 2 ^ 28
+  pub orderly : IsOrderly frames
+  pub rise : AreOrderly changes
+  pub acknowledged : AreAcknowledged frames changes
+
 -- some stream may meet the frame next: this one, unless it is 0
 pub record MeetsNext (stream : ℕ) (changes : List Change) (frame : Frame)
     (streams : List ℕ) (quiets : List QuietStream) : Type 0 where

@@ -4,6 +4,7 @@ use Rattle.std.specs.Prelude.{◌++◌, map, filter, length, get_or, slice_get, 
 use Rattle.std.specs.List.{list_any}
 use Rattle.audit_terms.specs.declared.frames.Frame.{Frame}
 use Rattle.audit_terms.specs.Frame.{promised_by}
+use Rattle.audit_terms.specs.Pass.{streams_of}
 use Rattle.split_merge.specs.declared.row_index.RowIndex.{RowIndex}
 use Rattle.split_merge.specs.declared.splits.StreamRow.{StreamRow}
 use Rattle.split_merge.specs.declared.visits.Visited.{Visited}
@@ -95,6 +96,17 @@ pub record IsTableOf (notes : List (ℕ × ℕ)) (table : Visits) : Type 0 where
   pub absent : (stream : ℕ) → NotAmong stream (streams_in table.rows.items) → noted_positions stream notes ≡ []
   pub few : length table.rows.items ≤ length notes
   pub visits : total_of table.rows.items ≤ length notes
+
+-- the table of some frames: the streams that meet them, and what was noted of these
+pub record AreVisits (frames : List Frame) (visits : Visits) : Type 0 where
+  pub streams : streams_in visits.rows.items ≡ streams_of frames
+  pub table : IsTableOf (notes_from 0 frames) visits
+
+-- the table of no frame
+pub record IsEmpty (table : Visits) : Type 0 where
+  pub rows : table.rows.items ≡ []
+  pub quiets : table.quiets.items ≡ []
+  pub index : IsIndex [] table.index
 
 -- each row with its range, empty as yet, from this position of the list on
 abbrev pub laid_out : (from : ℕ) → List Visited → List StreamRow

@@ -20,6 +20,14 @@ long : (credits_shown : Bool) (changes : List Change) (frames : List Frame) (tab
 long credits_shown changes frames table hushed =
     AllZip-long (IsHushedOf credits_shown changes frames) _ _ hushed ∙ length-streams_in table.rows.items
 
+pub ended-requires : goal.ended-requires
+ended-requires c = rw c.in_ok-changes.ensures record {
+  short = c.requires.length;
+  orderly = c.requires.frames;
+  rise = c.requires.changes;
+  acknowledged = c.requires.acknowledged;
+}
+
 pub of-requires-2 : goal.of-requires-2
 of-requires-2 c = long _ _ _ c.in_ok-table.table c.in_ok-table.ensures.hushed
 
@@ -32,5 +40,5 @@ returns c =
     let table = c.in_ok-table.ensures in
     rw (← c.in_ok-changes.ensures) (if-more _ _ c.laid.result
     (λ split is. split-is c.args.credits_shown c.in_ok-changes.changes frames _ c.in_ok-table.table.quiets.items split
-    table.streams table.table.index.distinct table.table.index.above table.hushed
+    table.visits.streams table.visits.table.index.distinct table.visits.table.index.above table.hushed
     (rw (c.in_ok-loud.ensures.rows, loud-streams, c.in_ok-loud.ensures.opened) at is)) c.laid.ensures)

@@ -1,0 +1,6 @@
+use Rattle.split_merge.proofs.Terms.{◌≡◌, map, range_with_len}
+use Rattle.split_merge.specs.code.Groups.{group_at}
+use Rattle.split_merge.proofs.grouping.groups.Given as goal
+
+abbrev pub invariant-loop-group : goal.invariant-loop-group
+invariant-loop-group l = l.all.items ≡ map (group_at l.count l.number) (range_with_len 0 l.group)
