@@ -66,8 +66,7 @@ impl QuietPass {
         ensures { IfOk result (λ met. OnTrue met ((frames : List FrameTerm) → IsQuietAfter frames self.old
             → IsQuietAfter (frames ++ frame.now ∷ []) self.new)) }
     {
-        let is_quiet = self.step(frame)?;
-        Ok(is_quiet)
+        self.step(frame)
     }
 
     /// The same, by the states of the pass.

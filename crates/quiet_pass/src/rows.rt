@@ -6,7 +6,7 @@ ghost use Rattle.std.specs.Bool.{OnTrue};
 ghost use Rattle.std.specs.Option.{ForSome};
 ghost use Rattle.audit_terms.specs.declared.sides.Sides.{Sides as SidesTerm};
 ghost use Rattle.quiet_pass.specs.code.Rows.{life_of, IsRowOf, IsRowAfter, IsOpened, AreRising, HasMet};
-ghost use Rattle.quiet_pass.specs.code.Rows.{AreMoved, IsPast, IsRowMoved};
+ghost use Rattle.quiet_pass.specs.code.Rows.{AreMoved, IsPast, IsRowMoved, IsRowWith};
 
 use crate::standings::{opening_standing, standing_after};
 use audit_terms::{Frame, Side, Sides, StreamLife};
@@ -60,12 +60,12 @@ impl Row {
         {
             return None;
         }
-        Some(Row {
-            stream: self.stream,
-            opened: self.opened,
-            client: standing_after(self.client, Side::Client, frame)?,
-            server: standing_after(self.server, Side::Server, frame)?,
-        })
+        row_of(
+            self.stream,
+            self.opened,
+            standing_after(self.client, Side::Client, frame),
+            standing_after(self.server, Side::Server, frame),
+        )
     }
 
     /// The row of a stream that a frame opens, if it does and nothing but credits is shown of that.
@@ -81,24 +81,40 @@ impl Row {
         }
         let client_ends = frame.is_last_of(Side::Client, stream);
         let server_ends = frame.is_last_of(Side::Server, stream);
-        Some(Row {
+        row_of(
             stream,
-            opened: frame.number,
-            client: opening_standing(initial.client, client_ends)?,
-            server: opening_standing(initial.server, server_ends)?,
-        })
+            frame.number,
+            opening_standing(initial.client, client_ends),
+            opening_standing(initial.server, server_ends),
+        )
     }
 
     /// The row after a change of the initial windows in force, if nothing of that is shown (RFC 9113, 6.9.2).
     fn moved(&self, before: &Sides<u32>, after: &Sides<u32>) -> Option<Row>
         ensures { ForSome result (IsRowMoved before.now after.now self.now) }
     {
-        Some(Row {
-            stream: self.stream,
-            opened: self.opened,
-            client: moved(self.client, before.client, after.client)?,
-            server: moved(self.server, before.server, after.server)?,
-        })
+        row_of(
+            self.stream,
+            self.opened,
+            moved(self.client, before.client, after.client),
+            moved(self.server, before.server, after.server),
+        )
+    }
+}
+
+/// The row of a stream, which a frame of some number opened, if both sides stand in some way.
+#[inline]
+fn row_of(stream: u32, opened: u32, client: Option<u32>, server: Option<u32>) -> Option<Row>
+    ensures { ForSome result (IsRowWith stream opened client server) }
+{
+    match (client, server) {
+        (Some(client), Some(server)) => Some(Row {
+            stream,
+            opened,
+            client,
+            server,
+        }),
+        _ => None,
     }
 }
 

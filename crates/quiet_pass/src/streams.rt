@@ -69,8 +69,7 @@ impl Streams {
         if !meet(&mut self.opened, at, frame) {
             return Ok(false);
         }
-        let is_quiet = open(&mut self.promised, frame.body.promised(), initial, frame)?;
-        Ok(is_quiet)
+        open(&mut self.promised, frame.body.promised(), initial, frame)
     }
 
     /// Meets a change of the initial windows in force, and answers whether nothing of that may be shown (6.9.2).
