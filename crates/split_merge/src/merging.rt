@@ -1,4 +1,4 @@
-ghost use Rattle.std.specs.Prelude.{◌≡◌, IfOk};
+ghost use Rattle.std.specs.Prelude.{◌≡◌, ◌++◌, IfOk, OnOk};
 ghost use Rattle.std.specs.List.{flat_map};
 ghost use Rattle.audit_terms.specs.Finding.{in_order, upto_stop};
 
@@ -16,17 +16,25 @@ pub fn merge(alloc: Global, lists: Vec<Vec<Finding>>) -> Result<Vec<Finding>, Al
     Ok(all)
 }
 
-/// The findings of all lists, one list after the other. The first that has some is taken as it is.
+/// The findings of all lists, one list after the other.
 fn joined(alloc: Global, lists: Vec<Vec<Finding>>) -> Result<Vec<Finding>, AllocError>
     ensures { IfOk result (λ all. all.items ≡ flat_map (λ list. list.items) lists.items) }
 {
     let mut all = Vec::new(alloc);
-    for mut list in lists {
-        if all.is_empty() {
-            all = list;
-        } else {
-            all.append(&mut list)?;
-        }
+    for list in lists {
+        join(&mut all, list)?;
     }
     Ok(all)
+}
+
+/// Puts a list behind others. The first that has some findings is taken as it is.
+fn join(all: &mut Vec<Finding>, mut list: Vec<Finding>) -> Result<(), AllocError>
+    ensures { OnOk result (all.new.items ≡ all.old.items ++ list.items) }
+{
+    if all.is_empty() {
+        *all = list;
+        return Ok(());
+    }
+    all.append(&mut list)?;
+    Ok(())
 }

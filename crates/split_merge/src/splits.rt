@@ -2,7 +2,7 @@ ghost use Rattle.std.specs.Prelude.{◌≡◌, ℕ, ◌^◌, ◌<◌, ◌++◌, 
 ghost use Rattle.audit_terms.specs.code.runs.Orderly.{IsOrderly};
 ghost use Rattle.settings_pair.specs.code.Changes.{AreOrderly, AreAcknowledged};
 ghost use Rattle.split_merge.specs.code.Split.{IsRange, IsSplit, row_positions};
-ghost use Rattle.split_merge.specs.code.Loud.{CanPlace, IsLaid, IsPlacing, loud_of};
+ghost use Rattle.split_merge.specs.code.Loud.{CanPlace, IsLaid, IsPlacing, loud_of, opened_in};
 ghost use Rattle.split_merge.specs.code.Visits.{AreFilled, IsTableOf, laid_out, longer, noted, notes_from, streams_in};
 ghost use Rattle.split_merge.specs.code.Visits.{total_of};
 
@@ -59,24 +59,19 @@ pub fn split(
 {
     let changes = Changes::of(alloc, changes)?;
     let mut table = Visits::ended(alloc, hash, credits_shown, &changes, frames)?;
-    let loud = Loud::of(alloc, &table)?;
-    laid(alloc, loud, &mut table, frames)
+    laid(alloc, &mut table, frames)
 }
 
 /// The rows of the loud streams, with the positions of the frames that they meet. Where there is none, no frame is
 /// looked at.
-fn laid(
-    alloc: Global,
-    loud: Loud,
-    table: &mut Visits,
-    frames: &[Frame],
-) -> Result<SplitFrames, AllocError>
+fn laid(alloc: Global, table: &mut Visits, frames: &[Frame]) -> Result<SplitFrames, AllocError>
     requires length { length frames.now < 2 ^ 28 }
     requires table { IsTableOf (notes_from 0 frames.now) table.old }
     requires long { length table.old.quiets.items ≡ length table.old.rows.items }
-    requires rows { loud.rows.items ≡ loud_of table.old.rows.items table.old.quiets.items }
-    ensures { IfOk result (IsLaid (streams_in loud.rows.items) loud.opened.items (notes_from 0 frames.now)) }
+    ensures { IfOk result (IsLaid (loud_of (streams_in table.old.rows.items) table.old.quiets.items)
+        (opened_in table.old.quiets.items) (notes_from 0 frames.now)) }
 {
+    let loud = Loud::of(alloc, table)?;
     if loud.rows.is_empty() {
         return Ok(SplitFrames {
             rows: Vec::new(alloc),

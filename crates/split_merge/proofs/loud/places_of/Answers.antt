@@ -1,4 +1,5 @@
 use Rattle.split_merge.proofs.Terms.{◌≡◌, ◌+◌, None, Some, inl, inr, arith, append_assoc, drop_more}
+use Rattle.split_merge.proofs.Terms.{sym, ◌∙◌, append-nil, at_drop_all, places_from}
 use Rattle.std.proofs.lemmas.Bool.{cases_Bool}
 use Rattle.split_merge.proofs.loud.places_of.Goals as goal
 
@@ -37,3 +38,9 @@ overflow_add-next c = elim (cases_Bool c.quiet-item.result.is_quiet) [
       let step : c.from-next.result ≡ 1 = rw e at c.from-next.ensures in
       omega (arith, step, c.loop-quiet.invariant.within, c.loop-quiet-test.true, c.requires)
 ]
+
+pub returns : goal.returns
+returns c =
+    let none = at_drop_all (places_from c.loop-quiet.next) c.args.quiets.now c.loop-quiet.quiet-index
+    c.loop-quiet-test.false in
+    sym (append-nil _) ∙ (rw none at c.loop-quiet.invariant.places)

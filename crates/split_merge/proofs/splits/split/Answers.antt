@@ -4,7 +4,6 @@ use Rattle.split_merge.specs.declared.visits.Visits.{Visits}
 use Rattle.std.proofs.lemmas.Slice.Zip.{AllZip-long}
 use Rattle.split_merge.proofs.Visited.{length-streams_in}
 use Rattle.std.specs.Prelude.{IfOk, Result, Ok, Err}
-use Rattle.split_merge.proofs.LoudStreams.{loud-streams}
 use Rattle.split_merge.proofs.LaidOut.{split-is}
 use Rattle.split_merge.proofs.splits.split.Goals as goal
 
@@ -28,9 +27,6 @@ ended-requires c = rw c.in_ok-changes.ensures record {
   acknowledged = c.requires.acknowledged;
 }
 
-pub of-requires-2 : goal.of-requires-2
-of-requires-2 c = long _ _ _ c.in_ok-table.table c.in_ok-table.ensures.hushed
-
 pub laid-requires-clause-long : goal.laid-requires-clause-long
 laid-requires-clause-long c = long _ _ _ c.in_ok-table.table c.in_ok-table.ensures.hushed
 
@@ -40,5 +36,4 @@ returns c =
     let table = c.in_ok-table.ensures in
     rw (← c.in_ok-changes.ensures) (if-more _ _ c.laid.result
     (λ split is. split-is c.args.credits_shown c.in_ok-changes.changes frames _ c.in_ok-table.table.quiets.items split
-    table.visits.streams table.visits.table.index.distinct table.visits.table.index.above table.hushed
-    (rw (c.in_ok-loud.ensures.rows, loud-streams, c.in_ok-loud.ensures.opened) at is)) c.laid.ensures)
+    table.visits.streams table.visits.table.index.distinct table.visits.table.index.above table.hushed is) c.laid.ensures)
