@@ -298,8 +298,7 @@ impl QuietStream {
             return Ok(true);
         }
         let initial = changes.initial_at(self.met.get());
-        let is_quiet = self.meet_step(said, stream, &initial, frame)?;
-        Ok(is_quiet)
+        self.meet_step(said, stream, &initial, frame)
     }
 
     /// The stream after its next frame and the changes before it. `said` is room for what they show.

@@ -1,4 +1,5 @@
 use Rattle.stream_credit.proofs.Words.{OnTrue_at, OnTrue_from}
+use Rattle.std.proofs.lemmas.Result.{IfOk-weaker}
 use Rattle.stream_credit.proofs.QuietStreams.{ahead-frame}
 use Rattle.stream_credit.proofs.quiet_streams.QuietStream.meet_frame.Goals as goal
 
@@ -8,7 +9,9 @@ returns-then-moves c = λ all rest h.
 
 pub returns : goal.returns
 returns c =
-    OnTrue_from c.in_ok-is_quiet.is_quiet _ (λ quiet. λ all rest h.
+    IfOk-weaker c.meet_step.result _ _
+    (λ is_quiet next. OnTrue_from is_quiet _ (λ quiet. λ all rest h.
     ahead-frame (rw (← c.if-moves.ensures.kept) at h)
     (rw c.if-moves.ensures.kept ((rw c.get.ensures at c.in_default.ensures) c.requires.passed))
-    (rw (rw c.get-2.ensures at c.initial_at-initial.ensures) at (OnTrue_at quiet c.in_ok-is_quiet.ensures)))
+    (rw (rw c.get-2.ensures at c.initial_at-initial.ensures) at (OnTrue_at quiet next))))
+    c.meet_step.ensures
