@@ -1,7 +1,8 @@
-ghost use Rattle.std.specs.Prelude.{◌≡◌, ◌^◌, ◌<◌, ◌≤◌, List, IfOk, None, length, drop};
+ghost use Rattle.std.specs.Prelude.{◌≡◌, ◌^◌, ◌<◌, ◌≤◌, List, IfOk, None, Some, length, drop};
 ghost use Rattle.std.specs.Option.{ForSome};
 ghost use Rattle.audit_terms.specs.declared.items.Change.{Change};
 ghost use Rattle.audit_terms.specs.InForce.{initial_in_force};
+ghost use Rattle.audit_terms.specs.code.runs.Streams.{initial_after};
 ghost use Rattle.settings_pair.specs.code.Changes.{AreOrderly};
 ghost use Rattle.stream_credit.specs.code.Changes.{AreFrom, ArePassed, IsBrought, IsDue, after_each, initial_at};
 ghost use Rattle.stream_credit.specs.code.Changes.{met_after};
@@ -41,7 +42,7 @@ impl<'a> Changes<'a> {
         let mut in_force = Vec::new(alloc);
         let mut now = FIRST_WINDOWS;
         for change in all {
-            now = initial_after(&Some(*change), &now);
+            now = windows_after(change, &now);
             in_force.push(now)?;
         }
         Ok(Changes { all, in_force })
@@ -88,6 +89,13 @@ impl<'a> Changes<'a> {
         let left = &self.all[met as usize..];
         met + left.partition_point(|change| change.number < number) as u32
     }
+}
+
+/// The initial windows in force after a change.
+pub(crate) fn windows_after(change: &Change, now: &Sides<u32>) -> Sides<u32>
+    ensures { result ≡ initial_after (Some change.now) now.now }
+{
+    initial_after(&Some(*change), now)
 }
 
 /// How many changes are met behind a frame that brings this one, if it brings one.

@@ -17,12 +17,10 @@ ghost use Rattle.stream_credit.specs.code.QuietStream.{IsNext, IsPassed, ShowsNo
 ghost use Rattle.stream_credit.specs.code.QuietStream.{has_credit, window_of, IsStanding};
 ghost use Rattle.stream_credit.specs.code.Quiet.{IsRaised};
 
-use crate::changes::Changes;
+use crate::changes::{Changes, windows_after};
 use crate::quiet::{Move, move_of};
 use crate::standings::{has_credit, has_ended, kept, mark, moved};
-use audit_terms::{
-    Finding, Frame, Length, Side, Sides, Step, Stream, StreamLife, initial_after, keep_shown,
-};
+use audit_terms::{Finding, Frame, Length, Side, Sides, Step, Stream, StreamLife, keep_shown};
 use fault_rules::say_stream;
 use std::alloc::AllocError;
 
@@ -200,7 +198,7 @@ impl QuietStream {
     {
         while let Some(change) = changes.before(self.met.get(), number) {
             let initial = changes.initial_at(self.met.get());
-            if !self.meet_change(&initial, &initial_after(&Some(change), &initial)) {
+            if !self.meet_change(&initial, &windows_after(&change, &initial)) {
                 return false;
             }
         }

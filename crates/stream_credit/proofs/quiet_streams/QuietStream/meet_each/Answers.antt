@@ -20,4 +20,4 @@ loop-change-preserved c = λ stream all rest s h.
     let due = c.before-in-loop-change.ensures.change _ c.in-Some.is in
     let initial = rw c.get-in-Some.ensures at c.initial_at-initial.ensures in
     ahead-change (c.loop-change.invariant stream all rest s h) c.args.number s (rw c.get.ensures at due.at) due.below
-    (rw initial at c.initial_after.ensures) (rw initial at c.if-not-meet_change.ensures)
+    (rw initial at c.windows_after.ensures) (rw initial at c.if-not-meet_change.ensures)
