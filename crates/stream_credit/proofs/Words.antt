@@ -60,7 +60,7 @@ pub use Rattle.stream_credit.specs.code.Changes.{AreFrom, ArePassed, IsBrought, 
 pub use Rattle.stream_credit.specs.code.Changes.{initial_at, met_after}
 pub use Rattle.stream_credit.specs.code.Looks.{is_live, is_met, met_from, opened_up_to, step_numbers}
 pub use Rattle.stream_credit.specs.code.Merged.{Acknowledge, AcknowledgesAt, frame_with, merged, merged_at}
-pub use Rattle.stream_credit.specs.code.StreamPart.{AreWithin, IsGathered, frames_at, frames_met}
+pub use Rattle.stream_credit.specs.code.StreamPart.{frames_at, frames_met}
 pub use Rattle.stream_credit.specs.code.Quiet.{IsMove, IsQuiet, IsRaised, granted, sent}
 pub use Rattle.stream_credit.specs.code.QuietStream.{IsAhead, IsCreditOf, IsMovedBy, IsNext, IsPassed, ShowsNothing, StartsAt}
 pub use Rattle.stream_credit.specs.code.QuietStream.{has_credit, has_ended, mark, stream_of, window_of}

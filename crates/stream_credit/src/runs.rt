@@ -8,7 +8,7 @@ ghost use Rattle.audit_terms.specs.code.runs.Look.{IsRun};
 ghost use Rattle.audit_terms.specs.code.runs.Streams.{stream_run, stream_at_end};
 ghost use Rattle.settings_pair.specs.code.Changes.{AreOrderly, AreAcknowledged};
 ghost use Rattle.stream_credit.specs.code.Looks.{step_numbers, opened_up_to};
-ghost use Rattle.stream_credit.specs.code.StreamPart.{AreWithin, IsGathered, IsStreamPart, frames_met};
+ghost use Rattle.stream_credit.specs.code.StreamPart.{IsStreamPart, frames_at, frames_met};
 ghost use Rattle.stream_credit.specs.code.Walk.{WholeRun, IsSound, HasEnded, HasStopped};
 
 use crate::changes::Changes;
@@ -21,22 +21,17 @@ use std::alloc::{AllocError, Global};
 /// How many frames of a stream are gathered at once.
 const NEAR: usize = 32;
 
-/// Makes of `near` the frames at the next of some positions, and answers the positions behind these. The frames lie far
-/// from one another, and loads of which none waits for what another one brings are under way at once.
-fn gather<'a>(
-    near: &mut Vec<Frame>,
-    frames: &[Frame],
-    positions: &'a [u32],
-) -> Result<&'a [u32], AllocError>
-    requires { AreWithin frames.now positions.now }
-    ensures { IfOk result (λ later. IsGathered frames.now positions.now near.new.items later.now) }
+/// Makes of `near` the frames at some positions. They lie far from one another, and loads of which none waits for what
+/// another one brings are under way at once.
+fn gather(near: &mut Vec<Frame>, frames: &[Frame], positions: &[u32]) -> Result<(), AllocError>
+    requires { All (λ (position : ℕ). position < length frames.now) positions.now }
+    ensures { OnOk result (near.new.items ≡ frames_at frames.now positions.now) }
 {
-    let (some, later) = positions.split_at(positions.len().min(NEAR));
     near.clear();
-    for position in some {
+    for position in positions {
         near.extend_from_slice(&[frames[*position as usize]])?;
     }
-    Ok(later)
+    Ok(())
 }
 
 /// Meets frames, and the changes before them, and answers whether it met them all.
@@ -78,10 +73,12 @@ fn meet_all<L: Look>(
 {
     let mut rest = own.positions;
     while !rest.is_empty() {
-        rest = gather(near, own.frames, rest)?;
+        let (some, later) = rest.split_at(rest.len().min(NEAR));
+        gather(near, own.frames, some)?;
         if !meet_frames(walk, look, changes, near.as_slice())? {
             return Ok(false);
         }
+        rest = later;
     }
     walk.meet_changes(look, changes, u32::MAX)
 }

@@ -1,5 +1,5 @@
 -- The frames that a stream meets.
-use Rattle.std.specs.Prelude.{◌≡◌, ℕ, ◌^◌, ◌<◌, ◌++◌, List, All, length, slice_get}
+use Rattle.std.specs.Prelude.{ℕ, ◌^◌, ◌<◌, List, All, length, slice_get}
 use Rattle.std.specs.List.{flat_map}
 use Rattle.std.specs.Option.{option_to_list}
 use Rattle.audit_terms.specs.declared.frames.Frame.{Frame}
@@ -13,18 +13,6 @@ frames_at frames positions = flat_map (λ position. option_to_list (slice_get fr
 -- the frames that the stream meets
 abbrev pub frames_met : StreamPart → List Frame
 frames_met own = frames_at own.frames.now own.positions.now
-
--- the positions stand among the frames
-abbrev pub AreWithin : List Frame → (positions : List ℕ) → Type 0
-AreWithin frames positions = All (λ (position : ℕ). position < length frames) positions
-
--- the frames at some of the positions, the first of them; the others are left
-pub record IsGathered (frames : List Frame) (positions : List ℕ) (found : List Frame) (left : List ℕ) : Type 0 where
-  pub some : List ℕ
-  pub parts : positions ≡ some ++ left
-  pub are : found ≡ frames_at frames some
-  pub within : AreWithin frames left
-  pub fewer : 0 < length positions → length left < length positions
 
 -- a stream identifier, positions among the frames, and at these frames in range whose numbers strictly rise
 pub record IsStreamPart (own : StreamPart) : Type 0 where
