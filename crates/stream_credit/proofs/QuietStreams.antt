@@ -190,40 +190,18 @@ none-in_order found e = none-shown (in_order found) (each-in_order IsUnshown fou
 
 -- ---- a change of the initial window
 
--- two credits that are kept
-some-left : (credit : ℕ) → 0 < credit → is_used_up (pos credit) ≡ false
-some-left credit some = grind (arith, nat_tests)
-
-kept-fits : (credit next : ℕ) → next < 2 ^ 31 → overflows (pos credit) (pos next) ≡ false
-kept-fits credit next within = grind (arith, nat_tests)
-
-pub kept-live : {credit : ℤ} {next : ℕ} → IsCreditOf credit next → has_credit next ≡ true
-kept-live {next = next} kept = rw (lt-ltb 0 next kept.some, lt-ltb next (2 ^ 31) kept.within) refl
-
-some-credit : (standing : ℕ) → has_credit standing ≡ true → 0 < standing
-some-credit standing live = grind (arith, nat_tests)
-
--- a credit that is kept, after it rises
-pub kept-raised : (before next : ℕ) (amount credit : ℤ) → credit ≡ pos before +ℤ amount → has_credit before ≡ true
-    → IsCreditOf credit next → IsRaised (pos before) amount (pos next)
-kept-raised before next amount credit is live kept = record {
-  moved = omega (arith, ints, kept.same, is);
-  some = some-left before (some-credit before live);
-  left = some-left next kept.some;
-  fits = kept-fits before next kept.within;
-}
+some-left : (standing : ℕ) → has_credit standing ≡ true → is_used_up (pos standing) ≡ false
+some-left standing live = grind (arith, nat_tests)
 
 -- a credit that is kept, after it moves
 pub kept-moved : (before after standing next : ℕ) (credit : ℤ) → credit ≡ pos standing +ℤ pos after -ℤ pos before
     → has_credit standing ≡ true → IsCreditOf credit next → IsMovedBy before after standing next
 kept-moved before after standing next credit is live kept =
-    let left = kept-live kept in
+    let left : has_credit next ≡ true = rw (lt-ltb 0 next kept.some, lt-ltb next (2 ^ 31) kept.within) refl in
+    let fits : overflows (pos standing) (pos next) ≡ false = grind (arith, nat_tests, kept.within) in
     record {
       moved = rw (live, left) (ap Some (omega (arith, ints, kept.same, is)));
-      silent = rw (live, left) (λ x e y f.
-          rw (← same_Some _ x e, ← same_Some _ y f) (
-            some-left standing (some-credit standing live) ∙ sym (some-left next kept.some),
-            kept-fits standing next kept.within,
-          ));
+      silent = rw (live, left) (λ x e y f. rw (← same_Some _ x e, ← same_Some _ y f)
+          (some-left standing live ∙ sym (some-left next left), fits));
       ended = ended-none next left ∙ sym (ended-none standing live);
     }

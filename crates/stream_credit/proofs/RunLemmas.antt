@@ -1,7 +1,8 @@
 -- The run of a stream: it begins as the definition does, meets each frame behind the changes before it, and ends whole
 -- or cut.
 use Rattle.std.proofs.Common.{All}
-use Rattle.stream_credit.proofs.Words.{◌≡◌, ℕ, ◌+◌, ◌-◌, ◌^◌, ◌<◌, ◌≤◌, Bool, true, false, subst, List, [], ◌∷◌, if◌then◌else◌}
+use Rattle.stream_credit.proofs.Words.{◌≡◌, ℕ, ◌+◌, ◌-◌, ◌^◌, ◌<◌, ◌≤◌, Bool, true, false, subst, List, [], ◌∷◌}
+use Rattle.stream_credit.proofs.Words.{if◌then◌else◌}
 use Rattle.stream_credit.proofs.Words.{drop, Option, Some, None, MatchBool, refl, sym, ap, ◌∙◌, arith, append-nil}
 use Rattle.stream_credit.proofs.Words.{All-from_recursion, Client, Server, Frame, Change, Finding, place_number, shown}
 use Rattle.stream_credit.proofs.Words.{initial_in_force, idle_stream, up_to, IsRun, IsOrderly, change_step, steps_of}

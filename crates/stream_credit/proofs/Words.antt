@@ -62,10 +62,12 @@ pub use Rattle.stream_credit.specs.code.Looks.{is_live, is_met, met_from, opened
 pub use Rattle.stream_credit.specs.code.Merged.{Acknowledge, AcknowledgesAt, frame_with, merged, merged_at}
 pub use Rattle.stream_credit.specs.code.StreamPart.{frames_at, frames_met}
 pub use Rattle.stream_credit.specs.code.Quiet.{IsMove, IsQuiet, IsRaised, granted, sent}
-pub use Rattle.stream_credit.specs.code.QuietStream.{IsAhead, IsCreditOf, IsMovedBy, IsNext, IsPassed, ShowsNothing, StartsAt}
+pub use Rattle.stream_credit.specs.code.QuietStream.{IsAhead, IsCreditOf, IsMovedBy, IsNext, IsPassed, ShowsNothing}
+pub use Rattle.stream_credit.specs.code.QuietStream.{StartsAt}
 pub use Rattle.stream_credit.specs.code.QuietStream.{has_credit, has_ended, mark, stream_of, window_of}
 pub use Rattle.stream_credit.specs.code.Silent.{IsSilent, moved}
-pub use Rattle.stream_credit.specs.code.Walk.{AreInOrder, CanCount, HasEnded, HasRoomAt, HasStopped, IsAt, IsBegun, IsCounted}
+pub use Rattle.stream_credit.specs.code.Walk.{AreInOrder, CanCount, HasEnded, HasRoomAt, HasStopped, IsAt, IsBegun}
+pub use Rattle.stream_credit.specs.code.Walk.{IsCounted}
 pub use Rattle.stream_credit.specs.code.Walk.{IsNumbered, IsSound, WholeRun, met_by, numbers_of}
 pub use Rattle.stream_credit.specs.declared.quiet.Move.{Move}
 pub use Rattle.stream_credit.specs.declared.quiet_streams.QuietStream.{QuietStream}

@@ -1,12 +1,6 @@
-use Rattle.stream_credit.proofs.Words.{◌∙◌, arith, get_or_from_slice_get}
-use Rattle.std.proofs.lemmas.Option.{slice_get_within}
+use Rattle.stream_credit.proofs.Words.{◌∙◌, get_or_from_slice_get}
 use Rattle.quiet_pass.proofs.RowLists.{row-met}
 use Rattle.quiet_pass.proofs.rows.meet.Goals as goal
-
-pub index-requires : goal.index-requires
-index-requires c =
-    let rows = c.args.rows.now in
-    omega (arith, slice_get_within rows.items c.args.at c.requires.row c.requires.there, rows.ok.0)
 
 pub returns-in-Some : goal.returns-in-Some
 returns-in-Some c =

@@ -1,4 +1,4 @@
-use Rattle.split_merge.proofs.Terms.{◌+◌, length, refl, sym, ◌∙◌, arith, RowIndex, streams_in}
+use Rattle.split_merge.proofs.Terms.{◌+◌, length, refl, sym, ◌∙◌, RowIndex, streams_in}
 use Rattle.split_merge.proofs.Visited.{length-streams_in}
 use Rattle.split_merge.proofs.Rising.{row-above, row-in_table}
 use Rattle.split_merge.proofs.row_index.RowIndex.insert.Goals as goal
@@ -16,9 +16,3 @@ returns c =
     row-in_table (streams_in c.args.rows.now) c.args.self.now after c.requires.index c.args.stream c.requires.above
     c.in_ok-place.place c.in_default.ensures refl c.in_ok-place.ensures.keys c.in_ok-place.ensures.index
     c.in_ok-place.ensures.stored c.in_ok-place.added c.in_ok-place.ensures.added
-
-pub overflow_add-self : goal.overflow_add-self
-overflow_add-self c = omega (arith, c.if-is_above.ensures.rising, c.requires.room)
-
-pub returns-in-Some : goal.returns-in-Some
-returns-in-Some c = (c.in-Some.ensures, c.requires.index)
