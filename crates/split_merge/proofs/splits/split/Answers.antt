@@ -36,4 +36,5 @@ returns c =
     let table = c.in_ok-table.ensures in
     rw (← c.in_ok-changes.ensures) (if-more _ _ c.laid.result
     (λ split is. split-is c.args.credits_shown c.in_ok-changes.changes frames _ c.in_ok-table.table.quiets.items split
-    table.visits.streams table.visits.table.index.distinct table.visits.table.index.above table.hushed is) c.laid.ensures)
+    table.visits.streams table.visits.table.index.distinct table.visits.table.index.above table.hushed is)
+    c.laid.ensures)
