@@ -1,4 +1,5 @@
-use Rattle.split_merge.proofs.Terms.{arith, append_assoc, Visited, laid_out, total_of}
+use Rattle.split_merge.proofs.Terms.{◌∙◌, sym, arith, append_assoc, append-nil, at_drop_all}
+use Rattle.split_merge.proofs.Terms.{Visited, laid_out, total_of}
 use Rattle.std.proofs.lemmas.List.{at_drop_more}
 use Rattle.split_merge.proofs.splits.lay_out.Goals as goal
 
@@ -19,5 +20,21 @@ loop-row-preserved c =
 
 pub overflow_add-total : goal.overflow_add-total
 overflow_add-total c =
-    let more = at_drop_more total_of c.args.loud.now c.loop-row.row-index none c.loop-row-test.true in
-    omega (arith, c.requires, rw more at c.loop-row.invariant.total)
+    let i = c.loop-row.row-index in
+    omega (
+      arith,
+      c.requires,
+      rw (at_drop_more total_of c.args.loud.now i none c.loop-row-test.true)
+          at c.loop-row.invariant.total,
+    )
+
+pub returns : goal.returns
+returns c =
+    let loud = c.args.loud.now in
+    let i = c.loop-row.row-index in
+    let was = c.loop-row.invariant in
+    record {
+      rows = sym (append-nil _)
+          ∙ (rw (at_drop_all (laid_out c.loop-row.total) loud i c.loop-row-test.false) at was.rows);
+      total = omega (arith, rw (at_drop_all total_of loud i c.loop-row-test.false) at was.total);
+    }
