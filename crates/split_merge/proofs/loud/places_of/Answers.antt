@@ -1,4 +1,5 @@
 use Rattle.split_merge.proofs.Terms.{◌≡◌, ◌+◌, None, Some, inl, inr, arith, append_assoc, drop_more}
+use Rattle.split_merge.proofs.Terms.{sym, ◌∙◌, append-nil, at_drop_all, places_from}
 use Rattle.std.proofs.lemmas.Bool.{cases_Bool}
 use Rattle.split_merge.proofs.loud.places_of.Goals as goal
 
@@ -28,3 +29,9 @@ loop-quiet-preserved c =
             places = rw (step, c.in_ok-push.ensures.items, place, append_assoc) (rw e at more);
           }
     ]
+
+pub returns : goal.returns
+returns c =
+    let none = at_drop_all (places_from c.loop-quiet.next) c.args.quiets.now c.loop-quiet.quiet-index
+    c.loop-quiet-test.false in
+    sym (append-nil _) ∙ (rw none at c.loop-quiet.invariant.places)
