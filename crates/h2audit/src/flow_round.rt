@@ -1,12 +1,9 @@
 //! The round over connections: both flows of each, and what they hold.
 
-ghost use Rattle.std.specs.Prelude.{◌≡◌, ◌+◌, ◌<◌, ◌^◌, IfOk, length};
-ghost use Rattle.audit_report.specs.code.Reported.{HasGapAtEnd};
+ghost use Rattle.std.specs.Prelude.{◌≡◌, ◌<◌, ◌^◌, IfOk, length};
 ghost use Rattle.audit_terms.specs.declared.sides.Side.{Side};
 ghost use Rattle.audit_terms.specs.declared.sides.Side.TheVariants.{Client, Server};
-ghost use Rattle.h2audit.specs.code.Flows.{AreSources, IsHeldBy, IsToldFlows, IsToldOfFlows, KeepsCut};
-ghost use Rattle.tcp_streams.specs.Bytes.{bytes_of};
-ghost use Rattle.tcp_streams.specs.code.Orderly.{IsOrderly};
+ghost use Rattle.h2audit.specs.code.Flows.{AreFlowsOfOne, AreSources, IsHeldBy, IsToldFlows, KeepsCut};
 
 use crate::quiet::quiet_connection;
 use audit_report::{AuditedFrames, Outcome, Reach, Told};
@@ -177,33 +174,16 @@ fn told_from<R: Threads>(
     let (client, server) = both(rt, threads, sources);
     let client = client?;
     let server = server?;
-    told_of(rt, sources.alloc, threads, credits_shown, &client, &server)
-}
-
-/// What the flows of one connection hold, with nothing found yet.
-fn told_of<R: Threads>(
-    rt: &R,
-    alloc: Global,
-    threads: usize,
-    credits_shown: bool,
-    client: &Flow,
-    server: &Flow,
-) -> Result<Told, AllocError>
-    requires client { IsOrderly client.now }
-    requires server { IsOrderly server.now }
-    requires client_gap { HasGapAtEnd client.now }
-    requires server_gap { HasGapAtEnd server.now }
-    requires together { length (bytes_of client.now) + length (bytes_of server.now) < 2 ^ 31 }
-    ensures { IfOk result (IsToldOfFlows credits_shown client.now server.now) }
-{
     // Of the flows the report needs their reach alone.
-    Ok(Told {
-        reach: Reach::of_both(client, server),
-        outcome: outcome_of(rt, alloc, threads, credits_shown, client, server)?,
-    })
+    let reach = Reach::of_both(&client, &server);
+    match outcome_of(rt, sources.alloc, threads, credits_shown, &client, &server) {
+        Ok(outcome) => Ok(Told { reach, outcome }),
+        Err(error) => Err(error),
+    }
 }
 
-/// The same, without the reach. No list of frames is made where it shows on the way that nothing is shown of them.
+/// What the flows of one connection hold, with nothing found yet. No list of frames is made where it shows on the way
+/// that nothing is shown of them.
 fn outcome_of<R: Threads>(
     rt: &R,
     alloc: Global,
@@ -212,9 +192,7 @@ fn outcome_of<R: Threads>(
     client: &Flow,
     server: &Flow,
 ) -> Result<Outcome, AllocError>
-    requires client { IsOrderly client.now }
-    requires server { IsOrderly server.now }
-    requires together { length (bytes_of client.now) + length (bytes_of server.now) < 2 ^ 31 }
+    requires { AreFlowsOfOne client.now server.now }
     ensures { IfOk result (IsHeldBy credits_shown client.now server.now) }
 {
     if !credits_shown {

@@ -75,7 +75,28 @@ pub fn run_program<
         (written outside.new.output) }
 {
     match asked(rt.alloc(), words) {
-        Ok(asked) => answer(rt, asked, outside),
+        Ok(Parsed::Run(options, Some(path))) => {
+            let opened = (outside.open_file)(path.as_str());
+            let answer = audit_file(rt, &options, opened, &mut outside.file, &mut outside.output);
+            end(&answer, &mut outside.say)
+        }
+        Ok(Parsed::Run(options, None)) => {
+            let answer = run(
+                rt,
+                rt.alloc(),
+                &options,
+                &mut outside.input,
+                &mut outside.output,
+                &NoGate,
+            );
+            end(&answer, &mut outside.say)
+        }
+        Ok(Parsed::Help(text)) => end(&show(text, &mut outside.output), &mut outside.say),
+        Ok(Parsed::Version(text)) => end(&show(text, &mut outside.output), &mut outside.say),
+        Ok(Parsed::Refused(text)) => {
+            (outside.say)(text.as_str().trim_end());
+            ExitCode::from(WORDS_REFUSED)
+        }
         Err(_) => end(&Err(AuditFault::OutOfMemory), &mut outside.say),
     }
 }
@@ -102,49 +123,6 @@ fn texts<'a>(alloc: Global, words: &'a [String]) -> Result<Vec<&'a str>, AllocEr
     ensures { IfOk result (λ texts. map (λ text. text.now) texts.items ≡ map string_bytes words.now) }
 {
     words.iter().map(|word| word.as_str()).collect(alloc)
-}
-
-/// Does what the words ask for.
-fn answer<O: FnMut(&str) -> io::Result<F>, S: FnMut(&str), I: Read, F: Read + Drop, W: Write>(
-    rt: &(impl AllocGlobal + Threads + Sync + RandomSource),
-    asked: Parsed,
-    outside: &mut Outside<O, S, I, F, W>,
-) -> ExitCode
-    requires unread { IsUnread outside.old.input }
-    requires unwritten { IsUnwritten outside.old.output }
-    requires opens { O.IsAlwaysCallable outside.old.open_file }
-    requires says { S.IsAlwaysCallable outside.old.say }
-    ensures does { Does (CalledAt O.FnMut) (λ say line. CalledAt S.FnMut say line tt) I.remaining F.remaining
-        outside.old outside.new (exit_status result) asked }
-    ensures taken { Appends (W.contents outside.old.output.writer) (W.contents outside.new.output.writer)
-        (written outside.new.output) }
-{
-    match asked {
-        Parsed::Run(options, Some(path)) => {
-            let opened = (outside.open_file)(path.as_str());
-            let answer = audit_file(rt, &options, opened, &mut outside.file, &mut outside.output);
-            end(&answer, &mut outside.say)
-        }
-        Parsed::Run(options, None) => {
-            let answer = run(
-                rt,
-                rt.alloc(),
-                &options,
-                &mut outside.input,
-                &mut outside.output,
-                &NoGate,
-            );
-            end(&answer, &mut outside.say)
-        }
-        Parsed::Help(text) | Parsed::Version(text) => {
-            let answer = show(text, &mut outside.output);
-            end(&answer, &mut outside.say)
-        }
-        Parsed::Refused(text) => {
-            (outside.say)(text.as_str().trim_end());
-            ExitCode::from(WORDS_REFUSED)
-        }
-    }
 }
 
 /// What the audit of FILE answers, and the account of its reads. One that could not be opened is a failure to read, or

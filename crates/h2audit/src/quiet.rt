@@ -1,14 +1,14 @@
 //! Connections of which nothing is shown: no list of their frames is made.
 
-ghost use Rattle.std.specs.Prelude.{◌+◌, ◌<◌, ◌^◌, IfOk, IfSome, IsTrue, List, length};
-ghost use Rattle.audit_terms.specs.declared.frames.Frame.{Frame as FrameTerm};
+ghost use Rattle.std.specs.Bool.{OnTrue};
+ghost use Rattle.std.specs.Prelude.{IfOk, IfSome, IsTrue, List};
+ghost use Rattle.audit_terms.specs.declared.frames.Frame.{Frame};
 ghost use Rattle.h2_frames.specs.code.Batch.{IsNumbered};
-ghost use Rattle.h2_frames.specs.code.Walk.{IsFreshWalk, IsReadyWalk};
-ghost use Rattle.h2audit.specs.code.Quiet.{HasMet, HasTaken, IsQuietOf, IsWholeWalk};
+ghost use Rattle.h2_frames.specs.code.Walk.{IsReadyWalk, IsWalkAfter};
+ghost use Rattle.h2audit.specs.code.Flows.{AreFlowsOfOne};
+ghost use Rattle.h2audit.specs.code.Quiet.{HasMet, HasTaken, IsFoundQuiet, IsMetWhole, IsQuietOf};
 ghost use Rattle.quiet_pass.specs.code.QuietPass.{IsQuietAfter};
 ghost use Rattle.quiet_pass.specs.declared.passes.QuietPass.{QuietPass as PassTerm};
-ghost use Rattle.tcp_streams.specs.Bytes.{bytes_of};
-ghost use Rattle.tcp_streams.specs.code.Orderly.{IsOrderly};
 ghost use Rattle.tcp_streams.specs.declared.streams.Flow.{Flow};
 
 use audit_report::QuietConnection;
@@ -38,9 +38,7 @@ pub(crate) fn quiet_connection<R: Threads>(
     client: &Flow,
     server: &Flow,
 ) -> Result<Option<QuietConnection>, AllocError>
-    requires client { IsOrderly client.now }
-    requires server { IsOrderly server.now }
-    requires together { length (bytes_of client.now) + length (bytes_of server.now) < 2 ^ 31 }
+    requires { AreFlowsOfOne client.now server.now }
     ensures { IfOk result (λ found. IfSome found (IsQuietOf client.now server.now)) }
 {
     let Begun::Http2(walk) = begin(alloc, client, server) else {
@@ -56,8 +54,7 @@ pub(crate) fn quiet_connection<R: Threads>(
 /// The same of a walk that no frame was taken of: each frame is met as it is taken.
 fn quiet_in_turn(alloc: Global, walk: FrameWalk<'_>) -> Result<Option<QuietConnection>, AllocError>
     requires { IsReadyWalk walk }
-    ensures { (client server : Flow) → IsFreshWalk client server walk.entry
-        → IfOk result (λ found. IfSome found (IsQuietOf client server)) }
+    ensures { IsFoundQuiet walk.entry result }
 {
     let mut walk = walk;
     let mut pass = QuietPass::begin(alloc);
@@ -77,22 +74,42 @@ fn quiet_in_batches<R: Threads>(
     mut walk: FrameWalk<'_>,
 ) -> Result<Option<QuietConnection>, AllocError>
     requires { IsReadyWalk walk }
-    ensures { (client server : Flow) → IsFreshWalk client server walk.entry
-        → IfOk result (λ found. IfSome found (IsQuietOf client server)) }
+    ensures { IsFoundQuiet walk.entry result }
 {
     let mut pass = QuietPass::begin(alloc);
+    match meet_in_batches(rt, alloc, threads, &mut walk, &mut pass) {
+        Ok(true) => Ok(Some(quiet_by(&walk))),
+        Ok(false) => Ok(None),
+        Err(error) => Err(error),
+    }
+}
+
+/// Meets all frames of a walk in batches. Is nothing of them shown?
+fn meet_in_batches<R: Threads>(
+    rt: &R,
+    alloc: Global,
+    threads: usize,
+    walk: &mut FrameWalk<'_>,
+    pass: &mut QuietPass,
+) -> Result<bool, AllocError>
+    requires { IsReadyWalk walk.old }
+    ensures ready { IfOk result (λ met. OnTrue met (IsReadyWalk walk.new)) }
+    ensures whole { IfOk result (λ met. OnTrue met ((client server : Flow) → (frames : List Frame)
+        → IsWalkAfter client server frames walk.old → IsQuietAfter frames pass.old
+        → IsMetWhole client server walk.new pass.new)) }
+{
     let mut batch = FrameBatch::new(alloc);
     let mut next = FrameBatch::new(alloc);
-    let mut more = take_batch(rt, threads, &mut walk, &mut batch)?;
+    let mut more = take_batch(rt, threads, walk, &mut batch)?;
     while more {
-        let (met, taken) = meet_and_take(rt, threads, &mut pass, &batch, &mut walk, &mut next);
+        let (met, taken) = meet_and_take(rt, threads, pass, &batch, walk, &mut next);
         if !met? {
-            return Ok(None);
+            return Ok(false);
         }
         more = taken?;
         mem::swap(&mut batch, &mut next);
     }
-    Ok(Some(quiet_by(&walk)))
+    Ok(true)
 }
 
 /// Meets a batch, on a thread of its own where one can be had, and takes the next one meanwhile. A short batch is done
@@ -161,11 +178,11 @@ fn meet_each(pass: &mut QuietPass, batch: &FrameBatch) -> Result<bool, AllocErro
     Ok(true)
 }
 
-/// What is told of a connection all of whose frames were taken, where the pass over them stayed quiet.
+/// What is told of a connection all of whose frames were met.
 fn quiet_by(walk: &FrameWalk<'_>) -> QuietConnection
     requires { IsReadyWalk walk.now }
-    ensures { (client server : Flow) → (frames : List FrameTerm) → (pass : PassTerm) → IsTrue server.started
-        → IsWholeWalk client server frames walk.now → IsQuietAfter frames pass → IsQuietOf client server result }
+    ensures { (client server : Flow) → (pass : PassTerm) → IsTrue server.started
+        → IsMetWhole client server walk.now pass → IsQuietOf client server result }
 {
     quiet_frames_show_nothing();
     QuietConnection {

@@ -1,6 +1,6 @@
 -- The jobs of the round over connections: one for each, which finds nothing.
 use Rattle.std.specs.List.{AllZip, range_with_len}
-use Rattle.std.specs.Prelude.{◌≡◌, ℕ, ◌^◌, ◌<◌, ◌≤◌, Bool, false, List, [], length, map, All, IsTrue}
+use Rattle.std.specs.Prelude.{◌≡◌, ℕ, ◌+◌, ◌^◌, ◌<◌, ◌≤◌, Bool, false, List, [], length, map, All, IsTrue}
 use Rattle.audit_report.specs.FlowLine.{extents_of}
 use Rattle.audit_report.specs.code.Reported.{AreToldOf, HasOrderlyOutcome, extents_in}
 use Rattle.audit_report.specs.declared.audited.Audited.{Audited}
@@ -40,6 +40,12 @@ pub record IsSideFlow (capture : List ℕ) (packets : List Packet) (connection :
   pub is : IsFlowOf capture packets connection side flow
   pub within : length (bytes_of flow) ≤ payload_sum (side_segments packets connection side)
   pub orderly : IsOrderly flow
+
+-- both flows of one connection, as readers of their frames want them
+pub record AreFlowsOfOne (client server : Flow) : Type 0 where
+  pub client_orderly : IsOrderly client
+  pub server_orderly : IsOrderly server
+  pub together : length (bytes_of client) + length (bytes_of server) < 2 ^ 31
 
 -- what an outcome keeps of a cut
 abbrev pub KeepsCut : Outcome → Cut → Type 0

@@ -1,6 +1,6 @@
 -- A connection of which nothing is shown.
 use Rattle.std.specs.Bool.{OnTrue}
-use Rattle.std.specs.Prelude.{◌≡◌, ◌<◌, Bool, true, false, List, [], ◌++◌, length, IsTrue}
+use Rattle.std.specs.Prelude.{◌≡◌, ◌<◌, Bool, true, false, List, [], ◌++◌, length, IsTrue, Option, Result, IfOk, IfSome}
 use Rattle.audit_report.specs.declared.told.QuietConnection.{QuietConnection}
 use Rattle.audit_terms.specs.Finding.{shown}
 use Rattle.audit_terms.specs.Pass.{pass}
@@ -8,7 +8,7 @@ use Rattle.audit_terms.specs.code.runs.Orderly as runs
 use Rattle.audit_terms.specs.declared.frames.Frame.{Frame}
 use Rattle.h2_frames.specs.Cut.{IsHttp2}
 use Rattle.h2_frames.specs.code.Batch.{IsNumbered, frames_of}
-use Rattle.h2_frames.specs.code.Walk.{IsReadyWalk, IsWalkAfter, tails_of, taken_of, weight_of}
+use Rattle.h2_frames.specs.code.Walk.{IsFreshWalk, IsReadyWalk, IsWalkAfter, tails_of, taken_of, weight_of}
 use Rattle.h2_frames.specs.declared.batches.FrameBatch.{FrameBatch}
 use Rattle.h2_frames.specs.declared.walk.FrameWalk.{FrameWalk}
 use Rattle.quiet_pass.specs.code.QuietPass.{IsQuietAfter}
@@ -24,6 +24,11 @@ pub record IsQuietOf (client server : Flow) (quiet : QuietConnection) : Type 0 w
   pub count : quiet.frames ≡ length frames
   pub silent : shown false (pass frames) ≡ []
 
+-- where a connection of which no frame was taken is found to be quiet, it is
+abbrev pub IsFoundQuiet : {E : Type 0} → FrameWalk → Result (Option QuietConnection) E → Type 0
+IsFoundQuiet walk found = (client server : Flow) → IsFreshWalk client server walk
+    → IfOk found (λ quiet. IfSome quiet (IsQuietOf client server))
+
 -- of the connection's frames those that were taken were met, and show nothing
 pub record IsMetUpTo (client server : Flow) (walk : FrameWalk) (machine : QuietPass) : Type 0 where
   pub frames : List Frame
@@ -35,6 +40,12 @@ pub record IsWholeWalk (client server : Flow) (frames : List Frame) (walk : Fram
   pub http2 : IsHttp2 client server frames (tails_of walk)
   pub orderly : runs.IsOrderly frames
   pub count : taken_of walk ≡ length frames
+
+-- all frames of the connection were met, and show nothing
+pub record IsMetWhole (client server : Flow) (walk : FrameWalk) (machine : QuietPass) : Type 0 where
+  pub frames : List Frame
+  pub whole : IsWholeWalk client server frames walk
+  pub quiet : IsQuietAfter frames machine
 
 -- with those of a batch, frames are the connection's first ones; where there was no batch left, they are all of them
 abbrev pub AreTaken : (more : Bool) → (client server : Flow) → List Frame → FrameBatch → FrameWalk → Type 0

@@ -1,11 +1,11 @@
 ghost use Rattle.std.specs.Prelude.{◌≡◌, IfOk, Some, false, map, pos};
-ghost use Rattle.clap.specs.Words.{app_of, fault_of, found_of, matches_of, new_app, rows_of, rule_of, FailsBy};
-ghost use Rattle.clap.specs.declared.builder.value_parser.ValueParser.{ValueParser};
+ghost use Rattle.clap.specs.Words.{App, app_of, fault_of, found_of, matches_of, rows_of, rule_of, with_rule, FailsBy};
 ghost use Rattle.h2audit.specs.CommandLine.{app, command_start, command_with_numbers};
 ghost use Rattle.h2audit.specs.CommandLine.{file_rule, frames_rule, number_rule, option_rule};
 
 use crate::command_line::options::Options;
-use clap::{Arg, ArgAction, ArgMatches, Command, Error, value_parser};
+use clap::builder::ValueParser;
+use clap::{Arg, ArgAction, ArgMatches, Command, Error};
 use std::alloc::{AllocError, Global};
 
 /// The names of the arguments.
@@ -31,19 +31,30 @@ pub(crate) fn matches<'a>(alloc: Global, words: &'a [&'a str]) -> Result<ArgMatc
 fn command<'a>(alloc: Global) -> Result<Command<'a>, AllocError>
     ensures { IfOk result (λ c. app_of c ≡ app) }
 {
-    command_with_numbers(alloc)?
-        .arg(frames_flag(alloc))?
-        .arg(file_word(alloc))
+    let flagged = with_arg(command_with_numbers(alloc), frames_flag(alloc));
+    with_arg(flagged, file_word(alloc))
 }
 
 /// The same, so far as its arguments are numbers.
 fn command_with_numbers<'a>(alloc: Global) -> Result<Command<'a>, AllocError>
     ensures { IfOk result (λ c. app_of c ≡ command_with_numbers) }
 {
-    bare_command(alloc)
-        .arg(numbered(alloc, WORKERS, Options::MOST_WORKERS, "4", WORKERS_HELP))?
-        .arg(numbered(alloc, GROUPS, Options::MOST_GROUPS, "16", GROUPS_HELP))?
-        .arg(numbered(alloc, BLOCK, Options::LONGEST_BLOCK, "4096", BLOCK_HELP))
+    let workers = numbered(alloc, WORKERS, Options::MOST_WORKERS, "4", WORKERS_HELP);
+    let groups = numbered(alloc, GROUPS, Options::MOST_GROUPS, "16", GROUPS_HELP);
+    let block = numbered(alloc, BLOCK, Options::LONGEST_BLOCK, "4096", BLOCK_HELP);
+    with_arg(with_arg(bare_command(alloc).arg(workers), groups), block)
+}
+
+/// The command with one more argument.
+fn with_arg<'a>(
+    command: Result<Command<'a>, AllocError>,
+    arg: Arg<'a>,
+) -> Result<Command<'a>, AllocError>
+    requires { arg.global ≡ false }
+    ensures { (given : App) → IfOk command.entry (λ c. app_of c ≡ given)
+        → IfOk result (λ c. app_of c ≡ with_rule given (rule_of arg.entry)) }
+{
+    command?.arg(arg)
 }
 
 /// The version of the program and of its report.
@@ -80,8 +91,9 @@ fn numbered<'a>(alloc: Global, name: &'a str, most: u32, default: &'a str, help:
     ensures rule { rule_of result ≡ number_rule name.entry.now most default.entry.now }
     ensures local { result.global ≡ false }
 {
-    let arg = in_range(option(alloc, name), most);
-    arg.default_value(default).help(help)
+    in_range(option(alloc, name), most)
+        .default_value(default)
+        .help(help)
 }
 
 /// `--NAME N`.
@@ -99,7 +111,7 @@ fn option<'a>(alloc: Global, name: &'a str) -> Arg<'a>
 fn in_range<'a>(arg: Arg<'a>, most: u32) -> Arg<'a>
     ensures { result ≡ record arg.entry { value_parser = Some (ValueParser.Signed (pos 1) (pos most)) } }
 {
-    arg.value_parser(value_parser!(u32).range(1..=i64::from(most)))
+    arg.value_parser(ValueParser::Signed(1, i64::from(most)))
 }
 
 fn frames_flag<'a>(alloc: Global) -> Arg<'a>

@@ -1,13 +1,12 @@
 use Rattle.std.proofs.Common.{length, arith}
-use Rattle.std.proofs.lemmas.Result.{IfOk-weaker}
 use Rattle.audit_terms.specs.declared.sides.Side.TheVariants.{Client, Server}
 use Rattle.tcp_streams.specs.Members.{initial_of, side_segments}
 use Rattle.tcp_streams.proofs.FlowLemmas.{sides-fit}
 use Rattle.h2audit.proofs.Flows.{gap-at-end}
 use Rattle.h2audit.proofs.flow_round.told_from.Goals as goal
 
-pub told_of-requires : goal.told_of-requires
-told_of-requires g c =
+pub of_both-reach-requires : goal.of_both-reach-requires
+of_both-reach-requires g c =
     let sources = c.args.sources.now in
     let capture = sources.capture.now in
     let packets = sources.packets.now in
@@ -21,22 +20,33 @@ told_of-requires g c =
           c.in_ok-client.client client.is;
       server_gap = gap-at-end (initial_of connection Server) capture (side_segments packets connection Server)
           c.in_ok-server.server server.is;
+    }
+
+pub outcome_of-requires : goal.outcome_of-requires
+outcome_of-requires g c =
+    let sources = c.args.sources.now in
+    let client = rw c.in_ok-client.was at c.both-client.ensures.client in
+    let server = rw c.in_ok-server.was at c.both-client.ensures.server in
+    record {
+      client_orderly = client.orderly;
+      server_orderly = server.orderly;
       together = omega (
         arith,
-        sides-fit packets (length capture) connection c.requires.payloads c.requires.members,
+        sides-fit sources.packets.now (length sources.capture.now) sources.connection.now c.requires.payloads
+            c.requires.members,
         client.within,
         server.within,
         c.requires.size,
       );
     }
 
-pub returns : goal.returns
-returns g c =
+pub returns-in-Ok : goal.returns-in-Ok
+returns-in-Ok g c =
     let client = rw c.in_ok-client.was at c.both-client.ensures.client in
     let server = rw c.in_ok-server.was at c.both-client.ensures.server in
-    IfOk-weaker c.told_of.result _ _ (λ made told. record {
+    record {
       flows = record { client = c.in_ok-client.client; server = c.in_ok-server.server };
       client = client.is;
       server = server.is;
-      told = told;
-    }) c.told_of.ensures
+      told = record { extents = c.of_both-reach.ensures; held = c.in-Ok.ensures };
+    }
