@@ -1,6 +1,6 @@
 -- What a run on the front of a reader's bytes leaves is what a run on all of them leaves.
 use Rattle.std.proofs.Common.{◌≡◌, ◌∙◌, ℕ, Bool, ◌<◌, ◌≤◌, min, List, [], length, take, Option, Some, None, Ok}
-use Rattle.std.proofs.Common.{Err, Result, inl, inr, refl, sym, ap, subst, arith}
+use Rattle.std.proofs.Common.{Err, Result, inl, inr, refl, rules, sym, ap, subst, arith}
 use Rattle.std.specs.Prelude.{◌≢◌}
 use Rattle.std.proofs.lemmas.List.{append-nil, length-take, take_all}
 use Rattle.std.specs.Io.KnownBytes.{Appends, Keeps}
@@ -8,7 +8,7 @@ use Rattle.pcap_records.specs.Refusal.{refusal}
 use Rattle.pcap_records.specs.declared.faults.PcapFault.{PcapFault}
 use Rattle.pcap_records.proofs.Sizes.{front_decides_lem, allowed_is_short_lem}
 use Rattle.input_output.specs.Account.{HaveGiven, IsReadToEnd, IsUnwritten, OfGiven, kept, written}
-use Rattle.h2audit.specs.Account.{HasGiven, IsBrief, Tells}
+use Rattle.h2audit.specs.Account.{HasGiven, Tells}
 use Rattle.h2audit.specs.code.Reading.{AnswersFor, IsAuditingFault, IsReadingFault}
 use Rattle.h2audit.specs.code.Writing.{IsWritten}
 use Rattle.h2audit.specs.Report.{IsNoReport, IsReport}
@@ -16,7 +16,6 @@ use Rattle.h2audit.specs.laws.Run.{FaultsAreSilent, RunsLeave}
 use Rattle.h2audit.specs.declared.fault.AuditFault.{AuditFault}
 use Rattle.h2audit.specs.declared.fault.AuditFault.TheVariants as fault
 use Rattle.input_output.specs.declared.capture_reader.CaptureReader.{CaptureReader}
-use Rattle.input_output.specs.declared.capture_reader.ReadState.TheVariants.{Ended, Failed, LackedMemory, Open}
 use Rattle.input_output.specs.declared.report_writer.ReportWriter.{ReportWriter}
 use Rattle.h2audit.specs.declared.verdict.Verdict.{Verdict}
 
@@ -56,12 +55,8 @@ module _ {R : Type 0} where
 module _ {R : Type 0} where
   -- reading that failed did not come to its end
   pub not_to_end : (reader : CaptureReader R) (e : AuditFault) → IsReadingFault e reader → IsReadToEnd reader → ⊥
-  not_to_end reader fault.Read failed (inl ended) = let bad : Failed ≡ Ended = sym failed ∙ ended in absurd cc
-  not_to_end reader fault.Read failed (inr begun) = let bad : Failed ≡ Open = sym failed ∙ begun.0 in absurd cc
-  not_to_end reader fault.OutOfMemory lacked (inl ended) =
-      let bad : LackedMemory ≡ Ended = sym lacked ∙ ended in absurd cc
-  not_to_end reader fault.OutOfMemory lacked (inr begun) =
-      let bad : LackedMemory ≡ Open = sym lacked ∙ begun.0 in absurd cc
+  not_to_end reader fault.Read failed read = search rules
+  not_to_end reader fault.OutOfMemory lacked read = search rules
   not_to_end reader fault.Write is read = absurd is
   not_to_end reader (fault.Pcap e) is read = absurd is
 
@@ -70,12 +65,6 @@ module _ {R : Type 0} where
       → HasGiven left reader
   given_unread None reader e is = tt
   given_unread (Some bytes) reader e is = λ read. absurd (not_to_end reader e is read)
-
-  -- an audit that fails changes nothing of what is kept
-  pub brief_fault : (old new : CaptureReader R) (e : AuditFault) → IsAuditingFault e old new → IsBrief old → IsBrief new
-  brief_fault old new e (inl (same, is)) brief = subst (λ (reader : CaptureReader R). IsBrief reader) (sym same) brief
-  brief_fault old new e (inr (lacked, wanting)) brief =
-      subst (λ (reader : CaptureReader R). IsBrief reader) (sym lacked) brief
 
 module _ {R W : Type 0} where
   -- reading that failed is told, where nothing was written

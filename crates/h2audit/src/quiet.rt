@@ -1,12 +1,11 @@
 //! Connections of which nothing is shown: no list of their frames is made.
 
-ghost use Rattle.std.specs.Bool.{OnTrue};
 ghost use Rattle.std.specs.Prelude.{IfOk, IfSome, IsTrue, List};
-ghost use Rattle.audit_terms.specs.declared.frames.Frame.{Frame};
+ghost use Rattle.audit_terms.specs.declared.frames.Frame.{Frame as FrameTerm};
 ghost use Rattle.h2_frames.specs.code.Batch.{IsNumbered};
-ghost use Rattle.h2_frames.specs.code.Walk.{IsReadyWalk, IsWalkAfter};
+ghost use Rattle.h2_frames.specs.code.Walk.{IsReadyWalk};
 ghost use Rattle.h2audit.specs.code.Flows.{AreFlowsOfOne};
-ghost use Rattle.h2audit.specs.code.Quiet.{HasMet, HasTaken, IsFoundQuiet, IsMetWhole, IsQuietOf};
+ghost use Rattle.h2audit.specs.code.Quiet.{HasMet, HasTaken, IsFoundQuiet, IsQuietOf, IsWholeWalk};
 ghost use Rattle.quiet_pass.specs.code.QuietPass.{IsQuietAfter};
 ghost use Rattle.quiet_pass.specs.declared.passes.QuietPass.{QuietPass as PassTerm};
 ghost use Rattle.tcp_streams.specs.declared.streams.Flow.{Flow};
@@ -76,40 +75,19 @@ fn quiet_in_batches<R: Threads>(
     requires { IsReadyWalk walk }
     ensures { IsFoundQuiet walk.entry result }
 {
-    let mut pass = QuietPass::begin(alloc);
-    match meet_in_batches(rt, alloc, threads, &mut walk, &mut pass) {
-        Ok(true) => Ok(Some(quiet_by(&walk))),
-        Ok(false) => Ok(None),
-        Err(error) => Err(error),
-    }
-}
-
-/// Meets all frames of a walk in batches. Is nothing of them shown?
-fn meet_in_batches<R: Threads>(
-    rt: &R,
-    alloc: Global,
-    threads: usize,
-    walk: &mut FrameWalk<'_>,
-    pass: &mut QuietPass,
-) -> Result<bool, AllocError>
-    requires { IsReadyWalk walk.old }
-    ensures ready { IfOk result (λ met. OnTrue met (IsReadyWalk walk.new)) }
-    ensures whole { IfOk result (λ met. OnTrue met ((client server : Flow) → (frames : List Frame)
-        → IsWalkAfter client server frames walk.old → IsQuietAfter frames pass.old
-        → IsMetWhole client server walk.new pass.new)) }
-{
     let mut batch = FrameBatch::new(alloc);
+    let mut more = take_batch(rt, threads, &mut walk, &mut batch)?;
     let mut next = FrameBatch::new(alloc);
-    let mut more = take_batch(rt, threads, walk, &mut batch)?;
+    let mut pass = QuietPass::begin(alloc);
     while more {
-        let (met, taken) = meet_and_take(rt, threads, pass, &batch, walk, &mut next);
+        let (met, taken) = meet_and_take(rt, threads, &mut pass, &batch, &mut walk, &mut next);
         if !met? {
-            return Ok(false);
+            return Ok(None);
         }
         more = taken?;
         mem::swap(&mut batch, &mut next);
     }
-    Ok(true)
+    Ok(Some(quiet_by(&walk)))
 }
 
 /// Meets a batch, on a thread of its own where one can be had, and takes the next one meanwhile. A short batch is done
@@ -178,11 +156,11 @@ fn meet_each(pass: &mut QuietPass, batch: &FrameBatch) -> Result<bool, AllocErro
     Ok(true)
 }
 
-/// What is told of a connection all of whose frames were met.
+/// What is told of a connection all of whose frames were taken, where the pass over them stayed quiet.
 fn quiet_by(walk: &FrameWalk<'_>) -> QuietConnection
     requires { IsReadyWalk walk.now }
-    ensures { (client server : Flow) → (pass : PassTerm) → IsTrue server.started
-        → IsMetWhole client server walk.now pass → IsQuietOf client server result }
+    ensures { (client server : Flow) → (frames : List FrameTerm) → (pass : PassTerm) → IsTrue server.started
+        → IsWholeWalk client server frames walk.now → IsQuietAfter frames pass → IsQuietOf client server result }
 {
     quiet_frames_show_nothing();
     QuietConnection {

@@ -41,12 +41,6 @@ pub record IsWholeWalk (client server : Flow) (frames : List Frame) (walk : Fram
   pub orderly : runs.IsOrderly frames
   pub count : taken_of walk ≡ length frames
 
--- all frames of the connection were met, and show nothing
-pub record IsMetWhole (client server : Flow) (walk : FrameWalk) (machine : QuietPass) : Type 0 where
-  pub frames : List Frame
-  pub whole : IsWholeWalk client server frames walk
-  pub quiet : IsQuietAfter frames machine
-
 -- with those of a batch, frames are the connection's first ones; where there was no batch left, they are all of them
 abbrev pub AreTaken : (more : Bool) → (client server : Flow) → List Frame → FrameBatch → FrameWalk → Type 0
 AreTaken true client server frames batch walk = IsWalkAfter client server (frames ++ frames_of batch) walk

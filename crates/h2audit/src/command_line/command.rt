@@ -54,7 +54,10 @@ fn with_arg<'a>(
     ensures { (given : App) → IfOk command.entry (λ c. app_of c ≡ given)
         → IfOk result (λ c. app_of c ≡ with_rule given (rule_of arg.entry)) }
 {
-    command?.arg(arg)
+    match command {
+        Ok(command) => command.arg(arg),
+        Err(error) => Err(error),
+    }
 }
 
 /// The version of the program and of its report.

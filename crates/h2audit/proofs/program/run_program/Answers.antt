@@ -1,4 +1,5 @@
 use Rattle.std.proofs.Common.{inl, inr, refl, rules}
+use Rattle.std.proofs.KnownBytes.{Appends-nil}
 use Rattle.std.proofs.lemmas.Result.{MatchResult-from_both}
 use Rattle.h2audit.proofs.program.run_program.Goals as goal
 
@@ -79,3 +80,11 @@ pub returns-in-Err-clause-ends : goal.returns-in-Err-clause-ends
 returns-in-Err-clause-ends g c =
     let ended = c.end-in-Err.ensures in
     inl (refl, (ended.status, ended.line, ended.silent))
+
+pub returns-in-Ok-Refused-clause-taken : goal.returns-in-Ok-Refused-clause-taken
+returns-in-Ok-Refused-clause-taken g c =
+    rw c.requires.unwritten.written (Appends-nil (g.W.Write.contents c.args.outside.now.output.writer))
+
+pub returns-in-Err-clause-taken : goal.returns-in-Err-clause-taken
+returns-in-Err-clause-taken g c =
+    rw c.requires.unwritten.written (Appends-nil (g.W.Write.contents c.args.outside.now.output.writer))

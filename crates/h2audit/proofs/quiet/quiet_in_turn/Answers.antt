@@ -26,8 +26,6 @@ returns c = λ client server fresh.
     let met = c.loop-pass.invariant.met client server fresh.whole in
     let same = rw c.in_default.is at c.in_ok-frame.ensures.same in
     let over = rw c.in_default.is at c.in_ok-frame.ensures.over in
-    c.quiet_by.ensures client server _ fresh.started (record {
-      frames = met.frames;
-      whole = whole-at_end _ _ client server met.frames met.taken same (over client server met.frames met.taken);
-      quiet = met.quiet;
-    })
+    c.quiet_by.ensures client server met.frames _ fresh.started
+    (whole-at_end _ _ client server met.frames met.taken same (over client server met.frames met.taken))
+    met.quiet

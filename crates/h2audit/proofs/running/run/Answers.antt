@@ -1,9 +1,9 @@
 use Rattle.std.proofs.Common.{rules, ◌^◌, take, subst, sym}
 use Rattle.std.proofs.KnownBytes.{Appends-nil}
 use Rattle.std.proofs.lemmas.Option.{IfSome_then}
-use Rattle.h2audit.specs.Account.{HasGiven, IsBrief, Tells}
-use Rattle.h2audit.proofs.Leaving.{brief_fault, given_fault, given_unread, not_to_end, report_of_given, tells_fault}
-use Rattle.h2audit.proofs.Leaving.{tells_unread, tells_written}
+use Rattle.h2audit.specs.Account.{HasGiven, Tells}
+use Rattle.h2audit.proofs.Leaving.{given_fault, given_unread, not_to_end, report_of_given, tells_fault, tells_unread}
+use Rattle.h2audit.proofs.Leaving.{tells_written}
 use Rattle.h2audit.proofs.running.run.Goals as goal
 
 pub returns-in_err-header-clause-tells : goal.returns-in_err-header-clause-tells
@@ -21,10 +21,6 @@ pub returns-in_err-header-clause-brief : goal.returns-in_err-header-clause-brief
 returns-in_err-header-clause-brief g c = λ read. absurd
     (not_to_end c.read_capture.new.reader c.in_err-header.field-0.0 c.in_err-header.ensures.err read)
 
-pub returns-in_err-header-clause-taken : goal.returns-in_err-header-clause-taken
-returns-in_err-header-clause-taken g c =
-    rw c.requires.unwritten.written (Appends-nil (g.W.Write.contents c.args.writer.now.writer))
-
 pub returns-in_err-text-clause-tells : goal.returns-in_err-text-clause-tells
 returns-in_err-text-clause-tells g c =
     let header = c.in_ok-header.ensures.read in
@@ -38,11 +34,6 @@ returns-in_err-text-clause-given g c =
     IfSome_then (g.R.Read.remaining c.args.reader.now.reader) c.in_ok-header.ensures.read.bytes (λ all is read.
     given_fault c.read_capture.new.reader c.audit_kept.new.reader c.in_err-text.field-0.0 (take (2 ^ 31) all)
     c.in_err-text.ensures.fault is)
-
-pub returns-in_err-text-clause-brief : goal.returns-in_err-text-clause-brief
-returns-in_err-text-clause-brief g c = λ read.
-    brief_fault c.read_capture.new.reader c.audit_kept.new.reader c.in_err-text.field-0.0 c.in_err-text.ensures.fault
-    c.in_ok-header.ensures.read.brief
 
 pub returns-in_err-text-clause-taken : goal.returns-in_err-text-clause-taken
 returns-in_err-text-clause-taken g c =
@@ -65,10 +56,3 @@ returns-clause-given g c =
     let left = g.R.Read.remaining c.args.reader.now.reader in
     subst (HasGiven left) (sym c.in_ok-text.ensures.same)
     (IfSome_then left c.in_ok-header.ensures.read.bytes (λ all is read. is))
-
-pub returns-clause-brief : goal.returns-clause-brief
-returns-clause-brief g c = λ read.
-    subst (λ reader. IsBrief reader) (sym c.in_ok-text.ensures.same) c.in_ok-header.ensures.read.brief
-
-pub returns-clause-taken : goal.returns-clause-taken
-returns-clause-taken g c = c.write_out.ensures.taken

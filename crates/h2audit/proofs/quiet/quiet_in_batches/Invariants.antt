@@ -1,19 +1,17 @@
-use Rattle.std.proofs.Common.{◌+◌, if◌then◌else◌, List}
+use Rattle.std.proofs.Common.{◌+◌, if◌then◌else◌, []}
 use Rattle.std.specs.Bool.{OnTrue}
-use Rattle.audit_terms.specs.declared.frames.Frame.{Frame}
 use Rattle.h2_frames.specs.code.Batch.{IsNumbered}
 use Rattle.h2_frames.specs.code.Walk.{IsReadyWalk, IsWalkAfter, weight_of}
 use Rattle.h2audit.specs.code.Quiet.{IsMetButFor}
-use Rattle.h2audit.proofs.quiet.meet_in_batches.Given as goal
-use Rattle.quiet_pass.specs.code.QuietPass.{IsQuietAfter}
+use Rattle.h2audit.proofs.quiet.quiet_in_batches.Given as goal
 use Rattle.tcp_streams.specs.declared.streams.Flow.{Flow}
 
 abbrev pub invariant-loop-more : goal.invariant-loop-more
 invariant-loop-more g l = record {
   ready : IsReadyWalk l.walk;
   numbered : OnTrue l.more (IsNumbered l.batch);
-  met : (client server : Flow) → (frames : List Frame) → IsWalkAfter client server frames l.fn.walk
-      → IsQuietAfter frames l.fn.pass → IsMetButFor l.batch l.more client server l.walk l.pass;
+  met : (client server : Flow) → IsWalkAfter client server [] l.fn.walk
+      → IsMetButFor l.batch l.more client server l.walk l.pass;
 }
 
 abbrev pub decreases-loop-more : goal.decreases-loop-more
