@@ -18,7 +18,11 @@ returns-in-Ok-Run-default-Some-clause-ends g c =
           refl,
           (
             opened.result,
-            record { shown = c.as_str.result; shows = c.as_str.ensures.value; called = opened.ensures },
+            record {
+              shown = c.as_str.result;
+              shows = c.as_str.ensures.value;
+              called = opened.ensures;
+            },
             ended,
           ),
         ),
@@ -63,28 +67,23 @@ returns-in-Ok-Version-clause-ends g c =
           (shown.result, (refl, shown.ensures.shown), (ended.status, ended.line, ended.silent)),
     )
 
-pub returns-in-Ok-Refused-clause-ends : goal.returns-in-Ok-Refused-clause-ends
-returns-in-Ok-Refused-clause-ends g c =
+pub returns-in-Ok-Refused : goal.returns-in-Ok-Refused
+returns-in-Ok-Refused g c =
     let found = c.in-Ok-Refused in
-    inr (
-      found.field-0,
-      found.ensures,
-      rw found.field-0-is (
-        c.from.ensures,
-        refl,
-        record { shown = c.trim_end.result; shows = search rules; called = c.say.ensures },
-      ),
-    )
+    record {
+      ends = inr (
+        found.field-0,
+        found.ensures,
+        rw found.field-0-is
+            (c.from.ensures, refl, record { shown = c.trim_end.result; shows = search rules; called = c.say.ensures }),
+      );
+      taken = rw c.requires.unwritten.written (Appends-nil (g.W.Write.contents c.args.outside.now.output.writer));
+    }
 
-pub returns-in-Err-clause-ends : goal.returns-in-Err-clause-ends
-returns-in-Err-clause-ends g c =
+pub returns-in-Err : goal.returns-in-Err
+returns-in-Err g c =
     let ended = c.end-in-Err.ensures in
-    inl (refl, (ended.status, ended.line, ended.silent))
-
-pub returns-in-Ok-Refused-clause-taken : goal.returns-in-Ok-Refused-clause-taken
-returns-in-Ok-Refused-clause-taken g c =
-    rw c.requires.unwritten.written (Appends-nil (g.W.Write.contents c.args.outside.now.output.writer))
-
-pub returns-in-Err-clause-taken : goal.returns-in-Err-clause-taken
-returns-in-Err-clause-taken g c =
-    rw c.requires.unwritten.written (Appends-nil (g.W.Write.contents c.args.outside.now.output.writer))
+    record {
+      ends = inl (refl, (ended.status, ended.line, ended.silent));
+      taken = rw c.requires.unwritten.written (Appends-nil (g.W.Write.contents c.args.outside.now.output.writer));
+    }

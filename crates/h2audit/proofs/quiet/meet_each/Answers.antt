@@ -1,8 +1,6 @@
-use Rattle.std.proofs.Common.{[], ◌∷◌, ◌++◌, ◌∙◌, ap, sym, subst, append_assoc}
-use Rattle.std.proofs.lemmas.List.{append-nil}
+use Rattle.std.proofs.Common.{[], ◌∷◌, ◌++◌, ◌∙◌, ap, sym, append_assoc}
 use Rattle.h2_frames.specs.code.Batch.{left_of}
 use Rattle.h2audit.proofs.quiet.meet_each.Goals as goal
-use Rattle.quiet_pass.specs.code.QuietPass.{IsQuietAfter}
 
 pub loop-frame-preserved : goal.loop-frame-preserved
 loop-frame-preserved c = record {
@@ -16,10 +14,3 @@ loop-frame-preserved c = record {
             ∙ ap (λ later. now ++ later) (sym left) ∙ same,
       );
 }
-
-pub returns : goal.returns
-returns c = λ frames before.
-    let (now, quiet, same) = c.loop-frame.invariant.met frames before in
-    let none = rw c.in_default.is at c.take_next.ensures.none in
-    subst (λ all. IsQuietAfter all c.loop-frame.pass)
-    (sym (append-nil now) ∙ ap (λ later. now ++ later) (sym none) ∙ same) quiet

@@ -6,20 +6,18 @@ use Rattle.h2audit.proofs.Leaving.{given_fault, given_unread, not_to_end, report
 use Rattle.h2audit.proofs.Leaving.{tells_written}
 use Rattle.h2audit.proofs.running.run.Goals as goal
 
-pub returns-in_err-header-clause-tells : goal.returns-in_err-header-clause-tells
-returns-in_err-header-clause-tells g c =
-    let tells = tells_unread c.read_capture.new.reader c.args.writer.now c.args.options.now.frames_shown
-    c.in_err-header.field-0.0 c.in_err-header.ensures.err c.requires.unwritten in
-    search rules
-
-pub returns-in_err-header-clause-given : goal.returns-in_err-header-clause-given
-returns-in_err-header-clause-given g c =
-    given_unread (g.R.Read.remaining c.args.reader.now.reader) c.read_capture.new.reader c.in_err-header.field-0.0
-    c.in_err-header.ensures.err
-
-pub returns-in_err-header-clause-brief : goal.returns-in_err-header-clause-brief
-returns-in_err-header-clause-brief g c = λ read. absurd
-    (not_to_end c.read_capture.new.reader c.in_err-header.field-0.0 c.in_err-header.ensures.err read)
+pub returns-in_err-header : goal.returns-in_err-header
+returns-in_err-header g c =
+    let reader = c.read_capture.new.reader in
+    let e = c.in_err-header.field-0.0 in
+    let is = c.in_err-header.ensures.err in
+    let tells = tells_unread reader c.args.writer.now c.args.options.now.frames_shown e is c.requires.unwritten in
+    record {
+      tells = search rules;
+      given = given_unread (g.R.Read.remaining c.args.reader.now.reader) reader e is;
+      brief = λ read. absurd (not_to_end reader e is read);
+      taken = rw c.requires.unwritten.written (Appends-nil (g.W.Write.contents c.args.writer.now.writer));
+    }
 
 pub returns-in_err-text-clause-tells : goal.returns-in_err-text-clause-tells
 returns-in_err-text-clause-tells g c =
