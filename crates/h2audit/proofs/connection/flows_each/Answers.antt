@@ -1,5 +1,5 @@
 use Rattle.std.proofs.Common.{Bool, ◌∙◌, subst}
-use Rattle.h2audit.specs.code.Flows.{IsToldFlows, flow_jobs}
+use Rattle.h2audit.specs.code.Flows.{IsToldFlows}
 use Rattle.h2audit.proofs.Flows.{are-told, flow_jobs-length, flow_jobs-within}
 use Rattle.h2audit.proofs.connection.flows_each.Goals as goal
 

@@ -1,7 +1,7 @@
 use Rattle.std.proofs.Common.{rules, ◌^◌, take, subst, sym}
 use Rattle.std.proofs.KnownBytes.{Appends-nil}
 use Rattle.std.proofs.lemmas.Option.{IfSome_then}
-use Rattle.h2audit.specs.Account.{HasGiven, Tells}
+use Rattle.h2audit.specs.Account.{Tells}
 use Rattle.h2audit.proofs.Leaving.{given_fault, given_unread, not_to_end, report_of_given, tells_fault, tells_unread}
 use Rattle.h2audit.proofs.Leaving.{tells_written}
 use Rattle.h2audit.proofs.running.run.Goals as goal
@@ -48,9 +48,3 @@ returns-clause-tells g c =
     let report = report_of_given reader shown text verdict header.answers c.in_ok-text.ensures.report in
     subst (λ reader. Tells reader writer shown c.write_out.result) (sym c.in_ok-text.ensures.same)
     (tells_written reader writer shown text verdict c.write_out.result header.ok report c.write_out.ensures.written)
-
-pub returns-clause-given : goal.returns-clause-given
-returns-clause-given g c =
-    let left = g.R.Read.remaining c.args.reader.now.reader in
-    subst (HasGiven left) (sym c.in_ok-text.ensures.same)
-    (IfSome_then left c.in_ok-header.ensures.read.bytes (λ all is read. is))

@@ -1,8 +1,7 @@
 use Rattle.std.proofs.Common.{◌∙◌, ap₂}
 use Rattle.std.proofs.lemmas.Result.{IfOk-weaker}
-use Rattle.clap.specs.Words.{app_of, with_rule}
+use Rattle.clap.specs.Words.{with_rule}
 use Rattle.clap.specs.declared.builder.command.Command.{Command}
-use Rattle.h2audit.specs.CommandLine.{command_start}
 use Rattle.h2audit.proofs.command_line.command.command_with_numbers.Goals as goal
 
 pub returns : goal.returns
