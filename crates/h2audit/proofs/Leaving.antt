@@ -8,7 +8,7 @@ use Rattle.pcap_records.specs.Refusal.{refusal}
 use Rattle.pcap_records.specs.declared.faults.PcapFault.{PcapFault}
 use Rattle.pcap_records.proofs.Sizes.{front_decides_lem, allowed_is_short_lem}
 use Rattle.input_output.specs.Account.{HaveGiven, IsReadToEnd, IsUnwritten, OfGiven, kept, written}
-use Rattle.h2audit.specs.Account.{HasGiven, Tells}
+use Rattle.h2audit.specs.Account.{HasGiven, IsBrief, Tells}
 use Rattle.h2audit.specs.code.Reading.{AnswersFor, IsAuditingFault, IsReadingFault}
 use Rattle.h2audit.specs.code.Writing.{IsWritten}
 use Rattle.h2audit.specs.Report.{IsNoReport, IsReport}
@@ -65,6 +65,12 @@ module _ {R : Type 0} where
       → HasGiven left reader
   given_unread None reader e is = tt
   given_unread (Some bytes) reader e is = λ read. absurd (not_to_end reader e is read)
+
+  -- an audit that fails changes nothing of what is kept
+  pub brief_fault : (old new : CaptureReader R) (e : AuditFault) → IsAuditingFault e old new → IsBrief old → IsBrief new
+  brief_fault old new e (inl (same, is)) brief = subst (λ (reader : CaptureReader R). IsBrief reader) (sym same) brief
+  brief_fault old new e (inr (lacked, wanting)) brief =
+      subst (λ (reader : CaptureReader R). IsBrief reader) (sym lacked) brief
 
 module _ {R W : Type 0} where
   -- reading that failed is told, where nothing was written

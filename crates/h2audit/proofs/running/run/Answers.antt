@@ -1,9 +1,9 @@
 use Rattle.std.proofs.Common.{rules, ◌^◌, take, subst, sym}
 use Rattle.std.proofs.KnownBytes.{Appends-nil}
 use Rattle.std.proofs.lemmas.Option.{IfSome_then}
-use Rattle.h2audit.specs.Account.{Tells}
-use Rattle.h2audit.proofs.Leaving.{given_fault, given_unread, not_to_end, report_of_given, tells_fault, tells_unread}
-use Rattle.h2audit.proofs.Leaving.{tells_written}
+use Rattle.h2audit.specs.Account.{HasGiven, IsBrief, Tells}
+use Rattle.h2audit.proofs.Leaving.{brief_fault, given_fault, given_unread, not_to_end, report_of_given, tells_fault}
+use Rattle.h2audit.proofs.Leaving.{tells_unread, tells_written}
 use Rattle.h2audit.proofs.running.run.Goals as goal
 
 pub returns-in_err-header : goal.returns-in_err-header
@@ -33,6 +33,11 @@ returns-in_err-text-clause-given g c =
     given_fault c.read_capture.new.reader c.audit_kept.new.reader c.in_err-text.field-0.0 (take (2 ^ 31) all)
     c.in_err-text.ensures.fault is)
 
+pub returns-in_err-text-clause-brief : goal.returns-in_err-text-clause-brief
+returns-in_err-text-clause-brief g c = λ read.
+    brief_fault c.read_capture.new.reader c.audit_kept.new.reader c.in_err-text.field-0.0 c.in_err-text.ensures.fault
+    c.in_ok-header.ensures.read.brief
+
 pub returns-in_err-text-clause-taken : goal.returns-in_err-text-clause-taken
 returns-in_err-text-clause-taken g c =
     rw c.requires.unwritten.written (Appends-nil (g.W.Write.contents c.args.writer.now.writer))
@@ -48,3 +53,16 @@ returns-clause-tells g c =
     let report = report_of_given reader shown text verdict header.answers c.in_ok-text.ensures.report in
     subst (λ reader. Tells reader writer shown c.write_out.result) (sym c.in_ok-text.ensures.same)
     (tells_written reader writer shown text verdict c.write_out.result header.ok report c.write_out.ensures.written)
+
+pub returns-clause-given : goal.returns-clause-given
+returns-clause-given g c =
+    let left = g.R.Read.remaining c.args.reader.now.reader in
+    subst (HasGiven left) (sym c.in_ok-text.ensures.same)
+    (IfSome_then left c.in_ok-header.ensures.read.bytes (λ all is read. is))
+
+pub returns-clause-brief : goal.returns-clause-brief
+returns-clause-brief g c = λ read.
+    subst (λ reader. IsBrief reader) (sym c.in_ok-text.ensures.same) c.in_ok-header.ensures.read.brief
+
+pub returns-clause-taken : goal.returns-clause-taken
+returns-clause-taken g c = c.write_out.ensures.taken
