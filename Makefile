@@ -89,7 +89,6 @@ else
 	@rattle fmt --check $(filter-out crates.txt,$(SOURCES))
 	tools/tests/sources_test.py
 	@cd crates/crate_tests && rt try | diff stdout -
-	@cd crates/round_tests && rt try | diff stdout -
 	@cd crates/h2audit_split && rt try -- $$(cat args) | diff stdout -
 	tools/tests/believed_test.py
 	tools/tests/storeys_test.py

@@ -18,8 +18,8 @@ STOREYS = ["specs", "code", "laws", "examples"]
 # What the toolchain makes of the code.
 MADE = ("declared", "contracts")
 CITED = re.compile(r"\bRattle\.(\w+)\.(specs|proofs)\.(\w+(?:\.\w+)*)|\b(\w+)::(specs|proofs)::(\w+(?:::\w+)*)")
-# Functions with empty bodies, whose contracts are laws and examples. crate_tests is a program of tests.
-LAWS = re.compile(r"src/laws\.rt$|src/worked_\w+\.rt$|^crate_tests/src/")
+# Functions with empty bodies, whose contracts are laws and examples.
+LAWS = re.compile(r"src/laws\.rt$|src/worked_\w+\.rt$")
 
 
 def cited(file: pathlib.Path) -> Iterator[tuple[str, str, list[str]]]:

@@ -19,7 +19,7 @@
 //!   at a number says nothing there. From this the law on parts follows.
 //! - Refused by the prover: content of a reset stream that the connection does not count. Wrong bodies of the calls
 //!   that it makes stand with these, as a change that counts before its acknowledgement in `settings_pair`.
-//! - Tested, in `round_tests`: that `one_pass` succeeds where there is memory, and that the rounds show what it does of
+//! - Tested, in `crate_tests`: that `one_pass` succeeds where there is memory, and that the rounds show what it does of
 //!   random frames.
 #![tactic(auto)]
 

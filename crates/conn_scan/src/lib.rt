@@ -21,7 +21,7 @@
 //!   once.
 //! - Refused by the prover: a block that starts afresh, an item or a join that leaves out what is before, clear by the
 //!   total alone, a run that looks once.
-//! - Tested, in `round_tests`: that the calls succeed where there is memory, within rounds over random frames; and, in
+//! - Tested, in `crate_tests`: that the calls succeed where there is memory, within rounds over random frames; and, in
 //!   numbers, how often a run over 1,000 frames looks, and what it is handed and keeps.
 #![tactic(auto)]
 

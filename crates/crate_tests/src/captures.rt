@@ -1,9 +1,7 @@
 //! Captures that tests build: of one connection, from 10.0.0.1:40000 to 10.0.0.2:80.
 
-mod frames;
-
-use frames::PREFACE;
-pub use frames::{Frame, data, headers, settings, settings_ack, window_update};
+use crate::frames::{acknowledgement, initial_window};
+use audit_terms::{Frame, Side};
 use std::alloc::{AllocError, Global};
 
 /// The file header: little-endian numbers, microseconds, version 2.4, a snapshot length of 262,144, Ethernet.
@@ -25,16 +23,20 @@ const FROM_SERVER: [u8; 12] = [10, 0, 0, 2, 10, 0, 0, 1, 0, 80, 0x9c, 0x40];
 /// The bytes of the headers of IPv4 and TCP.
 const HEADERS: usize = 40;
 
-const SYN: u8 = 0x02;
+/// Flags of a segment.
+pub const SYN: u8 = 0x02;
 
-const SYN_ACK: u8 = 0x12;
+pub const SYN_ACK: u8 = 0x12;
 
-const ACK: u8 = 0x10;
+pub const ACK: u8 = 0x10;
 
 /// The sides' initial sequence numbers.
 const CLIENT_INITIAL: u32 = 1000;
 
 const SERVER_INITIAL: u32 = 5000;
+
+/// The 24 bytes that a client begins with.
+const PREFACE: [u8; 24] = *b"PRI * HTTP/2.0\r\n\r\nSM\r\n\r\n";
 
 /// A capture that grows record by record; each side keeps the sequence number of its next byte. An `Err` leaves a
 /// capture that may end within a record.
@@ -60,25 +62,28 @@ impl Capture {
         })
     }
 
-    /// Records 1 to 6: the handshake; the client's preface and SETTINGS (frame 1); the server's SETTINGS (frame 2);
-    /// their acknowledgements by the client (frame 3) and the server (frame 4).
-    pub fn opened(alloc: Global) -> Result<Capture, AllocError> {
+    /// Records 1 to 7: the handshake and the client's preface; a SETTINGS of the client (frame 1) and of the server
+    /// (frame 2); their acknowledgements by the client (frame 3) and the server (frame 4). Then these frames.
+    pub fn of_frames(alloc: Global, frames: &[Frame]) -> Result<Capture, AllocError> {
         let mut capture = Capture::new(alloc)?;
-        capture.syn(CLIENT_INITIAL)?;
-        capture.syn_ack(SERVER_INITIAL)?;
-        let mut first = Vec::from_slice(alloc, &PREFACE)?;
-        settings().push_to(&mut first)?;
-        capture.client_bytes(first.as_slice())?;
-        capture.server(settings())?;
-        capture.client(settings_ack())?;
-        capture.server(settings_ack())?;
+        capture.record(Side::Client, CLIENT_INITIAL, SYN, &[])?;
+        capture.record(Side::Server, SERVER_INITIAL, SYN_ACK, &[])?;
+        capture.send(Side::Client, &PREFACE)?;
+        let opening = [
+            initial_window(1, Side::Client, None),
+            initial_window(2, Side::Server, None),
+            acknowledgement(3, Side::Client),
+            acknowledgement(4, Side::Server),
+        ];
+        capture.send_frames(&opening)?;
+        capture.send_frames(frames)?;
         Ok(capture)
     }
 
-    /// The next record, whose time in microseconds is its number, of a segment without options.
-    fn record(
+    /// The next record, whose time in microseconds is its number: of a segment without options.
+    pub fn record(
         &mut self,
-        ends: &[u8; 12],
+        side: Side,
         seq: u32,
         flags: u8,
         payload: &[u8],
@@ -89,6 +94,10 @@ impl Capture {
         for number in [0, self.records, length, length] {
             self.bytes.extend_from_slice(&number.to_le_bytes())?;
         }
+        let ends = match side {
+            Side::Client => &FROM_CLIENT,
+            Side::Server => &FROM_SERVER,
+        };
         let parts: [&[u8]; 7] = [
             &ETHERNET,
             &u16::try_from(total).unwrap_or(0).to_be_bytes(),
@@ -104,50 +113,42 @@ impl Capture {
         Ok(())
     }
 
-    /// The client's SYN, with this initial sequence number.
-    pub fn syn(&mut self, seq: u32) -> Result<(), AllocError> {
-        self.client_next = seq.wrapping_add(1);
-        self.record(&FROM_CLIENT, seq, SYN, &[])
+    /// The next bytes of a side.
+    fn send(&mut self, side: Side, payload: &[u8]) -> Result<(), AllocError> {
+        let next = match side {
+            Side::Client => &mut self.client_next,
+            Side::Server => &mut self.server_next,
+        };
+        let seq = *next;
+        *next = seq.wrapping_add(u32::try_from(payload.len()).unwrap_or(u32::MAX));
+        self.record(side, seq, ACK, payload)
     }
 
-    /// The server's SYN ACK, with this initial sequence number.
-    pub fn syn_ack(&mut self, seq: u32) -> Result<(), AllocError> {
-        self.server_next = seq.wrapping_add(1);
-        self.record(&FROM_SERVER, seq, SYN_ACK, &[])
-    }
-
-    /// Bytes of the client at any sequence number, which leaves its next number as it is.
-    pub fn client_at(&mut self, seq: u32, payload: &[u8]) -> Result<(), AllocError> {
-        self.record(&FROM_CLIENT, seq, ACK, payload)
-    }
-
-    /// The next bytes of the client.
-    fn client_bytes(&mut self, payload: &[u8]) -> Result<(), AllocError> {
-        let seq = self.client_next;
-        let length = u32::try_from(payload.len()).unwrap_or(u32::MAX);
-        self.client_next = seq.wrapping_add(length);
-        self.client_at(seq, payload)
-    }
-
-    /// The next frame of the client.
-    pub fn client(&mut self, frame: Frame) -> Result<(), AllocError> {
-        let mut payload = Vec::new(self.alloc);
-        frame.push_to(&mut payload)?;
-        self.client_bytes(payload.as_slice())
-    }
-
-    /// The next frame of the server.
-    pub fn server(&mut self, frame: Frame) -> Result<(), AllocError> {
-        let mut payload = Vec::new(self.alloc);
-        frame.push_to(&mut payload)?;
-        let seq = self.server_next;
-        let length = u32::try_from(payload.len()).unwrap_or(u32::MAX);
-        self.server_next = seq.wrapping_add(length);
-        self.record(&FROM_SERVER, seq, ACK, payload.as_slice())
+    /// The next frames, each in a record.
+    fn send_frames(&mut self, frames: &[Frame]) -> Result<(), AllocError> {
+        for frame in frames {
+            let payload = bytes_of(self.alloc, frame)?;
+            self.send(frame.side, payload.as_slice())?;
+        }
+        Ok(())
     }
 
     /// The bytes of the capture.
     pub fn as_slice(&self) -> &[u8] {
         self.bytes.as_slice()
     }
+}
+
+/// The bytes of a frame (RFC 9113, 4.1), whose payload is an increment or zeros.
+fn bytes_of(alloc: Global, frame: &Frame) -> Result<Vec<u8>, AllocError> {
+    let mut bytes = Vec::new(alloc);
+    let [_, high, middle, low] = frame.length.get().to_be_bytes();
+    bytes.extend_from_slice(&[high, middle, low, frame.code, frame.flags])?;
+    bytes.extend_from_slice(&frame.stream.to_be_bytes())?;
+    if frame.body.is_update() {
+        bytes.extend_from_slice(&frame.body.increment().to_be_bytes())?;
+    } else {
+        bytes.resize(bytes.len().saturating_add(frame.length.get() as usize), 0)?;
+    }
+    Ok(bytes)
 }

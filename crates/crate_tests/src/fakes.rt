@@ -1,28 +1,32 @@
-//! A reader and a writer that go in small steps, fail once where they are told to, and count their calls.
+//! A reader and a writer that go in small steps, fail once where they are told to, and count their calls; and a gate
+//! that counts jobs, and holds some.
 
 use std::alloc::Global;
 use std::io;
 use std::io::{ErrorKind, Read, Write};
+use std::sync::atomic::{AtomicU32, Ordering};
+use std::thread::yield_now;
+use stop_desk::Gate;
 
 /// Gives its bytes in steps. One read says that it was interrupted; the next would go on.
 #[derive(Drop)]
 pub struct Pieces<'a> {
     pub left: &'a [u8],
-    pub step: usize,
+    step: usize,
     /// The number of the read that fails, counted from 1; 0 for none.
-    pub interrupted_at: u32,
+    interrupted_at: u32,
     pub reads: u32,
-    pub has_ended: bool,
+    has_ended: bool,
     pub reads_past_end: u32,
 }
 
 impl<'a> Pieces<'a> {
-    /// A reader of these bytes that never fails.
-    pub fn of(bytes: &'a [u8], step: usize) -> Pieces<'a> {
+    /// A reader of these bytes.
+    pub fn of(bytes: &'a [u8], step: usize, interrupted_at: u32) -> Pieces<'a> {
         Pieces {
             left: bytes,
             step,
-            interrupted_at: 0,
+            interrupted_at,
             reads: 0,
             has_ended: false,
             reads_past_end: 0,
@@ -47,40 +51,38 @@ impl Read for Pieces<'_> {
     }
 }
 
-/// How a writer fails.
+/// How a writer fails, at the write of this number, counted from 1; the next would go on.
 #[derive(Clone, Copy)]
 pub enum Failure {
+    Never,
     /// It says that it was interrupted.
-    Interrupted,
+    Interrupted(u32),
     /// It takes no byte.
-    TakesNone,
+    TakesNone(u32),
+    /// It takes all, and fails as it is flushed.
+    Flush,
 }
 
-/// Takes bytes in steps. One write fails; the next would go on.
+/// Takes bytes in steps, and may fail.
 #[derive(Drop)]
 pub struct Slow {
     pub taken: Vec<u8>,
-    pub step: usize,
-    /// The number of the write that fails, counted from 1; 0 for none.
-    pub fails_at: u32,
-    pub failure: Failure,
-    pub flush_fails: bool,
+    step: usize,
+    failure: Failure,
     pub writes: u32,
     pub flushes: u32,
     /// How many bytes there are to write in all, and how many writes were not offered all that was left of them.
-    pub whole: usize,
+    whole: usize,
     pub short_offers: u32,
 }
 
 impl Slow {
-    /// A writer that never fails, for a text of this length.
-    pub fn new(alloc: Global, step: usize, whole: usize) -> Slow {
+    /// A writer of a text of this length.
+    pub fn new(alloc: Global, step: usize, whole: usize, failure: Failure) -> Slow {
         Slow {
             taken: Vec::new(alloc),
             step,
-            fails_at: 0,
-            failure: Failure::Interrupted,
-            flush_fails: false,
+            failure,
             writes: 0,
             flushes: 0,
             whole,
@@ -95,11 +97,12 @@ impl Write for Slow {
         if buf.len() != self.whole.saturating_sub(self.taken.len()) {
             self.short_offers = self.short_offers.saturating_add(1);
         }
-        if self.writes == self.fails_at {
-            return match self.failure {
-                Failure::Interrupted => Err(io::Error::from(ErrorKind::Interrupted)),
-                Failure::TakesNone => Ok(0),
-            };
+        match self.failure {
+            Failure::Interrupted(at) if at == self.writes => {
+                return Err(io::Error::from(ErrorKind::Interrupted));
+            }
+            Failure::TakesNone(at) if at == self.writes => return Ok(0),
+            _ => {}
         }
         let count = buf.len().min(self.step);
         self.taken.extend_from_slice(&buf[..count])?;
@@ -108,9 +111,73 @@ impl Write for Slow {
 
     fn flush(&mut self) -> io::Result<()> {
         self.flushes = self.flushes.saturating_add(1);
-        if self.flush_fails {
-            return Err(io::Error::from(ErrorKind::StorageFull));
+        match self.failure {
+            Failure::Flush => Err(io::Error::from(ErrorKind::StorageFull)),
+            _ => Ok(()),
         }
-        Ok(())
+    }
+}
+
+/// Counts the jobs of each round. Of some rounds it holds job 0 until another one is entered, for so many turns at
+/// most.
+#[derive(Drop)]
+pub struct TestGate {
+    /// How many jobs of each round were entered, by its number.
+    jobs: [AtomicU32; 4],
+    /// A bit for each round that is held, by its number.
+    held: u32,
+    /// How often a job was let go though no other was entered.
+    given_up: AtomicU32,
+}
+
+const TURNS: u32 = 10_000_000;
+
+impl TestGate {
+    /// A gate that holds these rounds.
+    pub fn holding(held: u32) -> TestGate {
+        let none = AtomicU32::new(0);
+        TestGate {
+            jobs: [
+                AtomicU32::new(0),
+                AtomicU32::new(0),
+                AtomicU32::new(0),
+                none,
+            ],
+            held,
+            given_up: AtomicU32::new(0),
+        }
+    }
+
+    /// How many jobs each round had, where each that was held met another one.
+    pub fn counts(&self) -> Option<[u32; 4]> {
+        if self.given_up.load(Ordering::SeqCst) > 0 {
+            return None;
+        }
+        let [flows, streams, sums, blocks] = &self.jobs;
+        Some([
+            flows.load(Ordering::SeqCst),
+            streams.load(Ordering::SeqCst),
+            sums.load(Ordering::SeqCst),
+            blocks.load(Ordering::SeqCst),
+        ])
+    }
+}
+
+impl Gate for TestGate {
+    fn enter(&self, round: u8, job: u32) {
+        let Some(jobs) = self.jobs.get(usize::from(round)) else {
+            return;
+        };
+        jobs.fetch_add(1, Ordering::SeqCst);
+        if job > 0 || self.held & (1 << (round & 3)) == 0 {
+            return;
+        }
+        for _ in 0..TURNS {
+            if jobs.load(Ordering::SeqCst) > 1 {
+                return;
+            }
+            yield_now();
+        }
+        self.given_up.fetch_add(1, Ordering::SeqCst);
     }
 }

@@ -1,12 +1,16 @@
 //! The client's flow of random segments that overlap, by the calls and by a plain program.
 
+ghost use Rattle.std.specs.Prelude.{◌≡◌, ◌<◌, ◌^◌, IfSome, length};
+ghost use Rattle.packet_heads.specs.code.Walk.{AreInOrder, packets_in};
+ghost use Rattle.tcp_streams.specs.code.Orderly.{AreMembers};
+
 mod plain;
 
 use crate::Answer;
-use crate::captures::Capture;
+use crate::captures::{ACK, Capture, SYN, SYN_ACK};
 use audit_terms::Side;
-use input_output::TableHash;
-use packet_heads::{Packet, PacketWalk, Packets, Segment};
+use input_output::{Capture as Chunks, TableHash};
+use packet_heads::{CapturePackets, PacketWalk, Packets, Segment};
 use pcap_records::records;
 use plain::PlainFlow;
 use rand_core::Rng;
@@ -22,10 +26,9 @@ fn client_segments(
 ) -> Result<Vec<Segment>, AllocError> {
     let mut segments = Vec::new(alloc);
     for member in &connection.members {
-        if let Some(Packet::Segment(segment)) = packets.get((*member as usize).saturating_sub(1)) {
-            if segment.from == connection.client {
-                segments.push(segment)?;
-            }
+        match packets.segment((*member as usize).saturating_sub(1)) {
+            Some(segment) if segment.from == connection.client => segments.push(*segment)?,
+            _ => {}
         }
     }
     Ok(segments)
@@ -45,31 +48,71 @@ fn is_plain(alloc: Global, flow: &Flow, plain: &PlainFlow) -> Answer {
     )
 }
 
-/// Whether the client's flow in the first connection is that of the plain program.
-fn has_plain_flow(alloc: Global, capture: &[u8]) -> Answer {
-    let chunks = input_output::Capture::of_slice(alloc, capture)?;
-    let Ok(read) = records(alloc, &chunks) else {
-        return Ok(false);
-    };
-    let Ok(walk) = PacketWalk::begin(alloc, capture) else {
-        return Ok(false);
-    };
-    let Ok(found) = walk.finish(alloc, &chunks) else {
-        return Ok(false);
-    };
-    let packets = Packets::of(alloc, &found.packets)?;
-    if packets.len() != read.rows.len() || found.cut != read.cut {
-        return Ok(false);
-    }
-    let streams = connections(alloc, TableHash::Keyless, &packets)?;
-    if streams.opened.is_empty() || capture.len() >= 0x8000_0000 {
-        return Ok(false);
-    }
-    let connection = &streams.opened[0];
-    let flow = assemble(alloc, &chunks, &packets, connection, Side::Client)?;
-    let segments = client_segments(alloc, &packets, connection)?;
+/// Whether the client's flow in a connection is that of the plain program.
+fn has_plain_flow(
+    alloc: Global,
+    capture: &[u8],
+    chunks: &Chunks<'_>,
+    packets: &Packets<'_>,
+    connection: &Connection,
+) -> Answer
+    requires size { length chunks.now < 2 ^ 31 }
+    requires order { AreInOrder (length chunks.now) packets.now }
+    requires members { AreMembers 0 packets.now connection.now.members.items }
+{
+    let segments = client_segments(alloc, packets, connection)?;
     let plain = plain::assemble(alloc, capture, segments.as_slice(), connection.client_isn)?;
+    let flow = assemble(alloc, chunks, packets, connection, Side::Client)?;
     is_plain(alloc, &flow, &plain)
+}
+
+/// Whether there are as many records as packets, and the same cut record.
+fn has_records(alloc: Global, chunks: &Chunks<'_>, packets: usize, cut: Option<u32>) -> bool {
+    match records(alloc, chunks) {
+        Ok(read) => read.rows.len() == packets && read.cut == cut,
+        Err(_) => false,
+    }
+}
+
+/// Whether the client's flow in the first connection is that of the plain program.
+fn opens_plain_flow(
+    alloc: Global,
+    capture: &[u8],
+    chunks: &Chunks<'_>,
+    found: &CapturePackets,
+) -> Answer
+    requires size { length chunks.now < 2 ^ 31 }
+    requires order { AreInOrder (length chunks.now) (packets_in found.now) }
+{
+    let packets = Packets::of(alloc, &found.packets)?;
+    let streams = connections(alloc, TableHash::Keyless, &packets)?;
+    match streams.opened.first() {
+        Some(connection) if has_records(alloc, chunks, packets.len(), found.cut) => {
+            has_plain_flow(alloc, capture, chunks, &packets, connection)
+        }
+        _ => Ok(false),
+    }
+}
+
+/// The packets of a capture, where there is memory.
+fn packets_of(alloc: Global, capture: &[u8], chunks: &Chunks<'_>) -> Option<CapturePackets>
+    requires { chunks.now ≡ capture.now }
+    ensures size { IfSome result (λ _. length chunks.now < 2 ^ 31) }
+    ensures order { IfSome result (λ found. AreInOrder (length chunks.now) (packets_in found)) }
+{
+    match PacketWalk::begin(alloc, capture) {
+        Ok(walk) => walk.finish(alloc, chunks).ok(),
+        Err(_) => None,
+    }
+}
+
+/// The same of a capture.
+fn shows_plain_flow(alloc: Global, capture: &[u8]) -> Answer {
+    let chunks = Chunks::of_slice(alloc, capture)?;
+    match packets_of(alloc, capture, &chunks) {
+        Some(found) => opens_plain_flow(alloc, capture, &chunks, &found),
+        None => Ok(false),
+    }
 }
 
 /// A handshake whose numbers soon come round, and then segments of up to 7 bytes that begin near the initial number,
@@ -77,14 +120,14 @@ fn has_plain_flow(alloc: Global, capture: &[u8]) -> Answer {
 fn random_capture(alloc: Global, rng: &mut Pcg32) -> Result<Capture, AllocError> {
     let initial_number = (rng.next_u32() % 64).wrapping_sub(48);
     let mut capture = Capture::new(alloc)?;
-    capture.syn(initial_number)?;
-    capture.syn_ack(5000)?;
+    capture.record(Side::Client, initial_number, SYN, &[])?;
+    capture.record(Side::Server, 5000, SYN_ACK, &[])?;
     for letter in b'a'..=b'p' {
         let seq = initial_number
             .wrapping_sub(4)
             .wrapping_add(rng.next_u32() % 40);
         let length = (rng.next_u32() % 8) as usize;
-        capture.client_at(seq, &[letter; 8][..length])?;
+        capture.record(Side::Client, seq, ACK, &[letter; 8][..length])?;
     }
     Ok(capture)
 }
@@ -93,7 +136,7 @@ pub fn random_segments(alloc: Global) -> Answer {
     let mut rng = Pcg32::new(1, 1);
     for _ in 0..60 {
         let capture = random_capture(alloc, &mut rng)?;
-        if !has_plain_flow(alloc, capture.as_slice())? {
+        if !shows_plain_flow(alloc, capture.as_slice())? {
             return Ok(false);
         }
     }

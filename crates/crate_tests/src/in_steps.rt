@@ -2,8 +2,8 @@
 
 use crate::Answer;
 use crate::captures::FILE_HEADER;
-use crate::fakes::{Failure, Pieces, Slow};
-use h2audit::{AuditFault, CaptureReader, NoGate, Options, ReportWriter, Verdict, run};
+use crate::fakes::{Failure, Pieces, Slow, TestGate};
+use h2audit::{AuditFault, CaptureReader, Options, ReportWriter, Verdict, run};
 use pcap_records::PcapFault;
 use std::alloc::Global;
 use std::random::RandomSource;
@@ -16,40 +16,31 @@ const REPORT: &str =
 /// The answer to a capture that its file header refuses.
 const BAD_MAGIC: Result<Verdict, AuditFault> = Err(AuditFault::Pcap(PcapFault::BadMagic));
 
-/// The calls that a run made, and the reads and writes that it should not have made.
-#[derive(Clone, Copy, PartialEq, Eq)]
-struct Calls {
-    reads: u32,
-    reads_past_end: u32,
-    writes: u32,
-    short_offers: u32,
-    flushes: u32,
+/// What a run is to come to: its answer; how many reads, writes and flushes it makes; how many bytes of the report it
+/// writes.
+type Wanted = (Result<Verdict, AuditFault>, [u32; 3], usize);
+
+/// A reader of the file header in steps.
+fn reader(step: usize, interrupted_at: u32) -> Pieces<'static> {
+    Pieces::of(&FILE_HEADER, step, interrupted_at)
 }
 
-/// So many reads, writes and flushes, and none past the end or of less than all.
-fn counted(reads: u32, writes: u32, flushes: u32) -> Calls {
-    Calls {
-        reads,
-        reads_past_end: 0,
-        writes,
-        short_offers: 0,
-        flushes,
+/// A writer that takes the report in steps.
+fn writer(alloc: Global, step: usize, failure: Failure) -> Slow {
+    Slow::new(alloc, step, REPORT.len(), failure)
+}
+
+/// A writer that takes the report at once.
+fn whole(alloc: Global) -> Slow {
+    writer(alloc, 1000, Failure::Never)
+}
+
+/// The calls that a reader and a writer got, where no read was made past the end and each write was offered all.
+fn calls_of(reader: &Pieces, writer: &Slow) -> Option<[u32; 3]> {
+    if reader.reads_past_end > 0 || writer.short_offers > 0 {
+        return None;
     }
-}
-
-fn writer(alloc: Global, step: usize) -> Slow {
-    Slow::new(alloc, step, REPORT.len())
-}
-
-/// The calls that a reader and a writer got.
-fn calls_of(reader: &Pieces, writer: &Slow) -> Calls {
-    Calls {
-        reads: reader.reads,
-        reads_past_end: reader.reads_past_end,
-        writes: writer.writes,
-        short_offers: writer.short_offers,
-        flushes: writer.flushes,
-    }
+    Some([reader.reads, writer.writes, writer.flushes])
 }
 
 /// Whether, of these bytes, as many as the reader gave are in its account: the front that is kept, of these many at
@@ -76,14 +67,13 @@ fn is_written(writer: &ReportWriter<Slow>, text: &[u8], is_flushed: bool) -> boo
         && writer.is_flushed() == is_flushed
 }
 
-/// Whether a run gives this answer, makes these calls, and writes the first `written` bytes of the report.
+/// Whether a run comes to what is wanted.
 fn goes_so(
     rt: &(impl Sync + Threads + RandomSource),
     alloc: Global,
     reader: Pieces,
     writer: Slow,
-    answer: Result<Verdict, AuditFault>,
-    (expected, written): (Calls, usize),
+    (wanted, calls, written): Wanted,
 ) -> bool {
     let Some(options) = Options::of(4, 16, 4096, false) else {
         return false;
@@ -91,12 +81,12 @@ fn goes_so(
     let whole = reader.left;
     let mut reader = CaptureReader::new(alloc, reader);
     let mut writer = ReportWriter::new(alloc, writer);
-    let given = run(rt, alloc, &options, &mut reader, &mut writer, &NoGate);
-    let made = calls_of(reader.reader(), writer.writer());
-    let at_most = if answer == BAD_MAGIC { 24 } else { usize::MAX };
+    let gate = TestGate::holding(0);
+    let answer = run(rt, alloc, &options, &mut reader, &mut writer, &gate);
+    let at_most = if wanted == BAD_MAGIC { 24 } else { usize::MAX };
     let report = &REPORT.as_bytes()[..written.min(REPORT.len())];
-    given == answer
-        && made == expected
+    answer == wanted
+        && calls_of(reader.reader(), writer.writer()) == Some(calls)
         && is_read(alloc, &reader, whole, at_most)
         && is_written(&writer, report, answer.is_ok())
 }
@@ -104,16 +94,9 @@ fn goes_so(
 /// 24 bytes in steps of 5 are five reads, and one more finds the end.
 pub fn slow_steps(rt: &(impl Sync + Threads + RandomSource), alloc: Global) -> Answer {
     for (step, writes) in [(1, 82), (3, 28), (1000, 1)] {
-        let reader = Pieces::of(FILE_HEADER.as_slice(), 5);
-        let wanted = (counted(6, writes, 1), 82);
-        if !goes_so(
-            rt,
-            alloc,
-            reader,
-            writer(alloc, step),
-            Ok(Verdict::Clean),
-            wanted,
-        ) {
+        let writer = writer(alloc, step, Failure::Never);
+        let wanted = (Ok(Verdict::Clean), [6, writes, 1], 82);
+        if !goes_so(rt, alloc, reader(5, 0), writer, wanted) {
             return Ok(false);
         }
     }
@@ -123,78 +106,56 @@ pub fn slow_steps(rt: &(impl Sync + Threads + RandomSource), alloc: Global) -> A
 /// The read that fails is the last call: that the next would go on is not tried.
 pub fn interrupted_reader(rt: &(impl Sync + Threads + RandomSource), alloc: Global) -> Answer {
     for failing in 1..=6 {
-        let reader = Pieces {
-            interrupted_at: failing,
-            ..Pieces::of(FILE_HEADER.as_slice(), 5)
-        };
-        let wanted = (counted(failing, 0, 0), 0);
-        if !goes_so(
-            rt,
-            alloc,
-            reader,
-            writer(alloc, 1000),
-            Err(AuditFault::Read),
-            wanted,
-        ) {
+        let wanted = (Err(AuditFault::Read), [failing, 0, 0], 0);
+        if !goes_so(rt, alloc, reader(5, failing), whole(alloc), wanted) {
             return Ok(false);
         }
     }
     Ok(true)
 }
 
-/// Whether a writer that takes this many bytes at a time and fails once gets no call after that.
+/// Whether a run over a writer that fails writes so many bytes, by so many writes and flushes.
 fn ends_at_failure(
     rt: &(impl Sync + Threads + RandomSource),
     alloc: Global,
-    step: usize,
-    (failing, failure): (u32, Failure),
+    slow: Slow,
+    [writes, flushes]: [u32; 2],
     written: usize,
 ) -> bool {
-    let slow = Slow {
-        fails_at: failing,
-        failure,
-        ..writer(alloc, step)
-    };
-    let reader = Pieces::of(FILE_HEADER.as_slice(), 24);
-    let wanted = (counted(2, failing, 0), written);
-    goes_so(rt, alloc, reader, slow, Err(AuditFault::Write), wanted)
+    let wanted = (Err(AuditFault::Write), [2, writes, flushes], written);
+    goes_so(rt, alloc, reader(24, 0), slow, wanted)
 }
 
 /// Neither a write that was interrupted nor one that took no byte is tried again, and nothing is flushed.
 pub fn failing_writer(rt: &(impl Sync + Threads + RandomSource), alloc: Global) -> Answer {
-    for failing in 1..=28u32 {
-        let written = 3 * (failing as usize - 1);
-        for failure in [Failure::Interrupted, Failure::TakesNone] {
-            if !ends_at_failure(rt, alloc, 3, (failing, failure), written) {
+    for at in 1..=28u32 {
+        let written = 3 * (at as usize - 1);
+        for failure in [Failure::Interrupted(at), Failure::TakesNone(at)] {
+            if !ends_at_failure(rt, alloc, writer(alloc, 3, failure), [at, 0], written) {
                 return Ok(false);
             }
         }
     }
-    Ok(ends_at_failure(rt, alloc, 10, (2, Failure::Interrupted), 10))
+    let slow = writer(alloc, 10, Failure::Interrupted(2));
+    Ok(ends_at_failure(rt, alloc, slow, [2, 0], 10))
 }
 
 pub fn failing_flush(rt: &(impl Sync + Threads + RandomSource), alloc: Global) -> Answer {
-    let slow = Slow {
-        flush_fails: true,
-        ..writer(alloc, 1000)
-    };
-    let reader = Pieces::of(FILE_HEADER.as_slice(), 24);
-    let wanted = (counted(2, 1, 1), 82);
-    Ok(goes_so(rt, alloc, reader, slow, Err(AuditFault::Write), wanted))
+    let slow = writer(alloc, 1000, Failure::Flush);
+    Ok(ends_at_failure(rt, alloc, slow, [1, 1], 82))
 }
 
 pub fn refused_capture(rt: &(impl Sync + Threads + RandomSource), alloc: Global) -> Answer {
-    let reader = Pieces::of(&FILE_HEADER[..23], 24);
+    let reader = Pieces::of(&FILE_HEADER[..23], 24, 0);
     let refused = Err(AuditFault::Pcap(PcapFault::ShortHeader));
-    let wanted = (counted(2, 0, 0), 0);
-    Ok(goes_so(rt, alloc, reader, writer(alloc, 1000), refused, wanted))
+    Ok(goes_so(rt, alloc, reader, whole(alloc), (refused, [2, 0, 0], 0)))
 }
 
 /// Of 100,000 bytes in steps of 9 the first 24 take three reads and are kept; the rest is read and passed over.
 pub fn refused_header(rt: &(impl Sync + Threads + RandomSource), alloc: Global) -> Answer {
     let mut capture: Vec<u8> = Vec::new(alloc);
     capture.resize(100_000, 7)?;
-    let reader = Pieces::of(capture.as_slice(), 9);
-    let wanted = (counted(11_113, 0, 0), 0);
-    Ok(goes_so(rt, alloc, reader, writer(alloc, 1000), BAD_MAGIC, wanted))
+    let reader = Pieces::of(capture.as_slice(), 9, 0);
+    let wanted = (BAD_MAGIC, [11_113, 0, 0], 0);
+    Ok(goes_so(rt, alloc, reader, whole(alloc), wanted))
 }

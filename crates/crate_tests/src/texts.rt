@@ -49,9 +49,9 @@ record 14 cut
 unopened 10.0.0.2:80 10.0.0.1:40000 segments 2
 ";
 
-/// One packet of each kind, in record order: which are counted where, and which have a line of their own.
-pub fn each_kind_of_packet(alloc: Global) -> Answer {
-    let packets = [
+/// One packet of each kind, in record order.
+fn packets() -> [Packet; 13] {
+    [
         Packet::Refused(Refusal::ShortEthernet),
         Packet::Skipped(Skip::NotIpv4),
         Packet::Refused(Refusal::ShortIpv4),
@@ -65,14 +65,18 @@ pub fn each_kind_of_packet(alloc: Global) -> Answer {
         segment(11, true),
         Packet::Refused(Refusal::BadDataOffset),
         segment(13, false),
-    ];
+    ]
+}
+
+/// Which packets are counted where, and which have a line of their own.
+pub fn each_kind_of_packet(alloc: Global) -> Answer {
     let mut strays = Vec::new(alloc);
     strays.push(Stray {
         from: SERVER,
         to: CLIENT,
         segments: 2,
     })?;
-    let made = MadePackets::of(alloc, &packets)?;
+    let made = MadePackets::of(alloc, &packets())?;
     let packets = Packets::of(alloc, &made)?;
     let text = capture_lines(alloc, Some(14), &packets, strays)?;
     Ok(text.as_str() == CAPTURE_LINES)

@@ -7,3 +7,4 @@ pub mod Preface
 pub mod Cut
 pub mod laws
 pub mod code
+pub mod examples

@@ -40,8 +40,9 @@
 //! contract says which it is, but that one frame at least is up to it.
 //!
 //! Wrong bodies that the prover refuses: padding as long as the payload, settings left out behind one out of range, an
-//! order by first bytes, tails exchanged, batches merged by records alone, a batch numbered from those after it. Worked
-//! examples of bodies, headers and order are proved in `crate_tests`.
+//! order by first bytes, tails exchanged, batches merged by records alone, a batch numbered from those after it.
+//! [`worked_examples`] compute bodies, headers and order on small inputs, by proof: each type's payload at the lengths
+//! where its answer changes, padding, values of settings at the ends of their ranges.
 //! Tested by whole reports: that `cut` succeeds where there is memory, on connections of each of the four kinds; how
 //! many threads batches start.
 #![tactic(auto)]
@@ -60,6 +61,7 @@ mod settings;
 mod spelling;
 mod unread;
 mod walk;
+pub mod worked_examples;
 
 pub use batches::{FrameBatch, Merge};
 pub use connections::Cut;

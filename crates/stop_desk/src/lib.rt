@@ -43,9 +43,9 @@
 //! - Refused by the prover: a desk made without stops, a claim that is always 0, a look that invents a place, a
 //!   lowering that overwrites; parts dropped where two halves join, an overrun lowered, stops handed on as the round
 //!   found them.
-//! - Tested, in `round_tests`: two passes in two threads, that a look loads and does not answer from what its own pass
-//!   knows, that a job sees the stop that an earlier one lowered; in `crate_tests`: that two workers are in one round
-//!   at once, and how many jobs each round of an audit has. That several threads work at once is not proved.
+//! - Tested, in `crate_tests`: two passes in two threads, that a look loads and does not answer from what its own pass
+//!   knows, that a job sees the stop that an earlier one lowered, that two workers are in one round at once, and how
+//!   many jobs each round of an audit has. That several threads work at once is not proved.
 //! - Trusted: the toolchain's `atomic_table`, and std's `join`, which starts threads, and does the work on the thread
 //!   at hand where none can be had.
 #![tactic(auto)]

@@ -31,7 +31,7 @@
 //! - Refused by the prover: settings that reach open streams only, a run that never looks, looks once or looks ahead of
 //!   its work, one that leaves out all once it is stopped, one that counts a side's last DATA as any other, a quiet
 //!   stream whose credit is used up, initial windows that another setting puts back.
-//! - Tested, in `round_tests`: that `stream_run` succeeds where there is memory, and, in numbers, when it looks and
+//! - Tested, in `crate_tests`: that `stream_run` succeeds where there is memory, and, in numbers, when it looks and
 //!   what it keeps; in `threads_test.py` ("quiet streams are in no group"): that a stream which shows nothing stays
 //!   quiet, which no contract says.
 #![tactic(auto)]

@@ -1,1 +1,4 @@
 pub mod Retransmission
+pub mod Captured
+pub mod Connections
+pub mod Offsets

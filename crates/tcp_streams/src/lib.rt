@@ -24,7 +24,7 @@
 //!   it.
 //! - Refused by the prover: the last retransmission wins, a SYN of any number opens again, a packet is left out where a
 //!   walk goes on.
-//! - [`worked_examples`] goes from packets to a flow; those of openings, strays and offsets stand in `crate_tests`.
+//! - [`worked_examples`] go from packets to a flow, and compute openings, strays and offsets that wrap.
 //! - Tested, in `crate_tests`: random segments beside a slow program that goes offset by offset, and that keys are
 //!   drawn; by whole reports: interleaved connections.
 #![tactic(auto)]

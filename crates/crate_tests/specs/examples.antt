@@ -1,5 +1,0 @@
-pub mod Captured
-pub mod Connections
-pub mod Offsets
-pub mod Bodies
-pub mod Frames

@@ -1,0 +1,167 @@
+//! When runs look where their connection stops, and what they leave out past that place.
+
+ghost use Rattle.std.specs.Prelude.{◌≡◌, length, IfOk, IfSome};
+ghost use Rattle.std.specs.List.{range_with_len};
+ghost use Rattle.audit_terms.specs.code.runs.Orderly.{IsOrderly};
+
+mod test_look;
+
+use crate::Answer;
+use crate::frames::{acknowledgement, are_orderly, data, headers, initial_window};
+use audit_terms::{ConnectionState, Finding, Frame, Kind, Place, Side};
+use conn_scan::{Block, block_findings};
+use settings_pair::pair;
+use std::alloc::{AllocError, Global};
+use stream_credit::{Changes, StreamPart, StreamRun, stream_run};
+use test_look::{Looked, TestLook};
+
+/// How many frames there are, numbered from 1.
+const FRAMES: u32 = 1000;
+
+/// The client's HEADERS on a stream, and then DATA of one byte each.
+fn on_stream(number: u32) -> Frame {
+    if number == 1 {
+        headers(number, Side::Client, 1)
+    } else {
+        data(number, Side::Client, 1, 1)
+    }
+}
+
+/// A SETTINGS of the server, and its acknowledgement, in turn.
+fn of_settings(number: u32) -> Frame {
+    if number % 2 == 1 {
+        initial_window(number, Side::Server, Some(number))
+    } else {
+        acknowledgement(number, Side::Client)
+    }
+}
+
+/// Frames that were collected, where they are so many, and in order.
+fn in_order(frames: Result<Vec<Frame>, AllocError>, count: usize) -> Option<Vec<Frame>>
+    ensures orderly { IfSome result (λ frames. IsOrderly frames.items) }
+    ensures count { IfSome result (λ frames. length frames.items ≡ count) }
+{
+    let frames = frames.ok()?;
+    if frames.len() == count && are_orderly(frames.as_slice()) {
+        Some(frames)
+    } else {
+        None
+    }
+}
+
+/// What a run of the frames as one block comes to, with credits: one finding at each frame but the first.
+fn looked_over_block(alloc: Global, mut look: TestLook) -> Option<Looked> {
+    let frames = in_order((1..=FRAMES).map(on_stream).collect(alloc), 1000)?;
+    let block = Block {
+        frames: frames.as_slice(),
+        opened: &[],
+        changes: &[],
+    };
+    let run = block_findings(alloc, &ConnectionState::start(), &block, true, &mut look).ok()?;
+    Some(look.with(run.looks, [run.upto, run.last_look], run.findings.len()))
+}
+
+/// A stop at frame 400 is past the look before frame 257, and one at frame 100 before it.
+pub fn looks_of_a_block(alloc: Global) -> Answer {
+    for (before, number, handed, looks, found) in [
+        (4, 0, [0, 255, 511, 767], 4, 999),
+        (1, 400, [0, 255, 0, 0], 2, 399),
+        (1, 100, [0, 255, 0, 0], 2, 99),
+    ] {
+        let look = TestLook::after(before, Place::of(number, Kind::ConnectionCredit.rank(), 0));
+        if looked_over_block(alloc, look) != Some(look.wanted(looks, handed, found)) {
+            return Ok(false);
+        }
+    }
+    Ok(true)
+}
+
+/// The first numbers.
+fn numbers(alloc: Global, count: u32) -> Result<Vec<u32>, AllocError>
+    ensures { IfOk result (λ numbers. numbers.items ≡ range_with_len 0 count) }
+{
+    let mut numbers = Vec::new(alloc);
+    for at in 0..count {
+        numbers.push(at)?;
+    }
+    Ok(numbers)
+}
+
+/// What the frames show as those of a stream, with credits.
+fn run_of_frames(alloc: Global, look: &mut TestLook) -> Option<StreamRun> {
+    let frames = in_order((1..=FRAMES).map(on_stream).collect(alloc), 1000)?;
+    let Ok(positions) = numbers(alloc, FRAMES) else {
+        return None;
+    };
+    let own = StreamPart {
+        stream: 1,
+        frames: frames.as_slice(),
+        positions: positions.as_slice(),
+    };
+    let changes = Changes::of(alloc, &[]).ok()?;
+    stream_run(alloc, &own, &changes, true, look).ok()
+}
+
+/// The credits of both sides as the stream opens, and then that of the client at each frame.
+fn credits(alloc: Global) -> Result<Vec<Finding>, AllocError> {
+    let mut credits = Vec::new(alloc);
+    for side in [Side::Client, Side::Server] {
+        credits.push(Finding::at(Kind::StreamCredit, 1, 1, side, 65_535))?;
+    }
+    for number in 2..=FRAMES {
+        credits.push(Finding::at(Kind::StreamCredit, number, 1, Side::Client, 65_536 - number))?;
+    }
+    Ok(credits)
+}
+
+/// A stop at frame 300 is answered before frame 257, and one at frame 0 before the opening.
+pub fn looks_of_a_stream(alloc: Global) -> Answer {
+    let credits = credits(alloc)?;
+    for (before, number, handed, looks, found, opened_at) in [
+        (4, 0, [0, 257, 513, 769], 4, 1001, Some(1)),
+        (1, 300, [0, 257, 0, 0], 2, 300, Some(1)),
+        (0, 0, [0; 4], 1, 0, None),
+    ] {
+        let mut look = TestLook::after(before, Place::of(number, 4, 0));
+        let want = look.wanted(looks, handed, found);
+        let Some(run) = run_of_frames(alloc, &mut look) else {
+            return Ok(false);
+        };
+        if look.with(run.looks, [run.upto, run.last_look], run.findings.len()) != want
+            || run.opened_at != opened_at
+            || Some(run.findings.as_slice()) != credits.get(..found)
+        {
+            return Ok(false);
+        }
+    }
+    Ok(true)
+}
+
+/// What a look comes to, and the run of a stream without frames, where settings change a thousand times.
+fn looked_among_changes(alloc: Global, mut look: TestLook) -> Option<Looked> {
+    let frames = in_order((1..=2 * FRAMES).map(of_settings).collect(alloc), 2000)?;
+    let changes = pair(alloc, frames.as_slice()).ok()?.changes;
+    if changes.len() != 1000 {
+        return None;
+    }
+    let own = StreamPart {
+        stream: 1,
+        frames: &[],
+        positions: &[],
+    };
+    let changes = Changes::of(alloc, changes.as_slice()).ok()?;
+    let run = stream_run(alloc, &own, &changes, true, &mut look).ok()?;
+    Some(look.with(run.looks, [run.upto, run.last_look], run.findings.len()))
+}
+
+/// A change is no step of a stream that has no window: so the run looks once, and nothing lies past the stop.
+pub fn looks_at_no_change(alloc: Global) -> Answer {
+    for before in [0, 1] {
+        let look = TestLook::after(before, Place::of(1, 4, 0));
+        let (looks, handed, [_, last_look], found) = look.wanted(1, [0; 4], 0);
+        if looked_among_changes(alloc, look) != Some((looks, handed, [None, last_look], found)) {
+            return Ok(false);
+        }
+    }
+    Ok(true)
+}

@@ -1,0 +1,77 @@
+//! A round whose jobs tell what their look answered.
+
+ghost use Rattle.std.specs.Prelude.{◌-◌, ◌^◌, ◌≤◌, [], ◌∷◌};
+ghost use Rattle.audit_terms.specs.Place.{place_number};
+
+use crate::Answer;
+use crate::fakes::TestGate;
+use audit_terms::{Finding, Kind, Look, Place, Side};
+use std::alloc::{AllocError, Global};
+use std::thread::Threads;
+use stop_desk::{AuditRound, Round, Team, Work, settle};
+
+/// Two jobs of one connection, which both find this error, whatever their look answers.
+#[derive(Drop)]
+struct TwoJobs {
+    error: Finding,
+    ghost numbered: { place_number error.place ≤ 2 ^ 28 - 2 },
+}
+
+impl Round for TwoJobs {
+    type Made = Option<Place>;
+
+    ghost jobs = { λ round. record { connection = 0; findings = round.error ∷ [] }
+        ∷ record { connection = 0; findings = round.error ∷ [] } ∷ [] };
+
+    ghost makes = { λ round job upto made. Unit {0} };
+
+    ghost looks = { λ round job asked upto. Unit {0} };
+
+    fn count(&self) -> u32 {
+        2
+    }
+
+    fn connection(&self, _job: u32) -> usize {
+        0
+    }
+
+    fn work<L: Look>(
+        &self,
+        alloc: Global,
+        _job: u32,
+        look: &mut L,
+    ) -> Result<Work<Option<Place>>, AllocError> {
+        let made = look.look(&[]);
+        let mut findings = Vec::new(alloc);
+        findings.push(self.error)?;
+        Ok(Work {
+            findings,
+            upto: None,
+            made,
+        })
+    }
+}
+
+/// One worker does both in turn: the first job finds an error at frame 5, and the second sees it.
+pub fn later_job_sees_stop(rt: &(impl Sync + Threads), alloc: Global) -> Answer {
+    let round = TwoJobs {
+        error: Finding::at(Kind::NotOpened, 5, 9, Side::Server, 3),
+    };
+    let team = Team {
+        rt,
+        alloc,
+        workers: 1,
+        gate: &TestGate::holding(0),
+    };
+    let settled = settle(&team, AuditRound::Streams, &[None], &round)?;
+    let stop = Some(Place::of(5, Kind::NotOpened.rank(), 9));
+    match settled.parts.as_slice() {
+        [first, second] => {
+            Ok(
+                [first.made, second.made] == [None, stop]
+                    && settled.stops.as_slice() == [stop].as_slice(),
+            )
+        }
+        _ => Ok(false),
+    }
+}
