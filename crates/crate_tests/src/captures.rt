@@ -43,7 +43,7 @@ const PREFACE: [u8; 24] = *b"PRI * HTTP/2.0\r\n\r\nSM\r\n\r\n";
 #[derive(Drop)]
 pub struct Capture {
     alloc: Global,
-    bytes: Vec<u8>,
+    pub bytes: Vec<u8>,
     records: u32,
     client_next: u32,
     server_next: u32,
@@ -131,11 +131,6 @@ impl Capture {
             self.send(frame.side, payload.as_slice())?;
         }
         Ok(())
-    }
-
-    /// The bytes of the capture.
-    pub fn as_slice(&self) -> &[u8] {
-        self.bytes.as_slice()
     }
 }
 

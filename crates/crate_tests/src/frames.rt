@@ -1,7 +1,6 @@
 //! Frames of scripts, and whether they are in range and in order.
 
 ghost use Rattle.std.specs.Prelude.{◌≡◌, ◌<◌, ◌^◌, true};
-ghost use Rattle.audit_terms.specs.Frame.{promised_in};
 ghost use Rattle.audit_terms.specs.code.runs.Orderly.{IsInRange, IsOrderly};
 
 use audit_terms::frame_types::{
@@ -78,23 +77,11 @@ pub fn promise(number: u32, stream: u32, promised: u32) -> Frame {
     }
 }
 
-/// Is the promised stream of the body below 2^31?
-fn has_small_promise(body: &Body) -> bool
-    ensures { result ≡ true → promised_in body.now < 2 ^ 31 }
-{
-    match body {
-        Body::PushPromise(stream) => stream.get() < 0x8000_0000,
-        _ => true,
-    }
-}
-
 fn is_in_range(frame: &Frame) -> bool
     ensures { result ≡ true → IsInRange frame.now }
 {
-    if !has_small_promise(&frame.body) {
-        return false;
-    }
     frame.number < 0x0fff_ffff
+        && frame.body.promised() < 0x8000_0000
         && frame.stream < 0x8000_0000
         && frame.length.get() < 0x0100_0000
         && frame.nanos < 0x8000_0000_0000_0000

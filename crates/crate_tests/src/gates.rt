@@ -24,7 +24,7 @@ fn has_jobs(
         return false;
     };
     let gate = TestGate::holding(held);
-    let answer = audit(rt, alloc, &options, capture.as_slice(), &gate);
+    let answer = audit(rt, alloc, &options, capture.bytes.as_slice(), &gate);
     answer.is_ok() && gate.counts() == Some(want)
 }
 

@@ -114,35 +114,26 @@ pub fn interrupted_reader(rt: &(impl Sync + Threads + RandomSource), alloc: Glob
     Ok(true)
 }
 
-/// Whether a run over a writer that fails writes so many bytes, by so many writes and flushes.
-fn ends_at_failure(
-    rt: &(impl Sync + Threads + RandomSource),
-    alloc: Global,
-    slow: Slow,
-    [writes, flushes]: [u32; 2],
-    written: usize,
-) -> bool {
-    let wanted = (Err(AuditFault::Write), [2, writes, flushes], written);
-    goes_so(rt, alloc, reader(24, 0), slow, wanted)
-}
-
 /// Neither a write that was interrupted nor one that took no byte is tried again, and nothing is flushed.
 pub fn failing_writer(rt: &(impl Sync + Threads + RandomSource), alloc: Global) -> Answer {
     for at in 1..=28u32 {
         let written = 3 * (at as usize - 1);
         for failure in [Failure::Interrupted(at), Failure::TakesNone(at)] {
-            if !ends_at_failure(rt, alloc, writer(alloc, 3, failure), [at, 0], written) {
+            let wanted = (Err(AuditFault::Write), [2, at, 0], written);
+            if !goes_so(rt, alloc, reader(24, 0), writer(alloc, 3, failure), wanted) {
                 return Ok(false);
             }
         }
     }
     let slow = writer(alloc, 10, Failure::Interrupted(2));
-    Ok(ends_at_failure(rt, alloc, slow, [2, 0], 10))
+    let wanted = (Err(AuditFault::Write), [2, 2, 0], 10);
+    Ok(goes_so(rt, alloc, reader(24, 0), slow, wanted))
 }
 
 pub fn failing_flush(rt: &(impl Sync + Threads + RandomSource), alloc: Global) -> Answer {
     let slow = writer(alloc, 1000, Failure::Flush);
-    Ok(ends_at_failure(rt, alloc, slow, [1, 1], 82))
+    let wanted = (Err(AuditFault::Write), [2, 1, 1], 82);
+    Ok(goes_so(rt, alloc, reader(24, 0), slow, wanted))
 }
 
 pub fn refused_capture(rt: &(impl Sync + Threads + RandomSource), alloc: Global) -> Answer {

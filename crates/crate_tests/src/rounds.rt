@@ -65,13 +65,9 @@ pub fn later_job_sees_stop(rt: &(impl Sync + Threads), alloc: Global) -> Answer 
     };
     let settled = settle(&team, AuditRound::Streams, &[None], &round)?;
     let stop = Some(Place::of(5, Kind::NotOpened.rank(), 9));
-    match settled.parts.as_slice() {
-        [first, second] => {
-            Ok(
-                [first.made, second.made] == [None, stop]
-                    && settled.stops.as_slice() == [stop].as_slice(),
-            )
-        }
-        _ => Ok(false),
-    }
+    let [first, second] = settled.parts.as_slice() else {
+        return Ok(false);
+    };
+    let made = [first.made, second.made];
+    Ok(made == [None, stop] && settled.stops.as_slice() == [stop].as_slice())
 }

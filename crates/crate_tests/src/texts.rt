@@ -5,7 +5,7 @@ use audit_report::capture_lines;
 use h2audit::AuditFault;
 use packet_heads::{Endpoint, MadePackets, Packet, Packets, Refusal, Segment, Skip};
 use pcap_records::{Nanos, PcapFault};
-use std::alloc::Global;
+use std::alloc::{AllocError, Global};
 use tcp_streams::Stray;
 
 const CLIENT: Endpoint = Endpoint {
@@ -68,17 +68,22 @@ fn packets() -> [Packet; 13] {
     ]
 }
 
-/// Which packets are counted where, and which have a line of their own.
-pub fn each_kind_of_packet(alloc: Global) -> Answer {
+/// The lines of a capture of these packets, and of a pair of endpoints that it did not see open.
+fn lines(alloc: Global, packets: &[Packet; 13]) -> Result<String, AllocError> {
+    let made = MadePackets::of(alloc, packets)?;
+    let packets = Packets::of(alloc, &made)?;
     let mut strays = Vec::new(alloc);
     strays.push(Stray {
         from: SERVER,
         to: CLIENT,
         segments: 2,
     })?;
-    let made = MadePackets::of(alloc, &packets())?;
-    let packets = Packets::of(alloc, &made)?;
-    let text = capture_lines(alloc, Some(14), &packets, strays)?;
+    capture_lines(alloc, Some(14), &packets, strays)
+}
+
+/// Which packets are counted where, and which have a line of their own.
+pub fn each_kind_of_packet(alloc: Global) -> Answer {
+    let text = lines(alloc, &packets())?;
     Ok(text.as_str() == CAPTURE_LINES)
 }
 
