@@ -2,9 +2,9 @@
 use Rattle.std.proofs.Common.{◌≡◌, ℕ, ◌+◌, ◌*◌, ◌^◌, ◌<◌, ◌≤◌, List, [], ◌∷◌, ◌++◌, length, refl, ap, ap₂, ◌∙◌}
 use Rattle.std.proofs.Common.{sym, arith, append_assoc, length-append}
 use Rattle.h2_frames.proofs.Words.{AllByRecursion, Flow, Frame, IsInRange, IsOrderlyFrom, FrameWalk, Limit, Unread}
-use Rattle.h2_frames.proofs.Words.{numbered, merged, append-nil, bytes_left, AreLeft, AreMerged, AreTakenUpTo}
-use Rattle.h2_frames.proofs.Words.{IsHttp2, IsReadable, IsReady, IsWalkAfter, Over, taken_of}
-use Rattle.h2_frames.specs.code.Unread.{weight}
+use Rattle.h2_frames.proofs.Words.{numbered, merged, append-nil, bytes_left, AreLeft, AreTakenUpTo}
+use Rattle.h2_frames.proofs.Words.{IsHttp2, IsReadable, IsReady, IsWalkAfter, Over}
+use Rattle.h2_frames.proofs.Words.{taken_of, tails_of, weight_of}
 use Rattle.h2_frames.proofs.Splitting.{merged-split, merged-all, length-merged, left-past}
 
 pub numbered-append : (k : ℕ) (xs ys : List Frame) →
@@ -51,23 +51,16 @@ orderly-append low k (f ∷ frames) xs orderly numbers above readable few =
           (orderly-append (f.number + 1) (k + 1) frames xs orderly.2 (cc) (omega arith) readable (omega arith)),
     )
 
--- reading ahead leaves what was left
-abbrev pub LeavesAll : (old new : Unread) → Type 0
-LeavesAll old new = (frames : List Frame) → (tail : List ℕ) → AreLeft new frames tail → AreLeft old frames tail
-
 -- the frames of both sides up to a limit are taken
-pub walk-batch : (client server : Flow) (walk walk' : FrameWalk) (limit : Limit) (sent answered : Unread)
-    (frames c s : List Frame) → AreTakenUpTo limit sent walk'.client c → AreTakenUpTo limit answered walk'.server s →
-    LeavesAll walk.client sent → LeavesAll walk.server answered →
-    taken_of walk' ≡ taken_of walk + (length c + length s) →
-    9 * taken_of walk + (weight sent + weight answered) < 2 ^ 31 →
-    IsWalkAfter client server frames walk →
-    IsWalkAfter client server (frames ++ numbered (taken_of walk + 1) (merged c s)) walk'
-walk-batch client server walk walk' limit sent answered frames c s client_taken server_taken client_ahead server_ahead
-    counted few before =
+pub walk-batch : (client server : Flow) (walk walk' : FrameWalk) (limit : Limit) (frames c s : List Frame) →
+    AreTakenUpTo limit walk.client walk'.client c → AreTakenUpTo limit walk.server walk'.server s →
+    (taken : ℕ) → taken ≡ taken_of walk → taken_of walk' ≡ taken + (length c + length s) →
+    9 * taken_of walk + weight_of walk < 2 ^ 31 → IsWalkAfter client server frames walk →
+    IsWalkAfter client server (frames ++ numbered (taken + 1) (merged c s)) walk'
+walk-batch client server walk walk' limit frames c s client_taken server_taken taken taken_is counted few before =
     let count = before.count in
     let both = length-merged c s in
-    let number : taken_of walk + 1 ≡ 1 + length frames = omega arith in
+    let number : taken + 1 ≡ 1 + length frames = omega arith in
     let number' : length frames + 1 ≡ 1 + length frames = omega arith in
     let size : length (frames ++ numbered (1 + length frames) (merged c s)) ≡ length frames + (length c + length s) =
     length-append _ _ ∙ ap (λ (n : ℕ). length frames + n) (length-numbered _ _ ∙ both) in
@@ -85,8 +78,8 @@ walk-batch client server walk walk' limit sent answered frames c s client_taken 
           let all = before.whole (merged c s ++ later) tail other (record {
             client_frames = c ++ left.client_frames;
             server_frames = s ++ left.server_frames;
-            client_left = client_ahead _ _ (client_taken.left _ _ left.client_left);
-            server_left = server_ahead _ _ (server_taken.left _ _ left.server_left);
+            client_left = client_taken.left _ _ left.client_left;
+            server_left = server_taken.left _ _ left.server_left;
             merged_are = ap (λ (xs : List Frame). merged c s ++ xs) left.merged_are ∙ sym split;
           }) in
           let next : 1 + length frames + length (merged c s)
@@ -100,18 +93,15 @@ over-left : (unread : Unread) → IsReady unread → unread.next ≡ Over → Ar
 over-left unread ready over = rw over (refl, (refl, rw over at ready.next))
 
 -- the walk is over
-pub walk-over : (client server : Flow) (walk : FrameWalk) (sent answered : Unread) (frames : List Frame) →
-    IsReady sent → IsReady answered → LeavesAll walk.client sent → LeavesAll walk.server answered →
-    sent.next ≡ Over → answered.next ≡ Over → IsWalkAfter client server frames walk →
-    IsHttp2 client server frames
-    (record { client = length (bytes_left sent.bytes); server = length (bytes_left answered.bytes) })
-walk-over client server walk sent answered frames client_ready server_ready client_ahead server_ahead client_over
-    server_over before =
+pub walk-over : (client server : Flow) (walk : FrameWalk) (frames : List Frame) → IsReady walk.client →
+    IsReady walk.server → (walk.client.next ≡ Over) × (walk.server.next ≡ Over) →
+    IsWalkAfter client server frames walk → IsHttp2 client server frames (tails_of walk)
+walk-over client server walk frames client_ready server_ready over before =
     rw append-nil at (before.whole [] _ _ (record {
       client_frames = [];
       server_frames = [];
-      client_left = client_ahead _ _ (over-left sent client_ready client_over);
-      server_left = server_ahead _ _ (over-left answered server_ready server_over);
+      client_left = over-left walk.client client_ready over.0;
+      server_left = over-left walk.server server_ready over.1;
       merged_are = refl;
     }))
 

@@ -1,9 +1,9 @@
 -- One frame is read of what is ahead.
-use Rattle.std.proofs.Common.{◌≡◌, ℕ, ◌+◌, ◌-◌, ◌^◌, ◌<◌, List, ◌∷◌, ◌++◌, length, get_or, refl, ap, ◌∙◌, arith}
+use Rattle.std.proofs.Common.{◌≡◌, ℕ, ◌+◌, ◌-◌, ◌*◌, ◌≤◌, ◌<◌, List, [], ◌∷◌, ◌++◌, length, get_or, refl, ap, ◌∙◌, arith}
 use Rattle.std.proofs.Common.{length-append}
-use Rattle.h2_frames.proofs.Words.{AllByRecursion, Arrival, Side, Frame, Spelled, Unread}
-use Rattle.h2_frames.proofs.Words.{byte_arrival, captured, captured_from, arrivals_from, IsReadable}
-use Rattle.h2_frames.proofs.Words.{AreAhead, IsOneTaken, IsPlaced, Pieces}
+use Rattle.h2_frames.proofs.Words.{Arrival, Frame, Over, Read, Spelled, ToRead, Unread, byte_arrival, captured}
+use Rattle.h2_frames.proofs.Words.{captured_from, arrivals_from, AreAhead, HoldsNoFrame, IsCounted, IsOneTaken, IsPlaced}
+use Rattle.h2_frames.proofs.Words.{IsReadable, IsReadOn, IsReady, Pieces}
 use Rattle.h2_frames.specs.code.Pieces.{bytes_of}
 use Rattle.h2_frames.proofs.Promised.{promised-fits}
 use Rattle.h2_frames.proofs.Arriving.{captured_from-from, get_or-arrivals_from, arrivals_from-not_empty}
@@ -52,36 +52,83 @@ placed_after unread after placed s one offset_is arrivals_are =
       short = omega (arith, placed.short);
     }
 
--- it is in range
-pub frame_readable : (frame : Frame) (side : Side) (number last : ℕ) (arrivals to_come : List Arrival) (d : Arrival)
-    (s : Spelled) (old : List ℕ) (new : Pieces) → IsOneTaken s old new
-    → frame ≡ captured side number (get_or to_come 0 d) s → to_come ≡ arrivals_from last arrivals
-    → AllByRecursion (λ (a : Arrival). a.nanos < 2 ^ 63) arrivals → 0 < length to_come → IsReadable frame
-frame_readable frame side number last arrivals to_come d s old new one frame_is to_come_is timely there =
-    rw frame_is (record {
+-- it stands before those that are ahead then
+ahead_before : (old new : Unread) (number : ℕ) (s : Spelled) → IsOneTaken s (bytes_of old.bytes) new.bytes
+    → new.offset ≡ old.offset + (9 + s.header.length)
+    → new.arrivals.now ≡ arrivals_from (new.offset - 1) old.arrivals.now → (frame : Frame)
+    → frame ≡ captured old.side number (byte_arrival old.arrivals.now (new.offset - 1)) s → new.side ≡ old.side
+    → (frames later : List Frame) (tail : List ℕ) → frames ≡ frame ∷ later
+    → AreAhead new.side new.arrivals.now (frame.number + 1) new.offset (bytes_of new.bytes) later tail
+    → AreAhead old.side old.arrivals.now number old.offset (bytes_of old.bytes) frames tail
+ahead_before old new number s one offset_is to_come_is frame frame_is side_is frames later tail frames_are ahead =
+    let same : frame.number ≡ number = ap (λ (f : Frame). f.number) frame_is in
+    let rest : later ≡ captured_from old.side old.arrivals.now (number + 1) new.offset ahead.0 =
+    (rw (side_is, to_come_is, same) at ahead.2)
+    ∙ captured_from-from old.side old.arrivals.now (new.offset - 1) (number + 1) new.offset ahead.0 (omega arith) in (
+      s ∷ ahead.0,
+      (one.header, one.payload, bytes_of new.bytes, one.bytes, one.makes, ahead.1),
+      rw (frames_are, rest, frame_is, offset_is) refl,
+    )
+
+-- it is in range, and what is left is what was left
+pub read-on : (old new : Unread) (number : ℕ) (s : Spelled) → IsReady old → old.next ≡ ToRead number
+    → IsOneTaken s (bytes_of old.bytes) new.bytes → new.offset ≡ old.offset + (9 + s.header.length)
+    → new.arrivals.now ≡ arrivals_from (new.offset - 1) old.arrivals.now → (d : Arrival) (frame : Frame)
+    → frame ≡ captured old.side number (get_or new.arrivals.now 0 d) s → new.next ≡ Read frame → new.side ≡ old.side
+    → IsReadOn old new
+read-on old new number s ready number_is one offset_is to_come_is d frame frame_is next_is side_is =
+    let placed = ready.placed in
+    let there = frame_arrives old placed s new.bytes one (new.offset - 1) (omega arith) in
+    let first : get_or new.arrivals.now 0 d ≡ byte_arrival old.arrivals.now (new.offset - 1) =
+    rw to_come_is (get_or-arrivals_from (new.offset - 1) old.arrivals.now d there) in
+    let same : frame.number ≡ number = ap (λ (f : Frame). f.number) frame_is in
+    let low : 9 * number ≤ old.offset + 9 = rw number_is at ready.next in
+    let size = size_of_taken s (bytes_of old.bytes) new.bytes one in
+    let readable : IsReadable frame = rw frame_is (record {
       stream = one.stream_fits;
       promised = promised-fits s one.makes;
       length = one.length_fits;
-      nanos = first_timely to_come d (rw to_come_is (arrivals_from-timely last arrivals timely)) there;
-    })
+      nanos = first_timely new.arrivals.now d
+          (rw to_come_is (arrivals_from-timely (new.offset - 1) old.arrivals.now placed.timely))
+          (rw to_come_is there);
+    }) in
+    record {
+      ahead = record {
+        ready = record {
+          placed = placed_after old new placed s one offset_is to_come_is;
+          next = rw next_is (readable, omega arith);
+        };
+        known = rw next_is tt;
+      };
+      left = λ frames tail left.
+          let (later, frames_are, ahead) = rw next_is at left in
+          rw number_is (ahead_before old new number s one offset_is to_come_is frame (rw first at frame_is) side_is
+          frames later tail frames_are ahead);
+      weight = rw (next_is, number_is) (omega arith);
+    }
 
--- it stands before those that are ahead then
-pub ahead_before : (side : Side) (arrivals to_come : List Arrival) (number offset upto : ℕ) (s : Spelled)
-    (old : List ℕ) (new : Pieces) → IsOneTaken s old new
-    → upto ≡ offset + (9 + s.header.length) → to_come ≡ arrivals_from (upto - 1) arrivals
-    → 0 < length (arrivals_from (upto - 1) arrivals) → (d : Arrival) (frame : Frame)
-    → frame ≡ captured side number (get_or to_come 0 d) s → (frames later : List Frame) (tail : List ℕ)
-    → frames ≡ frame ∷ later → AreAhead side to_come (frame.number + 1) upto (bytes_of new) later tail
-    → AreAhead side arrivals number offset old frames tail
-ahead_before side arrivals to_come number offset upto s old new one upto_is to_come_is there d frame frame_is frames
-    later tail frames_are ahead =
-    let first : get_or to_come 0 d ≡ byte_arrival arrivals (upto - 1) =
-    rw to_come_is (get_or-arrivals_from (upto - 1) arrivals d there) in
-    let number_is : frame.number ≡ number = ap (λ (f : Frame). f.number) frame_is in
-    let rest : later ≡ captured_from side arrivals (number + 1) upto ahead.0 =
-    (rw (to_come_is, number_is) at ahead.2)
-    ∙ captured_from-from side arrivals (upto - 1) (number + 1) upto ahead.0 (omega arith) in (
-      s ∷ ahead.0,
-      (one.header, one.payload, bytes_of new, one.bytes, one.makes, ahead.1),
-      rw (frames_are, rest, frame_is, first, upto_is) refl,
-    )
+-- there is none
+pub read-over : (old new : Unread) (number : ℕ) → IsReady old → old.next ≡ ToRead number
+    → bytes_of new.bytes ≡ bytes_of old.bytes → HoldsNoFrame (bytes_of old.bytes) → IsCounted new.bytes
+    → new.next ≡ Over → new.offset ≡ old.offset → new.arrivals.now ≡ old.arrivals.now → IsReadOn old new
+read-over old new number ready number_is bytes_are none counted next_is offset_is arrivals_are = record {
+  ahead = record {
+    ready = record {
+      placed = record {
+        counted = counted;
+        low = ready.placed.low;
+        rec = ready.placed.rec;
+        before = omega (arith, ready.placed.before);
+        rises = rw (arrivals_are, offset_is, bytes_are) ready.placed.rises;
+        timely = rw arrivals_are ready.placed.timely;
+        short = rw (offset_is, bytes_are) ready.placed.short;
+      };
+      next = rw (next_is, bytes_are) none;
+    };
+    known = rw next_is tt;
+  };
+  left = λ frames tail left.
+      let (frames_are, spells) = rw next_is at left in
+      rw number_is ([], rw bytes_are at spells, frames_are);
+  weight = rw (next_is, number_is, bytes_are) (omega arith);
+}

@@ -1,8 +1,8 @@
 -- A walk over the frames of both sides goes on by one frame, or is over.
-use Rattle.std.proofs.Common.{◌≡◌, ℕ, ◌+◌, ◌≤◌, List, [], ◌∷◌, ◌++◌, length, ap, ◌∙◌, arith, append_assoc}
+use Rattle.std.proofs.Common.{◌≡◌, ℕ, ◌+◌, ◌*◌, ◌^◌, ◌<◌, ◌≤◌, List, [], ◌∷◌, ◌++◌, length, ap, ◌∙◌, arith, append_assoc}
 use Rattle.std.proofs.lemmas.List.{length_push}
 use Rattle.h2_frames.proofs.Words.{Flow, Frame, IsInRange, IsOrderlyFrom, FrameWalk, numbered, AreMerged, IsWalkAfter}
-use Rattle.h2_frames.proofs.Words.{taken_of}
+use Rattle.h2_frames.proofs.Words.{IsReadyWalk, IsWalkOn, taken_of, weight_of}
 
 -- one frame more is numbered
 numbered_push : (k : ℕ) (frames : List Frame) (f : Frame) →
@@ -21,6 +21,25 @@ orderly_push low k (x ∷ frames) f orderly numbers above range number_is =
       orderly.1,
       orderly_push (x.number + 1) (k + 1) frames f orderly.2 (cc) (omega arith) range (omega arith),
     )
+
+-- reading ahead changes nothing of what was taken and is left
+pub walk-on : (client server : Flow) (old new : FrameWalk) (frames : List Frame) → IsWalkOn old new
+    → IsWalkAfter client server frames old → IsWalkAfter client server frames new
+walk-on client server old new frames on before = record {
+  count = on.taken ∙ before.count;
+  numbers = before.numbers;
+  orderly = before.orderly;
+  whole = λ later tail other left. before.whole later tail other (record {
+    client_frames = left.client_frames;
+    server_frames = left.server_frames;
+    client_left = on.client.left _ _ left.client_left;
+    server_left = on.server.left _ _ left.server_left;
+    merged_are = left.merged_are;
+  });
+}
+
+pub few-on : (old new : FrameWalk) → IsWalkOn old new → IsReadyWalk old → 9 * taken_of new + weight_of new < 2 ^ 31
+few-on old new on ready = omega (arith, ready.few, on.client.weight, on.server.weight, on.taken)
 
 -- one frame is taken
 pub walk-turn : (client server : Flow) (walk walk' : FrameWalk) (frames : List Frame) (f frame : Frame) →

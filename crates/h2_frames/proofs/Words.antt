@@ -27,9 +27,9 @@ pub use Rattle.h2_frames.specs.code.Merge.{merged, is_server_first, merged_with}
 pub use Rattle.h2_frames.specs.code.Pieces.{joined, IsCounted, bytes_of as bytes_left, IsOneTaken}
 pub use Rattle.h2_frames.specs.code.Steps.{arrivals_from, IsReadable, with_setting}
 pub use Rattle.h2_frames.specs.code.Unread.{AreAhead, AreMerged, IsPlaced, AreLeftAfter, AreLeft, IsReady, IsNext}
-pub use Rattle.h2_frames.specs.code.Unread.{IsKnown}
-pub use Rattle.h2_frames.specs.code.Limit.{AreTakenUpTo, IsPassed, IsReached, is_past}
+pub use Rattle.h2_frames.specs.code.Unread.{IsAhead, IsKnown, IsReadOn}
+pub use Rattle.h2_frames.specs.code.Limit.{AreBothTaken, AreTakenUpTo, IsPassed, IsReached, is_past}
 pub use Rattle.h2_frames.specs.declared.limits.Limit.{Limit}
-pub use Rattle.h2_frames.specs.code.Walk.{IsWalkAfter, taken_of, weight_of, IsReadyWalk}
+pub use Rattle.h2_frames.specs.code.Walk.{IsWalkAfter, IsWalkOn, tails_of, taken_of, weight_of, IsReadyWalk}
 pub use Rattle.h2_frames.specs.declared.connections.Cut.TheVariants.{Http2, NoPreface, NoHandshake, NotHttp2}
 pub use Rattle.h2_frames.specs.laws.Unique.{IsSameFlow, SpellingIsUnique, CutIsUnique}

@@ -1,8 +1,8 @@
-ghost use Rattle.std.specs.Prelude.{◌≡◌, ◌+◌, ◌<◌, ◌^◌, [], ◌∷◌, length, IfOk, IfSome, IfNone};
+ghost use Rattle.std.specs.Prelude.{◌≡◌, ◌+◌, ◌<◌, ◌^◌, [], ◌∷◌, length, IfSome, IfNone, OnOk};
 ghost use Rattle.h2_frames.specs.code.Batch.{IsNumbered, IsReadyMerge, frames_of, left_of};
-ghost use Rattle.h2_frames.specs.code.Limit.{AreTakenUpTo};
+ghost use Rattle.h2_frames.specs.code.Limit.{AreBothTaken};
 ghost use Rattle.h2_frames.specs.code.Merge.{is_first_of_server};
-ghost use Rattle.h2_frames.specs.code.Unread.{IsKnown, IsReady};
+ghost use Rattle.h2_frames.specs.code.Unread.{IsAhead};
 
 use crate::limits::Limit;
 use crate::order::comes_after;
@@ -137,33 +137,38 @@ impl<'a> Merge<'a> {
     }
 }
 
-/// Takes the frames of both sides up to a limit, each side's on a thread of its own where there are three and these
-/// can be had: one is left for who called.
-pub(crate) fn take_sides<R: Threads>(
-    rt: &R,
-    threads: usize,
+/// Takes the frames of both sides up to a limit, one side's after the other's.
+pub(crate) fn take_in_turn(
     limit: Limit,
     client: &mut Unread<'_>,
     server: &mut Unread<'_>,
     batch: &mut FrameBatch,
 ) -> Result<(), AllocError>
-    requires client { IsReady client.old }
-    requires server { IsReady server.old }
-    requires client_known { IsKnown client.old.next }
-    requires server_known { IsKnown server.old.next }
-    ensures client { IfOk result (λ done. AreTakenUpTo limit client.old client.new batch.new.client.items) }
-    ensures server { IfOk result (λ done. AreTakenUpTo limit server.old server.new batch.new.server.items) }
+    requires client { IsAhead client.old }
+    requires server { IsAhead server.old }
+    ensures { OnOk result (AreBothTaken limit client.old client.new server.old server.new batch.new) }
 {
-    if threads < 3 {
-        client.take_up_to(limit, &mut batch.client)?;
-        return server.take_up_to(limit, &mut batch.server);
-    }
+    client.take_up_to(limit, &mut batch.client)?;
+    server.take_up_to(limit, &mut batch.server)
+}
+
+/// The same, each side's on a thread of its own where these can be had.
+pub(crate) fn take_side_by_side<R: Threads>(
+    rt: &R,
+    limit: Limit,
+    client: &mut Unread<'_>,
+    server: &mut Unread<'_>,
+    batch: &mut FrameBatch,
+) -> Result<(), AllocError>
+    requires client { IsAhead client.old }
+    requires server { IsAhead server.old }
+    ensures { OnOk result (AreBothTaken limit client.old client.new server.old server.new batch.new) }
+{
     let alloc = batch.alloc;
     let (sent, answered) = join_mut(
         rt,
         &mut || client.take_apart(alloc, limit, &mut batch.client),
         &mut || server.take_apart(alloc, limit, &mut batch.server),
     );
-    sent?;
-    answered
+    sent.and(answered)
 }

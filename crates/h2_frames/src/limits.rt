@@ -1,6 +1,6 @@
 ghost use Rattle.std.specs.Prelude.{◌≡◌, ◌⊎◌, IfOk, IfSome, IfNone};
 ghost use Rattle.h2_frames.specs.code.Limit.{AreTakenUpTo, IsReached, is_past};
-ghost use Rattle.h2_frames.specs.code.Unread.{IsKnown, IsReady};
+ghost use Rattle.h2_frames.specs.code.Unread.{IsAhead};
 ghost use Rattle.h2_frames.specs.declared.unread.Next.TheVariants.{Over};
 
 use crate::unread::{Next, Unread};
@@ -42,10 +42,8 @@ impl Limit {
 /// The limit of both sides, where one of them has a frame left: at least that one is taken. Each side is read so many
 /// bytes further at most.
 pub(crate) fn limit_of(client: &Unread<'_>, server: &Unread<'_>, reach: u32) -> Option<Limit>
-    requires client { IsReady client.now }
-    requires server { IsReady server.now }
-    requires client_known { IsKnown client.now.next }
-    requires server_known { IsKnown server.now.next }
+    requires client { IsAhead client.now }
+    requires server { IsAhead server.now }
     ensures some { IfSome result (λ limit. IsReached limit client.now.next ⊎ IsReached limit server.now.next) }
     ensures none { IfNone result ((client.now.next ≡ Over) × (server.now.next ≡ Over)) }
 {
@@ -62,8 +60,7 @@ impl<'a> Unread<'a> {
     /// That is the record at which its flow is so many bytes further, or else its end, and `ENOUGH` frames of that
     /// record: one that fills a gap may bring many.
     fn limit(&self, reach: u32) -> Option<Limit>
-        requires ready { IsReady self.now }
-        requires known { IsKnown self.now.next }
+        requires { IsAhead self.now }
         ensures some { IfSome result (λ limit. IsReached limit self.now.next) }
         ensures none { IfNone result (self.now.next ≡ Over) }
     {
@@ -86,8 +83,7 @@ impl<'a> Unread<'a> {
 
     /// Takes the frames out up to a limit, into a list of their own, and reads the one after them ahead.
     pub fn take_up_to(&mut self, limit: Limit, frames: &mut Vec<Frame>) -> Result<(), AllocError>
-        requires ready { IsReady self.old }
-        requires known { IsKnown self.old.next }
+        requires { IsAhead self.old }
         ensures { IfOk result (λ done. AreTakenUpTo limit self.old self.new frames.new.items) }
     {
         frames.clear();
@@ -112,8 +108,7 @@ impl<'a> Unread<'a> {
         limit: Limit,
         frames: &mut Vec<Frame>,
     ) -> Result<(), AllocError>
-        requires ready { IsReady self.old }
-        requires known { IsKnown self.old.next }
+        requires { IsAhead self.old }
         ensures { IfOk result (λ done. AreTakenUpTo limit self.old self.new frames.new.items) }
     {
         let mut own = Unread {

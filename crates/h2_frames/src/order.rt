@@ -1,14 +1,13 @@
-ghost use Rattle.std.specs.Prelude.{◌≡◌, ◌+◌, ◌≤◌, ℕ, List, [], ◌∷◌, IfOk, IfSome, IfNone};
+ghost use Rattle.std.specs.Prelude.{◌≡◌, ◌+◌, ℕ, List, ◌∷◌, IfSome, IfNone};
 ghost use Rattle.audit_terms.specs.declared.frames.Frame.{Frame};
 ghost use Rattle.h2_frames.specs.CaptureOrder.{comes_after};
 ghost use Rattle.h2_frames.specs.code.Merge.{is_server_first};
-ghost use Rattle.h2_frames.specs.code.Pieces.{bytes_of};
 ghost use Rattle.h2_frames.specs.code.Steps.{IsReadable};
-ghost use Rattle.h2_frames.specs.code.Unread.{AreMerged, IsReady, weight};
+ghost use Rattle.h2_frames.specs.code.Unread.{AreMerged, IsAhead, IsReady, weight};
+ghost use Rattle.h2_frames.specs.declared.unread.Next.TheVariants.{Over};
 
 use crate::unread::{Next, Unread};
 use audit_terms::Frame;
-use std::alloc::AllocError;
 
 /// Does `x` come after `y`: by record, then by number within its side, then Client before Server?
 pub(crate) fn comes_after(x: &Frame, y: &Frame) -> bool
@@ -29,31 +28,23 @@ fn is_server_first(client: &Next, server: &Next) -> bool
 }
 
 /// Takes the frame out that comes first of both sides.
-pub(crate) fn take_first(
-    client: &mut Unread<'_>,
-    server: &mut Unread<'_>,
-) -> Result<Option<Frame>, AllocError>
-    requires client { IsReady client.old }
-    requires server { IsReady server.old }
-    ensures client { IfOk result (λ taken. IsReady client.new) }
-    ensures server { IfOk result (λ taken. IsReady server.new) }
-    ensures readable { IfOk result (λ taken. IfSome taken IsReadable) }
-    ensures first { IfOk result (λ taken. IfSome taken (λ frame.
-        (frames : List Frame) → (tail other : List ℕ) →
+pub(crate) fn take_first(client: &mut Unread<'_>, server: &mut Unread<'_>) -> Option<Frame>
+    requires client { IsAhead client.old }
+    requires server { IsAhead server.old }
+    ensures client { IsReady client.new }
+    ensures server { IsReady server.new }
+    ensures readable { IfSome result IsReadable }
+    ensures first { IfSome result (λ frame. (frames : List Frame) → (tail other : List ℕ) →
         AreMerged client.new server.new frames tail other →
-        AreMerged client.old server.old (frame ∷ frames) tail other)) }
-    ensures over { IfOk result (λ taken. IfNone taken
-        (AreMerged client.old server.old [] (bytes_of client.new.bytes) (bytes_of server.new.bytes))) }
-    ensures weight { IfOk result (λ taken. IfSome taken (λ frame.
-        weight client.new + weight server.new + 9 ≤ weight client.old + weight server.old)) }
-    ensures rest { IfOk result (λ taken. IfNone taken
-        (weight client.new + weight server.new ≤ weight client.old + weight server.old)) }
+        AreMerged client.old server.old (frame ∷ frames) tail other) }
+    ensures weight { IfSome result (λ frame.
+        weight client.new + weight server.new + 9 ≡ weight client.old + weight server.old) }
+    ensures over { IfNone result ((client.old.next ≡ Over) × (server.old.next ≡ Over)) }
+    ensures same { IfNone result ((client.new ≡ client.old) × (server.new ≡ server.old)) }
 {
-    client.read_ahead()?;
-    server.read_ahead()?;
     if is_server_first(&client.next, &server.next) {
-        Ok(server.take())
+        server.take()
     } else {
-        Ok(client.take())
+        client.take()
     }
 }

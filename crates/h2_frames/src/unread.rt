@@ -1,5 +1,5 @@
-ghost use Rattle.std.specs.Prelude.{◌≡◌, ◌+◌, ◌-◌, ◌*◌, ◌<◌, ◌≤◌, ◌^◌, ℕ, List, ◌∷◌, length, IfOk, IfSome, IfNone};
-ghost use Rattle.h2_frames.specs.declared.unread.Next.TheVariants.{Over, Read};
+ghost use Rattle.std.specs.Prelude.{◌≡◌, ◌+◌, ◌-◌, ◌*◌, ◌<◌, ◌≤◌, ◌^◌, ℕ, List, ◌∷◌, length, IfSome, IfNone, OnOk};
+ghost use Rattle.h2_frames.specs.declared.unread.Next.TheVariants.{Over, Read, Unread as ToRead};
 ghost use Rattle.tcp_streams.specs.code.Orderly.{AreTimely};
 ghost use Rattle.tcp_streams.specs.Arrivals.{Rises};
 ghost use Rattle.audit_terms.specs.declared.frames.Frame.{Frame};
@@ -84,7 +84,7 @@ pub(crate) struct Unread<'a> {
 }
 
 impl<'a> Unread<'a> {
-    ghost use Rattle.h2_frames.specs.code.Unread.{AreAhead, AreLeft, IsKnown, IsPlaced, IsReady, weight};
+    ghost use Rattle.h2_frames.specs.code.Unread.{AreAhead, AreLeft, IsAhead, IsReadOn, IsReady, weight};
 
     /// A side's bytes from this offset of its flow on, and the flow's arrivals. Nothing is read.
     pub fn of(
@@ -116,14 +116,9 @@ impl<'a> Unread<'a> {
     /// Reads the frame that the bytes begin with, which gets this number within the side.
     #[tactic(auto, using(crate::proofs::Reading::frame_arrives))]
     fn read(&mut self, number: u32) -> Result<(), AllocError>
-        requires placed { IsPlaced self.old }
-        requires number { 9 * number ≤ self.old.offset + 9 }
-        ensures ready { IfOk result (λ done. IsReady self.new) }
-        ensures known { IfOk result (λ done. IsKnown self.new.next) }
-        ensures left { IfOk result (λ done. (frames : List Frame) → (tail : List ℕ) → AreLeft self.new frames tail →
-            AreAhead self.old.side self.old.arrivals.now number self.old.offset (bytes_of self.old.bytes)
-            frames tail) }
-        ensures weight { IfOk result (λ done. weight self.new ≤ length (bytes_of self.old.bytes)) }
+        requires ready { IsReady self.old }
+        requires number { self.old.next ≡ ToRead number }
+        ensures { OnOk result (IsReadOn self.old self.new) }
     {
         let Some(spelled) = self.bytes.take_frame(&mut self.gathered)? else {
             self.next = Next::Over;
@@ -140,22 +135,17 @@ impl<'a> Unread<'a> {
     /// Reads the next frame ahead, where that was not done yet.
     pub fn read_ahead(&mut self) -> Result<(), AllocError>
         requires { IsReady self.old }
-        ensures ready { IfOk result (λ done. IsReady self.new) }
-        ensures known { IfOk result (λ done. IsKnown self.new.next) }
-        ensures left { IfOk result (λ done. (frames : List Frame) → (tail : List ℕ) → AreLeft self.new frames tail →
-            AreLeft self.old frames tail) }
-        ensures weight { IfOk result (λ done. weight self.new ≤ weight self.old) }
+        ensures { OnOk result (IsReadOn self.old self.new) }
     {
-        if let Next::Unread(number) = self.next {
-            self.read(number)?;
+        match self.next {
+            Next::Unread(number) => self.read(number),
+            _ => Ok(()),
         }
-        Ok(())
     }
 
     /// Takes the next frame out, which is read ahead where there is one.
     pub fn take(&mut self) -> Option<Frame>
-        requires ready { IsReady self.old }
-        requires known { IsKnown self.old.next }
+        requires { IsAhead self.old }
         ensures ready { IsReady self.new }
         ensures some { IfSome result (λ frame. self.old.next ≡ Read frame) }
         ensures left { IfSome result (λ frame. (frames : List Frame) → (tail : List ℕ) →

@@ -1,4 +1,5 @@
-ghost use Rattle.std.specs.Prelude.{◌≡◌, ◌+◌, ◌<◌, ◌^◌, ◌++◌, ◌∷◌, [], List, length, IfOk, IfSome, IfNone};
+ghost use Rattle.std.specs.Prelude.{◌≡◌, ◌+◌, ◌<◌, ◌^◌, ◌++◌, ◌∷◌, ◌⊎◌, [], List, length, IfOk, IfSome, IfNone};
+ghost use Rattle.std.specs.Prelude.{OnOk};
 ghost use Rattle.std.specs.Bool.{OnFalse, OnTrue};
 ghost use Rattle.tcp_streams.specs.declared.streams.Flow.{Flow};
 ghost use Rattle.tcp_streams.specs.code.Orderly.{IsOrderly};
@@ -9,11 +10,14 @@ ghost use Rattle.h2_frames.specs.Cut.{IsHttp2};
 ghost use Rattle.h2_frames.specs.Preface.{BeginsWithPreface};
 ghost use Rattle.h2_frames.specs.code.Pieces.{bytes_of as bytes_left, IsCounted};
 ghost use Rattle.h2_frames.specs.code.Batch.{IsNumbered, frames_of};
-ghost use Rattle.h2_frames.specs.code.Walk.{IsBegun, IsReadyWalk, IsWalkAfter, taken_of, tails_of, weight_of};
+ghost use Rattle.h2_frames.specs.code.Limit.{AreBothTaken, IsReached};
+ghost use Rattle.h2_frames.specs.code.Unread.{IsAhead};
+ghost use Rattle.h2_frames.specs.code.Walk.{IsBegun, IsReadyWalk, IsWalkAfter, IsWalkOn, taken_of, tails_of, weight_of};
+ghost use Rattle.h2_frames.specs.declared.unread.Next.TheVariants.{Over};
 
-use crate::batches::{FrameBatch, take_sides};
+use crate::batches::{FrameBatch, take_in_turn, take_side_by_side};
 use crate::beginning::{Beginning, PREFACE, beginning_of};
-use crate::limits::limit_of;
+use crate::limits::{Limit, limit_of};
 use crate::order::take_first;
 use crate::pieces::Pieces;
 use crate::unread::Unread;
@@ -72,6 +76,15 @@ impl<'a> FrameWalk<'a> {
         }
     }
 
+    /// Reads the next frame of each side ahead.
+    fn read_ahead(&mut self) -> Result<(), AllocError>
+        requires { IsReadyWalk self.old }
+        ensures { OnOk result (IsWalkOn self.old self.new) }
+    {
+        self.client.read_ahead()?;
+        self.server.read_ahead()
+    }
+
     /// Takes the next frame out, numbered from 1 in capture order.
     ///
     /// The frames that were taken and those to come are the connection's; once there is none left, those that were
@@ -93,7 +106,8 @@ impl<'a> FrameWalk<'a> {
             ((client server : Flow) → (frames : List Frame) →
             IsWalkAfter client server frames self.old → IsHttp2 client server frames (tails_of self.new))) }
     {
-        let Some(frame) = take_first(&mut self.client, &mut self.server)? else {
+        self.read_ahead()?;
+        let Some(frame) = take_first(&mut self.client, &mut self.server) else {
             return Ok(None);
         };
         self.taken += 1;
@@ -101,6 +115,42 @@ impl<'a> FrameWalk<'a> {
             number: self.taken,
             ..frame
         }))
+    }
+
+    /// Reads the next frame of each side ahead, and says up to where the next batch goes, where there is a frame left.
+    fn limit_ahead(&mut self, batch: &mut FrameBatch) -> Result<Option<Limit>, AllocError>
+        requires { IsReadyWalk self.old }
+        ensures on { OnOk result (IsWalkOn self.old self.new) }
+        ensures some { IfOk result (λ limit. IfSome limit (λ limit.
+            IsReached limit self.new.client.next ⊎ IsReached limit self.new.server.next)) }
+        ensures none { IfOk result (λ limit. IfNone limit
+            ((self.new.client.next ≡ Over) × (self.new.server.next ≡ Over))) }
+    {
+        self.read_ahead()?;
+        Ok(limit_of(&self.client, &self.server, batch.next_reach()))
+    }
+
+    /// Takes the frames of both sides up to a limit, side by side where there are three threads: one is left for who
+    /// called.
+    fn take_up_to<R: Threads>(
+        &mut self,
+        rt: &R,
+        threads: usize,
+        limit: Limit,
+        batch: &mut FrameBatch,
+    ) -> Result<(), AllocError>
+        requires client { IsAhead self.old.client }
+        requires server { IsAhead self.old.server }
+        ensures taken { OnOk result (self.new.taken ≡ self.old.taken) }
+        ensures both { OnOk result
+            (AreBothTaken limit self.old.client self.new.client self.old.server self.new.server batch.new) }
+    {
+        let (client, server) = (&mut self.client, &mut self.server);
+        if threads < 3 {
+            take_in_turn(limit, client, server, batch)
+        } else {
+            take_side_by_side(rt, limit, client, server, batch)
+        }
     }
 
     /// Takes the next frames of both sides out together, in place of those of `batch`. Is there one?
@@ -125,20 +175,10 @@ impl<'a> FrameWalk<'a> {
         ensures over { IfOk result (λ more. OnFalse more ((client server : Flow) → (frames : List Frame) →
             IsWalkAfter client server frames self.old → IsHttp2 client server frames (tails_of self.new))) }
     {
-        self.client.read_ahead()?;
-        self.server.read_ahead()?;
-        let reach = batch.next_reach();
-        let Some(limit) = limit_of(&self.client, &self.server, reach) else {
+        let Some(limit) = self.limit_ahead(batch)? else {
             return Ok(false);
         };
-        take_sides(
-            rt,
-            threads,
-            limit,
-            &mut self.client,
-            &mut self.server,
-            batch,
-        )?;
+        self.take_up_to(rt, threads, limit, batch)?;
         batch.before = self.taken;
         self.taken += (batch.client.len() + batch.server.len()) as u32;
         Ok(true)

@@ -2,6 +2,7 @@
 use Rattle.std.specs.Prelude.{◌≡◌, ℕ, ◌+◌, ◌*◌, ◌≤◌, Bool, true, false, nat_lt, ◌==◌, ◌&&◌, ◌||◌, List, ◌++◌, length}
 use Rattle.std.specs.List.{AllByRecursion}
 use Rattle.audit_terms.specs.declared.frames.Frame.{Frame}
+use Rattle.h2_frames.specs.declared.batches.FrameBatch.{FrameBatch}
 use Rattle.h2_frames.specs.declared.limits.Limit.{Limit}
 use Rattle.h2_frames.specs.declared.unread.Next.{Next}
 use Rattle.h2_frames.specs.declared.unread.Next.TheVariants.{Over, Read, Unread as ToRead}
@@ -34,3 +35,8 @@ pub record AreTakenUpTo (limit : Limit) (old new : Unread) (frames : List Frame)
   pub weight : weight new + 9 * length frames ≤ weight old
   pub passed : IsPassed limit new.next
   pub none : length frames ≡ 0 → new.next ≡ old.next
+
+-- these frames of both sides were taken
+pub record AreBothTaken (limit : Limit) (client client' server server' : Unread) (batch : FrameBatch) : Type 0 where
+  pub sent : AreTakenUpTo limit client client' batch.client.items
+  pub answered : AreTakenUpTo limit server server' batch.server.items

@@ -58,6 +58,11 @@ abbrev pub IsKnown : Next → Type 0
 IsKnown (ToRead number) = ⊥
 IsKnown _ = Unit {0}
 
+-- the next frame is read ahead, where there is one
+pub record IsAhead (unread : Unread) : Type 0 where
+  pub ready : IsReady unread
+  pub known : IsKnown unread.next
+
 -- the bytes to come, with nine for a frame that is read: no frame is shorter
 abbrev pub weight_after : Next → Unread → ℕ
 weight_after (Read frame) unread = 9 + length (bytes_of unread.bytes)
@@ -65,6 +70,12 @@ weight_after _ unread = length (bytes_of unread.bytes)
 
 abbrev pub weight : Unread → ℕ
 weight unread = weight_after unread.next unread
+
+-- the next frame was read ahead, and what is left is what was left
+pub record IsReadOn (old new : Unread) : Type 0 where
+  pub ahead : IsAhead new
+  pub left : (frames : List Frame) → (tail : List ℕ) → AreLeft new frames tail → AreLeft old frames tail
+  pub weight : weight new ≤ weight old
 
 -- what is left of both sides, put in order
 pub record AreMerged (client server : Unread) (frames : List Frame) (client_tail server_tail : List ℕ) : Type 0 where

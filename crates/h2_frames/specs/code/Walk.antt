@@ -15,7 +15,7 @@ use Rattle.h2_frames.specs.Preface.{BeginsWithPreface}
 use Rattle.h2_frames.specs.Cut.{IsCut, IsHttp2}
 use Rattle.h2_frames.specs.CaptureOrder.{numbered}
 use Rattle.h2_frames.specs.code.Pieces.{bytes_of as bytes_left}
-use Rattle.h2_frames.specs.code.Unread.{AreMerged, IsReady, weight}
+use Rattle.h2_frames.specs.code.Unread.{AreMerged, IsReadOn, IsReady, weight}
 
 -- how many frames were taken
 abbrev pub taken_of : FrameWalk → ℕ
@@ -37,6 +37,12 @@ pub record IsReadyWalk (walk : FrameWalk) : Type 0 where
   pub client : IsReady walk.client
   pub server : IsReady walk.server
   pub few : 9 * walk.taken + weight_of walk < 2 ^ 31
+
+-- both sides were read ahead
+pub record IsWalkOn (old new : FrameWalk) : Type 0 where
+  pub client : IsReadOn old.client new.client
+  pub server : IsReadOn old.server new.server
+  pub taken : new.taken ≡ old.taken
 
 -- with what is left of both sides, merged and numbered on, the frames that were taken are those of the connection
 pub record IsWalkAfter (client server : Flow) (taken : List Frame) (walk : FrameWalk) : Type 0 where

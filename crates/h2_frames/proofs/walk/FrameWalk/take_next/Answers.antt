@@ -1,18 +1,28 @@
 use Rattle.std.proofs.Common.{◌+◌, refl, arith}
-use Rattle.h2_frames.proofs.Words.{IsInRange, taken_of, IsReadable}
-use Rattle.h2_frames.proofs.Walking.{walk-turn}
+use Rattle.h2_frames.proofs.Words.{IsInRange, taken_of}
+use Rattle.h2_frames.proofs.Batching.{walk-over}
+use Rattle.h2_frames.proofs.Walking.{walk-on, walk-turn}
 use Rattle.h2_frames.proofs.walk.FrameWalk.take_next.Goals as goal
 
 pub returns-clause-next : goal.returns-clause-next
 returns-clause-next c =
-    let readable : IsReadable c.in-Some.frame = rw c.in-Some.is at c.in_ok-frame.ensures.readable in
-    let range : IsInRange (record c.in-Some.frame { number = taken_of c.args.self.now + 1 }) = record {
-      number = omega (arith, c.requires.few, rw c.in-Some.is at c.in_ok-frame.ensures.weight);
-      stream = readable.stream;
-      promised = readable.promised;
-      length = readable.length;
-      nanos = readable.nanos;
+    let taken = rw c.in-Some.is at c.take_first.ensures in
+    let on = c.in_ok-read_ahead.ensures in
+    let range : IsInRange (record c.in-Some.frame { number = taken_of c.read_ahead.new.self + 1 }) = record {
+      number = omega (arith, c.requires.few, on.client.weight, on.server.weight, on.taken, taken.weight);
+      stream = taken.readable.stream;
+      promised = taken.readable.promised;
+      length = taken.readable.length;
+      nanos = taken.readable.nanos;
     } in
     λ client server frames before.
-    walk-turn client server c.args.self.now _ frames c.in-Some.frame _ refl refl range
-    (rw c.in-Some.is at c.in_ok-frame.ensures.first) before
+    walk-turn client server _ _ frames c.in-Some.frame _ refl refl range taken.first
+    (walk-on client server _ _ frames on before)
+
+pub returns-in_default-clause-over : goal.returns-in_default-clause-over
+returns-in_default-clause-over c =
+    let none = rw c.in_default.is at c.take_first.ensures in
+    let on = c.in_ok-read_ahead.ensures in
+    λ client server frames before. rw (none.same.0, none.same.1)
+    (walk-over client server _ frames on.client.ahead.ready on.server.ahead.ready none.over
+    (walk-on client server _ _ frames on before))
