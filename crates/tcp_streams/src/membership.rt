@@ -1,7 +1,7 @@
-ghost use Rattle.std.specs.Prelude.{◌≡◌, ◌<◌, ◌≤◌, ◌^◌, length, take, All, IfOk, OnOk};
+ghost use Rattle.std.specs.Prelude.{◌≡◌, ◌<◌, ◌^◌, length, All, IfOk, OnOk};
 ghost use Rattle.tcp_streams.specs.code.Orderly.{AreMembers};
 ghost use Rattle.tcp_streams.specs.code.Past.{past_of};
-ghost use Rattle.tcp_streams.specs.code.Table.{IsTableOf};
+ghost use Rattle.tcp_streams.specs.code.Table.{IsTableOf, IsTableOfFront};
 ghost use Rattle.tcp_streams.specs.Membership.{AreConnections, strays_of};
 ghost use Rattle.packet_heads.specs.code.Order.{AreNumberedFrom};
 
@@ -29,24 +29,8 @@ pub fn connections(
     ensures strays { IfOk result (λ found. found.strays.items ≡ strays_of packets.now) }
     ensures members { IfOk result (λ found. All (λ c. AreMembers 0 packets.now c.members.items) found.opened.items) }
 {
-    connections_from(Table::new(alloc, hash), packets, 0)
-}
-
-/// The same, where a table has taken in the packets before this index.
-pub(crate) fn connections_from(
-    mut table: Table,
-    packets: &Packets<'_>,
-    start: usize,
-) -> Result<Connections, AllocError>
-    requires few { length packets.now < 2 ^ 32 }
-    requires numbered { AreNumberedFrom 1 packets.now }
-    requires start { start ≤ length packets.now }
-    requires table { IsTableOf (past_of (take start packets.now)) table }
-    ensures opened { IfOk result (λ found. AreConnections packets.now found.opened.items) }
-    ensures strays { IfOk result (λ found. found.strays.items ≡ strays_of packets.now) }
-    ensures members { IfOk result (λ found. All (λ c. AreMembers 0 packets.now c.members.items) found.opened.items) }
-{
-    take_in(&mut table, packets, start)?;
+    let mut table = Table::new(alloc, hash);
+    take_in(&mut table, packets, 0)?;
     Ok(table.into_connections())
 }
 
@@ -56,10 +40,7 @@ pub(crate) fn take_in(
     packets: &Packets<'_>,
     start: usize,
 ) -> Result<(), AllocError>
-    requires few { length packets.now < 2 ^ 32 }
-    requires numbered { AreNumberedFrom 1 packets.now }
-    requires start { start ≤ length packets.now }
-    requires table { IsTableOf (past_of (take start packets.now)) table.old }
+    requires { IsTableOfFront packets.now start table.old }
     ensures { OnOk result (IsTableOf (past_of packets.now) table.new) }
 {
     for index in start..packets.len() {

@@ -39,9 +39,11 @@ pub struct Table {
 impl Table {
     ghost use Rattle.packet_heads.specs.declared.packets.Segment.{Segment as Shown};
     ghost use Rattle.std.specs.Prelude.{◌∷◌, ◌++◌, map, length};
-    ghost use Rattle.tcp_streams.specs.code.Past.{membership};
+    ghost use Rattle.packet_heads.specs.code.Order.{AreNumberedFrom};
+    ghost use Rattle.packet_heads.specs.declared.packets.Packet.{Packet};
+    ghost use Rattle.tcp_streams.specs.code.Past.{membership, past_of};
     ghost use Rattle.tcp_streams.specs.code.Pairs.{pair_of};
-    ghost use Rattle.tcp_streams.specs.code.Table.{HasPast, IsTableOf, IsTurn, Falls, opened_by, first_stray};
+    ghost use Rattle.tcp_streams.specs.code.Table.{AreFoundIn, HasPast, IsTableOf, IsTurn, Falls, opened_by, first_stray};
     ghost use Rattle.tcp_streams.specs.code.Standings.{SetsStanding, standing_of};
     ghost use Rattle.tcp_streams.specs.declared.standings.Standing.TheVariants.{Opened, Unopened};
 
@@ -151,10 +153,10 @@ impl Table {
             .set(Pair::of(segment), Standing::Unopened(index))
     }
 
-    /// What was found.
+    /// What was found in the packets that it has taken in.
     pub fn into_connections(self) -> Connections
-        ensures opened { result.opened.items ≡ self.opened.items }
-        ensures strays { result.strays.items ≡ self.strays.items }
+        ensures { (packets : List Packet) → AreNumberedFrom 1 packets → IsTableOf (past_of packets) self
+            → AreFoundIn packets result }
     {
         Connections {
             opened: self.opened,

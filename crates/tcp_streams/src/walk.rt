@@ -1,17 +1,16 @@
 //! The connections of a capture, found while it is read.
 
-ghost use Rattle.std.specs.Prelude.{◌≡◌, ◌<◌, ◌≤◌, ◌^◌, ◌⊎◌, All, IfErr, IfOk, IfSome, None, OnOk, Some, length, take};
+ghost use Rattle.std.specs.Prelude.{◌≡◌, ◌<◌, ◌≤◌, ◌^◌, ◌⊎◌, All, IfErr, IfOk, IfSome, None, OnOk, Some, length};
 ghost use Rattle.pcap_records.specs.Refusal.{refusal};
-ghost use Rattle.packet_heads.specs.code.Order.{AreNumberedFrom};
 ghost use Rattle.packet_heads.specs.code.Walk.{AreInOrder, ArePacketsOf, packets_in};
 ghost use Rattle.tcp_streams.specs.Membership.{AreConnections, strays_of};
 ghost use Rattle.tcp_streams.specs.code.Orderly.{AreMembers};
 ghost use Rattle.tcp_streams.specs.code.Past.{past_of};
-ghost use Rattle.tcp_streams.specs.code.Table.{IsTableOf};
+ghost use Rattle.tcp_streams.specs.code.Table.{IsTableOf, IsTableOfFront};
 ghost use Rattle.tcp_streams.specs.code.Walk.{HasTakenIn, IsConnectionWalkIn};
 
 use crate::members::Connections;
-use crate::membership::{connections_from, take_in};
+use crate::membership::take_in;
 use crate::table::Table;
 use input_output::{Capture, FrontWalk, TableHash};
 use packet_heads::{CapturePackets, PacketWalk, Packets};
@@ -78,33 +77,32 @@ impl ConnectionWalk {
             All (λ c. AreMembers 0 (packets_in found.0) c.members.items) found.1.opened.items) }
         ensures short { OnOk result (length capture.now < 2 ^ 31) }
     {
-        let ConnectionWalk { packets, table, .. } = self;
+        let ConnectionWalk {
+            packets,
+            mut table,
+            ..
+        } = self;
         let known = packets.count();
         let found = packets.finish(alloc, capture)?;
-        match completed(alloc, table, &found, known) {
-            Ok(connections) => Ok((found, connections)),
+        match take_rest(&mut table, alloc, &found, known) {
+            Ok(()) => Ok((found, table.into_connections())),
             Err(_) => Err(PcapFault::OutOfMemory),
         }
     }
 }
 
-/// The connections of a capture that holds these packets, so many of which a table has taken in.
-fn completed(
+/// Takes the packets from this index on into a table that has taken in those before it.
+fn take_rest(
+    table: &mut Table,
     alloc: Global,
-    table: Table,
     found: &CapturePackets,
     known: usize,
-) -> Result<Connections, AllocError>
-    requires few { length (packets_in found.now) < 2 ^ 32 }
-    requires numbered { AreNumberedFrom 1 (packets_in found.now) }
-    requires known { known ≤ length (packets_in found.now) }
-    requires table { IsTableOf (past_of (take known (packets_in found.now))) table }
-    ensures opened { IfOk result (λ c. AreConnections (packets_in found.now) c.opened.items) }
-    ensures strays { IfOk result (λ c. c.strays.items ≡ strays_of (packets_in found.now)) }
-    ensures members { IfOk result (λ c. All (λ c. AreMembers 0 (packets_in found.now) c.members.items) c.opened.items) }
+) -> Result<(), AllocError>
+    requires { IsTableOfFront (packets_in found.now) known table.old }
+    ensures { OnOk result (IsTableOf (past_of (packets_in found.now)) table.new) }
 {
     let packets = Packets::of(alloc, &found.packets)?;
-    connections_from(table, &packets, known)
+    take_in(table, &packets, known)
 }
 
 impl FrontWalk for ConnectionWalk {

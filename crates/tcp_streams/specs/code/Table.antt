@@ -1,10 +1,16 @@
 -- The table that `connections` and a walk keep, against the past that it has seen. No public clause cites these, but
 -- that on a walk (`Walk`).
-use Rattle.std.specs.Prelude.{◌≡◌, ℕ, ◌+◌, ◌<◌, ◌^◌, Bool, true, false, ◌&&◌, not, if◌then◌else◌, List, [], ◌∷◌, ◌++◌}
-use Rattle.std.specs.Prelude.{length, map, Option, None, Some, slice_get}
+use Rattle.std.specs.Prelude.{◌≡◌, ℕ, ◌+◌, ◌<◌, ◌≤◌, ◌^◌, Bool, true, false, ◌&&◌, not, if◌then◌else◌, List, [], ◌∷◌}
+use Rattle.std.specs.Prelude.{◌++◌, length, map, take, All, Option, None, Some, slice_get}
 use Rattle.std.specs.List.{list_any}
 use Rattle.std.specs.Option.{option_or}
+use Rattle.packet_heads.specs.code.Order.{AreNumberedFrom}
+use Rattle.packet_heads.specs.declared.packets.Packet.{Packet}
 use Rattle.packet_heads.specs.declared.packets.Segment.{Segment}
+use Rattle.tcp_streams.specs.Membership.{AreConnections, strays_of}
+use Rattle.tcp_streams.specs.code.Orderly.{AreMembers}
+use Rattle.tcp_streams.specs.declared.members.Connection.{Connection}
+use Rattle.tcp_streams.specs.declared.members.Connections.{Connections}
 use Rattle.tcp_streams.specs.declared.members.Stray.{Stray}
 use Rattle.tcp_streams.specs.declared.pair.Pair.{Pair}
 use Rattle.tcp_streams.specs.declared.standings.Standing.{Standing}
@@ -16,7 +22,7 @@ use Rattle.tcp_streams.specs.code.Standings.{standing_of}
 use Rattle.tcp_streams.specs.Pair.{is_endpoint}
 use Rattle.tcp_streams.specs.code.Pairs.{is_of, pair_of}
 use Rattle.tcp_streams.specs.code.Past.{Membership, connection_of, first_strays, last_opening, membership, openings}
-use Rattle.tcp_streams.specs.code.Past.{opens, stray_of, strays}
+use Rattle.tcp_streams.specs.code.Past.{opens, past_of, stray_of, strays}
 
 -- the connection that a segment opens
 abbrev pub opened_by : Segment → Membership
@@ -96,6 +102,19 @@ Falls n (s ∷ earlier) = (s.rec < n) × Falls s.rec earlier
 -- the table shows some past, with room for one more segment to be counted
 abbrev pub HasPast : Table → Type 0
 HasPast t = (past : List Segment) × IsTableOf past t × (length past + 1 < 2 ^ 32)
+
+-- the table shows the packets before this index, of those of a capture
+pub record IsTableOfFront (packets : List Packet) (index : ℕ) (t : Table) : Type 0 where
+  pub few : length packets < 2 ^ 32
+  pub numbered : AreNumberedFrom 1 packets
+  pub within : index ≤ length packets
+  pub table : IsTableOf (past_of (take index packets)) t
+
+-- these are the connections and the strays of the packets
+pub record AreFoundIn (packets : List Packet) (found : Connections) : Type 0 where
+  pub opened : AreConnections packets found.opened.items
+  pub strays : found.strays.items ≡ strays_of packets
+  pub members : All (λ (c : Connection). AreMembers 0 packets c.members.items) found.opened.items
 
 -- what a segment does to a table of this past
 abbrev pub IsTurn : List Segment → Segment → Turn → Type 0

@@ -18,10 +18,11 @@ refused-so (Some e) r s fault r_is s_is same =
 not_refused : (refusal : Option PcapFault) (P : PcapFault → Type 0) → refusal ≡ None → IfSome refusal P
 not_refused refusal P none = rw none tt
 
-pub completed-requires-clause-table : goal.completed-requires-clause-table
-completed-requires-clause-table c =
-    front-shown (made_by c.args.self.packets) (packets_in c.in_ok-found.found) _ c.count-known.ensures
-    c.in_ok-found.ensures.front c.args.self.table (c.requires.walk []).table
+pub take_rest-requires : goal.take_rest-requires
+take_rest-requires c =
+    let all = c.in_ok-found.ensures in
+    front-shown (made_by c.args.self.packets) (packets_in c.in_ok-found.found) _ _ c.count-known.ensures all.front
+    all.order c.args.self.table (c.requires.walk []).table
 
 pub returns-in_err-found-clause-refused : goal.returns-in_err-found-clause-refused
 returns-in_err-found-clause-refused c =
@@ -29,8 +30,20 @@ returns-in_err-found-clause-refused c =
     refused-so _ c.finish.result c.from_residual.result c.in_err-found.field-0.0 c.in_err-found.was (p.1 ∙ ap Err p.2)
     c.finish.ensures.refused
 
-pub returns-in-Ok-clause-refused : goal.returns-in-Ok-clause-refused
-returns-in-Ok-clause-refused c = not_refused _ _ c.in_ok-found.ensures.ok.0
+pub returns-in-Ok : goal.returns-in-Ok
+returns-in-Ok c =
+    let all = c.in_ok-found.ensures in
+    let found = c.into_connections.ensures _ all.order.numbered c.in-Ok.ensures in
+    record {
+      ok = all.ok;
+      opened = found.opened;
+      strays = found.strays;
+      refused = not_refused _ _ all.ok.0;
+      err = tt;
+      order = all.order;
+      members = found.members;
+      short = all.short;
+    }
 
 pub returns-in-Err-clause-refused : goal.returns-in-Err-clause-refused
 returns-in-Err-clause-refused c = not_refused _ _ c.in_ok-found.ensures.ok.0
