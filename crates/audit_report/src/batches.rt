@@ -1,11 +1,10 @@
 //! The sections of connections by several workers: in batches, of which halves are written side by side. So no more
 //! than a batch's text is in memory twice.
 
-ghost use Rattle.std.specs.Prelude.{◌≡◌, ◌+◌, ◌<◌, ◌≤◌, ◌^◌, ◌++◌, IfOk, All, List, ℕ, length};
+ghost use Rattle.std.specs.Prelude.{◌≡◌, ◌+◌, ◌<◌, ◌≤◌, ◌++◌, IfOk, List, ℕ, length};
 ghost use Rattle.std.specs.String.{string_bytes};
 ghost use Rattle.std.specs.Thread.{IsSync};
-ghost use Rattle.audit_report.specs.code.Reported.{HasOrderlyOutcome, told_text};
-ghost use Rattle.audit_report.specs.declared.told.Told.{Told};
+ghost use Rattle.audit_report.specs.code.Reported.{AreHeaded, told_text};
 
 use crate::headings::Heading;
 use crate::sections::push_sections;
@@ -82,9 +81,7 @@ fn with_sections<R: Threads + Sync>(
     headings: &[Heading],
     told: &[Told],
 ) -> Result<String, AllocError>
-    requires each { length told.now ≡ length headings.now }
-    requires orderly { All (λ (t : Told). HasOrderlyOutcome t.outcome) told.now }
-    requires numbers { before + length headings.now < 2 ^ 64 }
+    requires { AreHeaded before headings.now told.now }
     ensures { IfOk result (λ all. string_bytes all ≡ string_bytes text
         ++ told_text telling.frames_shown (before + 1) headings.now told.now) }
 {
@@ -113,11 +110,8 @@ fn with_halves<R: Threads + Sync>(
     told: (&[Told], &[Told]),
 ) -> Result<String, AllocError>
     requires workers { 2 ≤ telling.workers }
-    requires front { length told.0.now ≡ length headings.0.now }
-    requires back { length told.1.now ≡ length headings.1.now }
-    requires front_orderly { All (λ (t : Told). HasOrderlyOutcome t.outcome) told.0.now }
-    requires back_orderly { All (λ (t : Told). HasOrderlyOutcome t.outcome) told.1.now }
-    requires numbers { before + length headings.0.now + length headings.1.now < 2 ^ 64 }
+    requires front { AreHeaded before headings.0.now told.0.now }
+    requires back { AreHeaded (before + length headings.0.now) headings.1.now told.1.now }
     ensures { IfOk result (λ all. string_bytes all ≡ string_bytes text
         ++ told_text telling.frames_shown (before + 1) headings.entry.0.now told.entry.0.now
         ++ told_text telling.frames_shown (before + length headings.entry.0.now + 1) headings.entry.1.now
@@ -131,9 +125,7 @@ fn with_halves<R: Threads + Sync>(
     let (later, earlier) = join(
         rt,
         || -> Result<String, AllocError>
-            requires { IsSync R.row × (0 < few) × (length told_back.now ≡ length back.now)
-                × All (λ (t : Told). HasOrderlyOutcome t.outcome) told_back.now
-                × (between + length back.now < 2 ^ 64) }
+            requires { IsSync R.row × (0 < few) × AreHeaded between back.now told_back.now }
             ensures { IfOk result (λ all. string_bytes all
                 ≡ told_text telling.frames_shown (between + 1) back.entry.now told_back.entry.now) }
         {
@@ -141,9 +133,7 @@ fn with_halves<R: Threads + Sync>(
             with_sections(rt, telling.by(few), own, between, back, told_back)
         },
         || -> Result<String, AllocError>
-            requires { IsSync R.row × (0 < others) × (length told_front.now ≡ length front.now)
-                × All (λ (t : Told). HasOrderlyOutcome t.outcome) told_front.now
-                × (before + length front.now < 2 ^ 64) }
+            requires { IsSync R.row × (0 < others) × AreHeaded before front.now told_front.now }
             ensures { IfOk result (λ all. string_bytes all ≡ string_bytes text
                 ++ told_text telling.frames_shown (before + 1) front.entry.now told_front.entry.now) }
         { with_sections(rt, telling.by(others), text, before, front, told_front) },
@@ -159,8 +149,7 @@ pub fn with_all_sections<R: Threads + Sync>(
     headings: &[Heading],
     told: &[Told],
 ) -> Result<String, AllocError>
-    requires each { length told.now ≡ length headings.now }
-    requires orderly { All (λ (t : Told). HasOrderlyOutcome t.outcome) told.now }
+    requires { AreHeaded 0 headings.now told.now }
     ensures { IfOk result (λ all. string_bytes all ≡ string_bytes text
         ++ told_text telling.frames_shown 1 headings.now told.now) }
 {

@@ -1,6 +1,6 @@
 //! The sections of connections, one after the other.
 
-ghost use Rattle.std.specs.Prelude.{◌≡◌, ◌++◌, ◌+◌, ◌<◌, ◌^◌, [], OnOk, All, length};
+ghost use Rattle.std.specs.Prelude.{◌≡◌, ◌++◌, ◌+◌, [], OnOk, length};
 ghost use Rattle.std.specs.String.{string_bytes};
 ghost use Rattle.audit_terms.specs.code.runs.Orderly.{IsOrderly};
 ghost use Rattle.audit_report.specs.EndLine.{end_line};
@@ -8,8 +8,7 @@ ghost use Rattle.audit_report.specs.FindingLine.{finding_lines};
 ghost use Rattle.audit_report.specs.StallLine.{stall_lines};
 ghost use Rattle.audit_report.specs.Stalls.{stalls};
 ghost use Rattle.audit_report.specs.code.Contents.{contents_in, opening_text};
-ghost use Rattle.audit_report.specs.code.Reported.{HasOrderlyOutcome, extents_in, outcome_text, told_text};
-ghost use Rattle.audit_report.specs.declared.told.Told.{Told};
+ghost use Rattle.audit_report.specs.code.Reported.{AreHeaded, HasOrderlyOutcome, extents_in, outcome_text, told_text};
 
 use crate::connections::push_opening_text;
 use crate::contents::contents_in;
@@ -31,9 +30,7 @@ pub fn push_sections(
     headings: &[Heading],
     told: &[Told],
 ) -> Result<(), AllocError>
-    requires each { length told.now ≡ length headings.now }
-    requires orderly { All (λ (t : Told). HasOrderlyOutcome t.outcome) told.now }
-    requires numbers { before + length headings.now < 2 ^ 64 }
+    requires { AreHeaded before headings.now told.now }
     ensures { OnOk result (string_bytes out.new ≡ string_bytes out.old
         ++ told_text telling.frames_shown (before + 1) headings.now told.now) }
 {

@@ -1,5 +1,5 @@
 -- How what is kept of connections stands for their audits, and the text that it makes.
-use Rattle.std.specs.Prelude.{◌≡◌, ℕ, ◌+◌, Bool, if◌then◌else◌, List, [], ◌∷◌, ◌++◌, length, None, Some}
+use Rattle.std.specs.Prelude.{◌≡◌, ℕ, ◌+◌, ◌<◌, ◌^◌, Bool, if◌then◌else◌, List, [], ◌∷◌, ◌++◌, All, length, None, Some}
 use Rattle.std.specs.List.{AllZip}
 use Rattle.audit_report.specs.EndLine.{end_line}
 use Rattle.audit_report.specs.FindingLine.{finding_lines}
@@ -57,6 +57,12 @@ AreToldOf = AllZip IsToldOf
 abbrev pub HasOrderlyOutcome : Outcome → Type 0
 HasOrderlyOutcome (outcome.Audited audited) = IsOrderly audited.value.frames.items
 HasOrderlyOutcome _ = Unit {0}
+
+-- what is told of connections stands under their headings, and before them so many others
+pub record AreHeaded (before : ℕ) (headings : List Heading) (told : List Told) : Type 0 where
+  pub each : length told ≡ length headings
+  pub orderly : All (λ (t : Told). HasOrderlyOutcome t.outcome) told
+  pub numbers : before + length headings < 2 ^ 64
 
 -- the lines of the findings shown, of stalls, and of the audit's end
 abbrev pub outcome_text : (credits_shown : Bool) → Outcome → List ℕ
