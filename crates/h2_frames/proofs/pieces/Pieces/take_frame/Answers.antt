@@ -27,3 +27,8 @@ returns-in-Some c =
 
 pub returns-in-None : goal.returns-in-None
 returns-in-None c = rw (← c.go_on.ensures.bytes) c.take_scattered.ensures
+
+pub overflow_sub-self : goal.overflow_sub-self
+overflow_sub-self c =
+    let (header, payload, is, makes) = c.in-Some.ensures.found in
+    omega (arith, ap length is, length-append (header ++ payload) c.in-Some.later.now)
