@@ -1,9 +1,10 @@
 -- Going down the connections and what is told of them, side by side.
-use Rattle.std.proofs.Common.{◌≡◌, ℕ, zero, suc, ◌+◌, ◌<◌, Bool, List, [], ◌∷◌, ◌++◌, take, drop, length, get_or, ◌∙◌}
-use Rattle.std.proofs.Common.{refl, ap, sym, append_assoc, arith}
-use Rattle.std.proofs.lemmas.List.{drop_more}
+use Rattle.std.proofs.Common.{◌≡◌, ℕ, zero, suc, ◌+◌, ◌<◌, ◌≤◌, Bool, List, [], ◌∷◌, ◌++◌, take, drop, length, get_or, ◌∙◌}
+use Rattle.std.proofs.Common.{◌-◌, refl, ap, sym, append_assoc, arith, length-drop}
+use Rattle.std.proofs.lemmas.List.{drop_more, length-take}
+use Rattle.std.proofs.lemmas.List.Elements.{All-drop, All-take}
 use Rattle.audit_report.specs.code.Contents.{contents_in, opening_text}
-use Rattle.audit_report.specs.code.Reported.{extents_in, outcome_text, told_text}
+use Rattle.audit_report.specs.code.Reported.{AreHeaded, HasOrderlyOutcome, extents_in, outcome_text, told_text}
 use Rattle.audit_report.specs.declared.told.Told.{Told}
 use Rattle.audit_report.specs.declared.headings.Heading.{Heading}
 
@@ -48,10 +49,37 @@ told_parts shown k (suc n) (h ∷ hs) (t ∷ ts) =
 
 -- the lines of connections that lie in two parts, behind a text
 pub told_joined : (shown : Bool) (k next n : ℕ) (headings front back : List Heading)
-    (told told_front told_back : List Told) (text : List ℕ) → k + n ≡ next
+    (told told_front told_back : List Told) (text all : List ℕ) → k + n ≡ next
     → front ≡ take n headings → back ≡ drop n headings → told_front ≡ take n told → told_back ≡ drop n told
-    → (text ++ told_text shown k front told_front) ++ told_text shown next back told_back
-    ≡ text ++ told_text shown k headings told
-told_joined shown k next n headings front back told told_front told_back text on f b tf tb =
-    rw (← on, f, b, tf, tb) (append_assoc text (told_text shown k (take n headings) (take n told)) _
+    → all ≡ (text ++ told_text shown k front told_front) ++ told_text shown next back told_back
+    → all ≡ text ++ told_text shown k headings told
+told_joined shown k next n headings front back told told_front told_back text all on f b tf tb all_is =
+    all_is ∙ rw (← on, f, b, tf, tb) (append_assoc text (told_text shown k (take n headings) (take n told)) _
     ∙ ap (λ l. text ++ l) (told_parts shown k n headings told))
+
+-- each part stands under its headings
+pub record AreHeadedInParts (before : ℕ) (h h' : List Heading) (t t' : List Told) : Type 0 where
+  pub front : AreHeaded before h t
+  pub back : AreHeaded (before + length h) h' t'
+
+pub headed_parts : (before n : ℕ) (headings front back : List Heading) (told told_front told_back : List Told)
+    → AreHeaded before headings told → n ≤ length told
+    → front ≡ take n headings → back ≡ drop n headings → told_front ≡ take n told → told_back ≡ drop n told
+    → AreHeadedInParts before front back told_front told_back
+headed_parts before n headings front back told told_front told_back headed within f b tf tb =
+    let size : length front ≡ n = omega (arith, headed.each, ap length f, length-take n headings) in
+    let size' : length told_front ≡ n = omega (arith, ap length tf, length-take n told) in
+    let left : length back ≡ length headings - n = omega (arith, ap length b, length-drop n headings) in
+    let left' : length told_back ≡ length told - n = omega (arith, ap length tb, length-drop n told) in
+    record {
+      front = record {
+        each = omega arith;
+        orderly = rw tf (All-take (λ (t : Told). HasOrderlyOutcome t.outcome) n told headed.orderly);
+        numbers = omega (arith, headed.numbers, headed.each);
+      };
+      back = record {
+        each = omega (arith, headed.each);
+        orderly = rw tb (All-drop (λ (t : Told). HasOrderlyOutcome t.outcome) n told headed.orderly);
+        numbers = omega (arith, headed.numbers, headed.each);
+      };
+    }

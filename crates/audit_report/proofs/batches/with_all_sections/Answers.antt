@@ -21,9 +21,9 @@ loop-done-preserved g c =
     let within = c.count_within-count.ensures.within in
     record {
       within = omega (arith, left, within);
-      written = ap (λ text. text ++ rest) c.in_ok-all.ensures
-          ∙ told_joined shown (at.done + 1) (next + 1) count _ _ _ _ _ _ (string_bytes at.all) (omega arith)
+      written = told_joined shown (at.done + 1) (next + 1) count _ _ _ _ _ _ (string_bytes at.all) _ (omega arith)
           (rw c.split_at-in-loop-done.ensures.back at batch) (sym (drop-drop count at.done headings))
           (rw c.split_at.ensures.back at told_batch) (sym (drop-drop count at.done told))
+          (ap (λ text. text ++ rest) c.in_ok-all.ensures)
           ∙ at.invariant.written;
     }

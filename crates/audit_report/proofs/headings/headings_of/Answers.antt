@@ -1,5 +1,5 @@
-use Rattle.std.proofs.Common.{refl, take}
-use Rattle.std.proofs.lemmas.List.{map-append, take_more}
+use Rattle.std.proofs.Common.{◌∙◌, ap, map, refl, take}
+use Rattle.std.proofs.lemmas.List.{map-append, take_all, take_more}
 use Rattle.audit_report.specs.code.Heading.{heading_of}
 use Rattle.audit_report.proofs.headings.headings_of.Goals as goal
 
@@ -17,3 +17,9 @@ loop-connection-preserved c =
       map-append heading_of so_far _,
       ← c.connection-item.is,
     ) refl
+
+pub returns : goal.returns
+returns c =
+    (rw (take_all c.loop-connection.connection-index c.deref-connection-items.result.now
+    c.loop-connection-test.false) at c.loop-connection.invariant)
+    ∙ ap (map heading_of) c.deref-connection-items.ensures.value
