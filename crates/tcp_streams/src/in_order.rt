@@ -26,6 +26,19 @@ struct Laid<'a> {
 }
 
 impl<'a> Laid<'a> {
+    /// Nothing, with room for so many pieces and arrivals.
+    fn with_capacity(alloc: Global, count: usize) -> Result<Laid<'a>, AllocError>
+        ensures pieces { IfOk result (λ laid. laid.pieces.items ≡ []) }
+        ensures arrivals { IfOk result (λ laid. laid.arrivals.items ≡ []) }
+        ensures end { IfOk result (λ laid. laid.end ≡ 0) }
+    {
+        Ok(Laid {
+            pieces: Vec::with_capacity(alloc, count)?,
+            arrivals: Vec::with_capacity(alloc, count)?,
+            end: 0,
+        })
+    }
+
     /// Adds an interval of the capture, and when its bytes arrived.
     fn add(&mut self, capture: &Capture<'a>, x: &Interval) -> Result<(), AllocError>
         requires { IsInside (length capture.now) x.now }
@@ -56,11 +69,7 @@ pub fn flow_in_order<'a>(
     ensures { IfOk result (λ found. IfSome found
         (IsAssembled capture.now packets.now connection.now side initial_number)) }
 {
-    let mut laid = Laid {
-        pieces: Vec::with_capacity(alloc, connection.members.len())?,
-        arrivals: Vec::with_capacity(alloc, connection.members.len())?,
-        end: 0,
-    };
+    let mut laid = Laid::with_capacity(alloc, connection.members.len())?;
     for member in &connection.members {
         if let Some(piece) = piece_of_member(initial_number, packets, connection, side, *member) {
             if piece.from != laid.end {
