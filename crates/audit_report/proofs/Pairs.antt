@@ -58,28 +58,18 @@ told_joined shown k next n headings front back told told_front told_back text al
     ∙ ap (λ l. text ++ l) (told_parts shown k n headings told))
 
 -- each part stands under its headings
-pub record AreHeadedInParts (before : ℕ) (h h' : List Heading) (t t' : List Told) : Type 0 where
-  pub front : AreHeaded before h t
-  pub back : AreHeaded (before + length h) h' t'
-
 pub headed_parts : (before n : ℕ) (headings front back : List Heading) (told told_front told_back : List Told)
     → AreHeaded before headings told → n ≤ length told
     → front ≡ take n headings → back ≡ drop n headings → told_front ≡ take n told → told_back ≡ drop n told
-    → AreHeadedInParts before front back told_front told_back
+    → AreHeaded before front told_front × AreHeaded (before + length front) back told_back
 headed_parts before n headings front back told told_front told_back headed within f b tf tb =
-    let size : length front ≡ n = omega (arith, headed.each, ap length f, length-take n headings) in
+    let each = headed.each in
+    let numbers = headed.numbers in
+    let size : length front ≡ n = omega (arith, ap length f, length-take n headings) in
     let size' : length told_front ≡ n = omega (arith, ap length tf, length-take n told) in
     let left : length back ≡ length headings - n = omega (arith, ap length b, length-drop n headings) in
     let left' : length told_back ≡ length told - n = omega (arith, ap length tb, length-drop n told) in
-    record {
-      front = record {
-        each = omega arith;
-        orderly = rw tf (All-take (λ (t : Told). HasOrderlyOutcome t.outcome) n told headed.orderly);
-        numbers = omega (arith, headed.numbers, headed.each);
-      };
-      back = record {
-        each = omega (arith, headed.each);
-        orderly = rw tb (All-drop (λ (t : Told). HasOrderlyOutcome t.outcome) n told headed.orderly);
-        numbers = omega (arith, headed.numbers, headed.each);
-      };
-    }
+    let P : Told → Type 0 = λ t. HasOrderlyOutcome t.outcome in (
+      record { each = omega arith; orderly = rw tf (All-take P n told headed.orderly); numbers = omega arith },
+      record { each = omega arith; orderly = rw tb (All-drop P n told headed.orderly); numbers = omega arith },
+    )

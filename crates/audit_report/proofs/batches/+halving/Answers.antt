@@ -23,14 +23,14 @@ with_sections-with_halves-requires-clause-front g t c = λ κs lives.
     let headings = c.split_at-headings.ensures in
     let told = c.split_at-told.ensures in
     (headed_parts c.args.before c.count_within-count.result _ _ _ _ _ _ c.requires c.count_within-count.ensures.within
-    headings.front headings.back told.front told.back).front
+    headings.front headings.back told.front told.back).0
 
 pub with_sections-with_halves-requires-clause-back : goal.with_sections-with_halves-requires-clause-back
 with_sections-with_halves-requires-clause-back g t c = λ κs lives.
     let headings = c.split_at-headings.ensures in
     let told = c.split_at-told.ensures in
     (headed_parts c.args.before c.count_within-count.result _ _ _ _ _ _ c.requires c.count_within-count.ensures.within
-    headings.front headings.back told.front told.back).back
+    headings.front headings.back told.front told.back).1
 
 pub with_halves-returns : goal.with_halves-returns
 with_halves-returns g t c = c.behind.ensures _ _ c.join-later.ensures.second c.join-later.ensures.first
