@@ -32,23 +32,21 @@ frame_arrives unread placed s after one last last_is =
     (omega (arith, placed.before)) (omega arith)
 
 -- past that frame
-pub placed_after : (unread after : Unread) → IsPlaced unread → (s : Spelled)
-    → IsOneTaken s (bytes_of unread.bytes) after.bytes
-    → after.offset ≡ unread.offset + (9 + s.header.length)
-    → after.arrivals.now ≡ arrivals_from (after.offset - 1) unread.arrivals.now → IsPlaced after
-placed_after unread after placed s one offset_is arrivals_are =
-    let size = size_of_taken s (bytes_of unread.bytes) after.bytes one in
-    let rise = arrivals_from-rise placed.low placed.rec _ (after.offset - 1) unread.arrivals.now placed.rises
+placed_after : (old new : Unread) → IsPlaced old → (s : Spelled) → IsOneTaken s (bytes_of old.bytes) new.bytes
+    → new.offset ≡ old.offset + (9 + s.header.length)
+    → new.arrivals.now ≡ arrivals_from (new.offset - 1) old.arrivals.now → IsPlaced new
+placed_after old new placed s one offset_is arrivals_are =
+    let size = size_of_taken s (bytes_of old.bytes) new.bytes one in
+    let rise = arrivals_from-rise placed.low placed.rec _ (new.offset - 1) old.arrivals.now placed.rises
     (omega (arith, placed.before)) in
-    let high : unread.offset + length (bytes_of unread.bytes) ≡ after.offset + length (bytes_of after.bytes) = omega
-    arith in
+    let high : old.offset + length (bytes_of old.bytes) ≡ new.offset + length (bytes_of new.bytes) = omega arith in
     record {
       counted = one.counted;
       low = rise.0;
       rec = rise.1;
       before = omega (arith, rise.2);
       rises = rw (arrivals_are, ← high) rise.3;
-      timely = rw arrivals_are (arrivals_from-timely (after.offset - 1) unread.arrivals.now placed.timely);
+      timely = rw arrivals_are (arrivals_from-timely (new.offset - 1) old.arrivals.now placed.timely);
       short = omega (arith, placed.short);
     }
 
@@ -108,27 +106,27 @@ read-on old new number s ready number_is one offset_is to_come_is d frame frame_
     }
 
 -- there is none
-pub read-over : (old new : Unread) (number : ℕ) → IsReady old → old.next ≡ ToRead number
-    → bytes_of new.bytes ≡ bytes_of old.bytes → HoldsNoFrame (bytes_of old.bytes) → IsCounted new.bytes
-    → new.next ≡ Over → new.offset ≡ old.offset → new.arrivals.now ≡ old.arrivals.now → IsReadOn old new
-read-over old new number ready number_is bytes_are none counted next_is offset_is arrivals_are = record {
-  ahead = record {
-    ready = record {
-      placed = record {
-        counted = counted;
-        low = ready.placed.low;
-        rec = ready.placed.rec;
-        before = omega (arith, ready.placed.before);
-        rises = rw (arrivals_are, offset_is, bytes_are) ready.placed.rises;
-        timely = rw arrivals_are ready.placed.timely;
-        short = rw (offset_is, bytes_are) ready.placed.short;
+pub read-over : (old : Unread) (new : Unread) (number : ℕ) → IsReady old → old.next ≡ ToRead number
+    → (bytes_of new.bytes ≡ bytes_of old.bytes) × HoldsNoFrame (bytes_of old.bytes) × IsCounted new.bytes
+    → IsReadOn old (record old { next = Over; bytes = new.bytes; gathered = new.gathered })
+read-over old new number ready number_is (same, none, counted) =
+    let placed = ready.placed in
+    record {
+      ahead = record {
+        ready = record {
+          placed = record {
+            counted = counted;
+            low = placed.low;
+            rec = placed.rec;
+            before = placed.before;
+            rises = rw same placed.rises;
+            timely = placed.timely;
+            short = rw same placed.short;
+          };
+          next = rw same none;
+        };
+        known = tt;
       };
-      next = rw (next_is, bytes_are) none;
-    };
-    known = rw next_is tt;
-  };
-  left = λ frames tail left.
-      let (frames_are, spells) = rw next_is at left in
-      rw number_is ([], rw bytes_are at spells, frames_are);
-  weight = rw (next_is, number_is, bytes_are) (omega arith);
-}
+      left = λ frames tail left. rw number_is ([], rw same at left.1, left.0);
+      weight = rw (number_is, same) (omega arith);
+    }

@@ -1,6 +1,6 @@
 -- Reading the settings of a payload one after the other.
 use Rattle.std.proofs.Common.{◌≡◌, ℕ, ◌<◌, ◌≤◌, ◌+◌, Bool, not, ◌&&◌, List, [], ◌∷◌, length, take, drop, Option, None}
-use Rattle.std.proofs.Common.{Some, refl, ap, arith, sym}
+use Rattle.std.proofs.Common.{Some, refl, arith, sym}
 use Rattle.std.specs.Prelude.{is_none, if◌then◌else◌, find, option_map}
 use Rattle.std.specs.Option.{option_or}
 use Rattle.h2_frames.proofs.Words.{◌==◌, Settings, Setting, setting_at, settings_in, is_in_range, last_value, first_bad}
@@ -42,10 +42,6 @@ pub settings_in-step : (payload : List ℕ) → 6 ≤ length payload →
 settings_in-step (a ∷ b ∷ c ∷ d ∷ e ∷ f ∷ later) h = refl
 settings_in-step _ h = absurd (omega arith)
 
-or_none : (found : Option ℕ) → option_or found None ≡ found
-or_none None = refl
-or_none (Some n) = refl
-
 settings_in-short : (rest : List ℕ) → length rest < 6 → settings_in rest ≡ []
 settings_in-short (a ∷ b ∷ c ∷ d ∷ e ∷ f ∷ later) h = absurd (omega arith)
 settings_in-short _ h = refl
@@ -54,7 +50,7 @@ settings_in-short _ h = refl
 pub with_later-none : (settings : Settings) (rest : List ℕ) → length rest < 6
     → with_later settings (settings_in rest) ≡ settings
 with_later-none settings rest h =
-    rw (settings_in-short rest h) (ap (λ (b : Option ℕ). record settings { bad = b }) (or_none settings.bad))
+    rw (settings_in-short rest h) (grind arith)
 
 -- one turn of the loop over a payload
 pub with_later-turn : (settings new : Settings) (s : Setting) (rest pair later : List ℕ) →

@@ -69,6 +69,18 @@ impl FrameBatch {
         self.reach
     }
 
+    /// Numbers its frames on from those that were taken before, and says how many are taken with them.
+    pub(crate) fn number_on(&mut self, taken: u32) -> u32
+        requires { taken + (length self.old.client.items + length self.old.server.items) < 2 ^ 31 }
+        ensures before { self.new.before ≡ taken }
+        ensures client { self.new.client ≡ self.old.client }
+        ensures server { self.new.server ≡ self.old.server }
+        ensures taken { result ≡ taken + (length self.old.client.items + length self.old.server.items) }
+    {
+        self.before = taken;
+        taken + (self.client.len() + self.server.len()) as u32
+    }
+
     /// How many frames it has.
     #[tactic(auto, using(crate::proofs::Batching::batch_lengths))]
     pub fn len(&self) -> usize

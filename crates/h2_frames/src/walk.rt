@@ -179,8 +179,7 @@ impl<'a> FrameWalk<'a> {
             return Ok(false);
         };
         self.take_up_to(rt, threads, limit, batch)?;
-        batch.before = self.taken;
-        self.taken += (batch.client.len() + batch.server.len()) as u32;
+        self.taken = batch.number_on(self.taken);
         Ok(true)
     }
 

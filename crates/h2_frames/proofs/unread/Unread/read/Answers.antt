@@ -12,5 +12,5 @@ returns c =
 
 pub returns-in_default : goal.returns-in_default
 returns-in_default c =
-    let none = rw c.in_default.is at c.in_ok-spelled.ensures in
-    read-over c.args.self.now _ c.args.number c.requires.ready c.requires.number none.0 none.1 none.2 refl refl refl
+    read-over c.args.self.now (record c.args.self.now { bytes = c.take_frame.new.self; gathered = c.take_frame.new.gathered })
+    c.args.number c.requires.ready c.requires.number (rw c.in_default.is at c.in_ok-spelled.ensures)

@@ -1,4 +1,3 @@
-use Rattle.std.proofs.Common.{arith}
 use Rattle.h2_frames.proofs.Batching.{walk-batch, walk-over}
 use Rattle.h2_frames.proofs.Walking.{few-on, walk-on}
 use Rattle.h2_frames.proofs.walk.FrameWalk.take_batch.Goals as goal
@@ -14,6 +13,8 @@ pub returns-clause-next : goal.returns-clause-next
 returns-clause-next g c =
     let on = c.in_ok-limit.ensures.on in
     let both = c.in_ok-take_up_to.ensures.both in
-    λ client server frames before.
-    walk-batch client server c.limit_ahead.new.self _ c.in-Some.limit frames _ _ both.sent both.answered _
-    c.in_ok-take_up_to.ensures.taken (omega arith) (few-on _ _ on c.requires) (walk-on client server _ _ frames on before)
+    let numbered = c.number_on-self.ensures in
+    λ client server frames before. rw (numbered.before, numbered.client, numbered.server)
+    (walk-batch client server c.limit_ahead.new.self _ c.in-Some.limit frames _ _ both.sent both.answered _
+    c.in_ok-take_up_to.ensures.taken numbered.taken (few-on _ _ on c.requires)
+    (walk-on client server _ _ frames on before))
