@@ -43,7 +43,8 @@ impl Table {
     ghost use Rattle.packet_heads.specs.declared.packets.Packet.{Packet};
     ghost use Rattle.tcp_streams.specs.code.Past.{membership, past_of};
     ghost use Rattle.tcp_streams.specs.code.Pairs.{pair_of};
-    ghost use Rattle.tcp_streams.specs.code.Table.{AreFoundIn, HasPast, IsTableOf, IsTurn, Falls, opened_by, first_stray};
+    ghost use Rattle.tcp_streams.specs.code.Table.{AreFoundIn, HasPast, IsTableOf, IsTurn, Falls, opened_by};
+    ghost use Rattle.tcp_streams.specs.code.Table.{first_stray};
     ghost use Rattle.tcp_streams.specs.code.Standings.{SetsStanding, standing_of};
     ghost use Rattle.tcp_streams.specs.declared.standings.Standing.TheVariants.{Opened, Unopened};
 

@@ -1,5 +1,5 @@
 use Rattle.std.proofs.Common.{◌≡◌, ◌∙◌, [], ap, Err, None, Option, Result, Some}
-use Rattle.std.proofs.lemmas.Result.{err_from_is_err_and}
+use Rattle.std.proofs.{lemmas.Option.MatchOption-from_none, lemmas.Result.err_from_is_err_and}
 use Rattle.pcap_records.specs.declared.faults.PcapFault.{PcapFault}
 use Rattle.tcp_streams.proofs.Words.{IfSome}
 use Rattle.packet_heads.specs.code.Walk.{made_by, packets_in}
@@ -11,12 +11,7 @@ refused-so : {T U : Type 0} (refusal : Option PcapFault) (r : Result T PcapFault
     (fault : PcapFault) → r ≡ Err fault → s ≡ Err fault
     → IfSome refusal (λ e. r ≡ Err e) → IfSome refusal (λ e. s ≡ Err e)
 refused-so None r s fault r_is s_is same = tt
-refused-so (Some e) r s fault r_is s_is same =
-    let is : fault ≡ e = cc in
-    cc
-
-not_refused : (refusal : Option PcapFault) (P : PcapFault → Type 0) → refusal ≡ None → IfSome refusal P
-not_refused refusal P none = rw none tt
+refused-so (Some e) r s fault r_is s_is same = let is : fault ≡ e = cc in cc
 
 pub take_rest-requires : goal.take_rest-requires
 take_rest-requires c =
@@ -38,7 +33,7 @@ returns-in-Ok c =
       ok = all.ok;
       opened = found.opened;
       strays = found.strays;
-      refused = not_refused _ _ all.ok.0;
+      refused = MatchOption-from_none _ _ all.ok.0;
       err = tt;
       order = all.order;
       members = found.members;
@@ -46,4 +41,4 @@ returns-in-Ok c =
     }
 
 pub returns-in-Err-clause-refused : goal.returns-in-Err-clause-refused
-returns-in-Err-clause-refused c = not_refused _ _ c.in_ok-found.ensures.ok.0
+returns-in-Err-clause-refused c = MatchOption-from_none _ _ c.in_ok-found.ensures.ok.0
