@@ -1,6 +1,6 @@
 -- Going down the connections and what is told of them, side by side.
-use Rattle.std.proofs.Common.{◌≡◌, ℕ, zero, suc, ◌+◌, ◌<◌, ◌≤◌, Bool, List, [], ◌∷◌, ◌++◌, take, drop, length, get_or, ◌∙◌}
-use Rattle.std.proofs.Common.{◌-◌, refl, ap, sym, append_assoc, arith, length-drop}
+use Rattle.std.proofs.Common.{◌≡◌, ℕ, zero, suc, ◌+◌, ◌<◌, ◌≤◌, Bool, List, [], ◌∷◌, ◌++◌, take, drop, length, get_or}
+use Rattle.std.proofs.Common.{◌-◌, ◌∙◌, refl, ap, sym, append_assoc, arith, length-drop}
 use Rattle.std.proofs.lemmas.List.{drop_more, length-take}
 use Rattle.std.proofs.lemmas.List.Elements.{All-drop, All-take}
 use Rattle.audit_report.specs.code.Contents.{contents_in, opening_text}

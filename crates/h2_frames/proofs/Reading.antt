@@ -1,9 +1,9 @@
 -- One frame is read of what is ahead.
-use Rattle.std.proofs.Common.{◌≡◌, ℕ, ◌+◌, ◌-◌, ◌*◌, ◌≤◌, ◌<◌, List, [], ◌∷◌, ◌++◌, length, get_or, refl, ap, ◌∙◌, arith}
-use Rattle.std.proofs.Common.{length-append}
+use Rattle.std.proofs.Common.{◌≡◌, ℕ, ◌+◌, ◌-◌, ◌*◌, ◌≤◌, ◌<◌, List, [], ◌∷◌, ◌++◌, length, get_or, refl, ap, arith}
+use Rattle.std.proofs.Common.{◌∙◌, length-append}
 use Rattle.h2_frames.proofs.Words.{Arrival, Frame, Over, Read, Spelled, ToRead, Unread, byte_arrival, captured}
-use Rattle.h2_frames.proofs.Words.{captured_from, arrivals_from, AreAhead, HoldsNoFrame, IsCounted, IsOneTaken, IsPlaced}
-use Rattle.h2_frames.proofs.Words.{IsReadable, IsReadOn, IsReady, Pieces}
+use Rattle.h2_frames.proofs.Words.{captured_from, arrivals_from, AreAhead, HoldsNoFrame, IsCounted, IsOneTaken}
+use Rattle.h2_frames.proofs.Words.{IsPlaced, IsReadable, IsReadOn, IsReady, Pieces}
 use Rattle.h2_frames.specs.code.Pieces.{bytes_of}
 use Rattle.h2_frames.proofs.Promised.{promised-fits}
 use Rattle.h2_frames.proofs.Arriving.{captured_from-from, get_or-arrivals_from, arrivals_from-not_empty}

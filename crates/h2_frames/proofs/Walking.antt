@@ -1,6 +1,6 @@
 -- A walk over the frames of both sides goes on by one frame, or is over.
-use Rattle.std.proofs.Common.{◌≡◌, ℕ, ◌+◌, ◌*◌, ◌^◌, ◌<◌, ◌≤◌, List, [], ◌∷◌, ◌++◌, length, ap, ◌∙◌, arith, append_assoc}
-use Rattle.std.proofs.lemmas.List.{length_push}
+use Rattle.std.proofs.Common.{◌≡◌, ℕ, ◌+◌, ◌*◌, ◌^◌, ◌<◌, ◌≤◌, List, [], ◌∷◌, ◌++◌, length, ap, ◌∙◌, arith}
+use Rattle.std.proofs.{Common.append_assoc, lemmas.List.length_push}
 use Rattle.h2_frames.proofs.Words.{Flow, Frame, IsInRange, IsOrderlyFrom, FrameWalk, numbered, AreMerged, IsWalkAfter}
 use Rattle.h2_frames.proofs.Words.{IsReadyWalk, IsWalkOn, taken_of, weight_of}
 

@@ -77,6 +77,8 @@ impl<'a> FrameWalk<'a> {
     }
 
     /// Reads the next frame of each side ahead.
+    // Called for each frame that is taken by itself.
+    #[inline(always)]
     fn read_ahead(&mut self) -> Result<(), AllocError>
         requires { IsReadyWalk self.old }
         ensures { OnOk result (IsWalkOn self.old self.new) }

@@ -31,6 +31,3 @@ with_sections-with_halves-requires-clause-back g t c = λ κs lives.
     let told = c.split_at-told.ensures in
     (headed_parts c.args.before c.count_within-count.result _ _ _ _ _ _ c.requires c.count_within-count.ensures.within
     headings.front headings.back told.front told.back).1
-
-pub with_halves-returns : goal.with_halves-returns
-with_halves-returns g t c = c.behind.ensures _ _ c.join-later.ensures.second c.join-later.ensures.first

@@ -12,5 +12,6 @@ returns c =
 
 pub returns-in_default : goal.returns-in_default
 returns-in_default c =
-    read-over c.args.self.now (record c.args.self.now { bytes = c.take_frame.new.self; gathered = c.take_frame.new.gathered })
-    c.args.number c.requires.ready c.requires.number (rw c.in_default.is at c.in_ok-spelled.ensures)
+    let old = c.args.self.now in
+    read-over old (record old { bytes = c.take_frame.new.self; gathered = c.take_frame.new.gathered }) c.args.number
+    c.requires.ready c.requires.number (rw c.in_default.is at c.in_ok-spelled.ensures)
