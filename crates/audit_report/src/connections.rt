@@ -11,7 +11,7 @@ use crate::contents::{Contents, tail_in};
 use crate::endpoints::push_endpoint;
 use crate::extents::Extent;
 use crate::headings::Heading;
-use crate::words::{push_field, push_number, push_word};
+use crate::words::{push_field, push_number, push_word, push_words};
 use audit_terms::{Side, Sides};
 use packet_heads::Endpoint;
 use std::alloc::AllocError;
@@ -84,8 +84,7 @@ fn push_contents(out: &mut String, contents: Contents) -> Result<(), AllocError>
 fn push_flow_line(out: &mut String, side: Side, extent: Extent, tail: u32) -> Result<(), AllocError>
     ensures { OnOk result (string_bytes out.new ≡ string_bytes out.old ++ flow_line side extent tail) }
 {
-    push_word(out, "flow ")?;
-    push_word(out, side.name())?;
+    push_words(out, "flow ", side.name())?;
     push_field(out, " bytes ", extent.size)?;
     push_word(out, " gap ")?;
     push_gap(out, extent.gap)?;

@@ -5,7 +5,7 @@ ghost use Rattle.audit_report.specs.StallLine.{stall_end_text, stall_line, stall
 ghost use Rattle.audit_report.specs.EndLine.{end_line_after, end_line};
 
 use crate::stalls::Stall;
-use crate::words::{push_field, push_signed, push_word};
+use crate::words::{push_field, push_signed, push_word, push_words};
 use audit_terms::Finding;
 use std::alloc::AllocError;
 
@@ -23,8 +23,7 @@ pub fn push_stall_lines(out: &mut String, stalls: &[Stall]) -> Result<(), AllocE
 fn push_stall_line(out: &mut String, stall: &Stall) -> Result<(), AllocError>
     ensures { OnOk result (string_bytes out.new ≡ string_bytes out.old ++ stall_line stall.now) }
 {
-    push_word(out, "stall ")?;
-    push_word(out, stall.side.name())?;
+    push_words(out, "stall ", stall.side.name())?;
     push_field(out, " stream ", stall.stream as u64)?;
     push_field(out, " from ", stall.from as u64)?;
     push_stall_end(out, stall.to, stall.nanos)?;

@@ -6,7 +6,7 @@ ghost use Rattle.audit_report.specs.FindingLine.{finding_line, shown_line, findi
 ghost use Rattle.audit_report.specs.code.Findings.{moment_text, said_text};
 
 use crate::lookup::frame_at;
-use crate::words::{push_field, push_signed, push_word};
+use crate::words::{push_field, push_signed, push_word, push_words};
 use audit_terms::{Finding, Frame};
 use std::alloc::AllocError;
 
@@ -89,10 +89,8 @@ fn push_moment(out: &mut String, number: u32, frames: &[Frame]) -> Result<(), Al
 fn push_said(out: &mut String, finding: &Finding) -> Result<(), AllocError>
     ensures { OnOk result (string_bytes out.new ≡ string_bytes out.old ++ said_text finding.now) }
 {
-    push_word(out, " ")?;
-    push_word(out, finding.side.name())?;
-    push_word(out, " ")?;
-    push_word(out, finding.kind.name())?;
+    push_words(out, " ", finding.side.name())?;
+    push_words(out, " ", finding.kind.name())?;
     push_field(out, " stream ", finding.place.stream() as u64)?;
     push_word(out, " value ")?;
     push_signed(out, finding.value)

@@ -3,7 +3,7 @@ ghost use Rattle.std.specs.String.{string_bytes};
 ghost use Rattle.packet_heads.specs.declared.packets.Refusal.{Refusal};
 ghost use Rattle.audit_report.specs.RecordLines.{record_line, record_lines_from};
 
-use crate::words::{push_field, push_word};
+use crate::words::{push_field, push_word, push_words};
 use packet_heads::{Packet, Packets, Refusal, Skip};
 use std::alloc::AllocError;
 
@@ -43,7 +43,6 @@ fn push_refused_line(out: &mut String, number: u64, refusal: Refusal) -> Result<
     ensures { OnOk result (string_bytes out.new ≡ string_bytes out.old ++ record_line number (Packet.Refused refusal)) }
 {
     push_field(out, "record ", number)?;
-    push_word(out, " refused ")?;
-    push_word(out, refusal.name())?;
+    push_words(out, " refused ", refusal.name())?;
     push_word(out, "\n")
 }

@@ -13,6 +13,14 @@ pub fn push_word(out: &mut String, word: &str) -> Result<(), AllocError>
     out.push_str(word)
 }
 
+/// Adds two words.
+pub fn push_words(out: &mut String, first: &str, second: &str) -> Result<(), AllocError>
+    ensures { OnOk result (string_bytes out.new ≡ string_bytes out.old ++ (first.now ++ second.now)) }
+{
+    push_word(out, first)?;
+    push_word(out, second)
+}
+
 /// Adds a number in decimal.
 pub fn push_number(out: &mut String, n: u64) -> Result<(), AllocError>
     ensures { OnOk result (string_bytes out.new ≡ string_bytes out.old ++ decimal n) }
