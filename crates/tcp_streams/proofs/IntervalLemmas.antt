@@ -54,6 +54,15 @@ clipped-beyond low high a b [] le h = refl
 clipped-beyond low high a b (y ∷ ys) le h =
     grind (arith, nat_tests, clipped-beyond low high y.upto b ys (omega (arith, h.0, h.1.some)) h.2)
 
+-- the part of the first, and then those of the others; of one that is passed there is none
+pub clipped-cons : (low high : ℕ) (y : Interval) (ys : List Interval)
+    → clipped low high (y ∷ ys) ≡ clipped low high (y ∷ []) ++ clipped low high ys
+clipped-cons low high y ys = grind arith
+
+pub clipped-passed : (low high : ℕ) (y : Interval) (ys : List Interval) → y.upto ≤ low
+    → clipped low high (y ∷ ys) ≡ clipped low high ys
+clipped-passed low high y ys le = grind (arith, nat_tests)
+
 -- where an interval passes the end, those after it have no part
 pub clipped-last : (low high a b : ℕ) (ys : List Interval) (k : ℕ) (d : Interval) → k < length ys
     → high < (get_or ys k d).upto → Spans a ys b
