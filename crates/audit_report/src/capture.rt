@@ -77,8 +77,7 @@ fn push_cut_record_line(out: &mut String, cut: Option<u32>) -> Result<(), AllocE
 {
     if let Some(number) = cut {
         push_field(out, "record ", number as u64)?;
-        push_word(out, " cut")?;
-        push_word(out, "\n")?;
+        push_word(out, " cut\n")?;
     }
     Ok(())
 }

@@ -34,8 +34,7 @@ fn push_fragment_line(out: &mut String, number: u64) -> Result<(), AllocError>
         ++ record_line number (Packet.Skipped Skip.Fragment)) }
 {
     push_field(out, "record ", number)?;
-    push_word(out, " fragment")?;
-    push_word(out, "\n")
+    push_word(out, " fragment\n")
 }
 
 #[tactic(auto, using(crate::proofs::Joins::joins))]
