@@ -1,5 +1,5 @@
 ghost use Rattle.std.specs.Prelude.{◌≡◌, ◌⊎◌, IfOk, IfSome, IfNone};
-ghost use Rattle.h2_frames.specs.code.Limit.{AreTakenUpTo, IsReached, is_past};
+ghost use Rattle.h2_frames.specs.code.Limit.{AreTakenUpTo, IsLimitOf, IsReached, is_past};
 ghost use Rattle.h2_frames.specs.code.Unread.{IsAhead};
 ghost use Rattle.h2_frames.specs.declared.unread.Next.TheVariants.{Over};
 
@@ -44,8 +44,7 @@ impl Limit {
 pub(crate) fn limit_of(client: &Unread<'_>, server: &Unread<'_>, reach: u32) -> Option<Limit>
     requires client { IsAhead client.now }
     requires server { IsAhead server.now }
-    ensures some { IfSome result (λ limit. IsReached limit client.now.next ⊎ IsReached limit server.now.next) }
-    ensures none { IfNone result ((client.now.next ≡ Over) × (server.now.next ≡ Over)) }
+    ensures { IsLimitOf client.now.next server.now.next result }
 {
     match (client.limit(reach), server.limit(reach)) {
         (Some(sent), Some(answered)) => Some(sent.first(answered)),

@@ -1,4 +1,4 @@
-ghost use Rattle.std.specs.Prelude.{◌≡◌, ◌+◌, ◌<◌, ◌^◌, ◌++◌, ◌∷◌, ◌⊎◌, [], List, length, IfOk, IfSome, IfNone};
+ghost use Rattle.std.specs.Prelude.{◌≡◌, ◌+◌, ◌<◌, ◌^◌, ◌++◌, ◌∷◌, [], List, length, IfOk, IfSome, IfNone};
 ghost use Rattle.std.specs.Prelude.{OnOk};
 ghost use Rattle.std.specs.Bool.{OnFalse, OnTrue};
 ghost use Rattle.tcp_streams.specs.declared.streams.Flow.{Flow};
@@ -10,10 +10,9 @@ ghost use Rattle.h2_frames.specs.Cut.{IsHttp2};
 ghost use Rattle.h2_frames.specs.Preface.{BeginsWithPreface};
 ghost use Rattle.h2_frames.specs.code.Pieces.{bytes_of as bytes_left, IsCounted};
 ghost use Rattle.h2_frames.specs.code.Batch.{IsNumbered, frames_of};
-ghost use Rattle.h2_frames.specs.code.Limit.{AreBothTaken, IsReached};
+ghost use Rattle.h2_frames.specs.code.Limit.{AreBothTaken, IsLimitOf};
 ghost use Rattle.h2_frames.specs.code.Unread.{IsAhead};
 ghost use Rattle.h2_frames.specs.code.Walk.{IsBegun, IsReadyWalk, IsWalkAfter, IsWalkOn, taken_of, tails_of, weight_of};
-ghost use Rattle.h2_frames.specs.declared.unread.Next.TheVariants.{Over};
 
 use crate::batches::{FrameBatch, take_in_turn, take_side_by_side};
 use crate::beginning::{Beginning, PREFACE, beginning_of};
@@ -123,10 +122,7 @@ impl<'a> FrameWalk<'a> {
     fn limit_ahead(&mut self, batch: &mut FrameBatch) -> Result<Option<Limit>, AllocError>
         requires { IsReadyWalk self.old }
         ensures on { OnOk result (IsWalkOn self.old self.new) }
-        ensures some { IfOk result (λ limit. IfSome limit (λ limit.
-            IsReached limit self.new.client.next ⊎ IsReached limit self.new.server.next)) }
-        ensures none { IfOk result (λ limit. IfNone limit
-            ((self.new.client.next ≡ Over) × (self.new.server.next ≡ Over))) }
+        ensures limit { IfOk result (IsLimitOf self.new.client.next self.new.server.next) }
     {
         self.read_ahead()?;
         Ok(limit_of(&self.client, &self.server, batch.next_reach()))

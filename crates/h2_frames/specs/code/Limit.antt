@@ -1,5 +1,6 @@
 -- Frames of a side that are taken together, up to a limit. Public clauses cite this only through Walk.
 use Rattle.std.specs.Prelude.{◌≡◌, ℕ, ◌+◌, ◌*◌, ◌≤◌, Bool, true, false, nat_lt, ◌==◌, ◌&&◌, ◌||◌, List, ◌++◌, length}
+use Rattle.std.specs.Prelude.{◌⊎◌, Option, Some, None}
 use Rattle.std.specs.List.{AllByRecursion}
 use Rattle.audit_terms.specs.declared.frames.Frame.{Frame}
 use Rattle.h2_frames.specs.declared.batches.FrameBatch.{FrameBatch}
@@ -19,6 +20,11 @@ is_past limit frame =
 abbrev pub IsReached : Limit → Next → Type 0
 IsReached limit (Read frame) = is_past limit frame ≡ false
 IsReached limit _ = ⊥
+
+-- one side's next frame at least is taken; there is no limit where both are over
+abbrev pub IsLimitOf : (client server : Next) → Option Limit → Type 0
+IsLimitOf client server (Some limit) = IsReached limit client ⊎ IsReached limit server
+IsLimitOf client server None = (client ≡ Over) × (server ≡ Over)
 
 -- a side's next frame is past the limit, or known not to be there
 abbrev pub IsPassed : Limit → Next → Type 0

@@ -7,7 +7,7 @@ returns-in_default-clause-over g c =
     let on = c.in_ok-limit.ensures.on in
     λ client server frames before.
     walk-over client server _ frames on.client.ahead.ready on.server.ahead.ready
-    (rw c.in_default.is at c.in_ok-limit.ensures.none) (walk-on client server _ _ frames on before)
+    (rw c.in_default.is at c.in_ok-limit.ensures.limit) (walk-on client server _ _ frames on before)
 
 pub returns-clause-next : goal.returns-clause-next
 returns-clause-next g c =
