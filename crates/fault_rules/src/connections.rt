@@ -21,7 +21,7 @@ ghost use Rattle.audit_terms.specs.code.runs.Orderly.{IsInRange};
 
 use crate::counts::Count;
 use crate::frame_faults::say_fault;
-use crate::spots::{Spot, say_at, spot_of};
+use crate::spots::{Spot, say_at, say_each, spot_of};
 use audit_terms::{
     ConnectionState, Finding, Frame, Item, Kind, Side, Sides, limit_after, new_limit, new_push,
 };
@@ -91,58 +91,31 @@ fn say_window(
         number: frame.number,
         stream: 0,
     };
-    say_faults(found, &count, frame, spot)?;
-    say_stalls(found, &count, spot)?;
+    say_zero_grant(found, frame, spot)?;
+    let tests = [
+        (count.overflows(), Kind::ConnectionOverflow),
+        (count.overruns(), Kind::ConnectionOverrun),
+        (count.stall_ends(), Kind::ConnectionStallEnd),
+        (count.stall_begins(), Kind::ConnectionStallBegin),
+        (count.moves(), Kind::ConnectionCredit),
+    ];
+    say_each(found, &tests, spot, &count.after)?;
     Ok(count.after)
 }
 
-/// Adds which rules of the connection window a frame breaks.
-fn say_faults(
-    found: &mut Vec<Finding>,
-    count: &Count,
-    frame: &Frame,
-    spot: Spot,
-) -> Result<(), AllocError>
+/// Adds an increment of 0 for the connection window of a spot's side: the other side grants it (RFC 9113, 6.9).
+fn say_zero_grant(found: &mut Vec<Finding>, frame: &Frame, spot: Spot) -> Result<(), AllocError>
     requires numbered { spot.number ≤ 2 ^ 28 - 2 }
     requires streamed { spot.stream < 2 ^ 31 }
-    ensures { OnOk result (found.new.items ≡ found.old.items
-        ++ say (grants_nothing spot.side 0 frame.now)
-        (finding_at ZeroConnectionGrant spot.number spot.stream (other spot.side) (pos 0))
-        ++ say (overflows count.now.before count.now.after)
-        (finding_at ConnectionOverflow spot.number spot.stream spot.side count.now.after)
-        ++ say (overruns count.now.before count.now.content)
-        (finding_at ConnectionOverrun spot.number spot.stream spot.side count.now.after)) }
+    ensures { OnOk result (found.new.items ≡ found.old.items ++ say (grants_nothing spot.side 0 frame.now)
+        (finding_at ZeroConnectionGrant spot.number spot.stream (other spot.side) (pos 0))) }
 {
     let granter = Spot {
         side: spot.side.other(),
         ..spot
     };
     let is_zero = frame.grants_nothing(spot.side, 0);
-    say_at(found, is_zero, Kind::ZeroConnectionGrant, granter, 0)?;
-    count.say(found, count.overflows(), Kind::ConnectionOverflow, spot)?;
-    count.say(found, count.overruns(), Kind::ConnectionOverrun, spot)
-}
-
-/// Adds whether the connection credit is used up, or there again, and what it becomes.
-fn say_stalls(found: &mut Vec<Finding>, count: &Count, spot: Spot) -> Result<(), AllocError>
-    requires numbered { spot.number ≤ 2 ^ 28 - 2 }
-    requires streamed { spot.stream < 2 ^ 31 }
-    ensures { OnOk result (found.new.items ≡ found.old.items
-        ++ say (stall_ends count.now.before count.now.after)
-        (finding_at ConnectionStallEnd spot.number spot.stream spot.side count.now.after)
-        ++ say (stall_begins count.now.before count.now.after)
-        (finding_at ConnectionStallBegin spot.number spot.stream spot.side count.now.after)
-        ++ say (not (int_eq count.now.before count.now.after))
-        (finding_at ConnectionCredit spot.number spot.stream spot.side count.now.after)) }
-{
-    count.say(found, count.stall_ends(), Kind::ConnectionStallEnd, spot)?;
-    count.say(
-        found,
-        count.stall_begins(),
-        Kind::ConnectionStallBegin,
-        spot,
-    )?;
-    count.say(found, count.moves(), Kind::ConnectionCredit, spot)
+    say_at(found, is_zero, Kind::ZeroConnectionGrant, granter, 0)
 }
 
 /// Adds what a frame shows of both connection windows, and counts it in them (RFC 9113, 6.9.1). Without memory the

@@ -1,10 +1,8 @@
 //! What one step does to the credit of one window.
 
-ghost use Rattle.std.specs.Prelude.{◌≡◌, ℕ, ◌-◌, ◌^◌, ◌<◌, ◌≤◌, ◌++◌, not, OnOk};
+ghost use Rattle.std.specs.Prelude.{◌≡◌, not};
 
-use crate::spots::Spot;
-use audit_terms::{Finding, Kind, LARGEST_WINDOW, Place, say_if};
-use std::alloc::AllocError;
+use audit_terms::LARGEST_WINDOW;
 
 /// What one step does to the credit of one window (RFC 9113, 6.9 and 6.9.1).
 #[derive(Clone, Copy)]
@@ -20,7 +18,6 @@ pub(crate) struct Count {
 impl Count {
     ghost use Rattle.std.specs.Ordering.{int_eq};
     ghost use Rattle.audit_terms.specs.Window.{is_used_up, overflows, overruns, stall_begins, stall_ends};
-    ghost use Rattle.audit_terms.specs.Finding.{finding_at, say};
 
     /// Does the credit rise above the largest window, 2^31 - 1?
     pub(crate) fn overflows(&self) -> bool
@@ -55,35 +52,5 @@ impl Count {
         ensures { result ≡ not (int_eq self.now.before self.now.after) }
     {
         self.before != self.after
-    }
-
-    /// The finding of a kind at a spot, with the credit after the step.
-    pub(crate) fn finding(&self, kind: Kind, spot: Spot) -> Finding
-        requires numbered { spot.number ≤ 2 ^ 28 - 2 }
-        requires streamed { spot.stream < 2 ^ 31 }
-        ensures { result ≡ finding_at kind spot.number spot.stream spot.side self.now.after }
-    {
-        Finding {
-            place: Place::of(spot.number, kind.rank(), spot.stream),
-            side: spot.side,
-            kind,
-            value: self.after,
-        }
-    }
-
-    /// Adds the finding of a kind at a spot, with the credit after the step, where a test holds.
-    pub(crate) fn say(
-        &self,
-        found: &mut Vec<Finding>,
-        holds: bool,
-        kind: Kind,
-        spot: Spot,
-    ) -> Result<(), AllocError>
-        requires numbered { spot.number ≤ 2 ^ 28 - 2 }
-        requires streamed { spot.stream < 2 ^ 31 }
-        ensures { OnOk result (found.new.items
-            ≡ found.old.items ++ say holds (finding_at kind spot.number spot.stream spot.side self.now.after)) }
-    {
-        say_if(found, holds, self.finding(kind, spot))
     }
 }

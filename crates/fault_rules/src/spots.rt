@@ -2,8 +2,9 @@
 
 ghost use Rattle.std.specs.Prelude.{◌≡◌, ℕ, ◌-◌, ◌^◌, ◌<◌, ◌≤◌, ◌++◌, pos, OnOk};
 ghost use Rattle.audit_terms.specs.Finding.{finding_at, say};
+ghost use Rattle.fault_rules.specs.code.Said.{said_by};
 
-use audit_terms::{Finding, Frame, Kind, Side, say_if};
+use audit_terms::{Finding, Frame, Kind, Place, Side, say_if};
 use std::alloc::AllocError;
 
 /// A side, a frame's number, and a stream or 0: what findings of one window, or of one frame, have in common.
@@ -42,4 +43,29 @@ pub(crate) fn say_at(
 {
     let finding = Finding::at(kind, spot.number, spot.stream, spot.side, value);
     say_if(found, holds, finding)
+}
+
+/// Adds the finding of each kind whose test holds, in turn, all at one spot and with one value.
+pub(crate) fn say_each(
+    found: &mut Vec<Finding>,
+    tests: &[(bool, Kind)],
+    spot: Spot,
+    value: &i64,
+) -> Result<(), AllocError>
+    requires numbered { spot.number ≤ 2 ^ 28 - 2 }
+    requires streamed { spot.stream < 2 ^ 31 }
+    ensures { OnOk result (found.new.items
+        ≡ found.old.items ++ said_by (λ kind. finding_at kind spot.number spot.stream spot.side value.now) tests.now) }
+{
+    for (holds, kind) in tests {
+        if *holds {
+            found.push(Finding {
+                place: Place::of(spot.number, kind.rank(), spot.stream),
+                side: spot.side,
+                kind: *kind,
+                value: *value,
+            })?;
+        }
+    }
+    Ok(())
 }

@@ -6,7 +6,7 @@ ghost use Rattle.audit_terms.specs.Stream.{opens, frame_said, stream_said, strea
 ghost use Rattle.audit_terms.specs.code.Room.{WindowHasRoom};
 ghost use Rattle.audit_terms.specs.code.runs.Streams.{IsAcknowledged};
 
-use crate::spots::{Spot, say_at};
+use crate::spots::{Spot, say_at, say_each};
 use crate::windows::{WindowStep, say_window};
 use audit_terms::{Finding, Frame, Kind, Side, Sides, Step, Stream, StreamLife};
 use std::alloc::AllocError;
@@ -90,11 +90,11 @@ fn say_frame(
         number: step.number,
         stream,
     };
-    let code = u32::from(frame.code);
-    let early = entry.life.is_not_opened(stream, frame);
-    say_at(found, early, Kind::NotOpened, spot, code)?;
-    let late = entry.life.is_after_end(frame);
-    say_at(found, late, Kind::AfterEnd, spot, code)?;
+    let tests = [
+        (entry.life.is_not_opened(stream, frame), Kind::NotOpened),
+        (entry.life.is_after_end(frame), Kind::AfterEnd),
+    ];
+    say_each(found, &tests, spot, &i64::from(frame.code))?;
     let is_zero = frame.body.is_zero_grant() && entry.life.opened.is_some();
     say_at(found, is_zero, Kind::ZeroStreamGrant, spot, 0)
 }

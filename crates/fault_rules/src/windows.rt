@@ -14,7 +14,7 @@ ghost use Rattle.audit_terms.specs.code.Room.{HasRoom, WindowHasRoom};
 ghost use Rattle.fault_rules.specs.code.StreamSteps.{counted};
 
 use crate::counts::Count;
-use crate::spots::Spot;
+use crate::spots::{Spot, say_each};
 use audit_terms::{Finding, Kind, Side, Sides, Step, new_initial};
 use std::alloc::AllocError;
 
@@ -103,14 +103,11 @@ fn say_opened(
     let Some(credit) = *window else {
         return Ok(());
     };
-    let count = Count {
-        before: credit,
-        after: credit,
-        content: 0,
-    };
-    let spot = met.spot();
-    count.say(found, is_used_up(&credit), Kind::StreamStallBegin, spot)?;
-    count.say(found, true, Kind::StreamCredit, spot)
+    let tests = [
+        (is_used_up(&credit), Kind::StreamStallBegin),
+        (true, Kind::StreamCredit),
+    ];
+    say_each(found, &tests, met.spot(), &credit)
 }
 
 /// Is no credit left, or less than none?
@@ -139,8 +136,20 @@ fn say_live(
         (λ after. (bound : ℕ) → HasRoom bound before.now → WindowHasRoom (bound + 2 ^ 32) after) }
 {
     let live = LiveStep::of(before, met);
-    live.say_faults(found, met)?;
-    live.say_stalls(found, met.spot())?;
+    let spot = met.spot();
+    let by_setting = met.step.change.is_some() & live.count.overflows();
+    let faults = [
+        (by_setting, Kind::SettingOverflow),
+        (live.count.overruns(), Kind::StreamOverrun),
+        (live.is_overflowing, Kind::StreamOverflow),
+    ];
+    say_each(found, &faults, spot, &live.count.after)?;
+    let stalls = [
+        (live.stall_ends(), Kind::StreamStallEnd),
+        (live.stall_begins(), Kind::StreamStallBegin),
+        (live.last.moves(), Kind::StreamCredit),
+    ];
+    say_each(found, &stalls, spot, &live.last.after)?;
     Ok(live.after)
 }
 
@@ -194,44 +203,6 @@ impl LiveStep {
             after: left_live(&count, ends),
             count,
         }
-    }
-
-    /// Says which rules the step breaks.
-    fn say_faults(&self, found: &mut Vec<Finding>, met: &WindowStep<'_>) -> Result<(), AllocError>
-        requires numbered { met.now.step.now.number ≤ 2 ^ 28 - 2 }
-        requires streamed { met.now.stream < 2 ^ 31 }
-        ensures { OnOk result (found.new.items ≡ found.old.items
-            ++ say (is_some met.now.step.now.change && overflows self.now.count.before self.now.count.after)
-            (stream_finding SettingOverflow met.now.stream met.now.step.now met.now.side self.now.count.after)
-            ++ say (overruns self.now.count.before self.now.count.content)
-            (stream_finding StreamOverrun met.now.stream met.now.step.now met.now.side self.now.count.after)
-            ++ say self.now.is_overflowing
-            (stream_finding StreamOverflow met.now.stream met.now.step.now met.now.side self.now.count.after)) }
-    {
-        let count = self.count;
-        let spot = met.spot();
-        let by_setting = met.step.change.is_some() && count.overflows();
-        count.say(found, by_setting, Kind::SettingOverflow, spot)?;
-        count.say(found, count.overruns(), Kind::StreamOverrun, spot)?;
-        count.say(found, self.is_overflowing, Kind::StreamOverflow, spot)
-    }
-
-    /// Says whether the credit is used up, or there again, and what it becomes.
-    fn say_stalls(&self, found: &mut Vec<Finding>, spot: Spot) -> Result<(), AllocError>
-        requires numbered { spot.number ≤ 2 ^ 28 - 2 }
-        requires streamed { spot.stream < 2 ^ 31 }
-        ensures { OnOk result (found.new.items ≡ found.old.items
-            ++ say (is_used_up self.now.count.before && not (is_stalled self.now.after))
-            (finding_at StreamStallEnd spot.number spot.stream spot.side self.now.last.after)
-            ++ say (not (is_used_up self.now.count.before) && is_stalled self.now.after)
-            (finding_at StreamStallBegin spot.number spot.stream spot.side self.now.last.after)
-            ++ say (not (int_eq self.now.last.before self.now.last.after))
-            (finding_at StreamCredit spot.number spot.stream spot.side self.now.last.after)) }
-    {
-        let last = self.last;
-        last.say(found, self.stall_ends(), Kind::StreamStallEnd, spot)?;
-        last.say(found, self.stall_begins(), Kind::StreamStallBegin, spot)?;
-        last.say(found, last.moves(), Kind::StreamCredit, spot)
     }
 
     /// Is the window live and its credit used up after the step?
