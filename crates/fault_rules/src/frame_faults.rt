@@ -5,7 +5,7 @@ ghost use Rattle.audit_terms.specs.code.runs.Orderly.{IsInRange};
 ghost use Rattle.audit_terms.specs.LocalFault.{breaks_block, reading_fault, body_said, local_said, fault};
 ghost use Rattle.audit_terms.specs.Finding.{say};
 
-use crate::spots::{say_at, say_each, spot_of};
+use crate::spots::{say_at, spot_of};
 use audit_terms::frame_types::{CONTINUATION, PUSH_PROMISE};
 use audit_terms::{Body, Finding, Frame, Kind, Side};
 use std::alloc::AllocError;
@@ -21,12 +21,13 @@ pub fn say_local(
     requires { IsInRange frame.now }
     ensures { OnOk result (found.new.items ≡ found.old.items ++ local_said previous.now frame.now) }
 {
-    let tests = [
-        (previous.is_none() && !frame.is_settings(), Kind::BadPreface),
-        (breaks_block(previous, frame), Kind::BrokenBlock),
-        (frame.is_on_wrong_stream(), Kind::WrongStream),
-    ];
-    say_each(found, &tests, spot_of(frame), &i64::from(frame.code))?;
+    let code = u32::from(frame.code);
+    let bad_preface = previous.is_none() && !frame.is_settings();
+    say_fault(found, bad_preface, Kind::BadPreface, frame, code)?;
+    let broken_block = breaks_block(previous, frame);
+    say_fault(found, broken_block, Kind::BrokenBlock, frame, code)?;
+    let wrong_stream = frame.is_on_wrong_stream();
+    say_fault(found, wrong_stream, Kind::WrongStream, frame, code)?;
     say_body(found, frame)?;
     let client_push = frame.code == PUSH_PROMISE && Side::Client == frame.side;
     say_fault(found, client_push, Kind::Push, frame, 0)

@@ -1,4 +1,4 @@
-use Rattle.stop_desk.proofs.Words.{ap, arith, sym, ℕ, ◌*◌, ◌+◌, ◌-◌, ◌/◌, ◌≡◌, ◌≤◌}
+use Rattle.stop_desk.proofs.Words.{ap, arith, rules, sym, ℕ, ◌*◌, ◌+◌, ◌-◌, ◌/◌, ◌≡◌, ◌≤◌}
 use Rattle.std.proofs.lemmas.Result.{IfOk-weaker}
 use Rattle.stop_desk.proofs.Working.{worked-together}
 use Rattle.stop_desk.proofs.crews.+fn-fork-join+arg2+fn-fork-join+arg3+fork.Goals as goal
@@ -30,3 +30,13 @@ returns g t c =
     (half * each) (rest * each) c.join-mine.result.0 c.join-mine.result.1 r.0.items r.1 c.join-mine.ensures.first
     c.join-mine.ensures.second is))
     c.together.ensures
+
+pub join+arg2-fork-requires : goal.join+arg2-fork-requires
+join+arg2-fork-requires g t c = λ κs (rt, (gate, (plan, made))).
+    (let (sends, others, gates, plans, some, fresh) = c.requires in
+    (omega arith, (rt, (gate, (plan, (made, (sends, (others, (gates, (plans, (some, fresh)))))))))))
+
+pub join+arg3-fork-requires : goal.join+arg3-fork-requires
+join+arg3-fork-requires g t c = λ κs (rt, (gate, (plan, made))).
+    (let (sends, others, gates, plans, some, fresh) = c.requires in
+    (omega arith, (rt, (gate, (plan, (made, (sends, (others, (gates, (plans, (some, fresh)))))))))))
