@@ -1,5 +1,6 @@
-use Rattle.std.proofs.Common.{◌∙◌, arith}
+use Rattle.std.proofs.Common.{◌∙◌, ap, arith, length}
 use Rattle.std.proofs.lemmas.List.{length-map}
+use Rattle.stop_desk.specs.code.Stop.{stop_word}
 use Rattle.stop_desk.proofs.CrewDone.{has-settled, in-round}
 use Rattle.stop_desk.proofs.settling.settle.Goals as goal
 
@@ -17,3 +18,11 @@ returns-clause-round g c = λ part is.
 
 pub stops_of-requires : goal.stops_of-requires
 stops_of-requires g c = rw (c.in_ok-parts.ensures.desk_is, c.in_ok-desk.ensures.words, length-map) (omega arith)
+
+pub crew-requires-clause-connections : goal.crew-requires-clause-connections
+crew-requires-clause-connections g c = λ κs within k d lt. omega (
+  arith,
+  ap length c.in_ok-desk.ensures.words,
+  length-map c.args.stops.now stop_word,
+  c.requires.connections k d lt,
+)
