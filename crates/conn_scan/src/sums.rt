@@ -7,8 +7,7 @@ ghost use Rattle.audit_terms.specs.code.Room.{HasRoom};
 ghost use Rattle.conn_scan.specs.code.Items.{items_in, IsBlock};
 ghost use Rattle.conn_scan.specs.code.Block.{MovesLittle};
 ghost use Rattle.conn_scan.specs.code.Credit.{spent_by, granted_by, credit_met};
-ghost use Rattle.conn_scan.specs.code.ConnSum.{conn_sum_of, conn_met, conn_framed, conn_counted};
-ghost use Rattle.conn_scan.specs.code.ConnSum.{conn_promised};
+ghost use Rattle.conn_scan.specs.code.ConnSum.{conn_sum_of, conn_met, conn_framed, conn_promised};
 
 use crate::block_items::{Block, changes_from, first_number, item_at, numbers_from};
 use crate::credits::Credit;
@@ -63,23 +62,12 @@ impl ConnSum {
         self.latest.meet_change(&item.change);
     }
 
-    /// Takes a frame that opens no stream and brings nothing into force.
+    /// Takes a frame that opens no stream and brings nothing into force: its length, what it moves, whether it grants 0,
+    /// and a promise of the server, if it is one.
     fn meet_frame(&mut self, frame: &Frame)
         requires client { HasRoom (2 ^ 60) self.old.credit.client.sum }
         requires server { HasRoom (2 ^ 60) self.old.credit.server.sum }
         ensures met { self.new ≡ conn_framed self.old frame.now }
-        ensures little { HasRoom (2 ^ 32) (credit_moved Client frame.now)
-            × HasRoom (2 ^ 32) (credit_moved Server frame.now) }
-    {
-        self.count(frame);
-        self.see_promise(frame);
-    }
-
-    /// Takes the length of a frame, what it moves, and whether it grants 0.
-    fn count(&mut self, frame: &Frame)
-        requires client { HasRoom (2 ^ 60) self.old.credit.client.sum }
-        requires server { HasRoom (2 ^ 60) self.old.credit.server.sum }
-        ensures counted { self.new ≡ conn_counted self.old frame.now }
         ensures little { HasRoom (2 ^ 32) (credit_moved Client frame.now)
             × HasRoom (2 ^ 32) (credit_moved Server frame.now) }
     {
@@ -98,6 +86,7 @@ impl ConnSum {
                 take_moves(frame, &mut credit.server, &mut credit.client, zero);
             }
         }
+        self.see_promise(frame);
     }
 
     /// Takes a promise of the server, if the frame is one.

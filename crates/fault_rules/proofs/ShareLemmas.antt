@@ -5,6 +5,7 @@ use Rattle.std.proofs.Common.{append_assoc, arith}
 use Rattle.std.specs.Prelude.{Result, Ok, IfOk}
 use Rattle.std.specs.List.{AllZip, AllByRecursion, range_with_len}
 use Rattle.std.specs.Fork.{slice_chunk}
+use Rattle.std.proofs.Math.Nat.{mul-le-mul_right}
 use Rattle.std.proofs.Math.Seq.{take-add}
 use Rattle.std.proofs.lemmas.List.{take-append-drop, drop-drop, drop_all, take_more}
 use Rattle.std.proofs.lemmas.Grind.{common_steps}
@@ -68,6 +69,14 @@ pub befores-push : (size : ℕ) (frames : List Frame) (befores : List (Sides (Op
     → (k : ℕ) (d : Sides (Option Frame)) → k < length (befores ++ next ∷ [])
     → get_or (befores ++ next ∷ []) k d ≡ before_share size frames k
 befores-push size frames befores next n e h each k d l = grind (arith, common_steps, each k d, e, h)
+
+-- a share of so many begins inside, if they reach no further than a share past the end
+pub share-inside : (all size count n : ℕ) → count * size < all + size → n < count → n * size < all
+share-inside all size count n high l =
+    let here : n + 1 ≤ count = omega (arith, l) in
+    let next = mul-le-mul_right size here in
+    let e : (n + 1) * size ≡ n * size + size = omega arith in
+    omega (arith, next, e, high)
 
 -- each frame of an orderly list is in range
 orderly-in_range : (low : ℕ) (frames : List Frame) → IsOrderlyFrom low frames → AllByRecursion IsInRange frames

@@ -1,9 +1,8 @@
 use Rattle.std.proofs.Common.{◌≡◌, ◌+◌, ◌++◌, ◌∷◌, [], length, refl, sym, ap, ◌∙◌, length-append, ◌*◌, ◌/◌, ◌%◌, ◌<◌}
 use Rattle.std.proofs.Common.{◌≤◌, min, arith}
 use Rattle.std.proofs.lemmas.Slice.{pushed}
-use Rattle.std.proofs.Math.Nat.{mul-le-mul_right}
 use Rattle.std.proofs.lemmas.Grind.{div_ceil_times}
-use Rattle.fault_rules.proofs.ShareLemmas.{before_share-first, before_share-next, befores-push}
+use Rattle.fault_rules.proofs.ShareLemmas.{before_share-first, before_share-next, befores-push, share-inside}
 use Rattle.fault_rules.proofs.shares.befores.Goals as goal
 
 pub loop-n-preserved : goal.loop-n-preserved
@@ -41,11 +40,14 @@ returns c =
     omega (arith, i.count, c.div_ceil-n-end.ensures, c.loop-n-test.false, c.loop-n.auto.n-end) in
     record {
       whole = rw count bounds.0;
-      inside = λ n l.
-          let here : n + 1 ≤ length c.loop-n.befores.items = omega (arith, l) in
-          let next = mul-le-mul_right size here in
-          let e : (n + 1) * size ≡ n * size + size = omega arith in
-          let last : length c.loop-n.befores.items * size < all + size = rw count bounds.1 in
-          omega (arith, next, e, last);
+      inside = λ n l. share-inside all size _ n (rw count bounds.1) l;
       each = λ n d l. i.each n d l;
     }
+
+pub share-requires : goal.share-requires
+share-requires c =
+    let all = length c.args.frames.now in
+    let size = c.args.size in
+    let bounds = div_ceil_times all size c.requires in
+    share-inside all size (all / size + min 1 (all % size)) c.loop-n.n bounds.1
+    (omega (arith, c.div_ceil-n-end.ensures, c.loop-n-test.true))
