@@ -1,6 +1,6 @@
 -- What the plain pass keeps between two frames, beside the state of the pass, and what it says at a frame.
 use Rattle.std.proofs.Common.{◌≡◌, ℕ, pos, ◌^◌, ◌≤◌, Bool, true, false, ◌==◌, ◌&&◌, ◌||◌, List, [], ◌∷◌, ◌++◌, map}
-use Rattle.std.proofs.Common.{refl, ap, ◌∙◌, append_assoc, ◌+◌, None, Option, Some, is_some, arith, if◌then◌else◌, not}
+use Rattle.std.proofs.Common.{refl, ap, ◌∙◌, append_assoc, ◌+◌, None, Option, Some, is_none, is_some, arith, if◌then◌else◌, not}
 use Rattle.std.proofs.Common.{◌*◌}
 use Rattle.std.proofs.lemmas.Simd.{map-map}
 use Rattle.std.proofs.lemmas.List.Folds.{flat_map-map}
@@ -136,8 +136,8 @@ module _ {all : List Frame} {changes : List Change} {frame : Frame} {rest : List
       e ∙ h.brought frame.number h.orderly.0 ∙ find-on h.state.in_force frame rest frame.number h.orderly.2
       ∙ rw (eq-eqb frame.number frame.number refl) refl
 
-  module _ (opens none : Bool) (change : Option Change) (is : change ≡ find (is_at frame.number) changes)
-      (unmatched : is_some change ≡ not none) (opened : opens ≡ list_any (row_opens frame) entries)
+  module _ (opens : Bool) (change : Option Change) (is : change ≡ find (is_at frame.number) changes)
+      (opened : opens ≡ list_any (row_opens frame) entries)
       (own : list_any (meets frame.stream) all ≡ true) where
     abbrev item : Item
     item = record { frame = frame; opens = opens; change = change }
@@ -151,8 +151,8 @@ module _ {all : List Frame} {changes : List Change} {frame : Frame} {rest : List
 
     -- what the code adds and keeps, one part after the other
     pub pass-next : {p : Sides (Option Frame)} {i : Sides ℕ} {k : ConnectionState} {r : List StreamRow}
-        {one two three four new : List Finding} → one ≡ local_said (side_of frame.side last) frame →
-        two ≡ one ++ say (is_ack frame.body && none)
+        {two three four new : List Finding} → two ≡ local_said (side_of frame.side last) frame
+        ++ say (is_ack frame.body && is_none change)
         (finding_at UnmatchedAck frame.number frame.stream frame.side (pos 0)) →
         three ≡ two ++ connection_said now item → four ≡ three ++ flat_map (row_said windows item) entries →
         new ≡ shown ++ in_order four → p ≡ previous_after last frame → i ≡ initial_after change windows →
@@ -161,18 +161,19 @@ module _ {all : List Frame} {changes : List Change} {frame : Frame} {rest : List
         ((bound : ℕ) → HasRoom bound now.credit.server → HasRoom (bound + 2 ^ 32) k.credit.server) →
         ((bound : ℕ) → AllByRecursion (RowFits bound) entries → AllByRecursion (RowFits (bound + 2 ^ 32)) r) →
         PassAt all changes rest p i k r new
-    pass-next {four = four} a b c d n e f g q client server fits =
+    pass-next {four = four} b c d n e f g q client server fits =
         let above = h.orderly.0 in
         let names = streams_of all in
         let state : PassState = h.state in
         let change_is = brings is in
         -- an acknowledgement that brings no change has taken nothing
-        let ack : say (is_ack frame.body && none) (finding_at UnmatchedAck frame.number frame.stream frame.side (pos 0))
-        ≡ settings_said state.in_force frame = let e = rw change_is at unmatched in grind arith in
+        let ack : say (is_ack frame.body && is_none (change_of state.in_force frame))
+        (finding_at UnmatchedAck frame.number frame.stream frame.side (pos 0))
+        ≡ settings_said state.in_force frame = grind arith in
         let streams : flat_map (row_said state.in_force.initial (item_of state frame)) (rows_in state.streams names)
         ≡ streams_said names state frame = flat_map-map _ _ names in
         let said : four ≡ rows_of names state frame =
-        rw (d, c, b, a, h.previous, h.initial, h.connection, h.rows, change_is, opens_is, ack, streams) refl in record {
+        rw (d, c, b, h.previous, h.initial, h.connection, h.rows, change_is, opens_is, ack, streams) refl in record {
           state = next state frame;
           low = frame.number + 1;
           orderly = h.orderly.2;

@@ -1,5 +1,11 @@
-ghost use Rattle.std.specs.Prelude.{◌≡◌, ◌==◌, IfOk};
+ghost use Rattle.std.specs.Prelude.{◌≡◌, ◌==◌, ◌++◌, ◌&&◌, pos, is_none, IfOk, OnOk};
 ghost use Rattle.std.specs.List.{find};
+ghost use Rattle.audit_terms.specs.declared.kinds.Kind.TheVariants.{UnmatchedAck};
+ghost use Rattle.audit_terms.specs.Sides.{side_of};
+ghost use Rattle.audit_terms.specs.Frame.{is_ack};
+ghost use Rattle.audit_terms.specs.Finding.{finding_at, in_order, say};
+ghost use Rattle.audit_terms.specs.LocalFault.{local_said};
+ghost use Rattle.audit_terms.specs.code.runs.Orderly.{IsInRange};
 ghost use Rattle.audit_terms.specs.code.runs.Orderly.{IsOrderly};
 ghost use Rattle.audit_terms.specs.Pass.{pass};
 
@@ -31,13 +37,9 @@ pub fn one_pass(alloc: Global, frames: &[Frame]) -> Result<Vec<Finding>, AllocEr
     let mut connection = ConnectionState::start();
     let mut rows = idle_rows(alloc, frames)?;
     for frame in frames {
-        let mut said = Vec::new(alloc);
-        say_local(&mut said, &previous.of(frame.side), frame)?;
         let change = change_at(&pairs.changes, frame.number);
-        let kind = Kind::UnmatchedAck;
-        let ack = Finding::at(kind, frame.number, frame.stream, frame.side, 0);
-        let is_unmatched = frame.body.is_ack() & change.is_none();
-        say_if(&mut said, is_unmatched, ack)?;
+        let mut said = Vec::new(alloc);
+        say_alone(&mut said, &previous, frame, &change)?;
         let item = Item {
             frame: *frame,
             opens: opens(&rows, frame),
@@ -45,13 +47,41 @@ pub fn one_pass(alloc: Global, frames: &[Frame]) -> Result<Vec<Finding>, AllocEr
         };
         say_connection(&mut said, &mut connection, &item)?;
         meet_all(&mut rows, &mut said, &in_force, &item)?;
-        put_in_order(&mut said)?;
-        found.append(&mut said)?;
+        add_in_order(&mut found, &mut said)?;
         keep_last(&mut previous, frame);
         in_force = initial_after(&change, &in_force);
     }
     cut_at_stop(&mut found);
     Ok(found)
+}
+
+/// Adds what a frame shows with no state but the last frames and its change: local faults, and an acknowledgement that
+/// brings no change.
+fn say_alone(
+    found: &mut Vec<Finding>,
+    previous: &Sides<Option<Frame>>,
+    frame: &Frame,
+    change: &Option<Change>,
+) -> Result<(), AllocError>
+    requires { IsInRange frame.now }
+    ensures { OnOk result (found.new.items
+        ≡ (found.old.items ++ local_said (side_of frame.now.side previous.now) frame.now)
+        ++ say (is_ack frame.now.body && is_none change.now)
+        (finding_at UnmatchedAck frame.now.number frame.now.stream frame.now.side (pos 0))) }
+{
+    say_local(found, &previous.of(frame.side), frame)?;
+    let kind = Kind::UnmatchedAck;
+    let ack = Finding::at(kind, frame.number, frame.stream, frame.side, 0);
+    let is_unmatched = frame.body.is_ack() & change.is_none();
+    say_if(found, is_unmatched, ack)
+}
+
+/// Adds what a frame shows, in order.
+fn add_in_order(found: &mut Vec<Finding>, said: &mut Vec<Finding>) -> Result<(), AllocError>
+    ensures { OnOk result (found.new.items ≡ found.old.items ++ in_order said.old.items) }
+{
+    put_in_order(said)?;
+    found.append(said)
 }
 
 /// The change of this number.

@@ -7,7 +7,8 @@ ghost use Rattle.audit_terms.specs.code.Room.{HasRoom};
 ghost use Rattle.conn_scan.specs.code.Items.{items_in, IsBlock};
 ghost use Rattle.conn_scan.specs.code.Block.{MovesLittle};
 ghost use Rattle.conn_scan.specs.code.Credit.{spent_by, granted_by, credit_met};
-ghost use Rattle.conn_scan.specs.code.ConnSum.{conn_sum_of, conn_met, conn_framed, conn_promised};
+ghost use Rattle.conn_scan.specs.code.ConnSum.{conn_sum_of, conn_met, conn_counted};
+ghost use Rattle.conn_scan.specs.code.ConnSum.{conn_promised};
 
 use crate::block_items::{Block, changes_from, first_number, item_at, numbers_from};
 use crate::credits::Credit;
@@ -57,17 +58,17 @@ impl ConnSum {
         ensures met { self.new ≡ conn_met self.old item.now }
         ensures little { MovesLittle item.now }
     {
-        self.meet_frame(&item.frame);
+        self.count(&item.frame);
+        self.see_promise(&item.frame);
         self.opened.meet(opened_in(item));
         self.latest.meet_change(&item.change);
     }
 
-    /// Takes a frame that opens no stream and brings nothing into force: its length, what it moves, whether it grants 0,
-    /// and a promise of the server, if it is one.
-    fn meet_frame(&mut self, frame: &Frame)
+    /// Takes the length of a frame, what it moves, and whether it grants 0.
+    fn count(&mut self, frame: &Frame)
         requires client { HasRoom (2 ^ 60) self.old.credit.client.sum }
         requires server { HasRoom (2 ^ 60) self.old.credit.server.sum }
-        ensures met { self.new ≡ conn_framed self.old frame.now }
+        ensures counted { self.new ≡ conn_counted self.old frame.now }
         ensures little { HasRoom (2 ^ 32) (credit_moved Client frame.now)
             × HasRoom (2 ^ 32) (credit_moved Server frame.now) }
     {
@@ -86,7 +87,6 @@ impl ConnSum {
                 take_moves(frame, &mut credit.server, &mut credit.client, zero);
             }
         }
-        self.see_promise(frame);
     }
 
     /// Takes a promise of the server, if the frame is one.
@@ -186,7 +186,9 @@ pub fn block_sum(block: &Block) -> ConnSum
     let mut due = first_number(opened, changes);
     while let Some((frame, later)) = frames.split_first() {
         if frame.number < due {
-            sum.meet_frame(frame);
+            // It opens no stream and brings nothing into force.
+            sum.count(frame);
+            sum.see_promise(frame);
         } else {
             opened = numbers_from(opened, frame.number);
             changes = changes_from(changes, frame.number);

@@ -5,6 +5,7 @@ ghost use Rattle.audit_terms.specs.code.runs.Orderly.{IsInRange};
 ghost use Rattle.audit_terms.specs.LocalFault.{breaks_block, reading_fault, body_said, local_said, fault};
 ghost use Rattle.audit_terms.specs.Finding.{say};
 
+use crate::previous::is_of;
 use crate::spots::{say_at, spot_of};
 use audit_terms::frame_types::{CONTINUATION, PUSH_PROMISE};
 use audit_terms::{Body, Finding, Frame, Kind, Side};
@@ -22,14 +23,14 @@ pub fn say_local(
     ensures { OnOk result (found.new.items ≡ found.old.items ++ local_said previous.now frame.now) }
 {
     let code = u32::from(frame.code);
-    let bad_preface = previous.is_none() && !frame.is_settings();
+    let bad_preface = previous.is_none() & !frame.is_settings();
     say_fault(found, bad_preface, Kind::BadPreface, frame, code)?;
     let broken_block = breaks_block(previous, frame);
     say_fault(found, broken_block, Kind::BrokenBlock, frame, code)?;
     let wrong_stream = frame.is_on_wrong_stream();
     say_fault(found, wrong_stream, Kind::WrongStream, frame, code)?;
     say_body(found, frame)?;
-    let client_push = frame.code == PUSH_PROMISE && Side::Client == frame.side;
+    let client_push = (frame.code == PUSH_PROMISE) & is_of(Side::Client, frame);
     say_fault(found, client_push, Kind::Push, frame, 0)
 }
 

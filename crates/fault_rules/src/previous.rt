@@ -18,7 +18,7 @@ pub fn keep_last(previous: &mut Sides<Option<Frame>>, frame: &Frame)
 }
 
 /// Did a side send the frame?
-fn is_of(side: Side, frame: &Frame) -> bool
+pub(crate) fn is_of(side: Side, frame: &Frame) -> bool
     ensures { result ≡ is_side side frame.now.side }
 {
     side == frame.side

@@ -42,10 +42,6 @@ conn_promised a frame = record a {
   latest = latest_marked a.latest frame;
 }
 
--- a summary, and then a frame that opens no stream and brings nothing into force
-abbrev pub conn_framed : ConnSum → Frame → ConnSum
-conn_framed a frame = conn_promised (conn_counted a frame) frame
-
 -- the items of a summary, and then one more
 abbrev pub conn_met : ConnSum → Item → ConnSum
 conn_met a item = record {

@@ -11,16 +11,9 @@ loop-frame-init c =
     rw (c.start-connection.ensures, c.in_ok-rows.ensures, c.new-found.ensures.items)
     (pass-begins c.args.frames.now _ c.requires c.in_ok-pairs.ensures.changes)
 
-pub say_local-requires : goal.say_local-requires
-say_local-requires c =
+pub say_alone-requires : goal.say_alone-requires
+say_alone-requires c =
     (rw (drop-at c.args.frames.now _ _ c.frame-item.is c.loop-frame-test.true) at c.loop-frame.invariant).orderly.1
-
-pub at-ack-requires : goal.at-ack-requires
-at-ack-requires c =
-    let at = rw (drop-at c.args.frames.now _ _ c.frame-item.is c.loop-frame-test.true) at c.loop-frame.invariant in
-    let frame = at.orderly.1 in
-    let below = frame.number in
-    record { numbered = omega arith; streamed = frame.stream }
 
 pub say_connection-requires : goal.say_connection-requires
 say_connection-requires c =
@@ -50,13 +43,11 @@ loop-frame-preserved c =
     let long : c.loop-frame.rows.len ≡ length c.meet_all.new.rows =
     omega (arith, c.meet_all.auto.rows, c.deref_mut.ensures.len) in
     rw (long, take-append_seam)
-    (pass-next at c.opens.result c.is_none.result c.change_at-change.result
-    (rw c.deref.ensures.value at c.change_at-change.ensures) c.is_none.ensures
+    (pass-next at c.opens.result c.change_at-change.result
+    (rw c.deref.ensures.value at c.change_at-change.ensures)
     (rw c.deref-in-loop-frame.ensures.value at c.opens.ensures) own
-    (rw (c.new-said.ensures.items, c.of.ensures) at c.in_ok-say_local.ensures)
-    (rw (c.is_ack.ensures, c.at-ack.ensures) at c.in_ok-say_if.ensures.ok) c.in_ok-say_connection.ensures.said
-    (rw rows at c.in_ok-meet_all.ensures.said)
-    (rw c.in_ok-put_in_order.ensures.ok at c.in_ok-append.ensures.items)
+    (rw c.new-said.ensures.items at c.in_ok-say_alone.ensures) c.in_ok-say_connection.ensures.said
+    (rw rows at c.in_ok-meet_all.ensures.said) c.in_ok-add_in_order.ensures
     c.keep_last.ensures c.initial_after-in_force.ensures c.in_ok-say_connection.ensures.after
     (rw rows at c.in_ok-meet_all.ensures.after) c.say_connection.ensures.client c.say_connection.ensures.server
     (rw rows at c.in_ok-meet_all.ensures.fits))

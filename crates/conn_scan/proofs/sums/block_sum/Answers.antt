@@ -6,8 +6,8 @@ use Rattle.std.proofs.lemmas.List.{nil_from_length}
 use Rattle.conn_scan.proofs.SumLemmas.{sum_roomy}
 use Rattle.conn_scan.proofs.sums.block_sum.Goals as goal
 
-pub meet_frame-requires : goal.meet_frame-requires
-meet_frame-requires c =
+pub count-requires : goal.count-requires
+count-requires c =
     let i = c.loop-frame.invariant in
     let room = sum_roomy c.args.block.now i.done _ c.loop-frame.sum i.split c.requires.number i.little i.sum in
     record { client = room.0; server = room.1 }
@@ -33,8 +33,8 @@ loop-frame-preserved-then-frame-due c =
       changes = i.changes;
       done = i.done ++ item ∷ [];
       split = rw append_assoc (rw (is, idle) at i.split);
-      sum = rw (c.meet_frame.ensures.met, i.sum) (sym (conn_sum_of-met i.done item));
-      little = all-append MovesLittle i.done (item ∷ []) i.little (c.meet_frame.ensures.little, tt);
+      sum = rw (c.see_promise.ensures, c.count.ensures.counted, i.sum) (sym (conn_sum_of-met i.done item));
+      little = all-append MovesLittle i.done (item ∷ []) i.little (c.count.ensures.little, tt);
     }
 
 pub loop-frame-preserved : goal.loop-frame-preserved

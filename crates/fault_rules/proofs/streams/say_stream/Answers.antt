@@ -16,3 +16,9 @@ returns-clause-after c =
       c.in_ok-say_window-2.ensures.window,
       c.opens-opening.ensures,
     ) refl
+
+pub returns-clause-client : goal.returns-clause-client
+returns-clause-client c = c.in_ok-say_window.ensures.room
+
+pub returns-clause-server : goal.returns-clause-server
+returns-clause-server c = c.in_ok-say_window-2.ensures.room
