@@ -1,11 +1,11 @@
 //! Workers on threads of their own, over one desk.
 
-ghost use Rattle.std.specs.Prelude.{◌≡◌, ◌+◌, ◌-◌, ◌*◌, ◌<◌, [], ◌++◌, All, IfOk, MatchResult, length};
+ghost use Rattle.std.specs.Prelude.{◌≡◌, ◌+◌, ◌-◌, ◌<◌, [], ◌++◌, All, IfOk, MatchResult, length};
 ghost use Rattle.std.specs.Thread.{IsSend, IsSync};
-ghost use Rattle.stop_desk.specs.code.Desk.{pass_of, all_draws, IsConnection};
+ghost use Rattle.stop_desk.specs.code.Desk.{pass_of, unused, all_draws, IsConnection};
 ghost use Rattle.stop_desk.specs.code.Board.{Job};
 ghost use Rattle.stop_desk.specs.code.Crew.{IsDone};
-ghost use Rattle.stop_desk.specs.code.Worked.{IsAllWorked};
+ghost use Rattle.stop_desk.specs.code.Worked.{AreAllWorked};
 
 use crate::closing::Closed;
 use crate::desks::Desk;
@@ -20,11 +20,11 @@ use std::thread::{Threads, join};
 
 /// Gives some of the workers of an unused pass a pass of their own.
 fn divide(desk: &Desk, pass: Pass, workers: u32, given: u32) -> (Pass, Pass)
-    requires fresh { pass ≡ pass_of desk.now.id (workers * (desk.now.jobs + 1)) [] [] [] }
+    requires fresh { pass ≡ unused desk.now workers }
     requires some { 0 < given }
     requires fewer { given < workers }
-    ensures kept { result.0 ≡ pass_of desk.now.id ((workers - given) * (desk.now.jobs + 1)) [] [] [] }
-    ensures given { result.1 ≡ pass_of desk.now.id (given * (desk.now.jobs + 1)) [] [] [] }
+    ensures kept { result.0 ≡ unused desk.now (workers - given) }
+    ensures given { result.1 ≡ unused desk.now given }
 {
     pass.split(desk, u64::from(given) * (u64::from(desk.jobs()) + 1))
 }
@@ -56,9 +56,9 @@ fn fork<R: Threads + Sync, G: Gate, P: Round>(
     pass: Pass,
 ) -> Result<(Vec<Part<P::Made>>, Pass), AllocError>
     requires some { 0 < workers }
-    requires fresh { pass ≡ pass_of shift.now.desk.now.id (workers * (shift.now.desk.now.jobs + 1)) [] [] [] }
-    ensures { IfOk result (λ r. IsAllWorked (P.makes shift.now.plan.now) (P.jobs shift.now.plan.now)
-        shift.now.desk.now.id shift.now.round (workers * (shift.now.desk.now.jobs + 1)) r.0.items r.1) }
+    requires fresh { pass ≡ unused shift.now.desk.now workers }
+    ensures { IfOk result (λ r. AreAllWorked (P.makes shift.now.plan.now) (P.jobs shift.now.plan.now)
+        shift.now.desk.now shift.now.round workers r.0.items r.1) }
 {
     if workers == 1 {
         return work(alloc, shift, pass);
@@ -70,17 +70,15 @@ fn fork<R: Threads + Sync, G: Gate, P: Round>(
         rt,
         || -> Result<(Vec<Part<P::Made>>, Pass), AllocError>
             requires { IsSend P.Made.row × IsSync R.row × IsSync G.row × IsSync P.row × (0 < half)
-                × (given ≡ pass_of shift.now.desk.now.id (half * (shift.now.desk.now.jobs + 1)) [] [] []) }
-            ensures { IfOk result (λ r. IsAllWorked (P.makes shift.entry.now.plan.now) (P.jobs shift.entry.now.plan.now)
-                shift.entry.now.desk.now.id shift.entry.now.round (half * (shift.entry.now.desk.now.jobs + 1))
-                r.0.items r.1) }
+                × (given ≡ unused shift.now.desk.now half) }
+            ensures { IfOk result (λ r. AreAllWorked (P.makes shift.entry.now.plan.now)
+                (P.jobs shift.entry.now.plan.now) shift.entry.now.desk.now shift.entry.now.round half r.0.items r.1) }
         { fork(rt, alloc, half, shift, given) },
         || -> Result<(Vec<Part<P::Made>>, Pass), AllocError>
             requires { IsSend P.Made.row × IsSync R.row × IsSync G.row × IsSync P.row × (0 < rest)
-                × (kept ≡ pass_of shift.now.desk.now.id (rest * (shift.now.desk.now.jobs + 1)) [] [] []) }
-            ensures { IfOk result (λ r. IsAllWorked (P.makes shift.entry.now.plan.now) (P.jobs shift.entry.now.plan.now)
-                shift.entry.now.desk.now.id shift.entry.now.round (rest * (shift.entry.now.desk.now.jobs + 1))
-                r.0.items r.1) }
+                × (kept ≡ unused shift.now.desk.now rest) }
+            ensures { IfOk result (λ r. AreAllWorked (P.makes shift.entry.now.plan.now)
+                (P.jobs shift.entry.now.plan.now) shift.entry.now.desk.now shift.entry.now.round rest r.0.items r.1) }
         { fork(rt, alloc, rest, shift, kept) },
     );
     together(shift.desk, mine, theirs)

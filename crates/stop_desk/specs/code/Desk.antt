@@ -1,5 +1,5 @@
 -- What a caller knows of a desk, of a pass, and of a closed desk.
-use Rattle.std.specs.Prelude.{ℕ, ◌+◌, ◌*◌, ◌<◌, List, Option, length, slice_index}
+use Rattle.std.specs.Prelude.{ℕ, ◌+◌, ◌*◌, ◌<◌, List, [], Option, length, slice_index}
 use Rattle.atomic_table.specs.Seated.{TableId}
 use Rattle.stop_desk.specs.code.Counts.{marks}
 use Rattle.stop_desk.specs.code.Stop.{place_at}
@@ -38,6 +38,10 @@ desk_of id jobs workers = record { id = id; jobs = jobs; workers = workers }
 abbrev pub pass_of : DeskId → (allowance : ℕ) → (drawn : List ℕ) → (seen lowered : List (ℕ × ℕ)) → PassView
 pass_of desk allowance drawn seen lowered =
     record { desk = desk; allowance = allowance; drawn = drawn; seen = seen; lowered = lowered }
+
+-- the pass of so many workers that has drawn, seen and lowered nothing: for each of them each job once, and one more
+abbrev pub unused : DeskView → (workers : ℕ) → PassView
+unused desk workers = pass_of desk.id (workers * (desk.jobs + 1)) [] [] []
 
 abbrev pub closed_of : DeskId → (words drawn : List ℕ) → (seen lowered : List (ℕ × ℕ)) → ClosedView
 closed_of desk words drawn seen lowered =

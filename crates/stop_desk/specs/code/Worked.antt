@@ -1,9 +1,9 @@
 -- What a worker has drawn, seen, lowered and laid down, job by job.
-use Rattle.std.specs.Prelude.{◌≡◌, ℕ, ◌<◌, ◌≤◌, ◌⊎◌, List, filter, map, length, slice_get, Contains, Option, Some}
+use Rattle.std.specs.Prelude.{◌≡◌, ℕ, ◌+◌, ◌*◌, ◌<◌, ◌≤◌, ◌⊎◌, List, filter, map, length, slice_get, Contains, Option, Some}
 use Rattle.audit_terms.specs.declared.findings.Finding.{Finding}
 use Rattle.audit_terms.specs.Finding.{stops}
 use Rattle.stop_desk.specs.code.Counts.{times}
-use Rattle.stop_desk.specs.code.Desk.{DeskId, PassView, pass_of, pass_draws, IsConnection}
+use Rattle.stop_desk.specs.code.Desk.{DeskId, DeskView, PassView, pass_of, pass_draws, IsConnection}
 use Rattle.stop_desk.specs.code.Board.{Job, StopsAt, IsPartOf, parts_of}
 use Rattle.stop_desk.specs.declared.parts.Part.{Part}
 use Rattle.stop_desk.specs.code.Laid.{part_of}
@@ -59,6 +59,12 @@ abbrev pub IsAllWorked : {M : Type 0} → (makes : ℕ → Option ℕ → M → 
     → (round whole : ℕ) → List (Part M) → PassView → Type 0
 IsAllWorked makes jobs desk round whole parts pass =
     IsWorked makes jobs desk round whole parts pass × DrewPast jobs pass
+
+-- the same of so many workers of a desk, with all draws of their unused pass
+abbrev pub AreAllWorked : {M : Type 0} → (makes : ℕ → Option ℕ → M → Type 0) → (jobs : List Job) → (desk : DeskView)
+    → (round workers : ℕ) → List (Part M) → PassView → Type 0
+AreAllWorked makes jobs desk round workers parts pass =
+    IsAllWorked makes jobs desk.id round (workers * (desk.jobs + 1)) parts pass
 
 -- while a worker draws: only jobs were drawn, each once
 abbrev pub DrewJobs : (jobs : List Job) → PassView → Type 0
