@@ -19,8 +19,8 @@
 //!   items cannot bring beyond 2^60, and `block_sum` says that an item moves each by at most 2^32. Two laws are worked
 //!   examples: credit used up, granted and used again, in states and sums, and a stall in blocks of one, of two and at
 //!   once.
-//! - Refused by the prover: a block that starts afresh, an item or a join that leaves out what is before, clear by the
-//!   total alone, a run that looks once.
+//! - Refused by the prover: a block that starts afresh, a sum of changes without those before them (an item's and a
+//!   join's is one call), clear by the total alone, a run that looks once.
 //! - Tested, in `crate_tests`: that the calls succeed where there is memory, within rounds over random frames; and, in
 //!   numbers, how often a run over 1,000 frames looks, and what it is handed and keeps.
 #![tactic(auto)]
