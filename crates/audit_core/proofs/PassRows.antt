@@ -1,6 +1,6 @@
 -- What the plain pass keeps between two frames, beside the state of the pass, and what it says at a frame.
 use Rattle.std.proofs.Common.{◌≡◌, ℕ, pos, ◌^◌, ◌≤◌, Bool, true, false, ◌==◌, ◌&&◌, ◌||◌, List, [], ◌∷◌, ◌++◌, map}
-use Rattle.std.proofs.Common.{refl, ap, ◌∙◌, append_assoc, ◌+◌, None, Option, Some, is_none, is_some, arith, if◌then◌else◌, not}
+use Rattle.std.proofs.Common.{refl, ap, ◌∙◌, append_assoc, ◌+◌, None, Option, Some, is_none, is_some, arith, if◌then◌else◌}
 use Rattle.std.proofs.Common.{◌*◌}
 use Rattle.std.proofs.lemmas.Simd.{map-map}
 use Rattle.std.proofs.lemmas.List.Folds.{flat_map-map}
