@@ -1,7 +1,7 @@
 -- What the plain pass keeps between two frames, beside the state of the pass, and what it says at a frame.
 use Rattle.std.proofs.Common.{◌≡◌, ℕ, pos, ◌^◌, ◌≤◌, Bool, true, false, ◌==◌, ◌&&◌, ◌||◌, List, [], ◌∷◌, ◌++◌, map}
-use Rattle.std.proofs.Common.{refl, ap, ◌∙◌, append_assoc, ◌+◌, None, Option, Some, is_none, is_some, arith, if◌then◌else◌}
-use Rattle.std.proofs.Common.{◌*◌}
+use Rattle.std.proofs.Common.{refl, ap, ◌∙◌, append_assoc, ◌+◌, None, Option, Some, is_none, is_some, arith, ◌*◌}
+use Rattle.std.proofs.Common.{if◌then◌else◌}
 use Rattle.std.proofs.lemmas.Simd.{map-map}
 use Rattle.std.proofs.lemmas.List.Folds.{flat_map-map}
 use Rattle.audit_core.proofs.Words.{flat_map, list_any, find, eq-eqb, eqb-true, Sides, UnmatchedAck, Frame, Change}

@@ -1,5 +1,6 @@
 -- What a worker has drawn, seen, lowered and laid down, job by job.
-use Rattle.std.specs.Prelude.{◌≡◌, ℕ, ◌+◌, ◌*◌, ◌<◌, ◌≤◌, ◌⊎◌, List, filter, map, length, slice_get, Contains, Option, Some}
+use Rattle.std.specs.Prelude.{◌≡◌, ℕ, ◌+◌, ◌*◌, ◌<◌, ◌≤◌, ◌⊎◌, List, filter, map, length, slice_get, Contains, Option}
+use Rattle.std.specs.Prelude.{Some}
 use Rattle.audit_terms.specs.declared.findings.Finding.{Finding}
 use Rattle.audit_terms.specs.Finding.{stops}
 use Rattle.stop_desk.specs.code.Counts.{times}

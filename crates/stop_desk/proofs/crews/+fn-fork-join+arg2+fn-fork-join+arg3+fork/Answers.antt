@@ -43,42 +43,6 @@ join+arg3-fork-requires g t c = λ κs (rt, (gate, (plan, made))).
 
 pub join-mine-requires-after_bounds : goal.join-mine-requires-after_bounds
 join-mine-requires-after_bounds g t c = λ κs within. (
-  (
-    omega arith,
-    (
-      λ a m. m,
-      (
-        λ a m. m,
-        (
-          λ a m. m,
-          (
-            λ a m. m,
-            (
-              (search rules, search rules, search rules, search rules, omega arith, c.divide-kept.ensures.given),
-              (search rules, search rules, search rules, search rules),
-            ),
-          ),
-        ),
-      ),
-    ),
-  ),
-  (
-    omega arith,
-    (
-      λ a m. m,
-      (
-        λ a m. m,
-        (
-          λ a m. m,
-          (
-            λ a m. m,
-            (
-              (search rules, search rules, search rules, search rules, omega arith, c.divide-kept.ensures.kept),
-              (search rules, search rules, search rules, search rules),
-            ),
-          ),
-        ),
-      ),
-    ),
-  ),
+  (omega arith, (λ a m. m, (λ a m. m, (λ a m. m, (λ a m. m, (search rules, search rules)))))),
+  (omega arith, (λ a m. m, (λ a m. m, (λ a m. m, (λ a m. m, (search rules, search rules)))))),
 )
