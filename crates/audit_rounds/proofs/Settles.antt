@@ -1,50 +1,14 @@
 -- What settled rounds give, and what is merged of it.
-use Rattle.audit_rounds.proofs.Words.{◌≡◌, ℕ, ◌+◌, ◌<◌, Bool, not, List, [], ◌∷◌, ◌++◌, map, length, get_or, All}
-use Rattle.audit_rounds.proofs.Words.{Option, None, refl, sym, ap, ◌∙◌, arith, Vec, Global, zip, length-map, get_or-map}
+use Rattle.audit_rounds.proofs.Words.{◌≡◌, ℕ, ◌+◌, ◌<◌, Bool, List, [], ◌∷◌, ◌++◌, map, length, get_or, All, Option}
+use Rattle.audit_rounds.proofs.Words.{None, refl, sym, ap, ◌∙◌, arith, Vec, Global, zip, length-map, get_or-map}
 use Rattle.audit_rounds.proofs.Words.{get_or-zip, length-zip, slice_get_within, get_or_from_slice_get, slice_get-get_or}
-use Rattle.audit_rounds.proofs.Words.{All-map, Finding, comes_after, in_order, upto_stop, in_order-ordered}
-use Rattle.audit_rounds.proofs.Words.{comes_after_is, in_order-append_left, connection_start, Block, items_in, IsBlock}
+use Rattle.audit_rounds.proofs.Words.{All-map, Finding, in_order, upto_stop, connection_start, Block, items_in, IsBlock}
 use Rattle.audit_rounds.proofs.Words.{BlockFits, ConnSum, IsStop, Job, findings_of_parts, HasSettled, board_merges_lem}
 use Rattle.audit_rounds.proofs.Words.{Part, Settled, part_of, ConnectionBlock, ReadyBlock, IsSum, AreSums, wholes}
 use Rattle.audit_rounds.proofs.Words.{sum_job, block_job, whole_shown, shown_at, IsPlan, IsRemaining, AreRemaining}
 use Rattle.audit_rounds.proofs.Words.{AreGoneThrough}
-use Rattle.itertools.specs.List.{merge_by}
-use Rattle.audit_terms.specs.Order.{put_by}
-use Rattle.audit_terms.proofs.OrderedLists.{IsAfter, NoneBefore, IsInOrder, ordered-append, put_all}
 use Rattle.audit_rounds.proofs.Lists.{items_in as list_items, as-many, some_of}
 use Rattle.audit_rounds.proofs.Plans.{shown-at}
-
--- ---- two runs in order, merged, are all their elements in order
-
-module _ {X : Type 0} (after : X → X → Bool) (o : IsAfter after) where
-  -- does x go first of the two?
-  abbrev is_first : X → X → Bool
-  is_first x y = not (after x y)
-
-  -- an element that stands before all of its run is put in
-  merge-put : (x : X) (xs : List X) → NoneBefore after o x xs → (ys : List X)
-      → merge_by is_first (x ∷ xs) ys ≡ put_by after x (merge_by is_first xs ys)
-  merge-put x [] h [] = refl
-  merge-put x [] h (y ∷ ys) = grind (arith, merge-put x [] tt ys)
-  merge-put x (z ∷ xs) h [] = rw h.0 refl
-  merge-put x (z ∷ xs) h (y ∷ ys) = grind (arith, merge-put x (z ∷ xs) h ys, h.0, o.above x z y)
-
-  -- so all of a run in order are put in
-  merge-all : (xs ys : List X) → IsInOrder after o xs → merge_by is_first xs ys ≡ put_all after o xs ys
-  merge-all [] ys h = refl
-  merge-all (x ∷ xs) ys h = merge-put x xs h.0 ys ∙ ap (put_by after x) (merge-all xs ys h.1)
-
--- of two lists of findings that are put in order
-pub merge-in_order : (xs ys : List Finding)
-    → merge_by (λ x y. not (comes_after x y)) (in_order xs) (in_order ys) ≡ in_order (xs ++ ys)
-merge-in_order xs ys =
-    merge-all comes_after comes_after_is (in_order xs) (in_order ys) (in_order-ordered comes_after comes_after_is xs)
-    ∙ sym (ordered-append comes_after comes_after_is (in_order xs) ys) ∙ in_order-append_left xs ys
-
--- where the second is empty the first is all
-pub merge-nil : {X : Type 0} (first : X → X → Bool) (xs : List X) → merge_by first xs [] ≡ xs
-merge-nil first [] = refl
-merge-nil first (x ∷ xs) = refl
 
 -- what two lists of a connection are merged to
 abbrev pub both_in : Vec Finding Global × Vec Finding Global → List Finding

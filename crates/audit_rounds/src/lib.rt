@@ -37,7 +37,6 @@
 //!   the crates below.
 //! - Tested by whole reports, in many mixes of workers, groups and block lengths: that the call succeeds where there is
 //!   memory.
-//! - Trusted: the port of `itertools`.
 #![tactic(auto)]
 
 mod batch;

@@ -7,3 +7,4 @@ pub mod Ahead
 pub mod LoudStreams
 pub mod GroupRanges
 pub mod ShownMerge
+pub mod MergedRuns

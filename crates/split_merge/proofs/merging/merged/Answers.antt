@@ -1,6 +1,8 @@
-use Rattle.audit_rounds.proofs.Words.{◌≡◌, [], sym, ◌∙◌, nil_from_length, eqb-true}
-use Rattle.audit_rounds.proofs.Settles.{merge-in_order, merge-nil}
-use Rattle.audit_rounds.proofs.merging.merged.Goals as goal
+use Rattle.std.proofs.Common.{eqb-true}
+use Rattle.std.proofs.lemmas.List.{nil_from_length}
+use Rattle.split_merge.proofs.Terms.{◌≡◌, [], sym, ◌∙◌}
+use Rattle.split_merge.proofs.MergedRuns.{merge-in_order, merge-nil}
+use Rattle.split_merge.proofs.merging.merged.Goals as goal
 
 pub returns-then-is_empty : goal.returns-then-is_empty
 returns-then-is_empty c =

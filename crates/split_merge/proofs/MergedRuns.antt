@@ -1,0 +1,47 @@
+-- Two runs in order, merged, are all their elements in order.
+use Rattle.split_merge.proofs.Terms.{◌≡◌, Bool, not, List, [], ◌∷◌, ◌++◌, refl, sym, ap, ◌∙◌, arith, comes_after, in_order}
+use Rattle.split_merge.proofs.Terms.{append_assoc}
+use Rattle.itertools.specs.List.{merge_by}
+use Rattle.audit_terms.specs.declared.findings.Finding.{Finding}
+use Rattle.audit_terms.specs.Order.{put_by}
+use Rattle.audit_terms.proofs.FindingOrder.{comes_after_is, in_order-append_left, in_order-in_order}
+use Rattle.audit_terms.proofs.OrderedLists.{IsAfter, NoneBefore, IsInOrder, ordered-append, put_all, in_order-ordered}
+
+module _ {X : Type 0} (after : X → X → Bool) (o : IsAfter after) where
+  -- does x go first of the two?
+  abbrev is_first : X → X → Bool
+  is_first x y = not (after x y)
+
+  -- an element that stands before all of its run is put in
+  merge-put : (x : X) (xs : List X) → NoneBefore after o x xs → (ys : List X)
+      → merge_by is_first (x ∷ xs) ys ≡ put_by after x (merge_by is_first xs ys)
+  merge-put x [] h [] = refl
+  merge-put x [] h (y ∷ ys) = grind (arith, merge-put x [] tt ys)
+  merge-put x (z ∷ xs) h [] = rw h.0 refl
+  merge-put x (z ∷ xs) h (y ∷ ys) = grind (arith, merge-put x (z ∷ xs) h ys, h.0, o.above x z y)
+
+  -- so all of a run in order are put in
+  merge-all : (xs ys : List X) → IsInOrder after o xs → merge_by is_first xs ys ≡ put_all after o xs ys
+  merge-all [] ys h = refl
+  merge-all (x ∷ xs) ys h = merge-put x xs h.0 ys ∙ ap (put_by after x) (merge-all xs ys h.1)
+
+-- of two lists of findings that are put in order
+pub merge-in_order : (xs ys : List Finding)
+    → merge_by (λ x y. not (comes_after x y)) (in_order xs) (in_order ys) ≡ in_order (xs ++ ys)
+merge-in_order xs ys =
+    merge-all comes_after comes_after_is (in_order xs) (in_order ys) (in_order-ordered comes_after comes_after_is xs)
+    ∙ sym (ordered-append comes_after comes_after_is (in_order xs) ys) ∙ in_order-append_left xs ys
+
+-- where the second is empty the first is all
+pub merge-nil : {X : Type 0} (first : X → X → Bool) (xs : List X) → merge_by first xs [] ≡ xs
+merge-nil first [] = refl
+merge-nil first (x ∷ xs) = refl
+
+-- ---- one list more, merged with those before it
+
+pub more_in_order : (before list all : List Finding) → all ≡ in_order (before ++ list) → in_order all ≡ all
+more_in_order before list all is = rw is (in_order-in_order (before ++ list))
+
+pub more_of_all : (before list rest all : List Finding) → all ≡ in_order (before ++ list)
+    → in_order (all ++ rest) ≡ in_order (before ++ (list ++ rest))
+more_of_all before list rest all is = rw (is, in_order-append_left (before ++ list) rest, append_assoc) refl
