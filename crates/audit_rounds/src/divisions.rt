@@ -23,6 +23,9 @@ pub struct Division {
     pub block: u32,
     /// The hash of the tables in which streams are looked up.
     pub hash: TableHash,
+    pub ghost some_workers: { 0 < workers },
+    pub ghost some_groups: { 0 < groups },
+    pub ghost some_block: { 0 < block },
 }
 
 /// How many frames, and how many connections, are in a batch of more than one connection. What the rounds need beside
@@ -65,12 +68,12 @@ pub fn findings_of_each<R: Threads + Sync, G: Gate>(
 {
     let setup = Setup {
         alloc,
-        groups: division.groups.max(1),
-        block: division.block.max(1),
+        groups: division.groups,
+        block: division.block,
         hash: division.hash,
         credits_shown,
     };
-    let crew = Crew::of(rt, gate, setup, division.workers.max(1));
+    let crew = Crew::of(rt, gate, setup, division.workers);
     let mut all = Vec::with_capacity(alloc, connections.len())?;
     let mut done = 0;
     while done < connections.len() {

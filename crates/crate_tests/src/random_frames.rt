@@ -1,6 +1,6 @@
 //! Random frames, by the rounds and by the plain pass.
 
-ghost use Rattle.std.specs.Prelude.{◌≤◌};
+ghost use Rattle.std.specs.Prelude.{◌≤◌, ◌<◌};
 
 use crate::Answer;
 use crate::fakes::TestGate;
@@ -82,6 +82,18 @@ fn script(alloc: Global, rng: &mut Pcg32, count: u32) -> Result<Vec<Frame>, Allo
     Ok(frames)
 }
 
+/// A division for so many workers, groups and frames in a block.
+fn divided(workers: u32, groups: u32, block: u32) -> Division
+    requires { (0 < workers) × (0 < groups) × (0 < block) }
+{
+    Division {
+        workers,
+        groups,
+        block,
+        hash: TableHash::Keyless,
+    }
+}
+
 /// Whether each division shows of the frames what the plain pass does, with credits and without.
 fn shows_the_pass(rt: &(impl Sync + Threads), alloc: Global, frames: &[Frame]) -> Answer {
     if !are_orderly(frames) {
@@ -90,13 +102,7 @@ fn shows_the_pass(rt: &(impl Sync + Threads), alloc: Global, frames: &[Frame]) -
     let mut want = one_pass(alloc, frames)?;
     for credits_shown in [true, false] {
         keep_shown(&mut want, credits_shown);
-        for (workers, groups, block) in [(1, 1, 4096), (2, 2, 1), (4, 3, 7)] {
-            let division = Division {
-                workers,
-                groups,
-                block,
-                hash: TableHash::Keyless,
-            };
+        for division in [divided(1, 1, 4096), divided(2, 2, 1), divided(4, 3, 7)] {
             let gate = TestGate::holding(0);
             let found = findings_of_each(rt, alloc, &division, &gate, credits_shown, &[frames])?;
             if found.len() != 1 || found[0].as_slice() != want.as_slice() {

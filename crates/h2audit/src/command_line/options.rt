@@ -57,14 +57,16 @@ impl Options {
 
     /// The number of groups that a connection's streams are dealt to.
     pub fn groups(&self) -> u32
-        ensures { result ≡ (choices self.now).groups }
+        ensures value { result ≡ (choices self.now).groups }
+        ensures some { 0 < result }
     {
         self.groups
     }
 
     /// The number of frames in a block.
     pub fn block(&self) -> u32
-        ensures { result ≡ (choices self.now).block }
+        ensures value { result ≡ (choices self.now).block }
+        ensures some { 0 < result }
     {
         self.block
     }
