@@ -31,10 +31,8 @@
 //!   frames shows the same.
 //! - [`laws::openings_are_found`] and [`laws::items_are_found`]: the numbers that streams tell, and the changes, make
 //!   the items of the pass.
-//! - Refused by the prover: changes of settings, not handed on to the blocks; a look that answers nothing in place of
-//!   the worker's, in the round over streams; openings of quiet streams, lost; what is found of a connection, given to
-//!   another; of the places up to which runs went, the greater taken for the lesser. Those of single rounds stand in
-//!   the crates below.
+//! - Refused by the prover: a look that answers nothing in place of the worker's, in the round over streams; what is
+//!   found of a connection, given to another. Wrong bodies of single rounds stand in the crates below.
 //! - Tested by whole reports, in many mixes of workers, groups and block lengths: that the call succeeds where there is
 //!   memory.
 #![tactic(auto)]

@@ -40,9 +40,9 @@
 //!   least; each part has everything up to the place that it saw; so the least error is found, lowered and kept.
 //!   [`laws::cuts_join`], [`laws::rounds_join`]: parts of several streams make one, and rounds go one after the other.
 //!   [`worked_rounds`] shows two workers with a stop that one sees, and steps that no worker may take.
-//! - Refused by the prover: a desk made without stops, a claim that is always 0, a look that invents a place, a
-//!   lowering that overwrites; parts dropped where two halves join, an overrun lowered, stops handed on as the round
-//!   found them.
+//! - Refused by the prover: a claim that is always 0, a look that never loads or that invents a place, a lowering that
+//!   overwrites or that is dropped; parts dropped where two halves join, an overrun lowered, stops handed on as the
+//!   round found them.
 //! - Tested, in `crate_tests`: two passes in two threads, that a look loads and does not answer from what its own pass
 //!   knows, that a job sees the stop that an earlier one lowered, that two workers are in one round at once, and how
 //!   many jobs each round of an audit has. That several threads work at once is not proved.
