@@ -12,9 +12,11 @@ PYTHON_PROGRAMS = h2audit-any h2audit-comment h2audit-fleet h2audit-import h2aud
 PYTHON_PACKAGES = comment fleet import/h2audit_import page page/assets plot report split
 BESIDE = $(PYTHON_PROGRAMS) h2audit-split
 FIRST = examples/negative_window_tomcat.pcap examples/stream_overrun_go.pcap
+# The parts of "make check", the longest first.
+CHECKS = tests split sources layout believed storeys
 SOURCES := crates.txt $(shell find crates -name out -prune -o -name '*.rt' -print -o -name '*.antt' -print)
 
-.PHONY: run build install deb check test test-tools bench believed pictures
+.PHONY: run build install deb check $(CHECKS:%=check-%) test test-tools bench believed pictures
 
 # Shows two reports at once, from a build without proof: of a connection with stalls and a window below zero, and of one
 # with an overrun, whose status of 1 is the program's answer.
@@ -79,20 +81,27 @@ deb: $(PROGRAM) $(SPLIT)
 		ZSHDIR=/usr/share/zsh/vendor-completions > /dev/null && \
 		tools/package/build_deb.sh "$$stage" "$(abspath $(PACKAGES))"
 
-# What tells in some three minutes whether a change holds together, and proves nothing: layout, types of Python, the
-# front end on every crate but the few lines of h2audit_cli, the tests of calls, and the definitions to believe. With
-# CRATE=NAME it proves that crate.
+# What tells in two minutes on four processors whether a change holds together, and proves nothing: layout, types of
+# Python, the front end on every crate but the few lines of h2audit_cli, the tests of calls, and the definitions to
+# believe. With CRATE=NAME it proves that crate.
 check:
 ifdef CRATE
 	cd crates/$(CRATE) && rt check
 else
-	@rattle fmt --check $(filter-out crates.txt,$(SOURCES))
-	tools/tests/sources_test.py
-	@cd crates/crate_tests && rt try | diff stdout -
-	@cd crates/h2audit_split && rt try -- $$(cat args) | diff stdout -
-	tools/tests/believed_test.py
-	tools/tests/storeys_test.py
+	@$(MAKE) --no-print-directory --jobs=$(RT_JOBS) --output-sync=target $(CHECKS:%=check-%)
 endif
+
+check-layout:
+	@rattle fmt --check $(filter-out crates.txt,$(SOURCES))
+
+check-tests:
+	@cd crates/crate_tests && rt try | diff stdout -
+
+check-split:
+	@cd crates/h2audit_split && rt try -- $$(cat args) | diff stdout -
+
+check-sources check-believed check-storeys: check-%:
+	tools/tests/$*_test.py
 
 # The gate: proves every crate from nothing, tries the must-fail edits, runs the tests and the programs; and asks the
 # programs, as both compilers built them, for whole reports and for parts.
