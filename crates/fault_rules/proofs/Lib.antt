@@ -1,4 +1,2 @@
 pub mod ShareLemmas
-mod SaidInTurn
-mod Acknowledged
-mod Bounds
+mod Terms

@@ -1,28 +1,16 @@
 -- Frames in shares.
-use Rattle.std.proofs.Common.{◌≡◌, ℕ, zero, suc, ◌+◌, ◌-◌, ◌*◌, ◌<◌, ◌≤◌, if◌then◌else◌, List, [], ◌∷◌}
-use Rattle.std.proofs.Common.{◌++◌, All, Option, Some, length, get_or, take, drop, map, flat_map, refl, sym, ap, ◌∙◌}
-use Rattle.std.proofs.Common.{append_assoc, arith}
-use Rattle.std.specs.Prelude.{Result, Ok, IfOk}
-use Rattle.std.specs.List.{AllZip, AllByRecursion, range_with_len}
+use Rattle.fault_rules.proofs.Terms.{◌≡◌, zero, List, ◌++◌, Some, take, drop, refl, arith, Client, Server, Sides, Frame}
+use Rattle.fault_rules.proofs.Terms.{ℕ, suc, ◌+◌, ◌-◌, ◌*◌, ◌<◌, ◌≤◌, [], ◌∷◌, All, map, sym, ap, ◌∙◌, Ok, IfOk, Side}
+use Rattle.fault_rules.proofs.Terms.{if◌then◌else◌, Option, append_assoc, range_with_len, IsOrderlyFrom, local_run_from}
+use Rattle.fault_rules.proofs.Terms.{length, get_or, Result, AllZip, take-add, drop_all, side_of, in_order, share_run}
+use Rattle.fault_rules.proofs.Terms.{flat_map, AllByRecursion, take-append-drop, All-from_recursion, previous_after_all}
+use Rattle.fault_rules.proofs.Terms.{drop-drop, take_more, common_steps, IsInRange, local_run, last_from, before_share}
 use Rattle.std.specs.Fork.{slice_chunk}
 use Rattle.std.proofs.Math.Nat.{mul-le-mul_right}
-use Rattle.std.proofs.Math.Seq.{take-add}
-use Rattle.std.proofs.lemmas.List.{take-append-drop, drop-drop, drop_all, take_more}
-use Rattle.std.proofs.lemmas.Grind.{common_steps}
 use Rattle.std.proofs.lemmas.List.Sums.{fold-append}
-use Rattle.std.proofs.lemmas.List.Elements.{All-from_recursion}
-use Rattle.audit_terms.specs.declared.sides.Side.{Side}
-use Rattle.audit_terms.specs.declared.sides.Side.TheVariants.{Client, Server}
-use Rattle.audit_terms.specs.declared.sides.Sides.{Sides}
-use Rattle.audit_terms.specs.declared.frames.Frame.{Frame}
 use Rattle.audit_terms.specs.declared.findings.Finding.{Finding}
 use Rattle.audit_terms.specs.Side.{is_side}
-use Rattle.audit_terms.specs.Sides.{side_of}
-use Rattle.audit_terms.specs.code.runs.Orderly.{IsInRange, IsOrderlyFrom}
-use Rattle.audit_terms.specs.Finding.{in_order}
 use Rattle.audit_terms.specs.LocalFault.{local_said, previous_after, no_previous}
-use Rattle.audit_terms.specs.code.runs.LocalFaults.{local_run_from, local_run}
-use Rattle.fault_rules.specs.code.Shares.{previous_after_all, last_from, before_share, share_run}
 
 -- the local faults of two lists of frames, one after the other
 pub local_run_from-append : (previous : Sides (Option Frame)) (xs ys : List Frame) →

@@ -1,4 +1,4 @@
-use Rattle.std.proofs.Common.{Bool, append_assoc, false, not, refl, true, ◌≡◌, ◌∙◌}
+use Rattle.fault_rules.proofs.Terms.{Bool, append_assoc, false, not, refl, true, ◌≡◌, ◌∙◌}
 use Rattle.std.proofs.lemmas.Result.{on_ok_weaker}
 use Rattle.fault_rules.proofs.frame_faults.say_local.Goals as goal
 

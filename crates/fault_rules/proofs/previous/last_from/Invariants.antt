@@ -1,5 +1,4 @@
-use Rattle.std.proofs.Common.{◌≡◌, ◌-◌, length, take}
-use Rattle.fault_rules.specs.code.Shares.{last_from}
+use Rattle.fault_rules.proofs.Terms.{◌≡◌, ◌-◌, length, take, last_from}
 use Rattle.fault_rules.proofs.previous.last_from.Given as goal
 
 -- what was looked at holds no frame of the side

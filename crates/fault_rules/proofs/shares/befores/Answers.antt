@@ -1,7 +1,5 @@
-use Rattle.std.proofs.Common.{◌≡◌, ◌+◌, ◌++◌, ◌∷◌, [], length, refl, sym, ap, ◌∙◌, length-append, ◌/◌, ◌%◌}
-use Rattle.std.proofs.Common.{min, arith}
-use Rattle.std.proofs.lemmas.Slice.{pushed}
-use Rattle.std.proofs.lemmas.Grind.{div_ceil_times}
+use Rattle.fault_rules.proofs.Terms.{◌≡◌, ◌+◌, ◌++◌, ◌∷◌, [], length, refl, sym, ap, ◌∙◌, length-append, ◌/◌, ◌%◌, min}
+use Rattle.fault_rules.proofs.Terms.{arith, pushed, div_ceil_times}
 use Rattle.fault_rules.proofs.ShareLemmas.{before_share-first, before_share-next, befores-push, share-inside}
 use Rattle.fault_rules.proofs.shares.befores.Goals as goal
 
@@ -13,11 +11,10 @@ loop-n-preserved c =
     let old = c.loop-n.befores.items in
     let grown : c.push.new.self.items ≡ old ++ before ∷ [] =
     pushed (before ∷ []) refl c.in_ok-push.was c.push.ensures.items in
-    let longer = length-append old (before ∷ []) in
     record {
       previous = rw (c.previous_after_all-previous.ensures, c.share.ensures, i.previous)
           (sym (before_share-next c.args.size frames c.loop-n.n));
-      count = ap length grown ∙ longer ∙ ap (λ k. k + 1) i.count;
+      count = ap length grown ∙ length-append old (before ∷ []) ∙ ap (λ k. k + 1) i.count;
       each = rw grown (befores-push c.args.size frames old before c.loop-n.n i.count i.previous i.each);
     }
 

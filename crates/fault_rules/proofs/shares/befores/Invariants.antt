@@ -1,5 +1,4 @@
-use Rattle.std.proofs.Common.{◌≡◌, ◌<◌, ℕ, length, get_or}
-use Rattle.fault_rules.specs.code.Shares.{before_share}
+use Rattle.fault_rules.proofs.Terms.{◌≡◌, ◌<◌, ℕ, length, get_or, before_share}
 use Rattle.fault_rules.proofs.shares.befores.Given as goal
 
 -- each share so far has its last frames before it, and the next ones stand ready

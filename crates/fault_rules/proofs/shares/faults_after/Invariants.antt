@@ -1,7 +1,4 @@
-use Rattle.std.proofs.Common.{◌≡◌, ◌++◌, drop}
-use Rattle.std.specs.List.{AllByRecursion}
-use Rattle.audit_terms.specs.code.runs.Orderly.{IsInRange}
-use Rattle.audit_terms.specs.code.runs.LocalFaults.{local_run_from}
+use Rattle.fault_rules.proofs.Terms.{◌≡◌, ◌++◌, drop, AllByRecursion, IsInRange, local_run_from}
 use Rattle.fault_rules.proofs.shares.faults_after.Given as goal
 
 -- what was found so far, and what the rest shows from the last frames there, is the whole answer

@@ -1,6 +1,4 @@
-use Rattle.std.proofs.Common.{◌*◌, All, drop, sym, subst}
-use Rattle.std.proofs.lemmas.List.Elements.{All-take, All-drop}
-use Rattle.audit_terms.specs.code.runs.Orderly.{IsInRange}
+use Rattle.fault_rules.proofs.Terms.{◌*◌, All, drop, sym, subst, All-take, All-drop, IsInRange}
 use Rattle.fault_rules.proofs.shares.faults_of_share.Goals as goal
 
 pub faults_after-requires : goal.faults_after-requires

@@ -1,4 +1,4 @@
-use Rattle.std.proofs.Common.{◌≡◌, ◌++◌, drop, flat_map}
+use Rattle.fault_rules.proofs.Terms.{◌≡◌, ◌++◌, drop, flat_map}
 use Rattle.fault_rules.proofs.shares.joined.Given as goal
 
 -- what was joined so far, and the shares that are left, are all of them

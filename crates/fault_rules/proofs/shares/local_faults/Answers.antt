@@ -1,10 +1,6 @@
-use Rattle.std.proofs.Common.{◌≡◌, ◌-◌, ◌<◌, ◌∙◌, All, length, flat_map, sym, ap, subst, arith}
-use Rattle.std.specs.List.{range_with_len}
-use Rattle.rayon.specs.Numbers.{nat_range}
+use Rattle.fault_rules.proofs.Terms.{◌≡◌, ◌-◌, ◌<◌, ◌∙◌, All, length, flat_map, sym, ap, subst, arith, range_with_len}
+use Rattle.fault_rules.proofs.Terms.{nat_range, nat_range-All, IsInRange, AreBefores}
 use Rattle.rayon.proofs.ListFacts.{IfOk-then}
-use Rattle.rayon.proofs.ToStd.{nat_range-All}
-use Rattle.audit_terms.specs.code.runs.Orderly.{IsInRange}
-use Rattle.fault_rules.specs.code.Shares.{AreBefores}
 use Rattle.fault_rules.proofs.ShareLemmas.{orderly-All, shares-all}
 use Rattle.fault_rules.proofs.shares.local_faults.Goals as goal
 

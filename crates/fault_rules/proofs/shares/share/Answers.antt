@@ -1,5 +1,5 @@
-use Rattle.std.proofs.Common.{◌≡◌, ◌*◌, ◌-◌, ◌∙◌, ap, drop, take, length, min, arith, length-drop}
-use Rattle.std.proofs.lemmas.List.{take_min, take_all}
+use Rattle.fault_rules.proofs.Terms.{◌≡◌, ◌*◌, ◌-◌, ◌∙◌, ap, drop, take, length, min, arith, length-drop, take_min}
+use Rattle.fault_rules.proofs.Terms.{take_all}
 use Rattle.fault_rules.proofs.shares.share.Goals as goal
 
 pub returns : goal.returns

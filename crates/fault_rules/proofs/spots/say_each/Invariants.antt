@@ -1,6 +1,4 @@
-use Rattle.std.proofs.Common.{◌≡◌, ◌++◌, drop}
-use Rattle.audit_terms.specs.Finding.{finding_at}
-use Rattle.fault_rules.specs.code.Said.{said_by}
+use Rattle.fault_rules.proofs.Terms.{◌≡◌, ◌++◌, drop, finding_at, said_by}
 use Rattle.fault_rules.proofs.spots.say_each.Given as goal
 
 -- what was said so far, and what the tests that are left say, is all

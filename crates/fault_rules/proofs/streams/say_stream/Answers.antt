@@ -1,12 +1,14 @@
-use Rattle.std.proofs.Common.{refl}
-use Rattle.fault_rules.proofs.SaidInTurn.{three}
+use Rattle.fault_rules.proofs.Terms.{◌≡◌, List, ◌++◌, ◌∙◌, append_assoc, refl}
 use Rattle.fault_rules.proofs.streams.say_stream.Goals as goal
+
+-- three shares, said in turn
+three : {A : Type 0} (o p q r a b d : List A) → p ≡ o ++ a → q ≡ p ++ b → r ≡ q ++ d → r ≡ o ++ (a ++ b ++ d)
+three o p q r a b d h i j = j ∙ rw (i, h) (simp append_assoc)
 
 pub returns-clause-said : goal.returns-clause-said
 returns-clause-said c =
-    let client = rw c.opens-opening.ensures at c.in_ok-say_window.ensures.said in
-    let server = rw c.opens-opening.ensures at c.in_ok-say_window-2.ensures.said in
-    three _ _ _ _ _ _ _ c.in_ok-say_step.ensures client server
+    three _ _ _ _ _ _ _ c.in_ok-say_step.ensures (rw c.opens-opening.ensures at c.in_ok-say_window.ensures.said)
+    (rw c.opens-opening.ensures at c.in_ok-say_window-2.ensures.said)
 
 pub returns-clause-after : goal.returns-clause-after
 returns-clause-after c =

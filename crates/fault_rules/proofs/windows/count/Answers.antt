@@ -1,35 +1,40 @@
-use Rattle.std.proofs.Common.{◌≡◌, ◌∙◌, ap, ◌⊎◌, inl, inr, arith}
-use Rattle.std.proofs.lemmas.Int.{ints}
-use Rattle.audit_terms.specs.Sides.{side_of}
+use Rattle.fault_rules.proofs.Terms.{◌≡◌, ℕ, true, Option, Some, None, refl, ◌⊎◌, inl, inr, arith, ints, Side, Frame}
+use Rattle.std.specs.Option.{ForSome, option_map_or}
+use Rattle.audit_terms.specs.declared.items.Change.{Change}
+use Rattle.audit_terms.specs.declared.items.Step.{Step}
+use Rattle.audit_terms.specs.Frame.{is_ack, content_by, grant_to}
 use Rattle.audit_terms.specs.Change.{new_initial}
-use Rattle.fault_rules.proofs.Acknowledged.{one-moves}
-use Rattle.fault_rules.proofs.Bounds.{moved-has_room}
+use Rattle.audit_terms.specs.code.runs.Streams.{IsAcknowledged}
 use Rattle.fault_rules.proofs.windows.count.Goals as goal
+
+-- what the step's frame grants and carries
+abbrev MovesNothing : Side → (stream : ℕ) → Option Frame → Type 0
+MovesNothing d stream frame =
+    (option_map_or (grant_to d stream) frame 0 ≡ 0) × (option_map_or (content_by d) frame 0 ≡ 0)
+
+ack-moves_nothing : (d : Side) (stream : ℕ) (frame : Option Frame) → ForSome frame (λ one. is_ack one.body ≡ true)
+    → MovesNothing d stream frame
+ack-moves_nothing d stream None e = (refl, refl)
+ack-moves_nothing d stream (Some frame) e = let ack = e frame refl in (grind arith, grind arith)
+
+-- a step moves a window by its frame or by its change, never by both
+one-moves : (d : Side) (stream old : ℕ) (step : Step) → IsAcknowledged step
+    → (new_initial step.change d old ≡ old) ⊎ MovesNothing d stream step.frame
+one-moves d stream old step e = by_change step.change e where
+  by_change : (change : Option Change) → ForSome change (λ _. ForSome step.frame (λ one. is_ack one.body ≡ true))
+      → (new_initial change d old ≡ old) ⊎ MovesNothing d stream step.frame
+  by_change None e = inl refl
+  by_change (Some change) e = inr (ack-moves_nothing d stream step.frame (e change refl))
 
 pub returns-clause-room : goal.returns-clause-room
 returns-clause-room c = λ bound room.
-    let old = c.of-old.result in
-    let new = c.new_initial-new.result in
-    let granted = c.grant_to-granted.result in
-    let content = c.content_by-content.result in
-    let one : (new ≡ old) ⊎ ((granted ≡ 0) × (content ≡ 0)) =
-    elim (one-moves c.args.met.now.side c.args.met.now.stream old c.args.met.now.step.now c.requires.acknowledged) [
-      | inl same ↦ inl (c.new_initial-new.ensures ∙ same)
-      | inr none ↦ inr (c.grant_to-granted.ensures ∙ none.0, c.content_by-content.ensures ∙ none.1)
-    ] in
-    let after = moved-has_room bound granted content new old c.args.before.now
-    c.grant_to-granted.type_inv c.content_by-content.type_inv c.new_initial-new.type_inv c.of-old.type_inv one room in
-    let low = after.0 in
-    let high = after.1 in
-    (omega (arith, ints, low, high, c.moved.ensures), omega (arith, ints, low, high, c.moved.ensures))
+    let one = one-moves c.args.met.now.side c.args.met.now.stream c.of-old.result c.args.met.now.step.now
+    c.requires.acknowledged in
+    (omega (arith, ints, c.moved.ensures, room.0), omega (arith, ints, c.moved.ensures, room.1))
 
 pub overflow_add-result : goal.overflow_add-result
 overflow_add-result c = omega (arith, ints, c.moved.ensures)
 
 pub returns-clause-after : goal.returns-clause-after
 returns-clause-after c =
-    let side = c.args.met.now.side in
-    let new : c.new_initial-new.result
-    ≡ new_initial c.args.met.now.step.now.change side (side_of side c.args.met.now.initial.now) =
-    c.new_initial-new.ensures ∙ ap (new_initial c.args.met.now.step.now.change side) c.of-old.ensures in
-    omega (arith, ints, c.moved.ensures)
+    let new = rw c.of-old.ensures at c.new_initial-new.ensures in omega (arith, ints, c.moved.ensures)

@@ -1,0 +1,25 @@
+-- The names that several proofs of this crate cite, passed on from one place.
+pub use Rattle.std.proofs.Common.{All, Bool, List, None, Option, Some, [], ap, append_assoc, arith, drop, false}
+pub use Rattle.std.proofs.Common.{flat_map, get_or, if◌then◌else◌, inl, inr, length, length-append, length-drop, map}
+pub use Rattle.std.proofs.Common.{min, not, refl, subst, suc, sym, take, true, zero, ℕ, ◌%◌, ◌*◌, ◌++◌, ◌+◌, ◌-◌, ◌/◌}
+pub use Rattle.std.proofs.Common.{◌<◌, ◌∙◌, ◌∷◌, ◌≡◌, ◌≤◌, ◌⊎◌}
+pub use Rattle.std.specs.Prelude.{IfOk, Ok, Result}
+pub use Rattle.std.specs.List.{AllByRecursion, AllZip, range_with_len}
+pub use Rattle.std.proofs.Math.Seq.{take-add}
+pub use Rattle.std.proofs.lemmas.List.{drop-drop, drop_all, drop_more, take-append-drop, take_all, take_min, take_more}
+pub use Rattle.std.proofs.lemmas.Grind.{common_steps, div_ceil_times}
+pub use Rattle.std.proofs.lemmas.List.Elements.{All-drop, All-from_recursion, All-take}
+pub use Rattle.audit_terms.specs.declared.sides.Side.{Side}
+pub use Rattle.audit_terms.specs.declared.sides.Side.TheVariants.{Client, Server}
+pub use Rattle.audit_terms.specs.declared.sides.Sides.{Sides}
+pub use Rattle.audit_terms.specs.declared.frames.Frame.{Frame}
+pub use Rattle.audit_terms.specs.Sides.{side_of}
+pub use Rattle.audit_terms.specs.code.runs.Orderly.{IsInRange, IsOrderlyFrom}
+pub use Rattle.audit_terms.specs.Finding.{finding_at, in_order}
+pub use Rattle.audit_terms.specs.code.runs.LocalFaults.{local_run, local_run_from}
+pub use Rattle.fault_rules.specs.code.Shares.{AreBefores, before_share, last_from, previous_after_all, share_run}
+pub use Rattle.std.proofs.lemmas.Int.{ints}
+pub use Rattle.fault_rules.specs.code.Said.{said_by}
+pub use Rattle.std.proofs.lemmas.Slice.{pushed}
+pub use Rattle.rayon.specs.Numbers.{nat_range}
+pub use Rattle.rayon.proofs.ToStd.{nat_range-All}
