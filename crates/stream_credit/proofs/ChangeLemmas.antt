@@ -1,13 +1,12 @@
 -- The changes of a connection: what they leave in force, and which of them come before a number.
-use Rattle.stream_credit.proofs.Words.{◌≡◌, ℕ, zero, suc, ◌+◌, ◌-◌, ◌^◌, ◌<◌, ◌≤◌, nat_lt, List, [], ◌∷◌, ◌++◌, take}
-use Rattle.stream_credit.proofs.Words.{drop, length, slice_get, slice_index_or, true, false, Some, None, Option, refl}
-use Rattle.stream_credit.proofs.Words.{sym, ap, ◌∙◌, subst, arith, inl, inr, AllByRecursion, IsPartitionPoint}
-use Rattle.stream_credit.proofs.Words.{IsPartitionedBy, IsPartitionedBy-ltb, ltb-true, ltb-false, take_more, drop_more}
-use Rattle.stream_credit.proofs.Words.{get_or-drop, length-drop, slice_get_within, slice_get_cases, All-from_recursion}
-use Rattle.stream_credit.proofs.Words.{get_or_from_slice_get, same_Some, Sides, Frame, Change, is_ack, initial_in_force}
-use Rattle.stream_credit.proofs.Words.{initial_after, AreOrderlyFrom, AreOrderly, IsAcknowledged, after_changes}
-use Rattle.stream_credit.proofs.Words.{after_each, initial_at, AreFrom, ArePassed, IsBrought, met_after, AcknowledgesAt}
-use Rattle.stream_credit.proofs.Words.{frame_with}
+use Rattle.stream_credit.proofs.Words.{◌≡◌, zero, List, ◌++◌, take, drop, true, false, Some, subst, arith, Sides, Frame}
+use Rattle.stream_credit.proofs.Words.{ℕ, suc, ◌+◌, ◌-◌, ◌^◌, ◌<◌, ◌≤◌, ◌∷◌, None, refl, sym, ap, ◌∙◌, inl, inr}
+use Rattle.stream_credit.proofs.Words.{nat_lt, length, Option, ltb-true, Change, is_ack, AreFrom, IsBrought, met_after}
+use Rattle.stream_credit.proofs.Words.{[], slice_get, ltb-false, take_more, drop_more, same_Some, ArePassed, frame_with}
+use Rattle.stream_credit.proofs.Words.{slice_index_or, AllByRecursion, AreOrderlyFrom, IsAcknowledged, AcknowledgesAt}
+use Rattle.stream_credit.proofs.Words.{IsPartitionPoint, IsPartitionedBy-ltb, All-from_recursion, get_or_from_slice_get}
+use Rattle.stream_credit.proofs.Words.{IsPartitionedBy, slice_get_within, slice_get_cases, initial_in_force, AreOrderly}
+use Rattle.stream_credit.proofs.Words.{get_or-drop, length-drop, initial_after, after_changes, after_each, initial_at}
 
 -- ---- the change at an index
 

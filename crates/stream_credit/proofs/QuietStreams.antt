@@ -1,15 +1,14 @@
 -- A stream of which nothing is shown, from one of its frames to the next.
 use Rattle.stream_credit.proofs.Words.{◌≡◌, ℕ, pos, ◌+◌, ◌-◌, ◌^◌, ◌<◌, ◌≤◌, Bool, true, false, List, [], ◌∷◌, drop}
-use Rattle.stream_credit.proofs.Words.{length, slice_get, Some, None, refl, sym, ap, ◌∙◌, arith}
-use Rattle.stream_credit.proofs.Words.{nat_tests, filter-append, slice_get_within, Sides, StreamLife, Frame, Change}
-use Rattle.stream_credit.proofs.Words.{Step, Stream, Finding, other, side_of, in_order, is_shown, shown, idle_stream}
-use Rattle.stream_credit.proofs.Words.{stream_said, stream_after, IsOrderlyFrom, IsOrderly, frame_step, change_step}
-use Rattle.stream_credit.proofs.Words.{initial_after, stream_run_from, stream_after_all, AreOrderly, AreAcknowledged}
-use Rattle.stream_credit.proofs.Words.{QuietStream, Move, is_live, merged, Acknowledge, IsMove, IsRaised, IsQuiet}
-use Rattle.stream_credit.proofs.Words.{has_credit, has_ended, window_of, stream_of, initial_at, IsMovedBy, IsPassed}
-use Rattle.stream_credit.proofs.Words.{IsNext, AreFrom, ArePassed, StartsAt, IsAhead, ShowsNothing, Side, IsCreditOf}
-use Rattle.stream_credit.proofs.Words.{◌+ℤ◌, ◌-ℤ◌, ℤ, lt-ltb, ints, same_Some, is_used_up, overflows}
-use Rattle.audit_terms.proofs.FindingLists.{each-in_order}
+use Rattle.stream_credit.proofs.Words.{length, slice_get, Some, None, refl, sym, ap, ◌∙◌, arith, nat_tests}
+use Rattle.stream_credit.proofs.Words.{filter-append, slice_get_within, Sides, StreamLife, Frame, Change, Step, Stream}
+use Rattle.stream_credit.proofs.Words.{Finding, other, side_of, in_order, is_shown, shown, idle_stream, stream_said}
+use Rattle.stream_credit.proofs.Words.{stream_after, IsOrderlyFrom, IsOrderly, frame_step, change_step, initial_after}
+use Rattle.stream_credit.proofs.Words.{stream_run_from, stream_after_all, AreOrderly, AreAcknowledged, QuietStream}
+use Rattle.stream_credit.proofs.Words.{Move, is_live, merged, Acknowledge, IsMove, IsRaised, IsQuiet, has_credit}
+use Rattle.stream_credit.proofs.Words.{has_ended, window_of, stream_of, initial_at, IsMovedBy, IsPassed, IsNext}
+use Rattle.stream_credit.proofs.Words.{AreFrom, ArePassed, StartsAt, IsAhead, ShowsNothing, Side, IsCreditOf, ◌+ℤ◌}
+use Rattle.stream_credit.proofs.Words.{◌-ℤ◌, ℤ, lt-ltb, ints, same_Some, is_used_up, overflows, each-in_order}
 use Rattle.stream_credit.proofs.ChangeLemmas.{drop-next, initial-next, passed-each, none-left}
 use Rattle.stream_credit.proofs.MergedLemmas.{steps_of-merged, acknowledge-all, merged-first, merged-change}
 use Rattle.stream_credit.proofs.QuietLemmas.{quiet-unshown, quiet-after}
@@ -190,7 +189,7 @@ none-in_order found e = none-shown (in_order found) (each-in_order IsUnshown fou
 
 -- ---- a change of the initial window
 
-some-left : (standing : ℕ) → has_credit standing ≡ true → is_used_up (pos standing) ≡ false
+pub some-left : (standing : ℕ) → has_credit standing ≡ true → is_used_up (pos standing) ≡ false
 some-left standing live = grind (arith, nat_tests)
 
 -- a credit that is kept, after it moves

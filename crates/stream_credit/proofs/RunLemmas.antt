@@ -1,15 +1,14 @@
 -- The run of a stream: it begins as the definition does, meets each frame behind the changes before it, and ends whole
 -- or cut.
 use Rattle.std.proofs.Common.{All}
-use Rattle.stream_credit.proofs.Words.{◌≡◌, ℕ, ◌+◌, ◌-◌, ◌^◌, ◌<◌, ◌≤◌, Bool, true, false, subst, List, [], ◌∷◌}
-use Rattle.stream_credit.proofs.Words.{if◌then◌else◌}
-use Rattle.stream_credit.proofs.Words.{drop, Option, Some, None, MatchBool, refl, sym, ap, ◌∙◌, arith, append-nil}
-use Rattle.stream_credit.proofs.Words.{All-from_recursion, Client, Server, Frame, Change, Finding, place_number, shown}
-use Rattle.stream_credit.proofs.Words.{initial_in_force, idle_stream, up_to, IsRun, IsOrderly, change_step, steps_of}
-use Rattle.stream_credit.proofs.Words.{initial_after, stream_run, stream_at_end, Stream, AreOrderly, AreAcknowledged}
-use Rattle.stream_credit.proofs.Words.{IsAcknowledged, Walk, IsDue, ArePassed, IsBrought, initial_at, AreFrom}
-use Rattle.stream_credit.proofs.Words.{met_after, StartsAt, is_live, step_numbers, opened_up_to, merged, Acknowledge}
-use Rattle.stream_credit.proofs.Words.{frame_with, HasRoomAt, WholeRun, IsAt, IsSound, IsBegun, HasEnded, HasStopped}
+use Rattle.stream_credit.proofs.Words.{◌≡◌, append-nil, idle_stream, change_step, stream_run, opened_up_to, Acknowledge}
+use Rattle.stream_credit.proofs.Words.{ℕ, ◌+◌, ◌-◌, ◌^◌, ◌<◌, ◌≤◌, ◌∷◌, refl, sym, ap, ◌∙◌, Walk, IsAt}
+use Rattle.stream_credit.proofs.Words.{Bool, true, List, [], drop, Some, None, arith, Frame, shown, up_to, IsRun, IsDue}
+use Rattle.stream_credit.proofs.Words.{false, subst, Option, Client, Server, Change, Stream, merged, IsSound, IsBegun}
+use Rattle.stream_credit.proofs.Words.{if◌then◌else◌, Finding, place_number, initial_after, stream_at_end, step_numbers}
+use Rattle.stream_credit.proofs.Words.{MatchBool, All-from_recursion, initial_in_force, AreAcknowledged, IsAcknowledged}
+use Rattle.stream_credit.proofs.Words.{IsOrderly, AreOrderly, ArePassed, IsBrought, initial_at, frame_with, HasStopped}
+use Rattle.stream_credit.proofs.Words.{steps_of, AreFrom, met_after, StartsAt, is_live, HasRoomAt, WholeRun, HasEnded}
 use Rattle.audit_terms.proofs.Watching.{ends, is-cut}
 use Rattle.stream_credit.proofs.ChangeLemmas.{drop-next, initial-brought, within-brought, brought-acknowledged}
 use Rattle.stream_credit.proofs.ChangeLemmas.{passed-each, none-left}

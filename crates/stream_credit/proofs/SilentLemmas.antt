@@ -1,14 +1,13 @@
 -- A step that shows nothing of a stream where credits are not shown, and a change that is one.
-use Rattle.stream_credit.proofs.Words.{◌≡◌, int_lt, ℕ, ℤ, Bool, true, false, ◌&&◌, not, List, [], ◌∷◌, ◌++◌, Option}
-use Rattle.stream_credit.proofs.Words.{Some, None, is_some, option_map, refl, sym, ap, ◌∙◌, arith, AllByRecursion}
-use Rattle.stream_credit.proofs.Words.{and_right, or_from, or_left, cond-true, cond-false, ints, append-nil, Side}
-use Rattle.stream_credit.proofs.Words.{Client, Server, Sides, Frame, Change, Step, Stream, Finding, side_of}
-use Rattle.stream_credit.proofs.Words.{new_initial, is_zero_grant, content_by, grant_to, ends_window, is_not_opened}
-use Rattle.stream_credit.proofs.Words.{is_after_end, is_used_up, overflows, overruns, say, say_of, in_order, is_shown}
-use Rattle.stream_credit.proofs.Words.{shown, step_test, step_amount, opens, life_at, WindowStep, window_step}
-use Rattle.stream_credit.proofs.Words.{window_after, frame_said, live_window_said, stream_said, stream_after}
-use Rattle.stream_credit.proofs.Words.{is_stalled, counted, is_overflowing_grant, frame_step, initial_after, Walk}
-use Rattle.stream_credit.proofs.Words.{moved, IsSilent, IsCounted, HasRoomAt, ◌+◌}
+use Rattle.stream_credit.proofs.Words.{◌≡◌, option_map, new_initial, ends_window, step_amount, window_step, stream_said}
+use Rattle.stream_credit.proofs.Words.{int_lt, Option, arith, Client, Server, Change, Stream, say_of, life_at, counted}
+use Rattle.stream_credit.proofs.Words.{ℕ, cond-true, overflows, step_test, is_stalled, frame_step, IsCounted, HasRoomAt}
+use Rattle.stream_credit.proofs.Words.{ℤ, [], ◌∷◌, refl, sym, ap, ◌∙◌, ints, Side, Step, say, Walk, ◌+◌}
+use Rattle.stream_credit.proofs.Words.{Bool, true, ◌&&◌, not, List, ◌++◌, Some, None, Sides, Frame, shown, opens, moved}
+use Rattle.stream_credit.proofs.Words.{false, is_some, or_from, or_left, Finding, side_of, in_order, is_shown, IsSilent}
+use Rattle.stream_credit.proofs.Words.{AllByRecursion, and_right, is_zero_grant, live_window_said, is_overflowing_grant}
+use Rattle.stream_credit.proofs.Words.{cond-false, append-nil, content_by, is_used_up, overruns, WindowStep, frame_said}
+use Rattle.stream_credit.proofs.Words.{grant_to, is_not_opened, is_after_end, window_after, stream_after, initial_after}
 use Rattle.audit_terms.proofs.FindingLists.{each-append, each-in_order}
 
 -- ---- findings that are not shown

@@ -1,16 +1,15 @@
 -- A walk meets steps as the definition does, looks between them, and stops before one that lies past.
 use Rattle.std.proofs.Common.{length-append}
-use Rattle.stream_credit.proofs.Words.{◌≡◌, ℕ, ℤ, ◌+◌, ◌-◌, ◌*◌, ◌^◌, ◌<◌, ◌≤◌, inl, inr, Bool, true, false, ◌&&◌, ◌||◌}
-use Rattle.stream_credit.proofs.Words.{if◌then◌else◌, List, [], ◌∷◌, ◌++◌, append_assoc, length, Option, Some, None}
-use Rattle.stream_credit.proofs.Words.{is_some, is_none, refl, sym, ap, ◌∙◌, subst, arith, AllByRecursion}
-use Rattle.stream_credit.proofs.Words.{option_map_or, cases_Bool, ints, filter-append, Side, Client, Server, Sides}
-use Rattle.stream_credit.proofs.Words.{StreamLife, Frame, Change, Step, Stream, Finding, side_of, life_after, shown}
-use Rattle.stream_credit.proofs.Words.{is_shown, is_past, found_before, change_step, initial_after, stream_run_from}
-use Rattle.stream_credit.proofs.Words.{stream_after_all, stream_after, WindowHasRoom, Watches, IsStopped, NeverFallFrom}
-use Rattle.stream_credit.proofs.Words.{Walk, is_live, is_met, met_from, opened_up_to, met_by, numbers_of, IsNumbered}
-use Rattle.stream_credit.proofs.Words.{AreInOrder, IsCounted, HasRoomAt, WholeRun, IsAt, HasStopped, window_after}
-use Rattle.stream_credit.proofs.Words.{place_number, in_order, stream_said, up_to, steps_between, CanCount}
-use Rattle.stream_credit.proofs.Words.{IsAcknowledged}
+use Rattle.stream_credit.proofs.Words.{◌≡◌, is_some, is_none, Finding, is_shown, met_from, WholeRun, in_order, CanCount}
+use Rattle.stream_credit.proofs.Words.{ℕ, ℤ, ◌^◌, ◌<◌, ◌≤◌, inl, inr, ◌∷◌, sym, ◌∙◌}
+use Rattle.stream_credit.proofs.Words.{◌+◌, ◌-◌, ◌*◌, ◌||◌, List, ◌++◌, Some, None, refl, ints, Side, Step, Walk, IsAt}
+use Rattle.stream_credit.proofs.Words.{Bool, length, Option, Client, Server, Change, side_of, is_past, Watches, is_live}
+use Rattle.stream_credit.proofs.Words.{true, ◌&&◌, ap, subst, arith, Sides, Frame, Stream, shown, is_met, met_by, up_to}
+use Rattle.stream_credit.proofs.Words.{false, option_map_or, filter-append, initial_after, WindowHasRoom, NeverFallFrom}
+use Rattle.stream_credit.proofs.Words.{if◌then◌else◌, AllByRecursion, stream_run_from, stream_after_all, IsAcknowledged}
+use Rattle.stream_credit.proofs.Words.{[], cases_Bool, StreamLife, change_step, window_after, place_number, stream_said}
+use Rattle.stream_credit.proofs.Words.{append_assoc, found_before, stream_after, IsStopped, opened_up_to, steps_between}
+use Rattle.stream_credit.proofs.Words.{life_after, numbers_of, IsNumbered, AreInOrder, IsCounted, HasRoomAt, HasStopped}
 use Rattle.audit_terms.proofs.FindingLists.{each-append, each-filter, each-in_order, each-weaker}
 use Rattle.audit_terms.proofs.SaidPlaces.{before-front, at-stream, numbered-at}
 use Rattle.audit_terms.proofs.Watching.{past-higher}

@@ -1,7 +1,6 @@
 use Rattle.stream_credit.proofs.Words.{◌≡◌, ℕ, ◌<◌, ◌++◌, List, [], Option, length, slice_get, ◌∙◌, option_to_list}
-use Rattle.stream_credit.proofs.Words.{flat_map-append, when_false, when_true, All-drop, nil_from_length}
-use Rattle.stream_credit.proofs.Words.{Change, Finding, Frame, Walk, frames_at, true, ◌==◌, eqb-true, sym}
-use Rattle.std.proofs.lemmas.Result.{IfOk-weaker}
+use Rattle.stream_credit.proofs.Words.{flat_map-append, when_false, when_true, All-drop, nil_from_length, Change}
+use Rattle.stream_credit.proofs.Words.{Finding, Frame, Walk, frames_at, true, ◌==◌, eqb-true, sym, IfOk-weaker}
 use Rattle.stream_credit.proofs.RunLemmas.{MeetsFrames, match-more, sound-ends}
 use Rattle.stream_credit.proofs.runs.meet_all.Goals as goal
 

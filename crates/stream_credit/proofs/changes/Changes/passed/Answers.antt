@@ -1,6 +1,5 @@
-use Rattle.stream_credit.proofs.Words.{◌≡◌, ℕ, ◌+◌, ◌-◌, ◌^◌, ◌<◌, ◌≤◌, List, length, take, drop, nat_lt, ap, ◌∙◌}
-use Rattle.stream_credit.proofs.Words.{rules, arith, length-drop, take_rest, IsPartitionPoint-from_clause, Change}
-use Rattle.stream_credit.proofs.Words.{AreOrderly}
+use Rattle.stream_credit.proofs.Words.{◌≡◌, ℕ, ◌+◌, ◌-◌, ◌^◌, ◌<◌, ◌≤◌, List, take, drop, ap, ◌∙◌, rules, arith, Change}
+use Rattle.stream_credit.proofs.Words.{length, nat_lt, length-drop, take_rest, IsPartitionPoint-from_clause, AreOrderly}
 use Rattle.stream_credit.proofs.ChangeLemmas.{few-changes, orderly-parted, passed-is}
 use Rattle.stream_credit.proofs.changes.Changes.passed.Goals as goal
 

@@ -4,11 +4,9 @@ use Rattle.stream_credit.proofs.quiet_streams.QuietStream.meet.Goals as goal
 
 pub meet_frame-requires-clause-ahead : goal.meet_frame-requires-clause-ahead
 meet_frame-requires-clause-ahead c =
-    let r = c.requires in (
-      r.0,
-      r.1,
-      c.if-not-meet_changes.ensures.ahead c.args.stream r.0 (c.args.frame.now ∷ r.1) refl (r.2 c.if-not-self.false),
-    )
+    let (all, rest, h) = c.requires in
+    let met = c.if-not-meet_changes.ensures.ahead c.args.stream all (c.args.frame.now ∷ rest) refl in
+    (all, rest, met (h c.if-not-self.false))
 
 pub returns : goal.returns
 returns c = λ all rest h quiet.

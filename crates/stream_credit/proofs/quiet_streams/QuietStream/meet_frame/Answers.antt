@@ -1,5 +1,4 @@
-use Rattle.stream_credit.proofs.Words.{OnTrue_at, OnTrue_from}
-use Rattle.std.proofs.lemmas.Result.{IfOk-weaker}
+use Rattle.stream_credit.proofs.Words.{OnTrue_at, OnTrue_from, IfOk-weaker}
 use Rattle.stream_credit.proofs.QuietStreams.{ahead-frame}
 use Rattle.stream_credit.proofs.quiet_streams.QuietStream.meet_frame.Goals as goal
 
