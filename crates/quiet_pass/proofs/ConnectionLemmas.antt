@@ -1,9 +1,7 @@
 -- The connection after a frame of which nothing is shown.
 use Rattle.stream_credit.proofs.Words.{◌≡◌, ℕ, pos, int_lt, nat_lt, Bool, false, Option, None, refl, sym, ap, ◌∙◌}
 use Rattle.stream_credit.proofs.Words.{arith, ints, Side, Client, Server, Sides, is_used_up, overflows, overruns, Frame}
-use Rattle.stream_credit.proofs.Words.{Change, side_of}
-use Rattle.audit_terms.specs.Connection.{credit_after}
-use Rattle.audit_terms.specs.Change.{new_limit, new_push}
+use Rattle.stream_credit.proofs.Words.{Change, side_of, credit_after, new_limit, new_push}
 use Rattle.audit_terms.specs.Frame.{is_server_promise}
 use Rattle.stream_credit.proofs.SilentLemmas.{both, unsaid, said-unshown, never-both, never-other}
 use Rattle.quiet_pass.specs.declared.connections.KeptConnection.{KeptConnection}
@@ -32,14 +30,6 @@ connection-met frame opens change old opened promised client server push limit s
       after = rw (o.opened change, p.promised, c.moved, s.moved, pushed, lc, ls) refl;
     }
 
--- a frame that opens nothing, and one that promises nothing
-pub none-opened : (frame : Frame) (before : ℕ) → IsOpenedAfter frame false before before
-none-opened frame before = record { opened = λ change. refl; said = λ change. refl }
-
-pub none-promised : (frame : Frame) (push before : ℕ) → is_server_promise frame ≡ false
-    → IsPromisedAfter frame push before before
-none-promised frame push before e = record { promised = rw e refl; order_said = rw e refl; allowed = rw e refl }
-
 -- a frame that moves no credit of a side
 pub credit_unmoved : (d : Side) (frame : Frame) (credit : ℕ) → IsUnmoved d frame → IsCreditAfter d frame credit credit
 credit_unmoved d frame credit u =
@@ -49,8 +39,7 @@ credit_unmoved d frame credit u =
     let still = sym (ap is_used_up same) in record {
       moved = sym same;
       said = both _ _
-          (both _ _
-          (both _ _ (both _ _ (both _ _ (unsaid _ _ u.nothing) (unsaid _ _ fits))
+          (both _ _ (both _ _ (both _ _ (both _ _ (unsaid _ _ u.nothing) (unsaid _ _ fits))
           (unsaid _ _ (ap (overruns (pos credit)) u.content))) (unsaid _ _ (never-both _ _ still)))
           (unsaid _ _ (never-other _ _ still))) (said-unshown _ _ refl);
     }
@@ -63,4 +52,6 @@ pub plain-met : (frame : Frame) (old : KeptConnection) (client server : ℕ)
     (record old { credit = record { client = client; server = server } })
 plain-met frame old client server short unpromised c s =
     connection-met frame false None old old.opened old.promised client server old.push old.limit short
-    (none-opened frame old.opened) (none-promised frame old.push old.promised unpromised) c s refl refl refl
+    (record { opened = λ change. refl; said = λ change. refl })
+    (record { promised = rw unpromised refl; order_said = rw unpromised refl; allowed = rw unpromised refl })
+    c s refl refl refl

@@ -1,21 +1,15 @@
 -- What the machine stands for, from frame to frame.
+use Rattle.stream_credit.proofs.Words.{◌≡◌, Option, is_none, eq-eqb, Client, Server, Finding, is_side, side_of, InForce}
+use Rattle.stream_credit.proofs.Words.{ℕ, ◌<◌, ◌&&◌, not, List, [], ◌∷◌, ◌++◌, Some, None, refl, sym, ap, ◌∙◌, Side}
+use Rattle.stream_credit.proofs.Words.{◌+◌, ◌==◌, Bool, true, subst, arith, Sides, Frame, Change, Stream, is_ack, taken}
+use Rattle.stream_credit.proofs.Words.{false, is_some, nat_tests, append-nil, and-false, Settings, change_of, upto_stop}
+use Rattle.stream_credit.proofs.Words.{if◌then◌else◌, initial_after, ConnectionState, connection_said, connection_after}
+use Rattle.stream_credit.proofs.Words.{append_assoc, stream_said, each-in_order, flat_map, change_taking, settings_said}
 use Rattle.std.proofs.Common.{◌%◌, filter}
-use Rattle.stream_credit.proofs.Words.{◌≡◌, ℕ, ◌+◌, ◌<◌, ◌==◌, Bool, true, false, ◌&&◌, not, if◌then◌else◌, List, []}
-use Rattle.stream_credit.proofs.Words.{◌∷◌, ◌++◌, Option, Some, None, is_some, is_none, refl, sym, ap, ◌∙◌, subst}
-use Rattle.stream_credit.proofs.Words.{arith, nat_tests, append_assoc, eq-eqb, append-nil}
-use Rattle.stream_credit.proofs.Words.{and-false, Side, Client, Server, Sides, Frame, Change, Stream, Finding, is_side}
-use Rattle.stream_credit.proofs.Words.{side_of, is_ack, stream_said, initial_after}
-use Rattle.audit_terms.proofs.FindingLists.{each-in_order}
-use Rattle.std.specs.List.{flat_map}
 use Rattle.audit_terms.specs.Frame.{is_server_promise, meets, promised_by}
-use Rattle.audit_terms.specs.declared.settings.Settings.{Settings}
 use Rattle.audit_terms.specs.declared.items.Item.{Item}
-use Rattle.audit_terms.specs.declared.connections.ConnectionState.{ConnectionState}
 use Rattle.audit_terms.specs.Life.{is_opening}
 use Rattle.audit_terms.specs.LocalFault.{local_said}
-use Rattle.audit_terms.specs.InForce.{InForce, taken, change_taking, change_of, settings_said}
-use Rattle.audit_terms.specs.Connection.{connection_said, connection_after}
-use Rattle.audit_terms.specs.Finding.{upto_stop}
 use Rattle.audit_terms.specs.Pass.{PassState, pass_start, step_of, opens_stream, next, streams_said, said, full_from}
 use Rattle.audit_terms.specs.Pass.{first_of, streams_of, pass, item_of as item_in}
 use Rattle.audit_terms.specs.code.runs.States.{state_from, state_after}
@@ -162,12 +156,8 @@ module _ (frame : Frame) (old mid : QuietPass) (state : PassState) (stands : Sta
         (λ s. stream_said s state.in_force.initial (state.streams s) (step_of state.in_force frame s)) streams named
         all.said));
     stands = record {
-      client = client
-          ∙ last-if (is_side Client frame.side) frame state.previous.client mid.last.client
-          (rw rest.last stands.client);
-      server = server
-          ∙ last-if (is_side Server frame.side) frame state.previous.server mid.last.server
-          (rw rest.last stands.server);
+      client = client ∙ last-if _ frame state.previous.client mid.last.client (rw rest.last stands.client);
+      server = server ∙ last-if _ frame state.previous.server mid.last.server (rw rest.last stands.server);
       pending = own.kept;
       initial = rest.initial ∙ ap (λ (c : Option Change). initial_after c old.initial) (sym own.brings)
           ∙ ap (initial_after (change_of state.in_force frame)) stands.initial;

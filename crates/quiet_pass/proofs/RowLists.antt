@@ -1,8 +1,7 @@
 -- Lists of rows: where one is replaced, where one is added, and where all are moved.
+use Rattle.stream_credit.proofs.Words.{nat_tests, Sides, Frame, idle_stream}
 use Rattle.std.proofs.Common.{◌≡◌, ◌≢◌, ℕ, zero, suc, ◌-◌, ◌<◌, List, [], ◌∷◌, ◌++◌, length, get_or, slice_get}
 use Rattle.std.proofs.Common.{slice_set, Some, true, false, refl, arith}
-use Rattle.std.proofs.lemmas.Bool.Decides.{nat_tests}
-use Rattle.stream_credit.proofs.Words.{Sides, Frame, idle_stream}
 use Rattle.quiet_pass.specs.declared.rows.Row.{Row}
 use Rattle.quiet_pass.specs.code.Rows.{stream_of, entry_in, AreRisingFrom, AreRising, IsPast, IsRowOf, IsRowAfter}
 use Rattle.quiet_pass.specs.code.Rows.{IsOpened, HasMet, IsRowMoved, AreMoved}

@@ -1,19 +1,16 @@
 -- A stream after a frame of which nothing is shown: how each side stands, and the row that is kept of it.
-use Rattle.std.specs.Bool.{then_some}
-use Rattle.std.proofs.lemmas.Bool.{or_parts}
-use Rattle.stream_credit.proofs.Words.{◌≡◌, ℕ, pos, ◌<◌, Bool, true, false, ◌&&◌, if◌then◌else◌, List, Some, None, refl}
-use Rattle.stream_credit.proofs.Words.{sym, ap, ◌∙◌, arith, subst, and-false, or-false, eq-eqb, ne_eqb, nat_tests, ints}
-use Rattle.stream_credit.proofs.Words.{Side, Client, Server, Sides, Body, WindowUpdate, Frame, StreamLife, Stream}
-use Rattle.stream_credit.proofs.Words.{other, is_side, side_of, is_reset, increment, is_zero_grant, content_by}
-use Rattle.stream_credit.proofs.Words.{sends_end, is_last_of, ends_window, is_not_opened, is_after_end, life_after}
-use Rattle.stream_credit.proofs.Words.{is_used_up, overflows, overruns, say_of, idle_stream, stream_said, stream_after}
-use Rattle.stream_credit.proofs.Words.{counted, frame_step, has_credit, has_ended, mark, window_of, ForSome, same_Some}
+use Rattle.stream_credit.proofs.Words.{then_some, or_parts, ◌≡◌, ℕ, pos, ◌<◌, Bool, true, false, ◌&&◌, if◌then◌else◌}
+use Rattle.stream_credit.proofs.Words.{List, Some, None, refl, sym, ap, ◌∙◌, arith, subst, and-false, or-false, eq-eqb}
+use Rattle.stream_credit.proofs.Words.{ne_eqb, nat_tests, ints, Side, Client, Server, Sides, Body, WindowUpdate, Frame}
+use Rattle.stream_credit.proofs.Words.{StreamLife, Stream, other, is_side, side_of, is_reset, increment, is_zero_grant}
+use Rattle.stream_credit.proofs.Words.{content_by, sends_end, is_last_of, ends_window, is_not_opened, is_after_end}
+use Rattle.stream_credit.proofs.Words.{life_after, is_used_up, overflows, overruns, say_of, idle_stream, stream_said}
+use Rattle.stream_credit.proofs.Words.{stream_after, counted, frame_step, has_credit, has_ended, mark, window_of}
+use Rattle.stream_credit.proofs.Words.{ForSome, same_Some, opened_window_said, stream_window_said, opened_of}
 use Rattle.audit_terms.specs.Frame.{is_content, is_headers, is_update, needs_opening, is_server_promise, promises}
 use Rattle.audit_terms.specs.Life.{idle_life, is_opening}
-use Rattle.audit_terms.specs.Stream.{opened_window_said, stream_window_said}
-use Rattle.stream_credit.specs.code.QuietStream.{opened_of}
 use Rattle.stream_credit.proofs.QuietLemmas.{same-if}
-use Rattle.stream_credit.proofs.QuietStreams.{window-some, ended-none}
+use Rattle.stream_credit.proofs.QuietStreams.{window-some, ended-none, some-left}
 use Rattle.stream_credit.proofs.SilentLemmas.{both, unsaid, frame-unshown, IsCalm, calm-some, calm-ended, calm-same}
 use Rattle.stream_credit.proofs.SilentLemmas.{stream-unshown, stream-moved}
 use Rattle.quiet_pass.specs.declared.rows.Row.{Row}
@@ -45,9 +42,6 @@ one_side Client Server = refl
 one_side Server Client = refl
 one_side Server Server = refl
 
-live-used : (standing : ℕ) → has_credit standing ≡ true → is_used_up (pos standing) ≡ false
-live-used standing h = grind (arith, nat_tests, ints)
-
 module _ (d : Side) (frame : Frame) (standing after : ℕ) (live : has_credit standing ≡ true)
     (c : IsCounted d frame standing after) where
   overrun : overruns (pos standing) (content_by d frame) ≡ false
@@ -75,7 +69,7 @@ module _ (d : Side) (frame : Frame) (standing after : ℕ) (live : has_credit st
       let still : has_credit after ≡ true = grind (arith, nat_tests, within, some) in
       standing-by after (λ initial. rw (window-some after still)
       (calm-some d frame.stream initial (frame_step frame) (pos standing) (pos after) (now initial) fits overrun goes_on
-      (live-used standing live ∙ sym (live-used after still))))
+      (some-left standing live ∙ sym (some-left after still))))
       (ended-none after still ∙ sym (unlast d frame goes_on))
 
   -- the window ends, and with it perhaps what the side sends
@@ -85,7 +79,7 @@ module _ (d : Side) (frame : Frame) (standing after : ℕ) (live : has_credit st
       let is = mark-is (is_last_of d frame.stream frame) in
       standing-by (mark (is_last_of d frame.stream frame)) (λ initial. rw is.0
       (calm-ended d frame.stream initial (frame_step frame) (pos standing) (pos after) (now initial) fits overrun ends
-      (live-used standing live))) is.1
+      (some-left standing live))) is.1
     where
       mark-is : (last : Bool) → (window_of (mark last) ≡ None) × (has_ended (mark last) ≡ last)
       mark-is true = (refl, refl)

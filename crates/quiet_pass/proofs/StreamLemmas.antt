@@ -1,12 +1,10 @@
 -- All streams after a frame, and after a change of the initial windows in force (RFC 9113, 6.9.2), of which nothing is
 -- shown.
-use Rattle.stream_credit.proofs.Words.{◌≡◌, ℕ, ℤ, ◌<◌, ◌==◌, int_lt, Bool, true, false, List, [], ◌∷◌, Option, Some}
-use Rattle.stream_credit.proofs.Words.{None, option_map, refl, sym, ap, ◌∙◌, subst, arith, inl, inr, and-false}
-use Rattle.stream_credit.proofs.Words.{or-false, cases_Bool, cases_eq, eq-eqb, ne_eqb, ints, same_Some, Sides, Frame}
-use Rattle.stream_credit.proofs.Words.{Change, StreamLife, Stream, initial_after, moved, IsSilent, window_of}
+use Rattle.stream_credit.proofs.Words.{◌≡◌, ℕ, ℤ, ◌<◌, true, List, ◌∷◌, Some, None, refl, sym, ◌∙◌, inl, inr, ints}
+use Rattle.stream_credit.proofs.Words.{◌==◌, Bool, false, ap, subst, arith, ne_eqb, Sides, Frame, Change, Stream, moved}
+use Rattle.stream_credit.proofs.Words.{int_lt, option_map, and-false, cases_Bool, same_Some, StreamLife, initial_after}
+use Rattle.stream_credit.proofs.Words.{[], Option, or-false, cases_eq, eq-eqb, IsSilent, window_of, and-true, IsMovedBy}
 use Rattle.std.proofs.Common.{◌%◌, ap₂}
-use Rattle.std.proofs.Math.Bool.{and-true}
-use Rattle.stream_credit.specs.code.QuietStream.{IsMovedBy}
 use Rattle.audit_terms.specs.Frame.{is_server_promise, promised_in, meets}
 use Rattle.stream_credit.proofs.SilentLemmas.{change_alone, calm-changes, stream-unshown, stream-moved}
 use Rattle.quiet_pass.specs.declared.rows.Row.{Row}

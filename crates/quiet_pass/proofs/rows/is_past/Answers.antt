@@ -1,6 +1,4 @@
-use Rattle.stream_credit.proofs.Words.{ap, ◌∙◌, sym, OnTrue_from}
-use Rattle.std.proofs.Common.{ltb-true}
-use Rattle.std.specs.Option.{option_copied}
+use Rattle.stream_credit.proofs.Words.{ap, ◌∙◌, sym, OnTrue_from, option_copied, ltb-true}
 use Rattle.quiet_pass.proofs.RowLists.{past-last}
 use Rattle.quiet_pass.proofs.rows.is_past.Goals as goal
 

@@ -1,6 +1,5 @@
+use Rattle.stream_credit.proofs.Words.{cases_eq, get_or-set_other, get_or-set_same, get_or_default, length-set}
 use Rattle.std.proofs.Common.{◌≡◌, ◌<◌, length, get_or, inl, inr, sym, ◌∙◌, arith}
-use Rattle.std.proofs.lemmas.Bool.{cases_eq}
-use Rattle.std.proofs.lemmas.List.{get_or-set_other, get_or-set_same, get_or_default, length-set}
 use Rattle.quiet_pass.proofs.RowLists.{moved-each}
 use Rattle.quiet_pass.proofs.rows.move_all.Goals as goal
 

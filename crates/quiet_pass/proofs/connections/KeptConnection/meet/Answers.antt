@@ -1,5 +1,4 @@
-use Rattle.stream_credit.proofs.Words.{◌≡◌, ℕ, nat_lt, false, ap, subst, ◌∙◌, arith, nat_tests, Sides}
-use Rattle.audit_terms.specs.Change.{new_limit}
+use Rattle.stream_credit.proofs.Words.{◌≡◌, ℕ, nat_lt, false, ap, subst, ◌∙◌, arith, nat_tests, Sides, new_limit}
 use Rattle.quiet_pass.proofs.ConnectionLemmas.{connection-met}
 use Rattle.quiet_pass.proofs.connections.KeptConnection.meet.Goals as goal
 

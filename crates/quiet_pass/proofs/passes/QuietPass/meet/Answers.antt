@@ -1,5 +1,4 @@
-use Rattle.stream_credit.proofs.Words.{OnTrue_at, OnTrue_from}
-use Rattle.std.proofs.lemmas.Result.{IfOk-weaker}
+use Rattle.stream_credit.proofs.Words.{OnTrue_at, OnTrue_from, IfOk-weaker}
 use Rattle.quiet_pass.proofs.PassLemmas.{frames-met}
 use Rattle.quiet_pass.proofs.passes.QuietPass.meet.Goals as goal
 

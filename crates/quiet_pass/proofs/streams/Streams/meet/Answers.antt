@@ -1,6 +1,5 @@
+use Rattle.stream_credit.proofs.Words.{◌≡◌, refl, sym, ◌∙◌, arith, OnTrue_at, false, IfOk-weaker}
 use Rattle.std.proofs.Common.{◌%◌}
-use Rattle.stream_credit.proofs.Words.{◌≡◌, refl, sym, ◌∙◌, arith, OnTrue_at, false}
-use Rattle.std.proofs.lemmas.Result.{IfOk-weaker}
 use Rattle.quiet_pass.proofs.StreamFrames.{ForSome-quiet}
 use Rattle.quiet_pass.proofs.StreamLemmas.{met-odd, met-even}
 use Rattle.quiet_pass.proofs.streams.Streams.meet.Goals as goal

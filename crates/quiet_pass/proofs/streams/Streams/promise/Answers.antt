@@ -1,6 +1,5 @@
-use Rattle.stream_credit.proofs.Words.{◌≡◌, arith, OnTrue_at, OnTrue_from}
+use Rattle.stream_credit.proofs.Words.{◌≡◌, arith, OnTrue_at, OnTrue_from, IfOk-weaker}
 use Rattle.std.proofs.Common.{◌%◌}
-use Rattle.std.proofs.lemmas.Result.{IfOk-weaker}
 use Rattle.quiet_pass.proofs.StreamLemmas.{met-promise}
 use Rattle.quiet_pass.proofs.streams.Streams.promise.Goals as goal
 
