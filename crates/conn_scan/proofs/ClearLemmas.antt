@@ -1,14 +1,13 @@
 -- What the summary of a block tells is what its items do.
-use Rattle.conn_scan.proofs.Terms.{◌≡◌, ℕ, max, ◌%◌, ℤ, pos, neg_ℤ, ◌+ℤ◌, ◌-ℤ◌, Bool, true, false, ◌&&◌, ◌||◌, not}
-use Rattle.conn_scan.proofs.Terms.{◌==◌, nat_le, ◌<ℤ◌, ◌≤ℤ◌, int_lt, int_le, if◌then◌else◌, List, [], ◌∷◌, map, Option}
-use Rattle.conn_scan.proofs.Terms.{Some, None, refl, arith, list_all, int_max, int_min, ints, clamps}
-use Rattle.conn_scan.proofs.Terms.{by_lt_z, nat_tests, Side, Client, Server, new_limit, ConnectionState, Item}
-use Rattle.conn_scan.proofs.Terms.{largest_window, connection_after, change_of, high, low, credit_of, limit_in, push_in}
-use Rattle.conn_scan.proofs.Terms.{is_zero, lesser, least_limit, longest_by, some_zero_grant, some_odd_promise}
-use Rattle.conn_scan.proofs.Terms.{some_early_promise, some_barred_promise, latest_of, conn_sum_of, connections}
-use Rattle.conn_scan.proofs.Terms.{is_usable, grants_something, openings_rise, promises_allowed, promises_rise}
-use Rattle.conn_scan.proofs.Terms.{is_clear, high-signed, low-signed, credit_clear, ids_clear, push_clear, is_within}
-use Rattle.conn_scan.proofs.Terms.{length_clear, sum_clear, is_server_promise, promised_in}
+use Rattle.conn_scan.proofs.Terms.{◌≡◌, ℕ, max, ◌%◌, ℤ, pos, not, ◌∷◌, map, None, refl, ints, Side, Item, high, low}
+use Rattle.conn_scan.proofs.Terms.{neg_ℤ, least_limit, conn_sum_of, connections, high-signed, length_clear, promised_in}
+use Rattle.conn_scan.proofs.Terms.{◌+ℤ◌, nat_tests, new_limit, change_of, credit_of, longest_by, low-signed, push_clear}
+use Rattle.conn_scan.proofs.Terms.{◌-ℤ◌, Bool, true, false, ◌&&◌, ◌||◌, ◌==◌, ◌<ℤ◌, ◌≤ℤ◌, List, [], Some, arith, lesser}
+use Rattle.conn_scan.proofs.Terms.{nat_le, connection_after, some_early_promise, some_barred_promise, is_server_promise}
+use Rattle.conn_scan.proofs.Terms.{int_lt, int_le, Option, int_min, clamps, by_lt_z, Client, Server, push_in, is_zero}
+use Rattle.conn_scan.proofs.Terms.{if◌then◌else◌, ConnectionState, some_odd_promise, grants_something, promises_allowed}
+use Rattle.conn_scan.proofs.Terms.{list_all, limit_in, latest_of, is_usable, is_clear, ids_clear, is_within, sum_clear}
+use Rattle.conn_scan.proofs.Terms.{int_max, largest_window, some_zero_grant, openings_rise, promises_rise, credit_clear}
 use Rattle.std.specs.Prelude.{unwrap_or, is_none}
 use Rattle.std.proofs.Common.{inl, inr}
 use Rattle.std.proofs.lemmas.Bool.{cases_Bool}

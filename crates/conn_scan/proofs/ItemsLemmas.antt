@@ -1,8 +1,8 @@
 -- The items of a connection's frames are those of the pass, and those of consecutive blocks join.
-use Rattle.conn_scan.proofs.Terms.{◌≡◌, ℕ, ◌+◌, ◌<◌, ◌≤◌, ◌==◌, false, List, [], ◌∷◌, ◌++◌, append_assoc, Option, Some}
-use Rattle.conn_scan.proofs.Terms.{None, refl, ◌∙◌, arith, map, AllByRecursion, list_any, nat_tests, map-append}
-use Rattle.conn_scan.proofs.Terms.{all-append, Frame, Change, Item, IsOrderlyFrom, is_marked, change_at, item_with}
-use Rattle.conn_scan.proofs.Terms.{items_with}
+use Rattle.conn_scan.proofs.Terms.{◌≡◌, append_assoc, AllByRecursion, map-append, all-append, IsOrderlyFrom, items_with}
+use Rattle.conn_scan.proofs.Terms.{ℕ, ◌+◌, ◌<◌, ◌≤◌, ◌==◌, List, [], ◌∷◌, ◌++◌, Some, None, refl, ◌∙◌, map, Frame, Item}
+use Rattle.conn_scan.proofs.Terms.{false, Option, arith, list_any, nat_tests, Change, is_marked, change_at, item_with}
+use Rattle.conn_scan.proofs.Terms.{each-weaker}
 use Rattle.audit_terms.specs.code.runs.Changes.{changes_from}
 use Rattle.std.specs.Option.{option_to_list}
 use Rattle.std.proofs.Math.Bool.{or-false}
@@ -12,11 +12,6 @@ use Rattle.audit_terms.specs.InForce.{InForce, taken, change_taking, change_of, 
 use Rattle.audit_terms.specs.Pass.{PassState, pass_start, next}
 use Rattle.audit_terms.specs.code.runs.States.{items_from}
 use Rattle.conn_scan.specs.laws.Items.{ItemsAreThePass, ItemsOfBlocksJoin}
-
-all-weaker : {X : Type 0} {P Q : X → Type 0} → ((x : X) → P x → Q x) → (xs : List X) → AllByRecursion P xs
-    → AllByRecursion Q xs
-all-weaker f [] h = tt
-all-weaker f (x ∷ xs) h = (f x h.0, all-weaker f xs h.1)
 
 -- ---- changes and numbers beside a frame's own
 
@@ -79,12 +74,12 @@ items-from state low opened before (frame ∷ frames) h below marked =
     let own = option_to_list (change_of state.in_force frame) in
     let rest = changes_from (in_force_after state.in_force frame) frames in
     let behind = find-behind frame before (own ++ rest)
-    (all-weaker (λ change lt e. absurd (omega (arith, h.0, lt, e))) before below) in
+    (each-weaker _ _ (λ change lt e. absurd (omega (arith, h.0, lt, e))) before below) in
     let found = taking-found frame (taken state.in_force frame) rest
     (later-lack frame.number (frame.number + 1) (in_force_after state.in_force frame) frames (omega arith) h.2) in
     let later = items-from (next state frame) (frame.number + 1) opened (before ++ own) frames h.2
     (all-append (λ (change : Change). change.number < frame.number + 1) before own
-    (all-weaker (λ change lt. omega (arith, h.0, lt)) before below)
+    (each-weaker _ _ (λ change lt. omega (arith, h.0, lt)) before below)
     (taking-each (λ n. n < frame.number + 1) frame (taken state.in_force frame) (omega arith))) marked.1 in
     let rest = rw append_assoc at later in
     λ i. record { frame = frame; opens = marked.0 i; change = (behind ∙ found) i } ∷ rest i
@@ -102,21 +97,21 @@ pub items_of_blocks_join : ItemsOfBlocksJoin
 items_of_blocks_join number opened opened' changes changes' frames frames' o c f =
     rw (
       map-append,
-      map-alike _ _ frames (all-weaker first frames f.below),
-      map-alike _ _ frames' (all-weaker later frames' f.above),
+      map-alike _ _ frames (each-weaker _ _ first frames f.below),
+      map-alike _ _ frames' (each-weaker _ _ later frames' f.above),
     ) refl where
       first : (frame : Frame) → frame.number < number
           → item_with (opened ++ opened') (changes ++ changes') frame ≡ item_with opened changes frame
       first frame lt =
           let other : (n : ℕ) → number ≤ n → n ≡ frame.number → ⊥ = λ n le e. absurd (omega (arith, lt, le, e)) in
-          let none = any-none frame.number opened' (all-weaker (λ n le. other n le) opened' o.above) in
-          let found = find-before frame changes changes' (all-weaker (λ change le. other _ le) changes' c.above) in
+          let none = any-none frame.number opened' (each-weaker _ _ (λ n le. other n le) opened' o.above) in
+          let found = find-before frame changes changes' (each-weaker _ _ (λ change le. other _ le) changes' c.above) in
           rw (list_any-append, none, or-false, found) refl
 
       later : (frame : Frame) → number ≤ frame.number
           → item_with (opened ++ opened') (changes ++ changes') frame ≡ item_with opened' changes' frame
       later frame le =
           let other : (n : ℕ) → n < number → n ≡ frame.number → ⊥ = λ n lt e. absurd (omega (arith, lt, le, e)) in
-          let none = any-none frame.number opened (all-weaker (λ n lt. other n lt) opened o.below) in
-          let found = find-behind frame changes changes' (all-weaker (λ change lt. other _ lt) changes c.below) in
+          let none = any-none frame.number opened (each-weaker _ _ (λ n lt. other n lt) opened o.below) in
+          let found = find-behind frame changes changes' (each-weaker _ _ (λ change lt. other _ lt) changes c.below) in
           rw (list_any-append, none, found) refl

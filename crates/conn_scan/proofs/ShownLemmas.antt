@@ -1,13 +1,12 @@
 -- A clear block shows connection credit alone.
 use Rattle.conn_scan.proofs.Terms.{◌||◌, ◌%◌, ◌==◌, is_server_promise, promised_in, is_opened_by_headers, nat_lt, ◌≡◌}
-use Rattle.conn_scan.proofs.Terms.{ℕ, ◌≤◌, ℤ, pos, int_lt, nat_le, Bool, true, false, ◌&&◌}
-use Rattle.conn_scan.proofs.Terms.{List, [], ◌∷◌, refl, arith, AllByRecursion}
-use Rattle.conn_scan.proofs.Terms.{list_all, ints, nat_tests, Side, Client, Server, ConnectionState, Item, Frame}
-use Rattle.conn_scan.proofs.Terms.{Finding, largest_window, is_used_up, overflows, overruns, new_limit, in_order}
-use Rattle.conn_scan.proofs.Terms.{shown, credit_after, connection_window_said, connection_said, connection_after}
-use Rattle.conn_scan.proofs.Terms.{block_run, each-append, each-in_order, each-said, length_by, longest_by, connections}
-use Rattle.conn_scan.proofs.Terms.{is_usable, keeps_credit, grants_something, openings_rise, promises_allowed}
-use Rattle.conn_scan.proofs.Terms.{promises_rise, not_above, content_by, grants_nothing}
+use Rattle.conn_scan.proofs.Terms.{ℕ, ◌≤◌, ℤ, pos, int_lt, nat_le, Bool, true, false, ◌&&◌, List, [], ◌∷◌, refl, arith}
+use Rattle.conn_scan.proofs.Terms.{AllByRecursion, list_all, ints, nat_tests, Side, Client, Server, ConnectionState}
+use Rattle.conn_scan.proofs.Terms.{Item, Frame, Finding, largest_window, is_used_up, overflows, overruns, new_limit}
+use Rattle.conn_scan.proofs.Terms.{in_order, shown, credit_after, connection_window_said, connection_said}
+use Rattle.conn_scan.proofs.Terms.{connection_after, block_run, each-append, each-in_order, each-said, length_by}
+use Rattle.conn_scan.proofs.Terms.{longest_by, connections, is_usable, keeps_credit, grants_something, openings_rise}
+use Rattle.conn_scan.proofs.Terms.{promises_allowed, promises_rise, not_above, content_by, grants_nothing}
 use Rattle.std.proofs.lemmas.Bool.{and_parts, or_parts, not-true, and_right}
 use Rattle.audit_terms.specs.declared.kinds.Kind.TheVariants.{ConnectionCredit}
 use Rattle.audit_terms.specs.Side.{other, is_side}

@@ -1,10 +1,9 @@
 -- What the sums of a block's items need.
-use Rattle.conn_scan.proofs.Terms.{◌≡◌, ℤ, ◌-◌, ◌*◌, ◌^◌, ◌≤◌, List, [], ◌∷◌, ◌++◌, length, map, ap, sym, ◌∙◌, arith}
-use Rattle.conn_scan.proofs.Terms.{length-append, AllByRecursion, length-map, Side, Client, Server, Item}
-use Rattle.conn_scan.proofs.Terms.{ConnectionState, HasRoom, summary_of, summary-shown, change_of, credit_of, roomy}
-use Rattle.conn_scan.proofs.Terms.{one_change, credit_join, AreSmall, ChangesFit, Block, walked, MovesLittle}
-use Rattle.conn_scan.proofs.Terms.{ItemsFit, conn_sum_of, conn_none, conn_one, conn_join, room-wider, IsRoomy}
-use Rattle.conn_scan.proofs.Terms.{no_change, credit_shows}
+use Rattle.conn_scan.proofs.Terms.{◌≡◌, ℤ, ◌-◌, ◌*◌, ◌^◌, ◌≤◌, [], ◌∷◌, map, ap, sym, ◌∙◌, Side, Item}
+use Rattle.conn_scan.proofs.Terms.{List, ◌++◌, arith, Client, Server, roomy, Block, walked, ItemsFit, conn_one, IsRoomy}
+use Rattle.conn_scan.proofs.Terms.{length, credit_of, AreSmall, ChangesFit, conn_none, conn_join, room-wider, no_change}
+use Rattle.conn_scan.proofs.Terms.{length-append, AllByRecursion, ConnectionState, HasRoom, summary-shown, credit_shows}
+use Rattle.conn_scan.proofs.Terms.{length-map, summary_of, change_of, one_change, credit_join, MovesLittle, conn_sum_of}
 use Rattle.audit_terms.specs.Sides.{side_of}
 use Rattle.conn_scan.specs.declared.sums.ConnSum.{ConnSum}
 use Rattle.conn_scan.specs.code.ConnSumLaws.{conn_shows}

@@ -1,11 +1,10 @@
 -- The names that several proofs of this crate cite, passed on from one place.
-pub use Rattle.std.proofs.Common.{All, Bool, IfOk, List, None, Option, SFits, Some, [], ap, append-nil, append_assoc}
-pub use Rattle.std.proofs.Common.{arith, cond, false, if◌then◌else◌, int_le, int_lt, length, length-append, map, max}
-pub use Rattle.std.proofs.Common.{nat_le, nat_lt, neg_ℤ, not, of_z, pos, refl, rules, subst, suc, sym, to_z, true, w64}
-pub use Rattle.std.proofs.Common.{ℕ, ℤ, ◌%◌, ◌&&◌, ◌*◌, ◌++◌, ◌+ℤ◌, ◌+◌, ◌-ℤ◌, ◌-◌, ◌<ℤ◌, ◌<◌, ◌==◌, ◌^◌, ◌||◌, ◌∙◌}
-pub use Rattle.std.proofs.Common.{◌∷◌, ◌≡◌, ◌≤ℤ◌, ◌≤◌}
+pub use Rattle.std.proofs.Common.{All, Bool, List, None, Option, Some, [], ap, append-nil, append_assoc, arith, false}
+pub use Rattle.std.proofs.Common.{if◌then◌else◌, int_le, int_lt, length, length-append, map, max, nat_le, nat_lt, neg_ℤ}
+pub use Rattle.std.proofs.Common.{not, pos, refl, subst, suc, sym, true, ℕ, ℤ, ◌%◌, ◌&&◌, ◌*◌, ◌++◌, ◌+ℤ◌, ◌+◌, ◌-ℤ◌}
+pub use Rattle.std.proofs.Common.{◌-◌, ◌<ℤ◌, ◌<◌, ◌==◌, ◌^◌, ◌||◌, ◌∙◌, ◌∷◌, ◌≡◌, ◌≤ℤ◌, ◌≤◌}
 pub use Rattle.std.proofs.lemmas.Bool.Decides.{nat_tests}
-pub use Rattle.std.proofs.lemmas.Int.{by_lt_z, clamps, ints, to_z-of_z}
+pub use Rattle.std.proofs.lemmas.Int.{by_lt_z, clamps, ints}
 pub use Rattle.std.proofs.lemmas.List.{length-map, map-append}
 pub use Rattle.std.specs.Int.{int_max, int_min}
 pub use Rattle.std.specs.List.{AllByRecursion, find, list_all, list_any}
@@ -13,9 +12,8 @@ pub use Rattle.audit_terms.proofs.FindingLists.{each-append, each-filter, each-i
 pub use Rattle.audit_terms.specs.Change.{new_limit}
 pub use Rattle.audit_terms.specs.Connection.{connection_after, connection_said, connection_window_said, credit_after}
 pub use Rattle.audit_terms.specs.Connection.{is_opened_by_headers}
-pub use Rattle.audit_terms.specs.Finding.{in_order, is_shown, say, shown}
-pub use Rattle.audit_terms.specs.Frame.{content_by, grant_to, grants_nothing, increment, is_content, is_server_promise}
-pub use Rattle.audit_terms.specs.Frame.{promised_in}
+pub use Rattle.audit_terms.specs.Finding.{in_order, is_shown, shown}
+pub use Rattle.audit_terms.specs.Frame.{content_by, grants_nothing, is_server_promise, promised_in}
 pub use Rattle.audit_terms.specs.Window.{is_used_up, largest_window, overflows, overruns}
 pub use Rattle.audit_terms.specs.code.Room.{HasRoom}
 pub use Rattle.audit_terms.specs.code.Watch.{IsStopped, NeverFallFrom, Watches}
@@ -30,7 +28,7 @@ pub use Rattle.audit_terms.specs.declared.sides.Side.{Side}
 pub use Rattle.audit_terms.specs.declared.sides.Side.TheVariants.{Client, Server}
 pub use Rattle.block_scan.specs.code.Shown.{summary-shown}
 pub use Rattle.block_scan.specs.code.Summary.{summary_of}
-pub use Rattle.conn_scan.specs.code.Block.{BlockFits, ItemsFit, MovesLittle, connections_before}
+pub use Rattle.conn_scan.specs.code.Block.{BlockFits, ItemsFit, MovesLittle}
 pub use Rattle.conn_scan.specs.code.Clear.{connections, grants_something, is_clear, is_usable, keeps_credit}
 pub use Rattle.conn_scan.specs.code.Clear.{openings_rise, promises_allowed, promises_rise}
 pub use Rattle.conn_scan.specs.code.Cleared.{credit_clear, ids_clear, is_within, length_clear, push_clear, sum_clear}
