@@ -1,14 +1,13 @@
 -- A stream of which nothing is shown, from one of its frames to the next.
-use Rattle.stream_credit.proofs.Words.{◌≡◌, ℕ, pos, ◌+◌, ◌-◌, ◌^◌, ◌<◌, ◌≤◌, Bool, true, false, List, [], ◌∷◌, drop}
-use Rattle.stream_credit.proofs.Words.{length, slice_get, Some, None, refl, sym, ap, ◌∙◌, arith, nat_tests}
-use Rattle.stream_credit.proofs.Words.{filter-append, slice_get_within, Sides, StreamLife, Frame, Change, Step, Stream}
-use Rattle.stream_credit.proofs.Words.{Finding, other, side_of, in_order, is_shown, shown, idle_stream, stream_said}
-use Rattle.stream_credit.proofs.Words.{stream_after, IsOrderlyFrom, IsOrderly, frame_step, change_step, initial_after}
-use Rattle.stream_credit.proofs.Words.{stream_run_from, stream_after_all, AreOrderly, AreAcknowledged, QuietStream}
-use Rattle.stream_credit.proofs.Words.{Move, is_live, merged, Acknowledge, IsMove, IsRaised, IsQuiet, has_credit}
-use Rattle.stream_credit.proofs.Words.{has_ended, window_of, stream_of, initial_at, IsMovedBy, IsPassed, IsNext}
-use Rattle.stream_credit.proofs.Words.{AreFrom, ArePassed, StartsAt, IsAhead, ShowsNothing, Side, IsCreditOf, ◌+ℤ◌}
-use Rattle.stream_credit.proofs.Words.{◌-ℤ◌, ℤ, lt-ltb, ints, same_Some, is_used_up, overflows, each-in_order}
+use Rattle.stream_credit.proofs.Words.{◌≡◌, pos, List, drop, Some, None, refl, Frame, Step, other, shown, Move, Side}
+use Rattle.stream_credit.proofs.Words.{ℕ, idle_stream, stream_said, change_step, QuietStream, Acknowledge, ShowsNothing}
+use Rattle.stream_credit.proofs.Words.{◌+◌, ◌-◌, ◌^◌, ◌<◌, ◌≤◌, [], ◌∷◌, sym, ap, ◌∙◌}
+use Rattle.stream_credit.proofs.Words.{Bool, in_order, IsOrderly, has_ended, window_of, stream_of, IsMovedBy, ArePassed}
+use Rattle.stream_credit.proofs.Words.{true, Finding, side_of, is_shown, is_live, IsRaised, IsQuiet, IsPassed, StartsAt}
+use Rattle.stream_credit.proofs.Words.{false, arith, Sides, Change, Stream, merged, IsMove, IsNext, AreFrom, IsAhead}
+use Rattle.stream_credit.proofs.Words.{length, filter-append, stream_after, IsOrderlyFrom, initial_after, each-in_order}
+use Rattle.stream_credit.proofs.Words.{slice_get, nat_tests, frame_step, AreOrderly, has_credit, initial_at, is_used_up}
+use Rattle.stream_credit.proofs.Words.{slice_get_within, StreamLife, stream_run_from, stream_after_all, AreAcknowledged}
 use Rattle.stream_credit.proofs.ChangeLemmas.{drop-next, initial-next, passed-each, none-left}
 use Rattle.stream_credit.proofs.MergedLemmas.{steps_of-merged, acknowledge-all, merged-first, merged-change}
 use Rattle.stream_credit.proofs.QuietLemmas.{quiet-unshown, quiet-after}
@@ -156,6 +155,9 @@ window-some standing h = rw h refl
 pub ended-none : (standing : ℕ) → has_credit standing ≡ true → has_ended standing ≡ false
 ended-none standing h = grind (arith, nat_tests)
 
+pub some-left : (standing : ℕ) → has_credit standing ≡ true → is_used_up (pos standing) ≡ false
+some-left standing live = grind (arith, nat_tests)
+
 -- the window of a side goes from one credit to another, and the rest stays
 pub next-moved : {stream : ℕ} {frame : Frame} {old new : QuietStream} {one : Move} (d : Side) (before credit : ℕ)
     → one.side ≡ d → IsMove stream (stream_of old).life frame one → IsRaised (pos before) one.amount (pos credit)
@@ -186,21 +188,3 @@ unshown-of (x ∷ xs) e = grind (arith, unshown-of xs)
 
 pub none-in_order : (found : List Finding) → shown false found ≡ [] → shown false (in_order found) ≡ []
 none-in_order found e = none-shown (in_order found) (each-in_order IsUnshown found (unshown-of found e))
-
--- ---- a change of the initial window
-
-pub some-left : (standing : ℕ) → has_credit standing ≡ true → is_used_up (pos standing) ≡ false
-some-left standing live = grind (arith, nat_tests)
-
--- a credit that is kept, after it moves
-pub kept-moved : (before after standing next : ℕ) (credit : ℤ) → credit ≡ pos standing +ℤ pos after -ℤ pos before
-    → has_credit standing ≡ true → IsCreditOf credit next → IsMovedBy before after standing next
-kept-moved before after standing next credit is live kept =
-    let left : has_credit next ≡ true = rw (lt-ltb 0 next kept.some, lt-ltb next (2 ^ 31) kept.within) refl in
-    let fits : overflows (pos standing) (pos next) ≡ false = grind (arith, nat_tests, kept.within) in
-    record {
-      moved = rw (live, left) (ap Some (omega (arith, ints, kept.same, is)));
-      silent = rw (live, left) (λ x e y f. rw (← same_Some _ x e, ← same_Some _ y f)
-          (some-left standing live ∙ sym (some-left next left), fits));
-      ended = ended-none next left ∙ sym (ended-none standing live);
-    }
