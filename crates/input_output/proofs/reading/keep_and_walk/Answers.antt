@@ -1,12 +1,5 @@
-use Rattle.input_output.proofs.Kept.{read_none, read_on}
+use Rattle.input_output.proofs.Kept.{read_on}
 use Rattle.input_output.proofs.reading.keep_and_walk.Goals as goal
-
-pub loop-read-init : goal.loop-read-init
-loop-read-init g c = record {
-  on = read_none g.R.Read.remaining 2147483648 c.args.reader.now c.requires.sound c.requires.room c.requires.unpassed
-      c.requires.state;
-  walk = c.requires.walk;
-}
 
 pub loop-read-preserved : goal.loop-read-preserved
 loop-read-preserved g c = record {

@@ -1,10 +1,5 @@
-use Rattle.input_output.proofs.Kept.{read_none, read_on}
+use Rattle.input_output.proofs.Kept.{read_on}
 use Rattle.input_output.proofs.reading.keep_up_to.Goals as goal
-
-pub loop-read-init : goal.loop-read-init
-loop-read-init g c =
-    read_none g.R.Read.remaining c.args.limit c.args.reader.now c.requires.sound c.requires.room.0 c.requires.unpassed
-    c.requires.state
 
 pub loop-read-preserved : goal.loop-read-preserved
 loop-read-preserved g c =

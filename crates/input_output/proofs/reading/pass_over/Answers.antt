@@ -1,15 +1,6 @@
 use Rattle.std.proofs.Common.{rules, take}
-use Rattle.input_output.proofs.Kept.{passed_more, passed_none}
+use Rattle.input_output.proofs.Kept.{passed_more}
 use Rattle.input_output.proofs.reading.pass_over.Goals as goal
-
-pub returns-then-branch-eq0-clause-bytes : goal.returns-then-branch-eq0-clause-bytes
-returns-then-branch-eq0-clause-bytes g c =
-    passed_more g.R.Read.remaining c.args.reader.now c.loop-piece.reader c.pass_once.new.self
-    (take c.in_ok-pass_once.field-0 c.pass_once.new.piece) c.in_ok-pass_once.field-0 c.loop-piece.invariant.bytes
-    c.in_ok-pass_once.ensures.count c.in_ok-pass_once.ensures.read
-
-pub loop-piece-init : goal.loop-piece-init
-loop-piece-init g c = search (rules, passed_none g.R.Read.remaining c.args.reader.now)
 
 pub loop-piece-preserved : goal.loop-piece-preserved
 loop-piece-preserved g c =

@@ -1,6 +1,6 @@
 use Rattle.std.proofs.Common.{◌≤◌, slice_index_or, ◌≡◌, ◌∙◌, ◌∷◌, [], ◌++◌, List, length, map, length-append, arith, ap}
-use Rattle.std.proofs.Common.{sym, subst, take}
-use Rattle.std.proofs.lemmas.List.{map-append, map_more, take_all}
+use Rattle.std.proofs.Common.{sym, subst}
+use Rattle.std.proofs.lemmas.List.{map-append, take_all}
 use Rattle.input_output.specs.Chunks.{joined}
 use Rattle.input_output.specs.code.Sizes.{AreChunksOf}
 use Rattle.input_output.proofs.ChunkLemmas.{AreFull, full_and_last, full_count, joined-push}
@@ -33,20 +33,3 @@ invariant_of-result g c =
           (full_and_last (λ chunk. chunk.items) g.row.N full last all c.requires.last),
       omega arith,
     )
-
-pub returns : goal.returns
-returns g c = ap joined (pushed g c) ∙ joined-push (map (λ chunk. chunk.items) c.args.full.now) c.args.last.now
-
-pub loop-chunk-preserved : goal.loop-chunk-preserved
-loop-chunk-preserved g c =
-    let before : List (List _) = map (λ chunk. chunk.items) (take c.loop-chunk.chunk-index c.args.full.now) in
-    record {
-      items = ap (map (λ chunk. chunk.now)) c.push_reserved.ensures.items
-          ∙ map-append (λ chunk. chunk.now) c.loop-chunk.all.items (c.as_slice.result ∷ [])
-          ∙ ap (λ l. l ++ c.as_slice.result.now ∷ []) c.loop-chunk.invariant.items
-          ∙ ap (λ chunk. before ++ chunk ∷ []) (c.as_slice.ensures.value ∙ ap (λ chunk. chunk.items) c.chunk-item.is)
-          ∙ sym (map_more (λ chunk. chunk.items) c.args.full.now c.loop-chunk.chunk-index c.chunk-item.result
-          c.loop-chunk-test.true);
-      count = omega arith;
-      room = omega arith;
-    }

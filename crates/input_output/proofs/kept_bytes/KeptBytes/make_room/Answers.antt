@@ -1,4 +1,4 @@
-use Rattle.std.proofs.Common.{[], ◌∷◌, ap, arith, length, length-append}
+use Rattle.std.proofs.Common.{arith}
 use Rattle.std.proofs.lemmas.Result.{on_ok_weaker}
 use Rattle.input_output.proofs.Bytes.{all_full, kept_size, sizes}
 use Rattle.input_output.proofs.kept_bytes.KeptBytes.make_room.Goals as goal
@@ -38,27 +38,4 @@ returns-clause-room g c =
       kept_size full.items c.begin_chunk.new.last.items 0 all (omega arith),
       full.ok.0,
       c.in_ok-begin_chunk.ensures.ok.1,
-    )
-
-pub returns-clause-limit : goal.returns-clause-limit
-returns-clause-limit g c =
-    let ok = c.in_ok-begin_chunk.ensures.ok in
-    let full = c.self.inside.full in
-    omega (
-      arith,
-      ap length ok.0,
-      length-append full.items (c.self.inside.last ∷ []),
-      c.begin_chunk.new.full.ok.0,
-      full.ok.0,
-      ok.2,
-    )
-
-pub invariant_of-self : goal.invariant_of-self
-invariant_of-self g c =
-    let inside = c.self.inside in
-    let within = c.grow_chunk.ensures.within in (
-      c.self.invariant.0,
-      omega (arith, c.self.invariant.1, c.grow_chunk.ensures.grows),
-      within.1,
-      omega (arith, within.0, c.requires.limit.1),
     )

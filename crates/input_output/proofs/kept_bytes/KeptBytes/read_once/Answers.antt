@@ -5,11 +5,6 @@ use Rattle.input_output.proofs.kept_bytes.KeptBytes.read_once.Goals as goal
 pub read_into-requires : goal.read_into-requires
 read_into-requires g c = omega (arith, sizes c.self.inside c.args.self.now c.self.invariant c.self.view_is)
 
-pub returns-in_err-count-clause-grown : goal.returns-in_err-count-clause-grown
-returns-in_err-count-clause-grown g c =
-    is_grown c.self.inside c.read_into.new.chunk c.args.self.now c.self.invariant c.self.view_is
-    c.read_into.ensures.length c.read_into.ensures.front 0 c.self.inside.filled (omega arith) refl
-
 pub returns : goal.returns
 returns g c =
     let read = c.in_ok-count.ensures.read in record {
