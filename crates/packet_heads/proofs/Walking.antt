@@ -3,7 +3,7 @@ use denote.RawPtr.{null_ptr}
 use Rattle.std.proofs.Common.{◌≡◌, ℕ, ◌+◌, ◌-◌, ◌^◌, ◌<◌, ◌≤◌, List, [], ◌∷◌, ◌++◌, length, map, drop, refl, Option}
 use Rattle.std.proofs.Common.{Global, append-nil, length-drop, sym, ap, subst, ◌∙◌, arith}
 use Rattle.std.specs.List.{enumerate_from}
-use Rattle.std.proofs.lemmas.List.{drop-append-le, length-map, length-take, take-append-le, take_all}
+use Rattle.std.proofs.lemmas.List.{drop-append-le, length-map, length-take, take-append-le}
 use Rattle.pcap_records.specs.code.Place.{RiseFrom}
 use Rattle.pcap_records.specs.code.Walk.{AreAll, IsThrough}
 use Rattle.pcap_records.specs.laws.Readings.{MoreBytesKeepAWalk}
@@ -145,10 +145,7 @@ few_marks capture walk is short =
       short,
     )
 
--- packets stand in front of themselves, and of one more
-pub front-same : (packets : List Packet) → IsFrontOf packets packets
-front-same packets = take_all (length packets) packets (omega arith)
-
+-- packets that stand in front stand in front of one more
 pub front-push : (front all : List Packet) (packet : Packet) → IsFrontOf front all
     → IsFrontOf front (all ++ packet ∷ [])
 front-push front all packet is =

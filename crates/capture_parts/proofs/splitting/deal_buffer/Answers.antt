@@ -1,5 +1,4 @@
 use Rattle.capture_parts.proofs.Terms.{arith, length-take-le}
-use Rattle.std.proofs.lemmas.Grind.{common_steps}
 use Rattle.capture_parts.proofs.Buffer.{moved_to_front}
 use Rattle.capture_parts.proofs.splitting.deal_buffer.Goals as goal
 
@@ -18,15 +17,3 @@ pub returns-clause-dealt : goal.returns-clause-dealt
 returns-clause-dealt g c =
     let moved = moved_to_front _ _ _ _ c.in_ok-dealt.ensures.within c.requires.filled c.copy_within.ensures.after in
     rw (← moved.0) c.in_ok-dealt.ensures.dealt
-
-pub returns-clause-part : goal.returns-clause-part
-returns-clause-part g c = grind (arith, common_steps)
-
-pub returns-clause-left : goal.returns-clause-left
-returns-clause-left g c = grind (arith, common_steps)
-
-pub slice_bounds-deal-end : goal.slice_bounds-deal-end
-slice_bounds-deal-end g c = grind (arith, common_steps)
-
-pub slice_bounds-deal-end-2 : goal.slice_bounds-deal-end-2
-slice_bounds-deal-end-2 g c = grind (arith, common_steps)

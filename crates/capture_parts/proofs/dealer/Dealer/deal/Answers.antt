@@ -1,7 +1,6 @@
 use Rattle.capture_parts.proofs.Terms.{Dealer, Deals, List, ap, arith, drop, length, rules, sym, take, take-add}
 use Rattle.capture_parts.proofs.Terms.{take_rest, ℕ, ◌-◌, ◌≡◌}
 use Rattle.capture_parts.proofs.Standing.{dealt_first, dealt_more}
-use Rattle.std.proofs.lemmas.Grind.{common_steps}
 use Rattle.capture_parts.proofs.Turns.{Deals-trans}
 use Rattle.capture_parts.proofs.dealer.Dealer.deal.Goals as goal
 use Rattle.capture_parts.proofs.dealer.Dealer.deal.Goals.{else-self-eq0-via-else-self-eq0}
@@ -35,15 +34,3 @@ loop-at-preserved g c =
       dealt = rw (take-add at n unread, ← take_rest unread at) (Deals-trans g.W.Write.contents
           _ _ _ _ _ _ _ _ c.loop-at.invariant.dealt step);
     }
-
-pub deal_more-requires-clause-begun : goal.deal_more-requires-clause-begun
-deal_more-requires-clause-begun g c = grind (arith, common_steps)
-
-pub deal_more-requires-clause-part : goal.deal_more-requires-clause-part
-deal_more-requires-clause-part g c = grind (arith, common_steps)
-
-pub returns-then-not-branch-clause-few : goal.returns-then-not-branch-clause-few
-returns-then-not-branch-clause-few g c = grind (arith, common_steps)
-
-pub returns-then-not-branch-clause-rest : goal.returns-then-not-branch-clause-rest
-returns-then-not-branch-clause-rest g c = grind (arith, common_steps)

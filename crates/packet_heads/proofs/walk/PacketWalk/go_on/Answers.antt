@@ -1,10 +1,7 @@
 use Rattle.std.proofs.Common.{[], ◌∷◌, length-append, arith}
-use Rattle.packet_heads.proofs.Walking.{decided-push, few_marks, front-push, front-same}
+use Rattle.packet_heads.proofs.Walking.{decided-push, few_marks, front-push}
 use Rattle.packet_heads.specs.code.Walk.{made_by}
 use Rattle.packet_heads.proofs.walk.PacketWalk.go_on.Goals as goal
-
-pub loop-row-init : goal.loop-row-init
-loop-row-init c = record { made = c.requires.walk; front = front-same (made_by c.args.self.now) }
 
 pub push-requires-clause-room : goal.push-requires-clause-room
 push-requires-clause-room c =
