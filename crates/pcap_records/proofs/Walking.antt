@@ -1,7 +1,6 @@
 -- What the loop over the records keeps.
-use Rattle.std.proofs.Common.{◌≡◌, ◌≤◌, ◌<◌, ◌+◌, ◌-◌, ◌*◌, ◌^◌, ℕ, List, [], ◌∷◌, ◌++◌, length, drop, refl, sym, ap}
-use Rattle.std.proofs.Common.{Option, None, Some, IfSome, ◌∙◌, arith, length-append, length-drop, append_assoc}
-use Rattle.std.proofs.Common.{append-nil}
+use Rattle.std.proofs.Common.{◌≡◌, ◌≤◌, ◌<◌, ◌+◌, ◌-◌, ◌^◌, ℕ, List, [], ◌∷◌, ◌++◌, length, drop, refl, sym, ap, arith}
+use Rattle.std.proofs.Common.{Option, None, Some, IfSome, ◌∙◌, length-append, length-drop, append_assoc, append-nil}
 use Rattle.std.specs.Prelude.{IfNone}
 use Rattle.std.proofs.lemmas.List.{drop-append-le, drop-drop, take-append-le}
 use Rattle.pcap_records.specs.FileHeader.{ByteOrder, format_of, header_of, link_of, number_of}
@@ -19,11 +18,8 @@ use Rattle.pcap_records.specs.declared.walk.RecordWalk.{RecordWalk}
 RiseFrom-push : (from end : ℕ) (rows : List Record) (r : Record) → RiseFrom from end rows → end ≤ r.start
     → RiseFrom from (r.start + r.length) (rows ++ r ∷ [])
 RiseFrom-push from end [] r placed behind = (omega (arith, placed, behind), omega arith)
-RiseFrom-push from end (x ∷ rows) r placed behind = (
-  placed.0,
-  RiseFrom-push (x.start + x.length) end rows r placed.1
-      behind,
-)
+RiseFrom-push from end (x ∷ rows) r placed behind =
+    (placed.0, RiseFrom-push (x.start + x.length) end rows r placed.1 behind)
 
 -- what stands before `end` stands before a later end
 pub RiseFrom-widen : (from end size : ℕ) (rows : List Record) → RiseFrom from end rows → end ≤ size
@@ -44,11 +40,8 @@ after_record number unit at bytes r is = ap (λ (x : Record). x.start + x.length
 
 -- a record that begins where the rows end completes them by one, whatever bytes follow
 completes-push : (number : ByteOrder) → ReadsFirst number → (unit : ℕ) (front : List ℕ) (rows : List Record) (at : ℕ)
-    (r : Record)
-    → AreRead number unit front rows at
-    → BeginsWithRecord number (drop at front)
-    → r ≡ record_at number unit at (drop at front)
-    → Completes number unit front (rows ++ r ∷ []) (r.start + r.length)
+    (r : Record) → AreRead number unit front rows at → BeginsWithRecord number (drop at front)
+    → r ≡ record_at number unit at (drop at front) → Completes number unit front (rows ++ r ∷ []) (r.start + r.length)
 completes-push number first unit front rows at r read begins is more rs rest others =
     let bytes : List ℕ = drop at (front ++ more) in
     let behind : bytes ≡ drop at front ++ more = drop-append-le at front more read.high in
@@ -74,11 +67,8 @@ completes-push number first unit front rows at r read begins is more rs rest oth
 
 -- and is one more row
 pub AreRead-push : (number : ByteOrder) → ReadsFirst number → (unit : ℕ) (front : List ℕ) (rows : List Record) (at : ℕ)
-    (r : Record)
-    → AreRead number unit front rows at
-    → BeginsWithRecord number (drop at front)
-    → r ≡ record_at number unit at (drop at front)
-    → r.nanos < 2 ^ 63
+    (r : Record) → AreRead number unit front rows at → BeginsWithRecord number (drop at front)
+    → r ≡ record_at number unit at (drop at front) → r.nanos < 2 ^ 63
     → AreRead number unit front (rows ++ r ∷ []) (r.start + r.length)
 AreRead-push number first unit front rows at r read begins is soon =
     let len : ℕ = captured_length number (drop at front) in
@@ -86,8 +76,6 @@ AreRead-push number first unit front rows at r read begins is soon =
     let start : r.start ≡ at + 16 = ap (λ (x : Record). x.start) is in
     let left : length (drop at front) ≡ length front - at = length-drop at front in
     let one : length (rows ++ r ∷ []) ≡ length rows + 1 = length-append rows (r ∷ []) in
-    let high : at ≤ length front = read.high in
-    let few : 16 * length rows + 24 ≤ at = read.few in
     let fits : 16 + len ≤ length (drop at front) = begins.1 in
     record {
       completes = completes-push number first unit front rows at r read begins is;
@@ -99,8 +87,7 @@ AreRead-push number first unit front rows at r read begins is soon =
 
 -- where no record begins, the rows are all of a capture that ends there
 pub AreRead-end : (number : ByteOrder) (unit : ℕ) (capture : List ℕ) (rows : List Record) (at : ℕ)
-    → AreRead number unit capture rows at
-    → ¬ BeginsWithRecord number (drop at capture)
+    → AreRead number unit capture rows at → ¬ BeginsWithRecord number (drop at capture)
     → AreRecords number unit 24 (drop 24 capture) rows (drop at capture)
 AreRead-end number unit capture rows at read none =
     rw (append-nil capture, append-nil rows) at

@@ -5,6 +5,3 @@ flows_each-requires-clause-sources g c κs within = rw c.in_ok-packets.ensures c
 
 pub returns-clause-lines : goal.returns-clause-lines
 returns-clause-lines g c = rw c.in_ok-packets.ensures at c.in_ok-lines.ensures
-
-pub returns-clause-flows : goal.returns-clause-flows
-returns-clause-flows g c = rw c.in_ok-packets.ensures at c.in_ok-parts.ensures

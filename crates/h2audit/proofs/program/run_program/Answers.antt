@@ -1,4 +1,4 @@
-use Rattle.std.proofs.Common.{inl, inr, refl, rules}
+use Rattle.std.proofs.Common.{inr, refl, rules}
 use Rattle.std.proofs.KnownBytes.{Appends-nil}
 use Rattle.std.proofs.lemmas.Result.{MatchResult-from_both}
 use Rattle.h2audit.proofs.program.run_program.Goals as goal
@@ -77,13 +77,5 @@ returns-in-Ok-Refused g c =
         rw found.field-0-is
             (c.from.ensures, refl, record { shown = c.trim_end.result; shows = search rules; called = c.say.ensures }),
       );
-      taken = rw c.requires.unwritten.written (Appends-nil (g.W.Write.contents c.args.outside.now.output.writer));
-    }
-
-pub returns-in-Err : goal.returns-in-Err
-returns-in-Err g c =
-    let ended = c.end-in-Err.ensures in
-    record {
-      ends = inl (refl, (ended.status, ended.line, ended.silent));
       taken = rw c.requires.unwritten.written (Appends-nil (g.W.Write.contents c.args.outside.now.output.writer));
     }

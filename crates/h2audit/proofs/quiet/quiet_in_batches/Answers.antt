@@ -1,17 +1,6 @@
-use Rattle.std.proofs.Common.{[], ◌++◌}
+use Rattle.std.proofs.Common.{◌++◌}
 use Rattle.h2_frames.specs.code.Batch.{frames_of}
 use Rattle.h2audit.proofs.quiet.quiet_in_batches.Goals as goal
-
-pub loop-more-init : goal.loop-more-init
-loop-more-init g c = record {
-  ready = c.in_ok-more.ensures.ready;
-  numbered = c.in_ok-more.ensures.numbered;
-  met = λ client server before. record {
-    frames = [];
-    taken = c.in_ok-more.ensures.taken client server [] before;
-    quiet = c.begin-pass.ensures;
-  };
-}
 
 pub loop-more-preserved : goal.loop-more-preserved
 loop-more-preserved g c =

@@ -2,12 +2,6 @@ use Rattle.std.proofs.Common.{[], ◌∷◌, ◌++◌}
 use Rattle.h2audit.proofs.Walked.{whole-at_end}
 use Rattle.h2audit.proofs.quiet.quiet_in_turn.Goals as goal
 
-pub loop-pass-init : goal.loop-pass-init
-loop-pass-init c = record {
-  ready = c.requires;
-  met = λ client server before. record { frames = []; taken = before; quiet = c.begin-pass.ensures };
-}
-
 pub loop-pass-preserved : goal.loop-pass-preserved
 loop-pass-preserved c = record {
   ready = c.in_ok-frame.ensures.ready;

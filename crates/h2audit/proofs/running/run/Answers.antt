@@ -1,7 +1,7 @@
 use Rattle.std.proofs.Common.{rules, ◌^◌, take, subst, sym}
 use Rattle.std.proofs.KnownBytes.{Appends-nil}
 use Rattle.std.proofs.lemmas.Option.{IfSome_then}
-use Rattle.h2audit.specs.Account.{HasGiven, IsBrief, Tells}
+use Rattle.h2audit.specs.Account.{HasGiven, Tells}
 use Rattle.h2audit.proofs.Leaving.{brief_fault, given_fault, given_unread, not_to_end, report_of_given, tells_fault}
 use Rattle.h2audit.proofs.Leaving.{tells_unread, tells_written}
 use Rattle.h2audit.proofs.running.run.Goals as goal
@@ -59,10 +59,3 @@ returns-clause-given g c =
     let left = g.R.Read.remaining c.args.reader.now.reader in
     subst (HasGiven left) (sym c.in_ok-text.ensures.same)
     (IfSome_then left c.in_ok-header.ensures.read.bytes (λ all is read. is))
-
-pub returns-clause-brief : goal.returns-clause-brief
-returns-clause-brief g c = λ read.
-    subst (λ reader. IsBrief reader) (sym c.in_ok-text.ensures.same) c.in_ok-header.ensures.read.brief
-
-pub returns-clause-taken : goal.returns-clause-taken
-returns-clause-taken g c = c.write_out.ensures.taken
