@@ -1,6 +1,5 @@
 -- Bounds of credits.
-use Rattle.std.proofs.Common.{ℕ, ℤ, ◌≤◌, arith}
-use Rattle.std.proofs.lemmas.Int.{ints}
+use Rattle.std.proofs.{Common.arith, Common.ℕ, Common.ℤ, Common.◌≤◌, lemmas.Int.ints}
 use Rattle.audit_terms.specs.code.Room.{HasRoom}
 
 -- a wider bound

@@ -1,10 +1,8 @@
 -- What holds of each element of a list, when lists are joined, put in order or filtered.
-use Rattle.std.proofs.Common.{Bool, true, false, List, [], ◌∷◌, ◌++◌, filter}
-use Rattle.std.specs.List.{AllByRecursion}
-use Rattle.std.proofs.lemmas.Bool.{cond_both}
-use Rattle.audit_terms.specs.declared.findings.Finding.{Finding}
-use Rattle.audit_terms.specs.Finding.{say, in_order, comes_after}
-use Rattle.audit_terms.specs.Order.{put_by, ordered_by}
+use Rattle.std.{proofs.lemmas.Bool.cond_both, specs.List.AllByRecursion}
+use Rattle.std.proofs.Common.{Bool, List, [], false, filter, true, ◌++◌, ◌∷◌}
+use Rattle.audit_terms.specs.{Order.ordered_by, Order.put_by, declared.findings.Finding.Finding}
+use Rattle.audit_terms.specs.Finding.{comes_after, in_order, say}
 
 module _ {X : Type 0} (P : X → Type 0) where
   pub each-append : (a b : List X) → AllByRecursion P a → AllByRecursion P b → AllByRecursion P (a ++ b)

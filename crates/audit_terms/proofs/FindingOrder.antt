@@ -1,24 +1,16 @@
 -- The order of findings tells all findings apart, so the lemmas on lists in order hold of findings.
-use Rattle.std.proofs.Common.{◌≡◌, ℕ, suc, ℤ, ◌+◌, true, false, List, [], ◌∷◌, ◌++◌, refl, sym, ap, ◌∙◌, arith}
-use Rattle.std.specs.declared.cmp.Ordering.{Ordering}
-use Rattle.std.specs.declared.cmp.Ordering.TheVariants.{Less, Equal}
-use Rattle.std.specs.Ordering.{nat_cmp, int_cmp, ordering_then, ordering_reverse, is_gt, is_lt}
-use Rattle.std.specs.Cmp.{IsTotalOrder}
-use Rattle.std.specs.List.Sorted.{IsPermutation, IsSortedBy}
-use Rattle.std.proofs.lemmas.Cmp.{nat_cmp_total, int_cmp_total, on_total, then_total, ranked, int_ranked, tied_itself}
-use denote.Enum.Bare.{tag_one}
-use denote.Enum.Declared.{tag_of}
-use Rattle.audit_terms.specs.contracts.kinds.Kind.{the_type}
-use Rattle.audit_terms.specs.declared.sides.Side.{Side}
+use Rattle.std.proofs.Common.{List, [], ap, arith, false, refl, suc, sym, true, ℕ, ℤ, ◌++◌, ◌+◌, ◌∙◌, ◌∷◌, ◌≡◌}
+use Rattle.std.proofs.lemmas.Cmp.{int_cmp_total, int_ranked, nat_cmp_total, on_total, ranked, then_total, tied_itself}
+use Rattle.std.specs.{Cmp.IsTotalOrder, List.Sorted.IsPermutation, List.Sorted.IsSortedBy}
+use Rattle.std.specs.Ordering.{int_cmp, is_gt, is_lt, nat_cmp, ordering_reverse, ordering_then}
+use Rattle.std.specs.declared.cmp.Ordering.{Ordering, TheVariants.Equal, TheVariants.Less}
+use Rattle.audit_terms.proofs.OrderedLists.{IsAfter, IsRising, in_order-rising, ordered-alike, ordered-append_comm}
+use Rattle.audit_terms.proofs.OrderedLists.{ordered-in_order, ordered-left, ordered-ordered, ordered-permutation}
+use Rattle.audit_terms.specs.{Kind.rank_of, Side.side_order, contracts.kinds.Kind.the_type}
+use Rattle.audit_terms.specs.Finding.{comes_after, finding_cmp, in_order}
+use Rattle.audit_terms.specs.declared.{findings.Finding.Finding, kinds.Kind.Kind, sides.Side.Side}
 use Rattle.audit_terms.specs.declared.sides.Side.TheVariants.{Client, Server}
-use Rattle.audit_terms.specs.declared.kinds.Kind.{Kind}
-use Rattle.audit_terms.specs.declared.findings.Finding.{Finding}
-use Rattle.audit_terms.specs.Side.{side_order}
-use Rattle.audit_terms.specs.Kind.{rank_of}
-use Rattle.audit_terms.specs.Finding.{finding_cmp, comes_after, in_order}
-use Rattle.audit_terms.proofs.OrderedLists.{IsAfter, IsRising, ordered-left}
-use Rattle.audit_terms.proofs.OrderedLists.{ordered-append_comm, ordered-alike, ordered-ordered, ordered-permutation}
-use Rattle.audit_terms.proofs.OrderedLists.{ordered-in_order, in_order-rising}
+use denote.Enum.{Bare.tag_one, Declared.tag_of}
 
 pub finding_total : IsTotalOrder finding_cmp
 finding_total =

@@ -1,14 +1,12 @@
 -- Lists put in order by a total order that tells all elements apart: what putting in order keeps, and where it is the
 -- same for two lists.
-use Rattle.std.proofs.Common.{◌≡◌, ℕ, ◌<◌, zero, suc, Bool, true, false, if◌then◌else◌, List, [], ◌∷◌, ◌++◌, length}
-use Rattle.std.proofs.Common.{get_or, set, refl, sym, ap, ◌∙◌, arith}
-use Rattle.std.specs.List.{swap}
-use Rattle.std.specs.List.Sorted.{IsPermutation}
-use Rattle.std.proofs.lemmas.Bool.{cond_both}
-use Rattle.std.proofs.lemmas.List.{get_or-set_same, get_or-set_other, length-set}
-use Rattle.std.proofs.lemmas.List.Sorted.{IsPermutation-refl, IsPermutation-cons, IsPermutation-trans}
-use Rattle.std.proofs.lemmas.List.Sorted.{IsPermutation-keeps, IsPermutation-append, IsPermutation-append_comm}
-use Rattle.audit_terms.specs.Order.{put_by, ordered_by}
+use Rattle.std.proofs.Common.{Bool, List, [], ap, arith, false, get_or, if◌then◌else◌, length, refl, set, suc, sym}
+use Rattle.std.proofs.Common.{true, zero, ℕ, ◌++◌, ◌<◌, ◌∙◌, ◌∷◌, ◌≡◌}
+use Rattle.std.proofs.lemmas.{Bool.cond_both, List.get_or-set_other, List.get_or-set_same, List.length-set}
+use Rattle.std.proofs.lemmas.List.Sorted.{IsPermutation-append, IsPermutation-append_comm, IsPermutation-cons}
+use Rattle.std.proofs.lemmas.List.Sorted.{IsPermutation-keeps, IsPermutation-refl, IsPermutation-trans}
+use Rattle.std.specs.List.{swap, Sorted.IsPermutation}
+use Rattle.audit_terms.specs.Order.{ordered_by, put_by}
 
 -- the test that one element comes after another, in an order that tells all elements apart
 pub record IsAfter {X : Type 0} (after : X → X → Bool) : Type 0 where

@@ -1,10 +1,8 @@
 -- Settings are the same after they were kept in words.
-use Rattle.std.proofs.Common.{◌≡◌, ℕ, ◌+◌, ◌*◌, ◌/◌, ◌%◌, ◌≤◌, Option, refl, ap, sym, subst, ◌∙◌}
-use Rattle.std.proofs.Common.{arith}
+use Rattle.std.proofs.Common.{Option, ap, arith, refl, subst, sym, ℕ, ◌%◌, ◌*◌, ◌+◌, ◌/◌, ◌∙◌, ◌≡◌, ◌≤◌}
 use Rattle.std.specs.Prelude.{unwrap_or}
-use Rattle.audit_terms.specs.declared.settings.Settings.{Settings}
-use Rattle.audit_terms.specs.declared.settings.PackedSettings.TheInside.{Inside}
-use Rattle.audit_terms.specs.code.Packing.{one_more, one_less, mark, marked, packed, unpacked, IsPacked}
+use Rattle.audit_terms.specs.code.Packing.{IsPacked, mark, marked, one_less, one_more, packed, unpacked}
+use Rattle.audit_terms.specs.declared.settings.{PackedSettings.TheInside.Inside, Settings.Settings}
 
 back : (value : Option ℕ) → one_less (one_more value) ≡ value
 back value = grind arith

@@ -1,10 +1,8 @@
 -- Places stand in the order of their frame numbers, ranks and streams.
-use Rattle.std.proofs.Common.{◌≡◌, ℕ, ◌<◌, refl, sym, arith}
-use Rattle.std.specs.declared.cmp.Ordering.{Ordering}
-use Rattle.std.specs.Ordering.{nat_cmp, ordering_then, MatchOrdering}
-use Rattle.std.specs.Cmp.{ranked, nat_cmp_is}
-use Rattle.audit_terms.specs.Place.{place_of}
-use Rattle.audit_terms.specs.laws.Places.{IsPlaceable, PlacesAreInOrder}
+use Rattle.std.proofs.Common.{arith, refl, sym, ℕ, ◌<◌, ◌≡◌}
+use Rattle.std.specs.{Ordering.MatchOrdering, Ordering.nat_cmp, Ordering.ordering_then, declared.cmp.Ordering.Ordering}
+use Rattle.std.specs.Cmp.{nat_cmp_is, ranked}
+use Rattle.audit_terms.specs.{Place.place_of, laws.Places.IsPlaceable, laws.Places.PlacesAreInOrder}
 
 module _ (number rank stream number' rank' stream' : ℕ) (here : IsPlaceable number rank stream)
     (there : IsPlaceable number' rank' stream') where

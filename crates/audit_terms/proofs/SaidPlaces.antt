@@ -1,37 +1,21 @@
 -- What is said at a frame has the frame's number, and what has a lower number stands before.
-use Rattle.std.proofs.Common.{◌≡◌, ℕ, ℤ, pos, ◌+◌, ◌*◌, ◌^◌, ◌<◌, ◌≤◌, Bool, true, false, List, [], ◌∷◌, ◌++◌, refl}
-use Rattle.std.proofs.Common.{sym, arith, Option, Some, None, if◌then◌else◌}
-use Rattle.std.specs.declared.cmp.Ordering.TheVariants.{Less}
-use Rattle.std.specs.Cmp.{nat_cmp_is}
-use Rattle.std.specs.List.{AllByRecursion}
-use Rattle.std.proofs.lemmas.Bool.{cond_both}
-use Rattle.std.proofs.lemmas.Bool.Decides.{nat_tests}
-use Rattle.audit_terms.specs.declared.sides.Side.{Side}
-use Rattle.audit_terms.specs.declared.sides.Side.TheVariants.{Client, Server}
-use Rattle.audit_terms.specs.declared.sides.Sides.{Sides}
-use Rattle.audit_terms.specs.declared.kinds.Kind.{Kind}
+use Rattle.std.proofs.Common.{Bool, List, None, Some, [], pos, refl, sym, true, ℕ, ℤ, ◌*◌, ◌+◌, ◌<◌, ◌^◌, ◌∷◌, ◌≡◌, ◌≤◌}
+use Rattle.std.proofs.Common.{Option, arith, false, if◌then◌else◌, ◌++◌}
+use Rattle.std.proofs.lemmas.Bool.{cond_both, Decides.nat_tests}
+use Rattle.std.specs.{Cmp.nat_cmp_is, List.AllByRecursion, declared.cmp.Ordering.TheVariants.Less}
+use Rattle.audit_terms.proofs.{FindingOrder.comes_after_is, OrderedLists.NoneBefore, OrderedLists.Precedes}
+use Rattle.audit_terms.specs.{InForce.InForce, InForce.settings_said, Place.place_number, Stream.WindowStep}
+use Rattle.audit_terms.specs.{Kind.rank_of, Order.put_by, code.runs.Look.found_before, code.runs.Orderly.IsInRange}
+use Rattle.audit_terms.specs.Connection.{connection_said, connection_window_said, connection_windows_said}
+use Rattle.audit_terms.specs.Finding.{comes_after, finding_at, in_order, say, say_of}
+use Rattle.audit_terms.specs.LocalFault.{body_said, fault, local_said, reading_fault}
+use Rattle.audit_terms.specs.Stream.{frame_said, live_window_said, opened_window_said, stream_said, stream_window_said}
+use Rattle.audit_terms.specs.declared.{connections.ConnectionState.ConnectionState, streams.Stream.Stream}
+use Rattle.audit_terms.specs.declared.{findings.Finding.Finding, frames.Frame.Frame}
+use Rattle.audit_terms.specs.declared.{items.Item.Item, items.Step.Step, kinds.Kind.Kind}
+use Rattle.audit_terms.specs.declared.frames.Body.{Body, TheVariants.Settings as SettingsBody, TheVariants.Unreadable}
+use Rattle.audit_terms.specs.declared.sides.{Side.Side, Side.TheVariants.Client, Side.TheVariants.Server, Sides.Sides}
 use Rattle.audit_terms.specs.declared.kinds.Kind.TheVariants as K
-use Rattle.audit_terms.specs.declared.frames.Body.{Body}
-use Rattle.audit_terms.specs.declared.frames.Body.TheVariants.{Settings as SettingsBody, Unreadable}
-use Rattle.audit_terms.specs.declared.frames.Frame.{Frame}
-use Rattle.audit_terms.specs.declared.items.Item.{Item}
-use Rattle.audit_terms.specs.declared.items.Step.{Step}
-use Rattle.audit_terms.specs.declared.connections.ConnectionState.{ConnectionState}
-use Rattle.audit_terms.specs.declared.streams.Stream.{Stream}
-use Rattle.audit_terms.specs.declared.findings.Finding.{Finding}
-use Rattle.audit_terms.specs.Kind.{rank_of}
-use Rattle.audit_terms.specs.Order.{put_by}
-use Rattle.audit_terms.specs.Finding.{finding_at, say, say_of, comes_after, in_order}
-use Rattle.audit_terms.specs.code.runs.Orderly.{IsInRange}
-use Rattle.audit_terms.specs.LocalFault.{local_said, fault, body_said, reading_fault}
-use Rattle.audit_terms.specs.InForce.{InForce, settings_said}
-use Rattle.audit_terms.specs.Connection.{connection_said, connection_windows_said, connection_window_said}
-use Rattle.audit_terms.specs.Stream.{WindowStep, stream_said, frame_said, stream_window_said, live_window_said}
-use Rattle.audit_terms.specs.Stream.{opened_window_said}
-use Rattle.audit_terms.specs.Place.{place_number}
-use Rattle.audit_terms.specs.code.runs.Look.{found_before}
-use Rattle.audit_terms.proofs.OrderedLists.{NoneBefore, Precedes}
-use Rattle.audit_terms.proofs.FindingOrder.{comes_after_is}
 
 -- all places from low up to below high
 abbrev pub AreWithin : (low high : ℕ) → List Finding → Type 0

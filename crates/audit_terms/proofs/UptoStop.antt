@@ -1,9 +1,7 @@
 -- Where the findings end: `upto_stop` is the front of the list up to the first finding that stops.
-use Rattle.std.proofs.Common.{◌≡◌, ℕ, suc, ◌+◌, List, [], ◌∷◌, take, refl, arith, Some, None, take_all}
-use Rattle.std.proofs.lemmas.Bool.Decides.{nat_tests}
-use Rattle.std.specs.List.{position, position_or_len}
-use Rattle.audit_terms.specs.declared.findings.Finding.{Finding}
-use Rattle.audit_terms.specs.Finding.{stops, upto_stop}
+use Rattle.std.{proofs.lemmas.Bool.Decides.nat_tests, specs.List.position, specs.List.position_or_len}
+use Rattle.std.proofs.Common.{List, None, Some, [], arith, refl, suc, take, take_all, ℕ, ◌+◌, ◌∷◌, ◌≡◌}
+use Rattle.audit_terms.specs.{Finding.stops, Finding.upto_stop, declared.findings.Finding.Finding}
 
 -- the findings up to the first that stops are the first so many
 pub upto_stop-take : (xs : List Finding) → take (suc (position_or_len stops xs)) xs ≡ upto_stop xs

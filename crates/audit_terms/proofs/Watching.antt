@@ -1,17 +1,11 @@
 -- How a watch goes from step to step.
-use Rattle.std.proofs.Common.{◌≡◌, ℕ, zero, suc, ◌+◌, ◌-◌, ◌*◌, ◌<◌, ◌≤◌, Bool, true, false, List}
-use Rattle.std.proofs.Common.{[], ◌∷◌, ◌++◌, length, slice_get, Option, Some, None, refl, sym, ap, ◌∙◌, subst}
-use Rattle.std.proofs.Common.{arith, length-append, append_assoc, append-nil}
-use Rattle.std.specs.List.{list_any}
-use Rattle.std.proofs.Math.Bool.{or-true}
-use Rattle.std.proofs.lemmas.Bool.Decides.{nat_tests}
-use Rattle.std.proofs.lemmas.List.Folds.{list_any-append}
-use Rattle.std.proofs.lemmas.Option.{slice_get_within}
-use Rattle.audit_terms.specs.declared.findings.Finding.{Finding}
-use Rattle.audit_terms.specs.declared.looks.Watch.{Watch}
-use Rattle.audit_terms.specs.code.runs.Look.{Asked, Looked, last_answer, is_past, found_before, up_to, steps_between}
-use Rattle.audit_terms.specs.code.runs.Look.{LooksOn, LooksInTime, IsRun}
-use Rattle.audit_terms.specs.code.Watch.{Watches, IsStopped, NeverFallFrom}
+use Rattle.std.{proofs.Common.append_assoc, proofs.Common.length-append, proofs.Math.Bool.or-true, specs.List.list_any}
+use Rattle.std.proofs.Common.{Bool, List, None, Some, [], ap, refl, suc, sym, ℕ, ◌*◌, ◌+◌, ◌-◌, ◌<◌, ◌∙◌, ◌∷◌, ◌≡◌, ◌≤◌}
+use Rattle.std.proofs.Common.{Option, append-nil, arith, false, length, slice_get, subst, true, zero, ◌++◌}
+use Rattle.std.proofs.lemmas.{Bool.Decides.nat_tests, List.Folds.list_any-append, Option.slice_get_within}
+use Rattle.audit_terms.specs.{code.Watch.NeverFallFrom, declared.findings.Finding.Finding, declared.looks.Watch.Watch}
+use Rattle.audit_terms.specs.code.{Watch.IsStopped, Watch.Watches, runs.Look.found_before, runs.Look.steps_between}
+use Rattle.audit_terms.specs.code.runs.Look.{Asked, IsRun, Looked, LooksInTime, LooksOn, is_past, last_answer, up_to}
 
 looked-on : {L : Type 0} (answers : L → List Finding → Option ℕ → L → Type 0) (a b d : L) (asked : List Asked)
     (one : Asked) → Looked answers a asked b → answers b one.handed one.answer d

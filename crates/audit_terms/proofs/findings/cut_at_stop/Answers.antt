@@ -1,7 +1,5 @@
-use Rattle.std.proofs.Common.{sym, ap, ◌∙◌}
-use Rattle.std.specs.List.{position}
-use Rattle.audit_terms.specs.Finding.{stops}
-use Rattle.audit_terms.proofs.UptoStop.{upto_stop-found, upto_stop-none}
+use Rattle.std.{proofs.Common.ap, proofs.Common.sym, proofs.Common.◌∙◌, specs.List.position}
+use Rattle.audit_terms.{proofs.UptoStop.upto_stop-found, proofs.UptoStop.upto_stop-none, specs.Finding.stops}
 use Rattle.audit_terms.proofs.findings.cut_at_stop.Goals as goal
 
 pub returns-in-Some : goal.returns-in-Some

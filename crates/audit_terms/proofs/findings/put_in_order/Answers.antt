@@ -1,9 +1,7 @@
-use Rattle.std.proofs.Common.{rules, ap}
+use Rattle.std.proofs.{Common.ap, Common.rules, lemmas.List.Sorted.answers_always, lemmas.List.Sorted.ranks_by}
 use Rattle.std.specs.Ordering.{is_lt}
-use Rattle.std.proofs.lemmas.List.Sorted.{ranks_by, answers_always}
-use Rattle.audit_terms.specs.declared.findings.Finding.{Finding}
-use Rattle.audit_terms.specs.Finding.{finding_cmp}
 use Rattle.audit_terms.proofs.FindingOrder.{finding_total, in_order-sorted}
+use Rattle.audit_terms.specs.{Finding.finding_cmp, declared.findings.Finding.Finding}
 use Rattle.audit_terms.proofs.findings.put_in_order.Goals as goal
 
 pub returns-clause-ok : goal.returns-clause-ok

@@ -1,5 +1,4 @@
-use Rattle.std.proofs.Common.{◌∙◌}
-use Rattle.audit_terms.proofs.Packing.{packed_fields, packed-IsPacked}
+use Rattle.{audit_terms.proofs.Packing.packed-IsPacked, audit_terms.proofs.Packing.packed_fields, std.proofs.Common.◌∙◌}
 use Rattle.audit_terms.proofs.settings.PackedSettings.of.Goals as goal
 
 pub invariant_of-result : goal.invariant_of-result
