@@ -1,4 +1,10 @@
 -- The stops of a desk one by one, that the board of a closed desk is settled, and its parts in the order of their jobs.
+use Rattle.std.proofs.lemmas.List.{Elements.All-map, FromFn.get_or-map-range_with_len, FromFn.length-map-range_with_len}
+use Rattle.std.proofs.lemmas.List.{get_or-drop, get_or-map, get_or_past, length-drop, length-map, Elements.All-contains}
+use Rattle.{std.proofs.lemmas.List.Folds.fold-map, stop_desk.specs.code.Settling.HasSettled}
+use Rattle.stop_desk.{proofs.RoundSteps.least-some, specs.code.Board.stop_of, specs.declared.settling.Settled.Settled}
+use Rattle.stop_desk.proofs.RoundMembers.{contains-cases, contains-first, contains-got, contains-here, contains-later}
+use Rattle.stop_desk.proofs.RoundMembers.{contains-map, contains-none, count-cons, count-some, map-contains, some-count}
 use Rattle.stop_desk.proofs.Words.{All, Bool, ClosedView, Contains, Contains-permutation, DeskId, IsAllWorked, IsAtMost}
 use Rattle.stop_desk.proofs.Words.{IsConnection, IsDeskSettled, IsLeastOnDesk, IsNonDecreasingBy, IsPermutation}
 use Rattle.stop_desk.proofs.Words.{IsPermutation-map, IsPermutation-sym, IsStop, List, None, Option, Part, PassView}
@@ -7,18 +13,8 @@ use Rattle.stop_desk.proofs.Words.{eqb-true, final_stop, get_or, get_or_from_sli
 use Rattle.stop_desk.proofs.Words.{ltb-true, map, marks, nat_tests, opening_stop, part_of, past_places, place_at}
 use Rattle.stop_desk.proofs.Words.{range_with_len, refl, slice_get, slice_get_within, stops, subst, suc}
 use Rattle.stop_desk.proofs.Words.{sum_by-IsPermutation, sym, zero, ℕ, ⊎_elim, ◌+◌, ◌<◌, ◌==◌, ◌∙◌, ◌∷◌, ◌≡◌, ◌≤◌, ◌⊎◌}
-use Rattle.std.proofs.lemmas.List.{get_or-drop, get_or-map, get_or_past, length-drop, length-map}
-use Rattle.std.proofs.lemmas.List.Elements.{All-contains, All-map}
-use Rattle.std.proofs.lemmas.List.Folds.{fold-map}
-use Rattle.std.proofs.lemmas.List.FromFn.{get_or-map-range_with_len, length-map-range_with_len}
-use Rattle.stop_desk.specs.code.Board.{Board, IsGiven, IsLeast, IsPartOf, IsSettled, Job, Part as BoardPart, Round}
-use Rattle.stop_desk.specs.code.Board.{parts_of, stop_of}
-use Rattle.stop_desk.specs.code.Crew.{IsDone, last_stops, last_stops_from, opening_stops}
-use Rattle.stop_desk.specs.code.Settling.{HasSettled}
-use Rattle.stop_desk.specs.declared.settling.Settled.{Settled}
-use Rattle.stop_desk.proofs.RoundMembers.{contains-none, contains-first, contains-later, contains-cases, map-contains}
-use Rattle.stop_desk.proofs.RoundMembers.{contains-here, contains-got, contains-map, count-cons, count-some, some-count}
-use Rattle.stop_desk.proofs.RoundSteps.{least-some}
+use Rattle.stop_desk.specs.code.{Board.Board, Crew.IsDone, Crew.last_stops, Crew.last_stops_from, Crew.opening_stops}
+use Rattle.stop_desk.specs.code.Board.{IsGiven, IsLeast, IsPartOf, IsSettled, Job, Part as BoardPart, Round, parts_of}
 
 -- marks counted, and marks in a list
 contains-marks : (c p : ℕ) (ms : List (ℕ × ℕ)) → Contains ms (c, p) → 0 < marks c p ms

@@ -1,13 +1,12 @@
 -- What the fields of a pass and of a desk show, what a pass has after a look, and what the last pass knows.
+use Rattle.{atomic_table.specs.Seated.TableId, stop_desk.proofs.Weights.weigh-whole}
 use Rattle.stop_desk.proofs.Words.{All, DeskId, Final, IsAtMost, IsLook, IsStop, Knows, List, None, Opening, Option}
 use Rattle.stop_desk.proofs.Words.{PassState, PassView, Seen, Sees, Settled, Some, [], ap, arith, cases_lt, closed_of}
 use Rattle.stop_desk.proofs.Words.{cond_both, get_elem?, get_or, inl, inr, le-ltb, length, lt-ltb, map, marks, nat_lt}
 use Rattle.stop_desk.proofs.Words.{once_below, pass_of, past_places, place_at, refl, some, some-injective, some-ne-none}
 use Rattle.stop_desk.proofs.Words.{stop_word, suc, sym, times, weigh, zero, ℕ, ◌+◌, ◌<◌, ◌∙◌, ◌∷◌, ◌≡◌, ◌≤◌, ◌⊎◌}
-use Rattle.atomic_table.specs.Seated.{TableId}
 use Rattle.stop_desk.specs.code.Rule.{Holds, allowance_in, drawn_in, draws_in, lowered_in, seen_in, share}
 use Rattle.stop_desk.specs.code.Settled.{IsLeast}
-use Rattle.stop_desk.proofs.Weights.{weigh-whole}
 
 nothing-drawn : (x : ℕ) (xs : List ℕ) → length xs ≡ 0 → times x xs ≡ 0
 nothing-drawn x [] e = refl

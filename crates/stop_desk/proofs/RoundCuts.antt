@@ -1,14 +1,13 @@
 -- Cuts of lists in order, cuts put together, and what joins findings that are cut at their stop.
-use Rattle.stop_desk.proofs.Words.{Bool, Finding, IsPermutation-filter_both, List, Option, [], ap, append-nil, arith}
-use Rattle.stop_desk.proofs.Words.{comes_after, false, filter, if◌then◌else◌, in_order, leb-false, nat_le, not}
-use Rattle.stop_desk.proofs.Words.{not-true, put_by, refl, stops, subst, sym, true, upto_stop, ℕ, ◌++◌, ◌∙◌, ◌∷◌, ◌≡◌}
-use Rattle.audit_terms.proofs.FindingOrder.{comes_after_is, in_order-append_comm, in_order-append_left}
-use Rattle.audit_terms.proofs.FindingOrder.{in_order-in_order, in_order-permutation}
+use Rattle.audit_terms.proofs.FindingOrder.{comes_after_is, in_order-append_comm, in_order-in_order}
+use Rattle.audit_terms.proofs.FindingOrder.{in_order-append_left, in_order-permutation}
 use Rattle.audit_terms.proofs.OrderedLists.{IsInOrder, NoneBefore, in_order-ordered, ordered-in_order}
-use Rattle.stop_desk.specs.code.Board.{IsCut, IsPast}
+use Rattle.stop_desk.{proofs.RoundMerge.leaves-both, specs.code.Board.IsCut, specs.code.Board.IsPast}
+use Rattle.stop_desk.proofs.{RoundMembers.contains-none, RoundMembers.filter-contains, RoundMerge.Leaves}
+use Rattle.stop_desk.proofs.Words.{Bool, List, [], ap, arith, false, not, refl, sym, true, ℕ, ◌++◌, ◌∙◌, ◌∷◌, ◌≡◌}
+use Rattle.stop_desk.proofs.Words.{Finding, Option, filter, in_order, leb-false, nat_le, not-true, put_by, stops, subst}
+use Rattle.stop_desk.proofs.Words.{IsPermutation-filter_both, append-nil, comes_after, if◌then◌else◌, upto_stop}
 use Rattle.stop_desk.specs.laws.Cuts.{CutsJoin, FrontIsCut, StopsJoin, WholeIsCut}
-use Rattle.stop_desk.proofs.RoundMembers.{contains-none, filter-contains}
-use Rattle.stop_desk.proofs.RoundMerge.{Leaves, leaves-both}
 
 -- a filter keeps the order
 module _ (test : Finding → Bool) where

@@ -1,16 +1,15 @@
 -- The worked examples of a round of two workers.
+use Rattle.std.proofs.lemmas.List.Elements.{All-contains, All-from_recursion}
+use Rattle.stop_desk.proofs.{RoundMembers.in_order-contains, RoundMembers.pair, RoundSteps.run_settles_lem}
+use Rattle.stop_desk.proofs.RoundCuts.{front_is_cut_lem, whole_is_cut_lem}
+use Rattle.stop_desk.proofs.RoundMembers.{contains-cases, contains-here, contains-in_order, contains-none, contains-one}
 use Rattle.stop_desk.proofs.Words.{AllByRecursion, Contains, Finding, HasConnections, List, None, Some, [], ap, arith}
 use Rattle.stop_desk.proofs.Words.{false, in_order, refl, stops, suc, sym, zero, ℕ, ⊎_elim, ◌<◌, ◌∙◌, ◌∷◌, ◌≡◌}
-use Rattle.std.proofs.lemmas.List.Elements.{All-contains, All-from_recursion}
 use Rattle.stop_desk.specs.code.Board.{IsCut, IsPartOf, Job, StopsAt}
 use Rattle.stop_desk.specs.examples.Rounds.{AllSkipped, CutUnseen, DrawnTwice, ErrorNotLowered, LookInvents}
 use Rattle.stop_desk.specs.examples.Rounds.{OverrunLowered, TwoWorkersFinish, TwoWorkersSettle, error, example}
 use Rattle.stop_desk.specs.examples.Rounds.{example_events, job, overrun, part}
 use Rattle.stop_desk.specs.laws.Machine.{AreAllowed, IsFinished, after_events, round_start}
-use Rattle.stop_desk.proofs.RoundCuts.{front_is_cut_lem, whole_is_cut_lem}
-use Rattle.stop_desk.proofs.RoundMembers.{pair, contains-none, contains-here, contains-cases, contains-one}
-use Rattle.stop_desk.proofs.RoundMembers.{contains-in_order, in_order-contains}
-use Rattle.stop_desk.proofs.RoundSteps.{run_settles_lem}
 
 abbrev job_0 : Job
 job_0 = job 0 (overrun 6 1 ∷ overrun 9 1 ∷ [])

@@ -1,15 +1,14 @@
 -- Membership in lists, in what one worker or all did, and in lists put in order.
+use Rattle.std.proofs.lemmas.List.{drop_more, get_or-map, length-map}
+use Rattle.std.proofs.lemmas.List.Elements.{All-contains, All-contains_itself, All-filter, All-from_recursion, All-map}
+use Rattle.std.proofs.lemmas.List.Elements.{Contains-append_left, Contains-get_or, filter_passes, recursion_from_All}
+use Rattle.audit_terms.proofs.{FindingLists.each-in_order, FindingOrder.in_order-permutation}
 use Rattle.stop_desk.proofs.Words.{Bool, Contains, Contains-append_cases, Contains-append_right, Contains-permutation}
 use Rattle.stop_desk.proofs.Words.{Finding, IsPermutation-filter_both, IsPermutation-middle, List, Some, [], ap, arith}
 use Rattle.stop_desk.proofs.Words.{comes_after, cond_both, count_by, drop, eq-eqb, filter, flat_map, get_or}
 use Rattle.stop_desk.proofs.Words.{get_or_from_slice_get, if◌then◌else◌, in_order, inl, inr, length, length-filter, map}
 use Rattle.stop_desk.proofs.Words.{not, put_by, refl, slice_get, slice_get_within, subst, suc, sum_by-cons, sym, take}
 use Rattle.stop_desk.proofs.Words.{take-append-drop, true, zero, ℕ, ⊎_elim, ◌++◌, ◌+◌, ◌<◌, ◌==◌, ◌∙◌, ◌∷◌, ◌≡◌, ◌⊎◌}
-use Rattle.audit_terms.proofs.FindingLists.{each-in_order}
-use Rattle.audit_terms.proofs.FindingOrder.{in_order-permutation}
-use Rattle.std.proofs.lemmas.List.{drop_more, get_or-map, length-map}
-use Rattle.std.proofs.lemmas.List.Elements.{All-contains, All-contains_itself, All-filter, All-from_recursion, All-map}
-use Rattle.std.proofs.lemmas.List.Elements.{Contains-append_left, Contains-get_or, filter_passes, recursion_from_All}
 use Rattle.stop_desk.specs.laws.Machine.{by_all, by_worker}
 
 -- a pair, where its type is not known

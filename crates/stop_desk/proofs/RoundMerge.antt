@@ -1,26 +1,23 @@
 -- The parts of a settled board, taken job by job, hold with what they leave out the findings of all jobs. So it gives,
 -- up to the stop, what the whole jobs give: each place seen is a real error, so none lies below the least; each part
 -- has everything up to the least; so the least is kept and was lowered.
-use Rattle.stop_desk.proofs.Words.{BoardMerges, Contains, Contains-append_cases, Contains-append_right}
-use Rattle.stop_desk.proofs.Words.{Contains-permutation, Finding, IsPermutation, IsPermutation-middle}
-use Rattle.stop_desk.proofs.Words.{IsPermutation-sym, List, Merges, None, Option, Some, [], add-zero, ap, append_assoc}
-use Rattle.stop_desk.proofs.Words.{arith, comes_after, cond_both, eq-eqb, eqb-true, false, if◌then◌else◌, in_order, inl}
-use Rattle.stop_desk.proofs.Words.{inr, length, nat_tests, ne_eqb, put_by, refl, slice_get, stops, subst, suc}
-use Rattle.stop_desk.proofs.Words.{sum_by-IsPermutation, sym, true, upto_stop, zero, ℕ, ℕ_discrete, ⊎_elim, ◌++◌, ◌+◌}
-use Rattle.stop_desk.proofs.Words.{◌<◌, ◌==◌, ◌∙◌, ◌∷◌, ◌≡◌, ◌≤◌, ◌⊎◌}
+use Rattle.std.proofs.lemmas.{Grind.flat_map-append, List.Elements.Contains-append_left}
+use Rattle.std.specs.{Cmp.nat_cmp_is, declared.cmp.Ordering.TheVariants.Greater}
 use Rattle.audit_terms.proofs.FindingOrder.{comes_after_is, in_order-alike, in_order-append_comm}
 use Rattle.audit_terms.proofs.OrderedLists.{IsInOrder, NoneBefore, in_order-ordered}
-use Rattle.std.proofs.lemmas.Grind.{flat_map-append}
-use Rattle.std.proofs.lemmas.List.Elements.{Contains-append_left}
-use Rattle.std.specs.Cmp.{nat_cmp_is}
-use Rattle.std.specs.declared.cmp.Ordering.TheVariants.{Greater}
-use Rattle.stop_desk.specs.code.Board.{Board, IsGiven, IsLeast, IsPartOf, IsPast, IsSettled, Job, JobStopsAt, Part}
-use Rattle.stop_desk.specs.code.Board.{Round, StopsAt, findings_of_jobs, findings_of_parts, parts_of, stop_of}
+use Rattle.stop_desk.proofs.{RoundMembers.count-cons, RoundMembers.count-some, Words.Contains-append_right}
+use Rattle.stop_desk.proofs.{RoundMembers.in_order-contains, RoundSteps.least-moves, RoundSteps.least-some}
+use Rattle.stop_desk.proofs.RoundMembers.{contains-apart, contains-cases, contains-here, contains-none, some-count}
+use Rattle.stop_desk.proofs.RoundMembers.{contains-flat_map, contains-in_order, contains-later, flat_map-contains}
+use Rattle.stop_desk.proofs.Words.{BoardMerges, comes_after, cond_both, nat_tests, slice_get, upto_stop, ℕ_discrete}
+use Rattle.stop_desk.proofs.Words.{Contains, Finding, add-zero, eqb-true, in_order, length, ne_eqb, put_by, ⊎_elim}
+use Rattle.stop_desk.proofs.Words.{Contains-append_cases, IsPermutation-middle, sum_by-IsPermutation}
+use Rattle.stop_desk.proofs.Words.{Contains-permutation, IsPermutation, IsPermutation-sym, append_assoc, if◌then◌else◌}
+use Rattle.stop_desk.proofs.Words.{List, None, Some, [], ap, inl, inr, suc, sym, ℕ, ◌+◌, ◌<◌, ◌∙◌, ◌∷◌, ◌≡◌, ◌≤◌, ◌⊎◌}
+use Rattle.stop_desk.proofs.Words.{Merges, Option, arith, eq-eqb, false, refl, stops, subst, true, zero, ◌++◌, ◌==◌}
+use Rattle.stop_desk.specs.code.Board.{Board, IsGiven, IsLeast, IsPartOf, IsPast, Job, Part, Round, StopsAt, stop_of}
+use Rattle.stop_desk.specs.code.Board.{IsSettled, JobStopsAt, findings_of_jobs, findings_of_parts, parts_of}
 use native.Mathlib.Nat.{zero-add}
-use Rattle.stop_desk.proofs.RoundMembers.{contains-none, contains-here, contains-later, contains-cases}
-use Rattle.stop_desk.proofs.RoundMembers.{contains-flat_map, flat_map-contains, contains-in_order, in_order-contains}
-use Rattle.stop_desk.proofs.RoundMembers.{contains-apart, count-cons, count-some, some-count}
-use Rattle.stop_desk.proofs.RoundSteps.{least-moves, least-some}
 
 -- the same findings in another order
 swap-front : (xs ys zs : List Finding) → in_order (xs ++ (ys ++ zs)) ≡ in_order (ys ++ (xs ++ zs))

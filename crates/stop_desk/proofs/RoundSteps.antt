@@ -1,15 +1,14 @@
 -- What the machine of workers keeps true after each event, from which a finished run is settled.
-use Rattle.stop_desk.proofs.Words.{Bool, Contains, HasConnections, List, None, Option, RunSettles, Some, [], ap, arith}
-use Rattle.stop_desk.proofs.Words.{eq-eqb, eqb-true, get_or-set_other, get_or-set_same, inr, length, length-set}
-use Rattle.stop_desk.proofs.Words.{nat_tests, refl, slice_get, slice_set, stops, subst, sym, ℕ, ℕ_discrete, ◌<◌, ◌==◌}
-use Rattle.stop_desk.proofs.Words.{◌∙◌, ◌∷◌, ◌≡◌, ◌≤◌, ◌⊎◌}
+use Rattle.stop_desk.{proofs.RoundMembers.contains-later, specs.code.Rule.Holds}
+use Rattle.stop_desk.proofs.{RoundMembers.own-all, Words.get_or-set_other, Words.get_or-set_same}
+use Rattle.stop_desk.proofs.RoundMembers.{contains-cases, contains-each, contains-here, contains-none, contains-pair}
+use Rattle.stop_desk.proofs.RoundMembers.{contains-got, contains-own, count-cons, count-some, map-contains, some-count}
+use Rattle.stop_desk.proofs.Words.{Bool, List, None, Some, [], ap, inr, refl, sym, ℕ, ◌<◌, ◌∙◌, ◌∷◌, ◌≡◌, ◌≤◌, ◌⊎◌}
+use Rattle.stop_desk.proofs.Words.{Contains, Option, arith, eq-eqb, eqb-true, length, nat_tests, stops, subst, ◌==◌}
+use Rattle.stop_desk.proofs.Words.{HasConnections, RunSettles, length-set, slice_get, slice_set, ℕ_discrete}
 use Rattle.stop_desk.specs.code.Board.{IsGiven, IsLeast, IsPartOf, Job, JobStopsAt, Part, Round, parts_of, stop_of}
-use Rattle.stop_desk.specs.code.Rule.{Holds}
-use Rattle.stop_desk.specs.laws.Machine.{AreAllowed, Draw, Event, Finish, IsAllowed, IsAtWork, Look, Lower, RoundState}
-use Rattle.stop_desk.specs.laws.Machine.{after_event, after_events, by_all, by_worker, lesser, round_start}
-use Rattle.stop_desk.proofs.RoundMembers.{contains-none, contains-here, contains-later, contains-cases, contains-each}
-use Rattle.stop_desk.proofs.RoundMembers.{contains-pair, own-all, contains-own, map-contains, count-cons, count-some}
-use Rattle.stop_desk.proofs.RoundMembers.{some-count, contains-got}
+use Rattle.stop_desk.specs.laws.Machine.{AreAllowed, RoundState, after_event, after_events, by_worker, round_start}
+use Rattle.stop_desk.specs.laws.Machine.{Draw, Event, Finish, IsAllowed, IsAtWork, Look, Lower, by_all, lesser}
 
 -- each number was drawn by one worker, and each job has at most one part, of its drawer
 record AreDrawn (next : ℕ) (drawn : List (ℕ × ℕ)) (parts : List (ℕ × Part)) : Type 0 where

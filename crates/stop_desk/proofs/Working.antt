@@ -1,4 +1,10 @@
 -- A job that is done, and what a worker has done after one draw more, and when no job is left.
+use Rattle.std.proofs.Common.{Err, Global, IfOk, MatchResult, Ok, Result, Vec}
+use Rattle.std.proofs.lemmas.List.{map-append, Elements.Contains-append_left, Elements.Contains-push_cases}
+use Rattle.stop_desk.proofs.{RoundSteps.part-grows, Weights.weigh-append, Weights.weigh-snoc}
+use Rattle.stop_desk.proofs.RoundMembers.{contains-filter, contains-flat_map, contains-got, contains-here}
+use Rattle.stop_desk.proofs.RoundMembers.{contains-in_order, contains-map, contains-none, contains-one, count-cons}
+use Rattle.stop_desk.proofs.RoundMembers.{filter-contains, flat_map-contains, in_order-contains, map-contains, pair}
 use Rattle.stop_desk.proofs.Words.{All, Asked, Contains, Contains-append_cases, Contains-append_right, DeskId, DoesJob}
 use Rattle.stop_desk.proofs.Words.{Draws, DrewJobs, Finding, IsAllWorked, IsClaim, IsConnection, IsLaid, IsLook}
 use Rattle.stop_desk.proofs.Words.{IsWorked, List, Looked, None, Option, Part, PassView, Some, [], ap, append-nil}
@@ -6,18 +12,9 @@ use Rattle.stop_desk.proofs.Words.{append_assoc, arith, filter, flat_map, get_or
 use Rattle.stop_desk.proofs.Words.{joined, length, length-append, map, nat_tests, not, part_of, pass_draws, pass_of}
 use Rattle.stop_desk.proofs.Words.{refl, slice_get, slice_get-get_or, stops, stops_on, subst, suc, sum_by-append, sym}
 use Rattle.stop_desk.proofs.Words.{times, zero, ℕ, ⊎_elim, ◌++◌, ◌+◌, ◌<◌, ◌==◌, ◌∙◌, ◌∷◌, ◌≡◌, ◌≤◌}
-use Rattle.std.proofs.Common.{Err, Global, IfOk, MatchResult, Ok, Result, Vec}
-use Rattle.std.proofs.lemmas.List.{map-append}
-use Rattle.std.proofs.lemmas.List.Elements.{Contains-append_left, Contains-push_cases}
 use Rattle.stop_desk.specs.code.Board.{IsCut, Job, Part as BoardPart, StopsAt, parts_of}
-use Rattle.stop_desk.specs.declared.claims.Claim.{Claim}
-use Rattle.stop_desk.specs.declared.claims.Claim.TheVariants.{Done, Job as Drawn, Spent}
+use Rattle.stop_desk.specs.declared.claims.Claim.{Claim, TheVariants.Done, TheVariants.Job as Drawn, TheVariants.Spent}
 use Rattle.stop_desk.specs.declared.desk_looks.DeskLook.{DeskLook}
-use Rattle.stop_desk.proofs.RoundMembers.{pair, contains-none, contains-here, contains-one, contains-got, contains-map}
-use Rattle.stop_desk.proofs.RoundMembers.{map-contains, contains-in_order, in_order-contains, contains-filter}
-use Rattle.stop_desk.proofs.RoundMembers.{filter-contains, count-cons, contains-flat_map, flat_map-contains}
-use Rattle.stop_desk.proofs.RoundSteps.{part-grows}
-use Rattle.stop_desk.proofs.Weights.{weigh-append, weigh-snoc}
 
 -- an error of the connection is one of the places, and each of the places is one
 contains-stops_on : (connection : ℕ) (findings : List Finding) (place : ℕ) → StopsAt findings place →

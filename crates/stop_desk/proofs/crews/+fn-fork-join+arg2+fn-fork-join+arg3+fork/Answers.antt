@@ -1,6 +1,5 @@
+use Rattle.{std.proofs.lemmas.Result.IfOk-weaker, stop_desk.proofs.Working.worked-together}
 use Rattle.stop_desk.proofs.Words.{ap, arith, rules, sym, ℕ, ◌*◌, ◌+◌, ◌-◌, ◌/◌, ◌≡◌, ◌≤◌}
-use Rattle.std.proofs.lemmas.Result.{IfOk-weaker}
-use Rattle.stop_desk.proofs.Working.{worked-together}
 use Rattle.stop_desk.proofs.crews.+fn-fork-join+arg2+fn-fork-join+arg3+fork.Goals as goal
 
 -- two groups of workers are all workers

@@ -1,5 +1,4 @@
-use Rattle.stop_desk.proofs.Words.{arith}
-use Rattle.stop_desk.proofs.Steps.{splits}
+use Rattle.stop_desk.proofs.{Steps.splits, Words.arith}
 use Rattle.stop_desk.proofs.passes.divide.Goals as goal
 
 pub split_seat-requires : goal.split_seat-requires

@@ -1,5 +1,4 @@
-use Rattle.stop_desk.proofs.Words.{rules}
-use Rattle.std.proofs.lemmas.List.Sorted.{IsNonDecreasingBy-from_sort_by_key}
+use Rattle.{std.proofs.lemmas.List.Sorted.IsNonDecreasingBy-from_sort_by_key, stop_desk.proofs.Words.rules}
 use Rattle.stop_desk.proofs.settling.put_in_order.Goals as goal
 
 pub returns-clause-sorted : goal.returns-clause-sorted

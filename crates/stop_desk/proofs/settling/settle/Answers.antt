@@ -1,7 +1,5 @@
-use Rattle.std.proofs.Common.{◌∙◌, ap, arith, length}
-use Rattle.std.proofs.lemmas.List.{length-map}
-use Rattle.stop_desk.specs.code.Stop.{stop_word}
-use Rattle.stop_desk.proofs.CrewDone.{has-settled, in-round}
+use Rattle.std.proofs.{Common.ap, Common.arith, Common.length, Common.◌∙◌, lemmas.List.length-map}
+use Rattle.stop_desk.{proofs.CrewDone.has-settled, proofs.CrewDone.in-round, specs.code.Stop.stop_word}
 use Rattle.stop_desk.proofs.settling.settle.Goals as goal
 
 pub returns-clause-settled : goal.returns-clause-settled

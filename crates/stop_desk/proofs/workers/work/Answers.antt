@@ -1,5 +1,4 @@
-use Rattle.stop_desk.proofs.Words.{subst, ◌<◌}
-use Rattle.stop_desk.proofs.Working.{worked-job, worked-ends}
+use Rattle.stop_desk.proofs.{Words.subst, Words.◌<◌, Working.worked-ends, Working.worked-job}
 use Rattle.stop_desk.proofs.workers.work.Goals as goal
 
 pub loop-job-preserved : goal.loop-job-preserved

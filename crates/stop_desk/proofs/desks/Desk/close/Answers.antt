@@ -1,5 +1,4 @@
-use Rattle.stop_desk.proofs.Words.{arith, length, sym, ◌∙◌}
-use Rattle.stop_desk.proofs.PassViews.{closes}
+use Rattle.stop_desk.proofs.{PassViews.closes, Words.arith, Words.length, Words.sym, Words.◌∙◌}
 use Rattle.stop_desk.proofs.desks.Desk.close.Goals as goal
 
 -- the last pass has the whole of what the desk was opened with

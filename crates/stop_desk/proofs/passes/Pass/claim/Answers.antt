@@ -1,5 +1,4 @@
-use Rattle.stop_desk.proofs.Words.{arith}
-use Rattle.stop_desk.proofs.Steps.{draws}
+use Rattle.stop_desk.proofs.{Steps.draws, Words.arith}
 use Rattle.stop_desk.proofs.passes.Pass.claim.Goals as goal
 
 pub fetch_add-number-requires : goal.fetch_add-number-requires

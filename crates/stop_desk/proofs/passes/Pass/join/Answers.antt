@@ -1,5 +1,4 @@
-use Rattle.stop_desk.proofs.Words.{◌∙◌}
-use Rattle.stop_desk.proofs.Steps.{joins, learns}
+use Rattle.stop_desk.proofs.{Steps.joins, Steps.learns, Words.◌∙◌}
 use Rattle.stop_desk.proofs.passes.Pass.join.Goals as goal
 
 pub join_seat-requires : goal.join_seat-requires

@@ -1,6 +1,4 @@
-use Rattle.stop_desk.proofs.Words.{arith, refl}
-use Rattle.stop_desk.proofs.PassViews.{looks}
-use Rattle.stop_desk.proofs.Steps.{sees}
+use Rattle.stop_desk.proofs.{PassViews.looks, Steps.sees, Words.arith, Words.refl}
 use Rattle.stop_desk.proofs.passes.Pass.look.Goals as goal
 
 pub load-word-requires : goal.load-word-requires

@@ -1,5 +1,4 @@
-use Rattle.stop_desk.proofs.Words.{arith, refl}
-use Rattle.stop_desk.proofs.Steps.{lowers}
+use Rattle.stop_desk.proofs.{Steps.lowers, Words.arith, Words.refl}
 use Rattle.stop_desk.proofs.passes.Pass.lower.Goals as goal
 
 pub fetch_min-requires : goal.fetch_min-requires
