@@ -1,16 +1,15 @@
 -- No two findings of a connection share place and side: at one frame they stand in different rows of the table or are
 -- of different streams, and different frames have different places.
-use Rattle.std.proofs.Common.{◌≡◌, ◌≢◌, ℕ, ◌+◌, ◌*◌, ◌^◌, ◌<◌, not, ◌==◌, List, [], ◌∷◌, sym, ◌∙◌, arith, filter, true}
-use Rattle.std.proofs.Common.{true≢false, ap}
-use Rattle.audit_core.proofs.Words.{AllByRecursion, eq-eqb, Frame, Finding, comes_after, promised_by, IsInRange}
-use Rattle.audit_core.proofs.Words.{IsOrderlyFrom, IsOrderly, PassState, pass_start, said, full_from, full, next}
-use Rattle.audit_core.proofs.Words.{first_of, streams_of, EachPair, AreApart, StandApart, AreWithin, AreFrom}
-use Rattle.audit_core.proofs.Words.{place_rank, Side, AreApartAsErrors, cond_both, each-ordered, each-weaker}
-use Rattle.std.proofs.lemmas.List.Elements.{filter_passes, recursion_from_All}
-use Rattle.audit_core.proofs.Pairs.{Across, pairs-append, pairs-ordered, pairs-filter, pairs-refine}
-use Rattle.audit_core.proofs.PassOrder.{AreStreams, at-said, from-full_from, streams-streams_of}
-use Rattle.audit_core.proofs.FrameRows.{Any, rows-at}
-use Rattle.audit_core.proofs.TableRows.{error_side, IsRow}
+use Rattle.std.proofs.{Common.◌≢◌, lemmas.List.Elements.filter_passes, lemmas.List.Elements.recursion_from_All}
+use Rattle.std.proofs.Common.{ap, arith, filter, not, sym, true, true≢false, ℕ, ◌*◌, ◌+◌, ◌<◌, ◌==◌, ◌^◌, ◌∙◌, ◌∷◌, ◌≡◌}
+use Rattle.{audit_core.proofs.Words.streams_of, std.proofs.Common.List, std.proofs.Common.[]}
+use Rattle.audit_core.proofs.{FrameRows.Any, FrameRows.rows-at, Pairs.Across, Pairs.pairs-append, Pairs.pairs-filter}
+use Rattle.audit_core.proofs.{Pairs.pairs-ordered, Pairs.pairs-refine, PassOrder.AreStreams, PassOrder.at-said}
+use Rattle.audit_core.proofs.{PassOrder.from-full_from, PassOrder.streams-streams_of, TableRows.IsRow}
+use Rattle.audit_core.proofs.{TableRows.error_side, Words.AllByRecursion, Words.AreApart, Words.AreApartAsErrors}
+use Rattle.audit_core.proofs.Words.{AreFrom, AreWithin, EachPair, Finding, Frame, IsInRange, IsOrderly, IsOrderlyFrom}
+use Rattle.audit_core.proofs.Words.{PassState, Side, StandApart, comes_after, cond_both, each-ordered, each-weaker}
+use Rattle.audit_core.proofs.Words.{eq-eqb, first_of, full, full_from, next, pass_start, place_rank, promised_by, said}
 
 not_among-others : (stream : ℕ) (streams : List ℕ)
     → AllByRecursion (λ other. stream ≢ other) (filter (λ other. not (other == stream)) streams)

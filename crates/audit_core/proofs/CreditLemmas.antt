@@ -1,13 +1,12 @@
 -- A credit that is carried from frame to frame is the sum over the frames.
-use Rattle.std.proofs.Common.{◌≡◌, ℕ, ℤ, pos, ◌+◌, ◌+ℤ◌, ◌-ℤ◌, ◌≤◌, Bool, true, false, if◌then◌else◌, List, [], ◌∷◌}
-use Rattle.std.proofs.Common.{sum_by, Option, Some, None, refl, sym, ◌∙◌, arith, subst, ⊎_elim}
+use Rattle.std.proofs.Common.{Bool, List, None, Option, Some, [], arith, false, if◌then◌else◌, pos, refl, subst, sum_by}
+use Rattle.std.proofs.Common.{sym, true, ℕ, ℤ, ⊎_elim, ◌+ℤ◌, ◌+◌, ◌-ℤ◌, ◌∙◌, ◌∷◌, ◌≡◌, ◌≤◌}
 use Rattle.std.proofs.lemmas.List.Sums.{sum_by-cons}
-use Rattle.audit_core.proofs.Words.{ints, Side, Client, Server, Frame, Step, side_of, content_by, grant_to}
-use Rattle.audit_core.proofs.Words.{IsOrderlyFrom, new_initial, change_of, credit_after, opens, window_after, counted}
-use Rattle.audit_core.proofs.Words.{PassState, pass_start, step_of, next, state_from, ConnectionCreditIsSum}
-use Rattle.audit_core.proofs.Words.{StreamCreditIsSum, content_on, since, stream_credit_sum, cases_Bool, lt-leb}
-use Rattle.audit_core.proofs.Words.{nat_tests}
-use Rattle.audit_core.proofs.Meetings.{step-grant, step-content, step-opening, step-opened}
+use Rattle.audit_core.proofs.Meetings.{step-content, step-grant, step-opened, step-opening}
+use Rattle.audit_core.proofs.Words.{Client, ConnectionCreditIsSum, Frame, IsOrderlyFrom, PassState, Server, Side, Step}
+use Rattle.audit_core.proofs.Words.{StreamCreditIsSum, cases_Bool, change_of, content_by, content_on, counted}
+use Rattle.audit_core.proofs.Words.{credit_after, grant_to, ints, lt-leb, nat_tests, new_initial, next, opens}
+use Rattle.audit_core.proofs.Words.{pass_start, side_of, since, state_from, step_of, stream_credit_sum, window_after}
 
 -- ---- the connection
 

@@ -1,21 +1,19 @@
 -- What is said at one frame stands in different rows of the table, or is of different streams.
-use Rattle.std.proofs.Common.{◌≡◌, ◌≢◌, ℕ, ℤ, pos, ◌+◌, ◌^◌, ◌<◌, ◌≤◌, Bool, true, false, ◌&&◌, List, [], ◌∷◌, ◌++◌}
-use Rattle.std.proofs.Common.{append_assoc, refl, sym, subst, ◌∙◌, ap, arith, Option, Some, None, nat_lt, nat_le}
-use Rattle.std.proofs.Common.{if◌then◌else◌, is_some}
-use Rattle.audit_terms.specs.declared.kinds.Kind.TheVariants as K
-use Rattle.audit_core.proofs.Words.{AllByRecursion, cond_both, Side, Client, Server, Sides, Kind, Body, SettingsBody}
-use Rattle.audit_core.proofs.Words.{Unreadable, Frame, ConnectionState, Stream, Finding, other, side_of, place_stream}
-use Rattle.audit_core.proofs.Words.{finding_at, say, say_of, promised_in, meets, IsInRange, local_said, fault}
-use Rattle.audit_core.proofs.Words.{body_said, reading_fault, InForce, connection_said, length_said, opening_order_said}
-use Rattle.audit_core.proofs.Words.{promise_order_said, connection_window_said, opens, window_at_opening, window_step}
-use Rattle.audit_core.proofs.Words.{stream_said, frame_said, stream_window_said, live_window_said, PassState}
-use Rattle.audit_core.proofs.Words.{streams_said, step_of, EachPair, AreApart, change_of, rank_of, opens_stream, Change}
-use Rattle.audit_core.proofs.Words.{Step, push_said, new_limit, each-append, each-weaker, ints, overflows, credit_after}
-use Rattle.audit_core.proofs.Words.{counted}
-use Rattle.audit_core.proofs.Pairs.{across-by, pairs-append}
+use Rattle.std.proofs.Common.{Option, Some, [], ap, append_assoc, arith, false, if◌then◌else◌, is_some, nat_le, nat_lt}
+use Rattle.std.proofs.Common.{pos, refl, subst, sym, true, ℕ, ℤ, ◌&&◌, ◌++◌, ◌+◌, ◌<◌, ◌^◌, ◌∙◌, ◌∷◌, ◌≡◌, ◌≢◌, ◌≤◌}
+use Rattle.{audit_core.proofs.Words.window_step, std.proofs.Common.Bool, std.proofs.Common.List, std.proofs.Common.None}
+use Rattle.audit_core.proofs.{Meetings.change-ack, Pairs.across-by, Pairs.pairs-append}
 use Rattle.audit_core.proofs.PassOrder.{AreStreams, rows_of}
-use Rattle.audit_core.proofs.TableRows.{IsRow, AreRows, ◌⊕◌, is_row, rows-nil, rows-say_of, row-say, told, quiet}
-use Rattle.audit_core.proofs.Meetings.{change-ack}
+use Rattle.audit_core.proofs.TableRows.{AreRows, IsRow, is_row, quiet, row-say, rows-nil, rows-say_of, told, ◌⊕◌}
+use Rattle.audit_core.proofs.Words.{AllByRecursion, AreApart, Body, Change, Client, ConnectionState, EachPair, Finding}
+use Rattle.audit_core.proofs.Words.{Frame, InForce, IsInRange, Kind, PassState, Server, SettingsBody, Side, Sides, Step}
+use Rattle.audit_core.proofs.Words.{Stream, Unreadable, body_said, change_of, cond_both, connection_said}
+use Rattle.audit_core.proofs.Words.{connection_window_said, counted, credit_after, each-append, each-weaker, fault}
+use Rattle.audit_core.proofs.Words.{finding_at, frame_said, ints, length_said, live_window_said, local_said, meets}
+use Rattle.audit_core.proofs.Words.{new_limit, opening_order_said, opens, opens_stream, other, overflows, place_stream}
+use Rattle.audit_core.proofs.Words.{promise_order_said, promised_in, push_said, rank_of, reading_fault, say, say_of}
+use Rattle.audit_core.proofs.Words.{side_of, step_of, stream_said, stream_window_said, streams_said, window_at_opening}
+use Rattle.audit_terms.specs.declared.kinds.Kind.TheVariants as K
 
 -- ---- why some errors are said of one endpoint
 

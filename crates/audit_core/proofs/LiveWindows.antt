@@ -1,12 +1,11 @@
 -- A window of a stream is live only while the stream is opened and the window's endpoint has not ended it.
-use Rattle.std.proofs.Common.{◌≡◌, Bool, List, None, Option, Some, [], false, if◌then◌else◌, is_some, refl, true, ℕ, ℤ}
-use Rattle.std.proofs.Common.{◌%◌, ◌&&◌, ◌==◌, ◌||◌, ◌∷◌, ◌∙◌, arith}
-use Rattle.std.specs.Prelude.{OnSome}
-use Rattle.audit_core.proofs.Words.{and_parts, is_client_headers, meets, promises, change_of, is_last_of, is_opening}
-use Rattle.audit_core.proofs.Words.{ends_window, next, PassState, pass_start, is_side, side_of, window_at_opening}
-use Rattle.audit_core.proofs.Words.{window_after, step_test, stream_after, state_from, Frame, Change, Step, Side}
-use Rattle.audit_core.proofs.Words.{Client, Server, Sides, Stream, LiveWindowsAreUnended, LiveWindowsAreOpened}
-use Rattle.audit_core.proofs.Words.{nat_tests}
+use Rattle.std.proofs.Common.{Bool, List, None, Some, [], arith, refl, true, ℕ, ℤ, ◌%◌, ◌&&◌, ◌==◌, ◌||◌, ◌∙◌, ◌∷◌, ◌≡◌}
+use Rattle.std.proofs.Common.{Option, false, if◌then◌else◌, is_some}
+use Rattle.{audit_core.proofs.Words.Side, std.specs.Prelude.OnSome}
+use Rattle.audit_core.proofs.Words.{Change, Client, Frame, Server, Sides, Step, Stream, is_side, meets, next, side_of}
+use Rattle.audit_core.proofs.Words.{LiveWindowsAreOpened, LiveWindowsAreUnended, is_client_headers, window_at_opening}
+use Rattle.audit_core.proofs.Words.{PassState, and_parts, change_of, is_last_of, nat_tests, promises, step_test}
+use Rattle.audit_core.proofs.Words.{ends_window, is_opening, pass_start, state_from, stream_after, window_after}
 
 -- what is known of the endpoint of a window: it ends only an opened stream, and while its window is live it has not
 -- ended it, nor is it the client of a promised stream

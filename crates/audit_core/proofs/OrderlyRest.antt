@@ -1,7 +1,6 @@
 -- What is left of orderly frames.
-use Rattle.std.proofs.Common.{◌≡◌, ℕ, ◌+◌, ◌^◌, ◌<◌, List, [], ◌∷◌, length, drop, get_or, sym, ap, ◌∙◌, arith}
-use Rattle.std.proofs.lemmas.List.{drop_more}
-use Rattle.audit_core.proofs.Words.{Frame, IsOrderlyFrom}
+use Rattle.std.proofs.Common.{List, [], ap, arith, drop, get_or, length, sym, ℕ, ◌+◌, ◌<◌, ◌^◌, ◌∙◌, ◌∷◌, ◌≡◌}
+use Rattle.{audit_core.proofs.Words.Frame, audit_core.proofs.Words.IsOrderlyFrom, std.proofs.lemmas.List.drop_more}
 
 -- there are not more frames than numbers
 pub length-orderly : (low : ℕ) (frames : List Frame) → low < 2 ^ 28 → IsOrderlyFrom low frames →

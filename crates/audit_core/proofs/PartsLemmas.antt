@@ -1,19 +1,17 @@
 -- The pass, put together from its parts.
-use Rattle.std.proofs.Common.{◌≡◌, ℕ, List, [], ◌∷◌, ◌++◌, refl, sym, ap, ap₂, ◌∙◌, append_assoc, append-nil, Option}
-use Rattle.std.proofs.Common.{None}
-use Rattle.std.proofs.lemmas.Grind.{flat_map-append}
-use Rattle.audit_core.proofs.Words.{flat_map, Frame, Item, ConnectionState, Finding, side_of, IsOrderly, in_order}
-use Rattle.audit_core.proofs.Words.{local_said, local_run_from, settings_said, settings_run_from, changes_of}
-use Rattle.audit_core.proofs.Words.{connection_start, connection_said, connection_after, connection_after_all}
-use Rattle.audit_core.proofs.Words.{block_run, PassState, pass_start, next, item_of, streams_of, streams_said}
-use Rattle.audit_core.proofs.Words.{full_from, items_from, frames_of, stream_run, group_run, block_runs, joined}
-use Rattle.audit_core.proofs.Words.{PartsMakeFull, in_order-append_comm, in_order-alike, in_order-in_order, Sides}
-use Rattle.audit_core.proofs.Words.{Change, Step, Stream, initial_in_force, in_force_after, change_of, idle_stream}
-use Rattle.audit_core.proofs.Words.{stream_said, stream_after, stream_run_from, initial_after, step_of}
-use Rattle.audit_terms.specs.code.{runs.LocalFaults.local_run, runs.Changes.settings_run}
-use Rattle.audit_core.proofs.PassOrder.{findings_stand_in_order}
-use Rattle.audit_core.proofs.QuietSteps.{stream_said-quiet, stream_after-quiet}
+use Rattle.std.proofs.{Common.ℕ, lemmas.Grind.flat_map-append}
+use Rattle.std.proofs.Common.{List, None, Option, [], ap, append-nil, append_assoc, ap₂, refl, sym, ◌++◌, ◌∙◌, ◌∷◌, ◌≡◌}
+use Rattle.audit_core.proofs.{PassOrder.findings_stand_in_order, Words.connection_after_all, Words.in_order-append_comm}
+use Rattle.audit_core.proofs.QuietSteps.{stream_after-quiet, stream_said-quiet}
 use Rattle.audit_core.proofs.StreamSteps.{step_if_any, steps_from, steps_of-steps_from}
+use Rattle.audit_core.proofs.Words.{Change, Frame, Item, Sides, Step, Stream, item_of, joined, next, side_of, step_of}
+use Rattle.audit_core.proofs.Words.{ConnectionState, connection_said, in_force_after, initial_in_force, stream_run_from}
+use Rattle.audit_core.proofs.Words.{Finding, block_run, change_of, flat_map, frames_of, full_from, group_run, in_order}
+use Rattle.audit_core.proofs.Words.{IsOrderly, PassState, items_from, local_said, pass_start, stream_run, streams_of}
+use Rattle.audit_core.proofs.Words.{PartsMakeFull, in_order-alike, initial_after, local_run_from, settings_said}
+use Rattle.audit_core.proofs.Words.{block_runs, changes_of, idle_stream, stream_after, stream_said, streams_said}
+use Rattle.audit_core.proofs.Words.{connection_after, connection_start, in_order-in_order, settings_run_from}
+use Rattle.audit_terms.specs.code.runs.{Changes.settings_run, LocalFaults.local_run}
 
 -- ---- a stream by itself
 

@@ -1,22 +1,18 @@
 -- What the plain pass keeps between two frames, beside the state of the pass, and what it says at a frame.
-use Rattle.std.proofs.Common.{◌≡◌, ℕ, pos, ◌^◌, ◌≤◌, Bool, true, false, ◌==◌, ◌&&◌, ◌||◌, List, [], ◌∷◌, ◌++◌, map}
-use Rattle.std.proofs.Common.{refl, ap, ◌∙◌, append_assoc, ◌+◌, None, Option, Some, is_none, is_some, arith, ◌*◌}
-use Rattle.std.proofs.Common.{if◌then◌else◌}
-use Rattle.std.proofs.lemmas.Simd.{map-map}
-use Rattle.std.proofs.lemmas.List.Folds.{flat_map-map}
-use Rattle.audit_core.proofs.Words.{flat_map, list_any, find, eq-eqb, eqb-true, Sides, UnmatchedAck, Frame, Change}
-use Rattle.audit_core.proofs.Words.{Item, ConnectionState, Finding, side_of, is_ack, meets, finding_at, in_order, say}
-use Rattle.audit_core.proofs.Words.{local_said, change_of, InForce, in_force_after, change_taking, taken, settings_said}
-use Rattle.audit_core.proofs.Words.{connection_said, connection_after, is_opening, PassState, full_from, next}
-use Rattle.audit_core.proofs.Words.{streams_of, streams_said, item_of, opens_stream, step_of, room-wider, StreamRow}
-use Rattle.audit_core.proofs.Words.{rows_in, idle_rows, row_opens, row_said, row_after, RowFits, option_to_list}
-use Rattle.audit_core.proofs.Words.{Settings, changes_from, IsOrderlyFrom, IsAcknowledged, initial_after}
-use Rattle.audit_core.proofs.Words.{AllByRecursion, HasRoom, nat_tests, cond_both, previous_after, ne_eqb, pass_start}
-use Rattle.audit_core.proofs.Words.{full, connection_start, initial_in_force, changes_of, ints, IsOrderly, each-weaker}
-use Rattle.audit_core.proofs.PassOrder.{rows_of, AreStreams, streams-streams_of}
-use Rattle.audit_core.proofs.StreamsMet.{streams_met_lem}
-use Rattle.audit_core.proofs.StreamSteps.{all-change_numbers}
-use Rattle.audit_core.proofs.Meetings.{change-ack}
+use Rattle.std.proofs.{Common.◌∷◌, Common.◌≡◌, Common.◌≤◌, lemmas.List.Folds.flat_map-map, lemmas.Simd.map-map}
+use Rattle.std.proofs.Common.{Bool, List, None, Option, Some, [], ap, append_assoc, arith, false, if◌then◌else◌}
+use Rattle.std.proofs.Common.{is_none, is_some, map, pos, refl, true, ℕ, ◌&&◌, ◌*◌, ◌++◌, ◌+◌, ◌==◌, ◌^◌, ◌||◌, ◌∙◌}
+use Rattle.audit_core.proofs.{Meetings.change-ack, PassOrder.AreStreams, PassOrder.rows_of}
+use Rattle.audit_core.proofs.{PassOrder.streams-streams_of, StreamSteps.all-change_numbers, StreamsMet.streams_met_lem}
+use Rattle.audit_core.proofs.Words.{AllByRecursion, Change, ConnectionState, Finding, Frame, HasRoom, InForce}
+use Rattle.audit_core.proofs.Words.{IsAcknowledged, IsOrderly, IsOrderlyFrom, Item, PassState, RowFits, Settings, Sides}
+use Rattle.audit_core.proofs.Words.{StreamRow, UnmatchedAck, change_of, change_taking, changes_from, changes_of}
+use Rattle.audit_core.proofs.Words.{cond_both, connection_after, connection_said, connection_start, each-weaker, eq-eqb}
+use Rattle.audit_core.proofs.Words.{eqb-true, find, finding_at, flat_map, full, full_from, idle_rows, in_force_after}
+use Rattle.audit_core.proofs.Words.{in_order, initial_after, initial_in_force, ints, is_ack, is_opening, item_of}
+use Rattle.audit_core.proofs.Words.{list_any, local_said, meets, nat_tests, ne_eqb, next, opens_stream, option_to_list}
+use Rattle.audit_core.proofs.Words.{pass_start, previous_after, room-wider, row_after, row_opens, row_said, rows_in}
+use Rattle.audit_core.proofs.Words.{say, settings_said, side_of, step_of, streams_of, streams_said, taken}
 
 -- is it the change of this number?
 abbrev pub is_at : ℕ → Change → Bool

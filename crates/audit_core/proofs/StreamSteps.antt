@@ -1,11 +1,10 @@
 -- The steps of one stream are those frames of the connection at which it has a frame or a change is brought.
-use Rattle.std.proofs.Common.{◌≡◌, Bool, List, None, Option, Some, [], arith, if◌then◌else◌, ltb-true, nat_lt, refl, ℕ}
-use Rattle.std.proofs.Common.{◌++◌, ◌+◌, ◌<◌, ◌==◌, ◌∷◌, ◌≤◌}
-use Rattle.audit_core.proofs.Words.{eqb-true, option_to_list, nat_tests, cond_both, meets, change_of, InForce, taken}
-use Rattle.audit_core.proofs.Words.{change_taking, in_force_after, step_of, changes_from, IsOrderlyFrom, frame_step}
-use Rattle.audit_core.proofs.Words.{with_change, steps_of, change_step, frames_of, Frame, Change, Step, Settings}
-use Rattle.audit_core.proofs.Words.{AllByRecursion, each-filter, each-append}
-use Rattle.audit_core.proofs.Pairs.{all-mapped}
+use Rattle.std.proofs.Common.{Bool, List, None, Option, Some, arith, if◌then◌else◌, ltb-true, nat_lt, refl, ◌++◌, ◌==◌}
+use Rattle.std.proofs.Common.{[], ℕ, ◌+◌, ◌<◌, ◌∷◌, ◌≡◌, ◌≤◌}
+use Rattle.audit_core.proofs.{Pairs.all-mapped, Words.AllByRecursion, Words.in_force_after, Words.option_to_list}
+use Rattle.audit_core.proofs.Words.{Change, Frame, InForce, Step, eqb-true, meets, step_of, steps_of, taken}
+use Rattle.audit_core.proofs.Words.{IsOrderlyFrom, change_step, change_taking, changes_from, each-append, each-filter}
+use Rattle.audit_core.proofs.Words.{Settings, change_of, cond_both, frame_step, frames_of, nat_tests, with_change}
 
 -- ---- one more change among some steps
 

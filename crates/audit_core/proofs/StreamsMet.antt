@@ -1,9 +1,8 @@
 -- The streams that frames name are those that meet one of them.
-use Rattle.std.proofs.Common.{◌≡◌, Bool, List, [], false, filter, not, sym, true, ℕ, ◌&&◌, ◌==◌, ◌||◌, ◌∷◌, arith}
-use Rattle.std.proofs.lemmas.Map.Views.{any-filter_same}
-use Rattle.audit_core.proofs.Words.{and-false, list_any, promises, promised_by, first_of, Frame, StreamsAreNamedOnce}
-use Rattle.audit_core.proofs.Words.{StreamsAreThoseMet, nat_tests, streams_of}
-use Rattle.audit_core.proofs.Apart.{distinct-streams_of}
+use Rattle.std.proofs.Common.{Bool, List, [], arith, false, filter, not, sym, true, ℕ, ◌&&◌, ◌==◌, ◌||◌, ◌∷◌, ◌≡◌}
+use Rattle.{audit_core.proofs.Apart.distinct-streams_of, std.proofs.lemmas.Map.Views.any-filter_same}
+use Rattle.audit_core.proofs.Words.{Frame, and-false, first_of, list_any, nat_tests, promised_by, promises, streams_of}
+use Rattle.audit_core.proofs.Words.{StreamsAreNamedOnce, StreamsAreThoseMet}
 
 module _ (stream : ℕ) where
   abbrev is_named : List ℕ → Bool

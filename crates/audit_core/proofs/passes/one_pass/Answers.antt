@@ -1,10 +1,8 @@
-use Rattle.std.proofs.Common.{◌≡◌, true, length, refl, sym, ◌∙◌, subst, arith}
-use Rattle.std.proofs.Math.Seq.{take-append_seam}
-use Rattle.std.proofs.lemmas.List.Folds.{list_any_at}
+use Rattle.std.proofs.{Math.Seq.take-append_seam, lemmas.List.Folds.list_any_at}
+use Rattle.std.proofs.Common.{arith, length, refl, subst, sym, true, ◌∙◌, ◌≡◌}
+use Rattle.audit_core.proofs.{OrderlyRest.drop-at, Words.Frame, Words.eq-eqb, Words.list_any, Words.meets}
+use Rattle.audit_core.proofs.PassRows.{brings, pass-begins, pass-next, room, step_of-acknowledged}
 use Rattle.audit_core.proofs.passes.one_pass.Goals as goal
-use Rattle.audit_core.proofs.Words.{list_any, meets, eq-eqb, Frame}
-use Rattle.audit_core.proofs.OrderlyRest.{drop-at}
-use Rattle.audit_core.proofs.PassRows.{step_of-acknowledged, pass-begins, pass-next, brings, room}
 
 pub loop-frame-init : goal.loop-frame-init
 loop-frame-init c =

@@ -1,6 +1,5 @@
-use Rattle.std.proofs.Common.{drop}
+use Rattle.{audit_core.proofs.PassRows.PassAt, std.proofs.Common.drop}
 use Rattle.audit_core.proofs.passes.one_pass.Given as goal
-use Rattle.audit_core.proofs.PassRows.{PassAt}
 
 abbrev pub invariant-loop-frame : goal.invariant-loop-frame
 invariant-loop-frame l =

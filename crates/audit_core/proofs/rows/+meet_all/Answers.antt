@@ -1,5 +1,4 @@
-use Rattle.std.proofs.Common.{append_assoc, arith, ◌∙◌}
-use Rattle.std.proofs.lemmas.Result.{on_ok_weaker}
+use Rattle.std.proofs.{Common.append_assoc, Common.arith, Common.◌∙◌, lemmas.Result.on_ok_weaker}
 use Rattle.audit_core.proofs.rows.+meet_all.Goals as goal
 
 pub say_stream-requires-clause-acknowledged : goal.say_stream-requires-clause-acknowledged

@@ -1,7 +1,6 @@
-use Rattle.std.proofs.Common.{◌≡◌, ℕ, ◌==◌, not, List, [], ◌∷◌, ◌∙◌, filter, refl, arith, rules}
-use Rattle.std.proofs.lemmas.Fn.{filter_same}
+use Rattle.std.proofs.Common.{List, [], arith, filter, not, refl, rules, ℕ, ◌==◌, ◌∙◌, ◌∷◌, ◌≡◌}
+use Rattle.{audit_core.proofs.Words.StreamRow, audit_core.proofs.Words.idle_rows, std.proofs.lemmas.Fn.filter_same}
 use borrow.Author.Tests.{ne_eqb}
-use Rattle.audit_core.proofs.Words.{StreamRow, idle_rows}
 use Rattle.audit_core.proofs.rows.put_first.Goals as goal
 
 other-rows : (stream : ℕ) (streams : List ℕ)
