@@ -228,8 +228,7 @@ module _ {M : Type 0} (makes : ℕ → Option ℕ → M → Type 0) (jobs : List
       lowered = closed.lowered;
       board = board;
       count = in-order.0;
-      in_order = λ n part e.
-          (let at = in-order.1 n part (slice_get_within sorted n part e) in
+      in_order = λ n part e. (let at = in-order.1 n part (slice_get_within sorted n part e) in
           let is : part.job ≡ n = grind (arith, rw (get_or_from_slice_get sorted n part part e) at at) in
           (is, rw is at (made-in sorted same part (contains-got sorted n part e)).1));
       connections =

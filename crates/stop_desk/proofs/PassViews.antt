@@ -47,8 +47,7 @@ closes o id v words slots d some_share all opened f =
     let at = f.1.1 in
     let whole : weigh share s.views ≡ share v
     = omega (arith, h.0.whole_is, h.0.lengths, weigh-share s.views) in
-    let only = λ (g : Knows → ℕ)
-    (idle : (j : ℕ) (u : Knows) → get_elem? s.views j ≡ some u → share u ≡ 0 → g u ≡ 0).
+    let only = λ (g : Knows → ℕ) (idle : (j : ℕ) (u : Knows) → get_elem? s.views j ≡ some u → share u ≡ 0 → g u ≡ 0).
     weigh-whole share g s.views id v at whole idle in
     let drawn : length v.drawn ≡ get_or s.words 0 0
     = sym (only draws_in (λ j u there none. omega arith)) ∙ h.0.lengths in
@@ -59,12 +58,10 @@ closes o id v words slots d some_share all opened f =
       record {
         numbers = λ x. sym (only (drawn_in x) (λ j u there none. nothing-drawn x u.drawn (omega arith)))
             ∙ h.0.each_once x ∙ ap (once_below x) (sym drawn);
-        stops = λ c there. least-stop d v.lowered c (get_or s.words (c + 1) 0)
-            (rw opened (h.1.below_opening c))
+        stops = λ c there. least-stop d v.lowered c (get_or s.words (c + 1) 0) (rw opened (h.1.below_opening c))
             (λ p low. h.1.below_lowered c p (rw (lowered c p) low))
             (rw (opened, ← (lowered c (get_or s.words (c + 1) 0))) (h.1.reached c));
-        given = λ c p there.
-            (let (below, place, given) = h.1.below_seen c p (rw (seen c p) there) in
+        given = λ c p there. (let (below, place, given) = h.1.below_seen c p (rw (seen c p) there) in
             rw (opened, ← (lowered c p))
             (elim given [ inl is ↦ inl (rw (← is) (place_at-place p place)) | inr low ↦ inr low ]));
       },

@@ -26,8 +26,7 @@ front_is_cut_lem whole upto e =
     let before = λ (found : Finding). nat_le found.place upto in
     let past = λ (found : Finding). not (nat_le found.place upto) in record {
       ordered =
-          ordered-in_order comes_after comes_after_is (filter before whole)
-          (in_order-filter before whole
+          ordered-in_order comes_after comes_after_is (filter before whole) (in_order-filter before whole
           (subst (IsInOrder comes_after comes_after_is) e (in_order-ordered comes_after comes_after_is whole)));
       left_out = filter past whole;
       together =
@@ -83,8 +82,7 @@ joined-before : (more one other : List Finding) → upto_stop (in_order one) ≡
     upto_stop (in_order (more ++ one)) ≡ upto_stop (in_order (more ++ other))
 joined-before [] one other e = e
 joined-before (x ∷ more) one other e =
-    put-cut x (in_order (more ++ one))
-    ∙ ap (λ us. upto_stop (put_by comes_after x us)) (joined-before more one other e)
+    put-cut x (in_order (more ++ one)) ∙ ap (λ us. upto_stop (put_by comes_after x us)) (joined-before more one other e)
     ∙ sym (put-cut x (in_order (more ++ other)))
 
 pub stops_join_lem : StopsJoin

@@ -276,8 +276,7 @@ module _ (round : Round) (board : Board) (settled : IsSettled round board) (conn
             ∙ ap in_order (append_assoc earlier kept parts.left_out)
             ∙ in_order-alike earlier earlier (kept ++ parts.left_out) whole refl parts.together);
         stop = least-moves (IsGiven round board.lowered connection) (StopsAt (earlier ++ whole)) stop
-            (λ place g. (place, omega arith, real place g))
-            (λ place k. elim (kept_or_past place k) [
+            (λ place g. (place, omega arith, real place g)) (λ place k. elim (kept_or_past place k) [
               | inl own ↦ given_before place own
               | inr (seen, low, given) ↦ (seen, omega arith, given)
             ])

@@ -116,8 +116,7 @@ module _ {M : Type 0} (makes : ℕ → Option ℕ → M → Type 0) (jobs : List
             let (is, stopping) = stops_on-contains part.connection part.findings.items c p new in
             let among = contains-got jobs part.job job (at-job jobs part.job lt) in
             let whole = cut-stops job.findings part.upto part.findings.items p cut stopping in
-            inr (job, among, sym connection_is ∙ is, whole)))
-            (Contains-append_cases before.lowered errors (c, p) k);
+            inr (job, among, sym connection_is ∙ is, whole))) (Contains-append_cases before.lowered errors (c, p) k);
       },
       record {
         in_round = in_round;

@@ -23,8 +23,7 @@ returns g t c =
     let each = shift.desk.now.jobs + 1 in
     let half = c.args.workers / 2 in
     let rest = c.args.workers - half in
-    IfOk-weaker c.together.result _ _
-    (λ r is. rw (sym (both-groups half c.args.workers each (omega arith)))
+    IfOk-weaker c.together.result _ _ (λ r is. rw (sym (both-groups half c.args.workers each (omega arith)))
     (worked-together (g.P.Round.makes shift.plan.now) (g.P.Round.jobs shift.plan.now) shift.round shift.desk.now.id
     (half * each) (rest * each) c.join-mine.result.0 c.join-mine.result.1 r.0.items r.1 c.join-mine.ensures.first
     c.join-mine.ensures.second is))

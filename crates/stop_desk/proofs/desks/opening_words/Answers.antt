@@ -7,8 +7,7 @@ loop-stop-init c = rw (c.in_ok-push.ensures.items, c.in_ok-words.ensures.items) 
 
 pub loop-stop-preserved : goal.loop-stop-preserved
 loop-stop-preserved c =
-    c.in_ok-push-2.ensures.items
-    ∙ rw (
+    c.in_ok-push-2.ensures.items ∙ rw (
       c.loop-stop.invariant,
       take_more c.args.stops.now _ c.stop-item.result c.loop-stop-test.true,
       map-append,

@@ -4,6 +4,5 @@ use Rattle.stop_desk.proofs.settling.stops_of.Goals as goal
 
 pub loop-connection-preserved : goal.loop-connection-preserved
 loop-connection-preserved c =
-    c.in_ok-push.ensures.items
-    ∙ (λ i. c.loop-connection.invariant i ++ c.stop.ensures i ∷ [])
+    c.in_ok-push.ensures.items ∙ (λ i. c.loop-connection.invariant i ++ c.stop.ensures i ∷ [])
     ∙ sym (map-range_with_len_more (final_stop c.args.closed.now) 0 c.loop-connection.connection _ (omega arith))

@@ -8,8 +8,7 @@ fetch_min-requires c =
       λ i. (desk i).table,
       omega (arith, c.desk.invariant.0),
       lowers c.desk.inside.table.shared.key _ _ _ _ _ c.self.invariant.2
-          (rw (← c.requires.desk, ← c.self.view_is) at c.requires.connection)
-          (rw c.word-word.ensures c.requires.place),
+          (rw (← c.requires.desk, ← c.self.view_is) at c.requires.connection) (rw c.word-word.ensures c.requires.place),
     )
 
 pub invariant_of-self : goal.invariant_of-self
