@@ -57,8 +57,7 @@ module _ (R : Finding → Finding → Type 0) (elsewhere : (x y : Finding) → x
       R x y) → (frames : List Frame) → IsOrderly frames → EachPair R (full frames)
   pairs-full refine frames h =
       let small = streams-streams_of 0 frames h in
-      pairs-full_from (streams_of frames) small
-      (λ state frame k.
+      pairs-full_from (streams_of frames) small (λ state frame k.
       let rows = rows-at (streams_of frames) state frame small (distinct-streams_of frames) k in
       pairs-refine AreApart R (IsRow frame.side Any 0 36) (refine frame.side) _
       (each-ordered (IsRow frame.side Any 0 36) comes_after _ rows.within)
@@ -69,6 +68,5 @@ findings_stand_apart = pairs-full AreApart (λ x y n p. absurd (n p)) (λ sender
 
 -- two errors at one place would be of one endpoint
 pub errors_stand_alone : (frames : List Frame) → IsOrderly frames → EachPair AreApartAsErrors (full frames)
-errors_stand_alone = pairs-full AreApartAsErrors (λ x y n s t. n)
-    (λ sender x y p q apart s t e. apart e
+errors_stand_alone = pairs-full AreApartAsErrors (λ x y n s t. n) (λ sender x y p q apart s t e. apart e
     (p.error s ∙ ap (λ place. error_side sender (place_rank place)) e ∙ sym (q.error t)))

@@ -123,16 +123,14 @@ is-sum : (d : Side) (stream opening low : ℕ) (state : PassState) (frames : Lis
     → (low ≤ opening) × IsSumSince d stream opening state frames credit
 is-sum d stream opening low state [] credit h none opened last = cc
 is-sum d stream opening low state (frame ∷ frames) credit h none opened last =
-    ⊎_elim
-    (λ here.
+    ⊎_elim (λ here.
     let (stays, before, live, counts) = counts-on d stream frame.number (next state frame) frames credit
     (opened-next d stream state frame ∙ rw here refl) last in
     let same : frame.number ≡ opening = cc in (
       omega (arith, h.0),
       subst (λ first. IsSumSince d stream first state (frame ∷ frames) credit) same
           (begun d stream state frame frames before credit (omega arith, h.1, h.2) here live counts),
-    ))
-    (λ here.
+    )) (λ here.
     let (above, sum) = is-sum d stream opening (frame.number + 1) (next state frame) frames credit h.2
     (opened-next d stream state frame ∙ rw here none) opened last in
     (omega (arith, h.0), rw (lt-leb opening frame.number (omega arith)) sum))

@@ -115,11 +115,9 @@ module _ (frame : Frame) (h : IsInRange frame) where
       Rows 6 21 (connection_said now (record { frame = frame; opens = opens; change = change }))
   rows-connection now opens change =
       let limit = new_limit change frame.side (side_of frame.side now.limit) in
-      subst (Rows 6 9)
-      (sym (append_assoc (length_said limit frame ++ push_said now.push frame)
+      subst (Rows 6 9) (sym (append_assoc (length_said limit frame ++ push_said now.push frame)
       (opening_order_said now.opened (record { frame = frame; opens = opens; change = change }))
-      (promise_order_said now.promised frame)))
-      (rows-length limit
+      (promise_order_said now.promised frame))) (rows-length limit
       ⊕ row-say frame.side Any frame.number frame.stream h.stream tt K.Push frame.side 7 8 _ _ (omega arith)
       (λ e. grind arith)
       ⊕ rows-order now.opened now.promised opens change)

@@ -29,12 +29,10 @@ module _ (change : Change) where
       → AreRising (step_numbers (with_change steps change))
   rising-with [] h = (tt, tt)
   rising-with (step ∷ steps) h =
-      with_change-cases (λ l. AreRising (step_numbers l)) change step steps (λ e. h)
-      (λ e. (
+      with_change-cases (λ l. AreRising (step_numbers l)) change step steps (λ e. h) (λ e. (
         (e, each-weaker (λ n. step.number < n) (λ n. change.number < n) (λ n q. omega arith) (step_numbers steps) h.0),
         h,
-      ))
-      (λ e. (above e, rising-with steps h.1)) where
+      )) (λ e. (above e, rising-with steps h.1)) where
         above : step.number < change.number →
             AllByRecursion (λ n. step.number < n) (step_numbers (with_change steps change))
         above e =
@@ -119,7 +117,6 @@ changes-rising low now (frame ∷ frames) h =
 
 pub streams_have_steps_lem : StreamsHaveSteps
 streams_have_steps_lem stream frames h =
-    steps_join_lem (frames_of stream frames) (changes_of frames)
-    (pairs-mapped ◌<◌ (λ (frame : Frame). frame.number) _
+    steps_join_lem (frames_of stream frames) (changes_of frames) (pairs-mapped ◌<◌ (λ (frame : Frame). frame.number) _
     (pairs-filter (λ (f g : Frame). f.number < g.number) (meets stream) frames (frames-rising 0 frames h)))
     (pairs-mapped ◌<◌ (λ (change : Change). change.number) _ (changes-rising 0 initial_in_force frames h))

@@ -52,8 +52,7 @@ module _ (stream : ℕ) (initial : Sides ℕ) (number : ℕ) (change : Option Ch
   at_frame frame = record { number = number; frame = frame; change = change }
 
   sending-met : (d : Side) (frame : Frame) → Sending d stream entry → (opening : Bool)
-      → is_opening stream entry.life frame ≡ opening
-      → IsSending d stream
+      → is_opening stream entry.life frame ≡ opening → IsSending d stream
       (side_of d entry.life.ended || ((opening || is_some entry.life.opened) && is_last_of d stream frame))
       (if opening then Some frame.number else entry.life.opened)
       (if opening then window_at_opening d stream initial (at_frame (Some frame))
@@ -65,8 +64,7 @@ module _ (stream : ℕ) (initial : Sides ℕ) (number : ℕ) (change : Option Ch
         (last, not-never d stream frame (and_parts _ _ (is ∙ b)).1 last))
         (λ e. let (was, goes) = lives-on d stream initial (at_frame (Some frame)) (side_of d entry.window) e in
         let (opened, unended, never) = h.live was in
-        (opened, unended, never, not-last d stream frame goes never))
-        (λ b. h.idle (grind arith));
+        (opened, unended, never, not-last d stream frame goes never)) (λ b. h.idle (grind arith));
   }
 
   sending-after : (d : Side) (frame : Option Frame) → Sending d stream entry

@@ -24,15 +24,13 @@ alone stream state (frame ∷ frames) =
 
 -- one step of the run, whether it counts as a step or not
 one_step : (stream number : ℕ) (initial : Sides ℕ) (entry : Stream) (o : Option Frame) (c : Option Change)
-    (rest : List Step) (later : List Finding)
-    → stream_run_from stream (initial_after c initial)
+    (rest : List Step) (later : List Finding) → stream_run_from stream (initial_after c initial)
     (stream_after stream initial entry (record { number = number; frame = o; change = c })) rest ≡ later
     → stream_run_from stream initial entry (step_if_any (record { number = number; frame = o; change = c }) ++ rest)
     ≡ in_order (stream_said stream initial entry (record { number = number; frame = o; change = c })) ++ later
 one_step stream number initial entry None None rest later h =
     ap (λ now. stream_run_from stream initial now rest) (sym (stream_after-quiet stream initial number None entry refl))
-    ∙ h
-    ∙ ap (λ said. in_order said ++ later) (sym (stream_said-quiet stream initial number None entry refl))
+    ∙ h ∙ ap (λ said. in_order said ++ later) (sym (stream_said-quiet stream initial number None entry refl))
 one_step stream number initial entry _ _ rest later h = rw h refl
 
 -- the run over the steps at which something is there
@@ -51,8 +49,7 @@ run-alone : (stream : ℕ) (frames : List Frame) → IsOrderly frames
     → stream_run stream (frames_of stream frames) (changes_of frames) ≡ alone stream pass_start frames
 run-alone stream frames h =
     ap (stream_run_from stream initial_in_force.initial idle_stream)
-    (steps_of-steps_from 0 stream initial_in_force frames h)
-    ∙ run_from-alone stream pass_start frames
+    (steps_of-steps_from 0 stream initial_in_force frames h) ∙ run_from-alone stream pass_start frames
 
 -- ---- parts, put in order
 
@@ -75,8 +72,7 @@ merged-comm = in_order-append_comm
 merged-assoc : (a b c : List Finding) → merged (merged a b) c ≡ merged a (merged b c)
 unfolding merged
 merged-assoc a b c =
-    in_order-alike (in_order (a ++ b)) (a ++ b) c c (in_order-in_order (a ++ b)) refl
-    ∙ ap in_order (append_assoc a b c)
+    in_order-alike (in_order (a ++ b)) (a ++ b) c c (in_order-in_order (a ++ b)) refl ∙ ap in_order (append_assoc a b c)
     ∙ in_order-alike a a (b ++ c) (in_order (b ++ c)) refl (sym (in_order-in_order (b ++ c)))
 
 merged-left_comm : (a b c : List Finding) → merged a (merged b c) ≡ merged b (merged a c)

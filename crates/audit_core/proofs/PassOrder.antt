@@ -32,12 +32,9 @@ rows_of streams state frame =
 pub at-said : (streams : List ℕ) (state : PassState) (frame : Frame) → AreStreams streams → IsInRange frame →
     AreAt frame.number (said streams state frame)
 at-said streams state frame small h =
-    at-in_order frame.number _
-    (at-append frame.number _ _
-    (at-append frame.number _ _
+    at-in_order frame.number _ (at-append frame.number _ _ (at-append frame.number _ _
     (at-append frame.number _ _ (at-local frame h.stream (side_of frame.side state.previous))
-    (at-settings frame h.stream state.in_force))
-    (at-connection state.connection (item_of state frame) h))
+    (at-settings frame h.stream state.in_force)) (at-connection state.connection (item_of state frame) h))
     (at-streams streams state frame small))
 
 pub from-full_from : (streams : List ℕ) (state : PassState) (low : ℕ) (frames : List Frame) → AreStreams streams →
@@ -69,8 +66,7 @@ streams-first_of stream streams p h =
 pub streams-streams_of : (low : ℕ) (frames : List Frame) → IsOrderlyFrom low frames → AreStreams (streams_of frames)
 streams-streams_of low [] h = tt
 streams-streams_of low (frame ∷ frames) h =
-    streams-first_of frame.stream _ h.1.stream
-    (streams-first_of (promised_by frame) _ (grind (arith, h.1.promised))
+    streams-first_of frame.stream _ h.1.stream (streams-first_of (promised_by frame) _ (grind (arith, h.1.promised))
     (streams-streams_of (frame.number + 1) frames h.2))
 
 pub findings_stand_in_order : (frames : List Frame) → IsOrderly frames → in_order (full frames) ≡ full frames

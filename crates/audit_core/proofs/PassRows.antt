@@ -36,8 +36,7 @@ find-on now frame later number h = by_taken (taken now frame) where
       ≡ (if frame.number == number then change_taking frame o else find (is_at number) rest)
   by_taken (Some settings) = refl
   by_taken None =
-      cond_both (frame.number == number) None _ (λ found. find (is_at number) rest ≡ found)
-      (λ e. none-later number rest
+      cond_both (frame.number == number) None _ (λ found. find (is_at number) rest ≡ found) (λ e. none-later number rest
       (all-change_numbers (λ n. number + 1 ≤ n) (frame.number + 1) (in_force_after now frame) later
       (λ m l. let same = eqb-true frame.number number e in omega arith) h)) (λ e. refl)
 
@@ -133,8 +132,7 @@ module _ {all : List Frame} {changes : List Change} {frame : Frame} {rest : List
       ∙ rw (eq-eqb frame.number frame.number refl) refl
 
   module _ (opens : Bool) (change : Option Change) (is : change ≡ find (is_at frame.number) changes)
-      (opened : opens ≡ list_any (row_opens frame) entries)
-      (own : list_any (meets frame.stream) all ≡ true) where
+      (opened : opens ≡ list_any (row_opens frame) entries) (own : list_any (meets frame.stream) all ≡ true) where
     abbrev item : Item
     item = record { frame = frame; opens = opens; change = change }
 
@@ -177,8 +175,7 @@ module _ {all : List Frame} {changes : List Change} {frame : Frame} {rest : List
           initial = rw (f, change_is, h.initial) refl;
           connection = rw (g, change_is, opens_is, h.connection) refl;
           rows = rw (q, change_is, h.initial, h.rows) (map-map _ _ names);
-          brought = λ number past. h.brought number (omega arith)
-              ∙ find-on state.in_force frame rest number h.orderly.2
+          brought = λ number past. h.brought number (omega arith) ∙ find-on state.in_force frame rest number h.orderly.2
               ∙ rw (ne_eqb frame.number number (omega arith)) refl;
           found = rw (n, said, append_assoc shown) h.found;
           fits = fits-wider (omega arith) (record {

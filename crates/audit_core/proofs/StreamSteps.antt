@@ -12,8 +12,7 @@ use Rattle.audit_core.proofs.Words.{Settings, change_of, cond_both, frame_step, 
 pub with_change-cases : (P : List Step → Type 0) (change : Change) (step : Step) (steps : List Step)
     → (step.number ≡ change.number → P (record step { change = Some change } ∷ steps))
     → (change.number < step.number → P (change_step change ∷ step ∷ steps))
-    → (step.number < change.number → P (step ∷ with_change steps change))
-    → P (with_change (step ∷ steps) change)
+    → (step.number < change.number → P (step ∷ with_change steps change)) → P (with_change (step ∷ steps) change)
 with_change-cases P change step steps same before after =
     cond_both (step.number == change.number) _ _ P (λ e. same (eqb-true _ _ e))
     (λ e. cond_both (nat_lt change.number step.number) _ _ P (λ f. before (ltb-true _ _ f))

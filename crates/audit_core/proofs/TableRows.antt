@@ -73,8 +73,7 @@ module _ (sender : Side) (on : ℕ → Type 0) where
       let p = a.rising in
       let q = b.rising in record {
         rising = omega arith;
-        within = each-append (IsRow sender on low high) xs ys
-            (rows-wider low mid low high (omega arith) q xs a.within)
+        within = each-append (IsRow sender on low high) xs ys (rows-wider low mid low high (omega arith) q xs a.within)
             (rows-wider mid high low high p (omega arith) ys b.within);
         apart = pairs-append AreApart xs ys a.apart b.apart
             (across-by AreApart (IsRow sender on low mid) (IsRow sender on mid high)

@@ -40,8 +40,7 @@ loop-frame-preserved c =
     let rows = c.deref_mut.ensures.value in
     let long : c.loop-frame.rows.len ≡ length c.meet_all.new.rows =
     omega (arith, c.meet_all.auto.rows, c.deref_mut.ensures.len) in
-    rw (long, take-append_seam)
-    (pass-next at c.opens.result c.change_at-change.result
+    rw (long, take-append_seam) (pass-next at c.opens.result c.change_at-change.result
     (rw c.deref.ensures.value at c.change_at-change.ensures)
     (rw c.deref-in-loop-frame.ensures.value at c.opens.ensures) own
     (rw c.new-said.ensures.items at c.in_ok-say_alone.ensures) c.in_ok-say_connection.ensures.said

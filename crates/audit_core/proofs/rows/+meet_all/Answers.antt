@@ -6,8 +6,7 @@ say_stream-requires-clause-acknowledged t c = rw c.step_at-step.ensures (c.requi
 
 pub returns-clause-fits : goal.returns-clause-fits
 returns-clause-fits t c =
-    on_ok_weaker c.meet_all.result
-    (λ others bound h.
+    on_ok_weaker c.meet_all.result (λ others bound h.
     let all = rw c.in-Some.ensures.cases.0 at h in
     let told = c.in_ok-say_stream.ensures in
     (grind (arith, all.0, told.client bound, told.server bound), others bound all.1))
@@ -15,8 +14,7 @@ returns-clause-fits t c =
 
 pub returns-clause-said : goal.returns-clause-said
 returns-clause-said t c =
-    on_ok_weaker c.meet_all.result
-    (λ others. others ∙ rw (
+    on_ok_weaker c.meet_all.result (λ others. others ∙ rw (
       c.in_ok-say_stream.ensures.said,
       c.in-Some.ensures.cases.0,
       c.step_at-step.ensures,
