@@ -1,5 +1,5 @@
 -- The order of findings tells all findings apart, so the lemmas on lists in order hold of findings.
-use Rattle.std.proofs.Common.{List, [], ap, arith, false, refl, suc, sym, true, ℕ, ℤ, ◌++◌, ◌+◌, ◌∙◌, ◌∷◌, ◌≡◌}
+use Rattle.std.proofs.Common.{List, [], ap, arith, false, suc, sym, true, ℕ, ℤ, ◌++◌, ◌+◌, ◌∙◌, ◌∷◌, ◌≡◌}
 use Rattle.std.proofs.lemmas.Cmp.{int_cmp_total, int_ranked, nat_cmp_total, on_total, ranked, then_total, tied_itself}
 use Rattle.std.specs.{Cmp.IsTotalOrder, List.Sorted.IsPermutation, List.Sorted.IsSortedBy}
 use Rattle.std.specs.Ordering.{int_cmp, is_gt, is_lt, nat_cmp, ordering_reverse, ordering_then}
@@ -9,7 +9,6 @@ use Rattle.audit_terms.proofs.OrderedLists.{ordered-in_order, ordered-left, orde
 use Rattle.audit_terms.specs.{Kind.rank_of, Side.side_order, contracts.kinds.Kind.the_type}
 use Rattle.audit_terms.specs.Finding.{comes_after, finding_cmp, in_order}
 use Rattle.audit_terms.specs.declared.{findings.Finding.Finding, kinds.Kind.Kind, sides.Side.Side}
-use Rattle.audit_terms.specs.declared.sides.Side.TheVariants.{Client, Server}
 use denote.Enum.{Bare.tag_one, Declared.tag_of}
 
 pub finding_total : IsTotalOrder finding_cmp
@@ -26,10 +25,7 @@ int_level : (x y : ℤ) → int_cmp x y ≡ Equal → x ≡ y
 int_level x y e = int_ranked x y Equal (sym e)
 
 side_level : (x y : Side) → side_order x ≡ side_order y → x ≡ y
-side_level Client Client e = refl
-side_level Client Server e = absurd (omega arith)
-side_level Server Client e = absurd (omega arith)
-side_level Server Server e = refl
+side_level x y e = grind arith
 
 -- the rank is the kind's place in its type
 rank-tag : (kind : Kind) → tag_of the_type kind ≡ rank_of kind
@@ -110,9 +106,7 @@ rising-from_sorted (x ∷ y ∷ ys) h =
     )
 
 pub in_order-sorted : (old new : List Finding) → IsPermutation old new
-    → IsSortedBy (λ x y. is_lt (finding_cmp x y)) new →
-    new ≡ in_order old
+    → IsSortedBy (λ x y. is_lt (finding_cmp x y)) new → new ≡ in_order old
 in_order-sorted old new p h =
     sym (ordered-in_order comes_after comes_after_is new
-    (in_order-rising comes_after comes_after_is new (rising-from_sorted new h)))
-    ∙ in_order-permutation old new p
+    (in_order-rising comes_after comes_after_is new (rising-from_sorted new h))) ∙ in_order-permutation old new p

@@ -75,8 +75,7 @@ module _ {X : Type 0} (after : X → X → Bool) (o : IsAfter after) where
   permuted-put : (x : X) (xs : List X) → IsPermutation (x ∷ xs) (put_by after x xs)
   permuted-put x [] = IsPermutation-refl (x ∷ [])
   permuted-put x (y ∷ ys) =
-      cond_both (after x y) _ _ (IsPermutation (x ∷ y ∷ ys))
-      (λ _. IsPermutation-trans _ _ _
+      cond_both (after x y) _ _ (IsPermutation (x ∷ y ∷ ys)) (λ _. IsPermutation-trans _ _ _
       (IsPermutation-append _ _ ys ys (IsPermutation-append_comm (x ∷ []) (y ∷ [])) (IsPermutation-refl ys))
       (IsPermutation-cons y _ _ (permuted-put x ys))) (λ _. IsPermutation-refl (x ∷ y ∷ ys))
 
@@ -102,8 +101,7 @@ module _ {X : Type 0} (after : X → X → Bool) (o : IsAfter after) where
 
   -- two lists that are alike in order may stand for each other in a longer one
   pub ordered-alike : (xs ys us vs : List X) → ordered_by after xs ≡ ordered_by after ys
-      → ordered_by after us ≡ ordered_by after vs →
-      ordered_by after (xs ++ us) ≡ ordered_by after (ys ++ vs)
+      → ordered_by after us ≡ ordered_by after vs → ordered_by after (xs ++ us) ≡ ordered_by after (ys ++ vs)
   ordered-alike xs ys us vs p q =
       sym (ordered-both xs us) ∙ ap (λ l. ordered_by after (l ++ ordered_by after us)) p
       ∙ ap (λ l. ordered_by after (ordered_by after ys ++ l)) q ∙ ordered-both ys vs

@@ -24,23 +24,18 @@ packing_keeps settings =
     let long = mark settings.max_frame in
     let first = mark settings.initial in
     let push = mark settings.push in
-    let little_long : long ≤ 1 = little settings.max_frame in
-    let little_first : first ≤ 1 = little settings.initial in
-    let little_push : push ≤ 1 = little settings.push in
     let marks = ((bad * 2 + long) * 2 + first) * 2 + push in
-    let push_is : marks % 2 ≡ push = omega (arith, little_push) in
-    let first_is : marks / 2 % 2 ≡ first = omega (arith, little_push, little_first) in
-    let long_is : marks / 4 % 2 ≡ long = omega (arith, little_push, little_first, little_long) in
-    let bad_is : marks / 8 ≡ bad = omega (arith, little_push, little_first, little_long) in
-    same
-    (ap (λ m. marked m (unwrap_or settings.push 0)) push_is ∙ kept settings.push)
+    let push_is : marks % 2 ≡ push = omega (arith, little) in
+    let first_is : marks / 2 % 2 ≡ first = omega (arith, little) in
+    let long_is : marks / 4 % 2 ≡ long = omega (arith, little) in
+    let bad_is : marks / 8 ≡ bad = omega (arith, little) in
+    same (ap (λ m. marked m (unwrap_or settings.push 0)) push_is ∙ kept settings.push)
     (ap (λ m. marked m (unwrap_or settings.initial 0)) first_is ∙ kept settings.initial)
     (ap (λ m. marked m (unwrap_or settings.max_frame 0)) long_is ∙ kept settings.max_frame)
     (ap one_less bad_is ∙ back settings.bad)
 
 fields : {marks push initial max_frame marks' push' initial' max_frame' : ℕ} → marks ≡ marks' → push ≡ push'
-    → initial ≡ initial' →
-    max_frame ≡ max_frame' →
+    → initial ≡ initial' → max_frame ≡ max_frame' →
     (let left : Inside = record { marks = marks; push = push; initial = initial; max_frame = max_frame } in
     let right : Inside = record { marks = marks'; push = push'; initial = initial'; max_frame = max_frame' } in left
     ≡ right)
@@ -49,10 +44,8 @@ fields p q r s = cc
 -- fields that were made as `packed` makes them
 pub packed_fields : (settings : Settings) {bad push initial max_frame : ℕ} {push-word initial-word max_frame-word : ℕ}
     → bad ≡ one_more settings.bad → max_frame ≡ mark settings.max_frame → initial ≡ mark settings.initial
-    → push ≡ mark settings.push
-    → push-word ≡ unwrap_or settings.push 0 → initial-word ≡ unwrap_or settings.initial 0
-    → max_frame-word ≡ unwrap_or settings.max_frame 0
-    → (let made : Inside = record {
+    → push ≡ mark settings.push → push-word ≡ unwrap_or settings.push 0 → initial-word ≡ unwrap_or settings.initial 0
+    → max_frame-word ≡ unwrap_or settings.max_frame 0 → (let made : Inside = record {
       marks = ((bad * 2 + max_frame) * 2 + initial) * 2 + push;
       push = push-word;
       initial = initial-word;

@@ -6,12 +6,10 @@ use Rattle.audit_terms.specs.{Place.place_of, laws.Places.IsPlaceable, laws.Plac
 
 module _ (number rank stream number' rank' stream' : ℕ) (here : IsPlaceable number rank stream)
     (there : IsPlaceable number' rank' stream') where
-  by_parts : (a b c : Ordering) →
-      MatchOrdering a (number < number') (number ≡ number') (number' < number) →
+  by_parts : (a b c : Ordering) → MatchOrdering a (number < number') (number ≡ number') (number' < number) →
       MatchOrdering b (rank < rank') (rank ≡ rank') (rank' < rank) →
       MatchOrdering c (stream < stream') (stream ≡ stream') (stream' < stream) →
-      MatchOrdering (ordering_then a (ordering_then b c))
-      (place_of number rank stream < place_of number' rank' stream')
+      MatchOrdering (ordering_then a (ordering_then b c)) (place_of number rank stream < place_of number' rank' stream')
       (place_of number rank stream ≡ place_of number' rank' stream')
       (place_of number' rank' stream' < place_of number rank stream)
   by_parts a b c p q r = grind arith

@@ -59,8 +59,7 @@ pub rank-small : (kind : Kind) → rank_of kind ≤ 26
 rank-small kind = grind arith
 
 pub at-finding : (kind : Kind) (n stream : ℕ) (side : Side) (value : ℤ) (xs : List Finding) → stream < 2 ^ 31 →
-    AreAt n xs →
-    AreAt n (finding_at kind n stream side value ∷ xs)
+    AreAt n xs → AreAt n (finding_at kind n stream side value ∷ xs)
 at-finding kind n stream side value xs h rest =
     let r = rank-small kind in at-cons n (finding_at kind n stream side value) xs (omega arith) (omega arith) rest
 
@@ -114,9 +113,7 @@ module _ (frame : Frame) (h : frame.stream < 2 ^ 31) where
 pub at-connection : (now : ConnectionState) (item : Item) → IsInRange item.frame →
     AreAt item.frame.number (connection_said now item)
 at-connection now item h =
-    let own = h.stream in
-    let promised = h.promised in
-    search (at-append, at-say, at-connection_windows, own, promised) depth 12
+    search (at-append, at-say, at-connection_windows, h.stream, h.promised) depth 12
 
 -- what is said of a stream
 module _ (stream : ℕ) (initial : Sides ℕ) (entry : Stream) (step : Step) (h : stream < 2 ^ 31) where
@@ -164,8 +161,7 @@ none_before-from n x (y ∷ ys) p h = (comes_after-below x y (omega arith), none
 
 -- what is at a number stands before all from the next number on
 pub precedes-at : (n : ℕ) (xs ys : List Finding) → AreWithin (n * 2 ^ 36) (n * 2 ^ 36 + 2 ^ 36) xs →
-    AreFrom (n + 1) ys →
-    Precedes comes_after comes_after_is xs ys
+    AreFrom (n + 1) ys → Precedes comes_after comes_after_is xs ys
 precedes-at n [] ys p h = tt
 precedes-at n (x ∷ xs) ys p h = (none_before-from n x ys p.1 h, precedes-at n xs ys p.2 h)
 

@@ -25,9 +25,10 @@ any-at : (test : ℕ → Bool) (met : List ℕ) (number : ℕ) (left : List ℕ)
     → list_any test (met ++ number ∷ left) ≡ true
 any-at test met number left is = list_any-append test met (number ∷ left) ∙ rw (is, or-true) refl
 
-get-at : (met : List ℕ) (number : ℕ) (left : List ℕ) → slice_get (met ++ number ∷ left) (length met) ≡ Some number
-get-at [] number left = refl
-get-at (x ∷ xs) number left = get-at xs number left
+get-at : (met : List ℕ) (number : ℕ) (left : List ℕ) (at : ℕ) → length met ≡ at
+    → slice_get (met ++ number ∷ left) at ≡ Some number
+get-at [] number left at e = rw (← e) refl
+get-at (x ∷ xs) number left at e = rw (← e) (get-at xs number left _ refl)
 
 fall-at : (low number : ℕ) (numbers : List ℕ) (n : ℕ) → NeverFallFrom low numbers → slice_get numbers n ≡ Some number
     → low ≤ number
@@ -88,15 +89,12 @@ module _ {L : Type 0} (answers : L → List Finding → Option ℕ → L → Typ
       → Watches answers start now whole met (number ∷ left) watch → is_past watch.stop number ≡ false → 0 < watch.left
       → Watches answers start now whole (met ++ number ∷ []) left (record watch { left = watch.left - 1 })
   steps now met number left watch w within some =
-      let same = append_assoc met (number ∷ []) left in
-      let one = length-append met (number ∷ []) in
-      let due = w.due in
-      record {
+      let same = append_assoc met (number ∷ []) left in record {
         asked = w.asked;
         looked = w.looked;
         count = w.count;
         last = w.last;
-        due = omega arith;
+        due = omega (arith, w.due, length-append met (number ∷ []));
         rise = subst (NeverFallFrom 0) (sym same) w.rise;
         within = any-on (is_past watch.stop) met number w.within within;
         in_time = subst (λ l. (rest : List Asked) → LooksOn l whole watch.looks watch.stop rest
@@ -110,41 +108,34 @@ module _ {L : Type 0} (answers : L → List Finding → Option ℕ → L → Typ
       → Watches answers start after whole met (number ∷ left)
       (record { stop = stop; looks = watch.looks + 1; left = 256 })
   asks now after met number left watch stop w within none answered goes =
-      let one : Asked = record { handed = found_before number whole; answer = stop } in
-      let due = w.due in
-      let at : length met ≡ steps_between * watch.looks = omega arith in
-      let there : slice_get (met ++ number ∷ left) (steps_between * watch.looks) ≡ Some number =
-      rw (← at) (get-at met number left) in
-      record {
+      let one : Asked = record { handed = found_before number whole; answer = stop } in record {
         asked = w.asked ++ one ∷ [];
         looked = looked-on answers start now after w.asked one w.looked answered;
         count = length-append w.asked (one ∷ []) ∙ ap (λ n. n + 1) w.count;
         last = last-on None w.asked one;
-        due = omega arith;
+        due = omega (arith, w.due);
         rise = w.rise;
         within = (none-past stop 0 met number left w.rise goes).1;
         in_time = λ rest on. subst (LooksInTime (met ++ number ∷ left) whole)
-            (sym (append_assoc w.asked (one ∷ []) rest))
-            (w.in_time (one ∷ rest) (number, there, within, refl, on));
+            (sym (append_assoc w.asked (one ∷ []) rest)) (w.in_time (one ∷ rest)
+            (number, get-at met number left _ (omega (arith, w.due)), within, refl, on));
       }
 
   -- the step lies past the last answer
   pub stops : (now : L) (met : List ℕ) (number : ℕ) (left : List ℕ) (watch : Watch)
       → Watches answers start now whole met (number ∷ left) watch → is_past watch.stop number ≡ true
       → IsStopped answers start now whole (met ++ number ∷ left) number watch
-  stops now met number left watch w past =
-      let due = w.due in
-      record {
-        asked = w.asked;
-        looked = w.looked;
-        count = w.count;
-        last = w.last;
-        past = past;
-        any = any-at (is_past watch.stop) met number left past;
-        in_time = subst (LooksInTime (met ++ number ∷ left) whole) (append-nil w.asked)
-            (w.in_time [] (λ later is. get-later watch.stop 0 met number left (steps_between * watch.looks) later
-            w.rise past (omega arith) is));
-      }
+  stops now met number left watch w past = record {
+    asked = w.asked;
+    looked = w.looked;
+    count = w.count;
+    last = w.last;
+    past = past;
+    any = any-at (is_past watch.stop) met number left past;
+    in_time = subst (LooksInTime (met ++ number ∷ left) whole) (append-nil w.asked)
+        (w.in_time [] (λ later is. get-later watch.stop 0 met number left (steps_between * watch.looks) later
+        w.rise past (omega (arith, w.due)) is));
+  }
 
   -- the step lies past what a look before it answers
   pub asks-stops : (now after : L) (met : List ℕ) (number : ℕ) (left : List ℕ) (watch : Watch) (stop : Option ℕ)
@@ -153,12 +144,7 @@ module _ {L : Type 0} (answers : L → List Finding → Option ℕ → L → Typ
       → IsStopped answers start after whole (met ++ number ∷ left) number
       (record { stop = stop; looks = watch.looks + 1; left = 256 })
   asks-stops now after met number left watch stop w within none answered past =
-      let one : Asked = record { handed = found_before number whole; answer = stop } in
-      let due = w.due in
-      let at : length met ≡ steps_between * watch.looks = omega arith in
-      let there : slice_get (met ++ number ∷ left) (steps_between * watch.looks) ≡ Some number =
-      rw (← at) (get-at met number left) in
-      record {
+      let one : Asked = record { handed = found_before number whole; answer = stop } in record {
         asked = w.asked ++ one ∷ [];
         looked = looked-on answers start now after w.asked one w.looked answered;
         count = length-append w.asked (one ∷ []) ∙ ap (λ n. n + 1) w.count;
@@ -167,32 +153,28 @@ module _ {L : Type 0} (answers : L → List Finding → Option ℕ → L → Typ
         any = any-at (is_past stop) met number left past;
         in_time = w.in_time (one ∷ []) (
           number,
-          there,
+          get-at met number left _ (omega (arith, w.due)),
           within,
           refl,
           λ later is.
-              get-later stop 0 met number left (steps_between * (watch.looks + 1)) later w.rise past (omega arith) is,
+              get-later stop 0 met number left _ later w.rise past (omega (arith, w.due)) is,
         );
       }
 
   -- a run that met all its steps is whole
   pub ends : (now : L) (met : List ℕ) (watch : Watch) → Watches answers start now whole met [] watch
       → IsRun answers start now met whole whole None watch.stop watch.looks
-  ends now met watch w =
-      let due = w.due in
-      record {
-        asked = w.asked;
-        looked = w.looked;
-        in_time = subst (λ l. LooksInTime l whole w.asked) (append-nil met)
-            (subst (LooksInTime (met ++ []) whole) (append-nil w.asked)
-            (w.in_time [] (λ number is.
-            let below = slice_get_within (met ++ []) (steps_between * watch.looks) number is in
-            let size = length-append met [] in absurd (omega arith))));
-        count = w.count;
-        last = w.last;
-        goes = rw (w.within) refl;
-        found = refl;
-      }
+  ends now met watch w = record {
+    asked = w.asked;
+    looked = w.looked;
+    in_time = subst (λ l. LooksInTime l whole w.asked) (append-nil met)
+        (subst (LooksInTime (met ++ []) whole) (append-nil w.asked) (w.in_time [] (λ number is.
+        absurd (omega (arith, w.due, slice_get_within (met ++ []) _ number is, length-append met [])))));
+    count = w.count;
+    last = w.last;
+    goes = rw (w.within) refl;
+    found = refl;
+  }
 
   -- a run that stopped goes up to the last answer
   pub is-cut : (now : L) (numbers : List ℕ) (number : ℕ) (watch : Watch) (kept : List Finding)
