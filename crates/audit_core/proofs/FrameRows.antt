@@ -119,8 +119,7 @@ module _ (frame : Frame) (h : IsInRange frame) where
       (opening_order_said now.opened (record { frame = frame; opens = opens; change = change }))
       (promise_order_said now.promised frame))) (rows-length limit
       ⊕ row-say frame.side Any frame.number frame.stream h.stream tt K.Push frame.side 7 8 _ _ (omega arith)
-      (λ e. grind arith)
-      ⊕ rows-order now.opened now.promised opens change)
+      (λ e. grind arith) ⊕ rows-order now.opened now.promised opens change)
       ⊕ (rows-connection_window Client now.credit.client ⊕ rows-connection_window Server now.credit.server)
 
 -- what is said of a stream
@@ -186,7 +185,6 @@ module _ (state : PassState) (frame : Frame) where
 pub rows-at : (streams : List ℕ) (state : PassState) (frame : Frame) → AreStreams streams → EachPair ◌≢◌ streams →
     IsInRange frame → AreRows frame.side Any 0 36 (rows_of streams state frame)
 rows-at streams state frame small distinct h =
-    rows-local frame h (side_of frame.side state.previous)
-    ⊕ said frame h K.UnmatchedAck 5 6 _ _ refl refl
+    rows-local frame h (side_of frame.side state.previous) ⊕ said frame h K.UnmatchedAck 5 6 _ _ refl refl
     ⊕ rows-connection frame h state.connection (opens_stream state frame) (change_of state.in_force frame)
     ⊕ rows-streams state frame Any streams small distinct (each-weaker _ Any (λ s k. tt) streams small)

@@ -78,9 +78,8 @@ sending-from : (d : Side) (stream : ℕ) (state : PassState) (frames : List Fram
     Sending d stream (state.streams stream) → Sending d stream ((state_from state frames).streams stream)
 sending-from d stream state [] h = h
 sending-from d stream state (frame ∷ frames) h =
-    sending-from d stream (next state frame) frames
-    (sending-after stream state.in_force.initial frame.number (change_of state.in_force frame) (state.streams stream) d
-    (if meets stream frame then Some frame else None) h)
+    sending-from d stream (next state frame) frames (sending-after stream state.in_force.initial frame.number
+    (change_of state.in_force frame) (state.streams stream) d (if meets stream frame then Some frame else None) h)
 
 sending-start : (d : Side) (stream : ℕ) → Sending d stream (pass_start.streams stream)
 sending-start d stream = record { idle = grind arith; live = grind arith }

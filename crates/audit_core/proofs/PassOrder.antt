@@ -23,10 +23,8 @@ at-streams (stream ∷ streams) state frame h =
 -- what is said at a frame, before it is put in order
 abbrev pub rows_of : List ℕ → PassState → Frame → List Finding
 rows_of streams state frame =
-    local_said (side_of frame.side state.previous) frame
-    ++ settings_said state.in_force frame
-    ++ connection_said state.connection (item_of state frame)
-    ++ streams_said streams state frame
+    local_said (side_of frame.side state.previous) frame ++ settings_said state.in_force frame
+    ++ connection_said state.connection (item_of state frame) ++ streams_said streams state frame
 
 -- what is said at a frame has its number
 pub at-said : (streams : List ℕ) (state : PassState) (frame : Frame) → AreStreams streams → IsInRange frame →
@@ -41,8 +39,7 @@ pub from-full_from : (streams : List ℕ) (state : PassState) (low : ℕ) (frame
     IsOrderlyFrom low frames → AreFrom low (full_from streams state frames)
 from-full_from streams state low [] small h = tt
 from-full_from streams state low (frame ∷ frames) small h =
-    from-append low (said streams state frame) (full_from streams (next state frame) frames)
-    (from-at low frame.number _ h.0 (at-said streams state frame small h.1).within)
+    from-append low _ _ (from-at low frame.number _ h.0 (at-said streams state frame small h.1).within)
     (from-from low (frame.number + 1) _ (omega arith)
     (from-full_from streams (next state frame) (frame.number + 1) frames small h.2))
 

@@ -113,6 +113,5 @@ steps_of-steps_from low stream now (frame ∷ frames) h =
           let alone : (change : Change) → change.number ≡ frame.number
           → with_change (steps_of own changes) change ≡ change_step change ∷ steps_of own changes =
           λ change e. with_change-first (steps_of own changes) change
-          (all-steps (λ step. change.number + 1 ≤ step.number) (λ change step e n m. m) own changes
-          (rw e p) (rw e q)) in
+          (all-steps (λ step. change.number + 1 ≤ step.number) (λ _ _ e n m. m) own changes (rw e p) (rw e q)) in
           grind (arith, nat_tests)

@@ -9,10 +9,6 @@ loop-frame-init c =
     rw (c.start-connection.ensures, c.in_ok-rows.ensures, c.new-found.ensures.items)
     (pass-begins c.args.frames.now _ c.requires c.in_ok-pairs.ensures.changes)
 
-pub say_alone-requires : goal.say_alone-requires
-say_alone-requires c =
-    (rw (drop-at c.args.frames.now _ _ c.frame-item.is c.loop-frame-test.true) at c.loop-frame.invariant).orderly.1
-
 pub say_connection-requires : goal.say_connection-requires
 say_connection-requires c =
     let at = rw (drop-at c.args.frames.now _ _ c.frame-item.is c.loop-frame-test.true) at c.loop-frame.invariant in

@@ -1,4 +1,4 @@
-use Rattle.std.proofs.{Common.append_assoc, Common.arith, Common.◌∙◌, lemmas.Result.on_ok_weaker}
+use Rattle.std.proofs.{Common.arith, lemmas.Result.on_ok_weaker}
 use Rattle.audit_core.proofs.rows.+meet_all.Goals as goal
 
 pub say_stream-requires-clause-acknowledged : goal.say_stream-requires-clause-acknowledged
@@ -11,13 +11,3 @@ returns-clause-fits t c =
     let told = c.in_ok-say_stream.ensures in
     (grind (arith, all.0, told.client bound, told.server bound), others bound all.1))
     c.meet_all.ensures.fits
-
-pub returns-clause-said : goal.returns-clause-said
-returns-clause-said t c =
-    on_ok_weaker c.meet_all.result (λ others. others ∙ rw (
-      c.in_ok-say_stream.ensures.said,
-      c.in-Some.ensures.cases.0,
-      c.step_at-step.ensures,
-      append_assoc,
-    ))
-    c.meet_all.ensures.said
