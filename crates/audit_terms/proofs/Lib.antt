@@ -1,7 +1,6 @@
 pub mod OrderedLists
 pub mod FindingOrder
 pub mod UptoStop
-pub mod PlaceOrder
 pub mod Bounds
 pub mod Watching
 pub mod FindingLists

@@ -156,8 +156,7 @@ module _ {L : Type 0} (answers : L → List Finding → Option ℕ → L → Typ
           get-at met number left _ (omega (arith, w.due)),
           within,
           refl,
-          λ later is.
-              get-later stop 0 met number left _ later w.rise past (omega (arith, w.due)) is,
+          λ later is. get-later stop 0 met number left _ later w.rise past (omega (arith, w.due)) is,
         );
       }
 
