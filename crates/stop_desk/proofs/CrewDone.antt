@@ -129,8 +129,7 @@ module _ {M : Type 0} (makes : ℕ → Option ℕ → M → Type 0) (jobs : List
       one_part_each = one-each;
       parts_of_jobs = parts-are;
       lowered_real = h.0.lowered_real;
-      seen_given = λ c p k.
-          given-there c p (h.0.seen_there c p k) (s.given c p (contains-marks c p last.seen k));
+      seen_given = λ c p k. given-there c p (h.0.seen_there c p k) (s.given c p (contains-marks c p last.seen k));
       stops_least = least;
     };
     made = λ part k. (let l = h.0.laid part k in (l.in_round, l.made));

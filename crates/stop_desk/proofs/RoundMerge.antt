@@ -36,12 +36,10 @@ pub leaves-both : {IsOut : Finding → Type 0} (kept whole kept' whole' : List F
 leaves-both kept whole kept' whole' h k = record {
   left_out = h.left_out ++ k.left_out;
   together =
-      ap in_order (append_assoc kept kept' (h.left_out ++ k.left_out))
-      ∙ in_order-alike kept kept _ _ refl (swap-front kept' h.left_out k.left_out)
+      ap in_order (append_assoc kept kept' _) ∙ in_order-alike kept kept _ _ refl (swap-front kept' h.left_out _)
       ∙ ap in_order (sym (append_assoc kept h.left_out (kept' ++ k.left_out)))
       ∙ in_order-alike (kept ++ h.left_out) whole (kept' ++ k.left_out) whole' h.together k.together;
-  beyond = λ found c.
-      ⊎_elim (h.beyond found) (k.beyond found) (Contains-append_cases h.left_out k.left_out found c);
+  beyond = λ found c. ⊎_elim (h.beyond found) (k.beyond found) (Contains-append_cases h.left_out k.left_out found c);
 }
 
 -- what a part and a job have of a connection

@@ -205,9 +205,8 @@ module _ {M : Type 0} (makes : ℕ → Option ℕ → M → Type 0) (jobs : List
             drawn = λ job l. (let more = parts_of-append job parts (part ∷ []) in
                 let one = count-cons (λ (p : BoardPart). p.job == job) (part_of part) [] in
                 grind (arith, nat_tests, after-times job, h.drawn job l, number));
-            laid = λ other k. ⊎_elim
-                (λ old. laid-grows goes.seen_kept goes.lowered_kept (rw draws.added (h.laid other old)))
-                (λ new. rw new at laid) (Contains-push_cases parts part other k);
+            laid = λ other k. ⊎_elim (λ old. laid-grows goes.seen_kept goes.lowered_kept
+                (rw draws.added (h.laid other old))) (λ new. rw new at laid) (Contains-push_cases parts part other k);
             seen_there = λ c p k. ⊎_elim (λ old. h.seen_there c p (rw draws.added at old))
                 (λ there. rw (draws.added, h.desk_is) at there) (goes.seen_there c p k);
             lowered_real = λ c p k. ⊎_elim (λ old. h.lowered_real c p (rw draws.added at old)) (λ real. real)
@@ -246,10 +245,8 @@ module _ {M : Type 0} (makes : ℕ → Option ℕ → M → Type 0) (jobs : List
             | inr k ↦ laid-grows (λ c p. Contains-append_right mine.seen theirs.seen (c, p))
                 (λ c p. Contains-append_right mine.lowered theirs.lowered (c, p)) (v.laid part k)
           ];
-          seen_there = λ c p l. ⊎_elim (w.seen_there c p) (v.seen_there c p)
-              (Contains-append_cases mine.seen theirs.seen (c, p) l);
-          lowered_real = λ c p l. ⊎_elim (w.lowered_real c p) (v.lowered_real c p)
-              (Contains-append_cases mine.lowered theirs.lowered (c, p) l);
+          seen_there = λ c p l. ⊎_elim (w.seen_there c p) (v.seen_there c p) (Contains-append_cases _ _ (c, p) l);
+          lowered_real = λ c p l. ⊎_elim (w.lowered_real c p) (v.lowered_real c p) (Contains-append_cases _ _ (c, p) l);
         },
         (n, past, omega (arith, weigh-append (is_number n) mine.drawn theirs.drawn)),
       )

@@ -5,9 +5,7 @@ use Rattle.stop_desk.proofs.crews.+fn-fork-join+arg2+fn-fork-join+arg3+fork.Goal
 -- two groups of workers are all workers
 both-groups : (half workers each : ℕ) → half ≤ workers → half * each + (workers - half) * each ≡ workers * each
 both-groups half workers each le =
-    let all : workers ≡ half + (workers - half) = omega arith in
-    let whole = ap (λ n. n * each) all in
-    omega arith
+    let all : workers ≡ half + (workers - half) = omega arith in omega (arith, ap (λ n. n * each) all)
 
 pub together-requires-clause-mine : goal.together-requires-clause-mine
 together-requires-clause-mine g t c =
@@ -26,8 +24,7 @@ returns g t c =
     IfOk-weaker c.together.result _ _ (λ r is. rw (sym (both-groups half c.args.workers each (omega arith)))
     (worked-together (g.P.Round.makes shift.plan.now) (g.P.Round.jobs shift.plan.now) shift.round shift.desk.now.id
     (half * each) (rest * each) c.join-mine.result.0 c.join-mine.result.1 r.0.items r.1 c.join-mine.ensures.first
-    c.join-mine.ensures.second is))
-    c.together.ensures
+    c.join-mine.ensures.second is)) c.together.ensures
 
 pub join+arg2-fork-requires : goal.join+arg2-fork-requires
 join+arg2-fork-requires g t c = λ κs (rt, (gate, (plan, made))).
