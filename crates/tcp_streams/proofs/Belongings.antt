@@ -1,17 +1,14 @@
 -- Segments with their openings, as the definition folds them, beside what the past shows.
 use Rattle.tcp_streams.proofs.Words.{◌≡◌, ◌&&◌, not, List, [], ◌∷◌, Option, None, Some, refl, sym, ◌∙◌, arith, ap}
 use Rattle.tcp_streams.proofs.Words.{filter, map, if◌then◌else◌, list_any, filter_map, Packet, Carried, Segment}
-use Rattle.tcp_streams.proofs.Words.{is_request, segment_in, is_same_pair, is_of, pair_of, Membership, Connection}
-use Rattle.std.proofs.Common.{ap₂}
-use Rattle.std.specs.List.{AllZip}
-use Rattle.std.specs.Prelude.{fold}
-use Rattle.packet_heads.specs.declared.packets.Packet.TheVariants.{Skipped, Refused}
 use Rattle.tcp_streams.specs.Membership.{AreConnections, Belonging, IsConnectionOf, belongings, first_strays}
 use Rattle.tcp_streams.specs.Membership.{last_opening, members, openings, opens, stray_of, strays, strays_of}
-use Rattle.tcp_streams.specs.Membership.{with_segment}
-use Rattle.tcp_streams.specs.code.Past as past_words
-use Rattle.tcp_streams.proofs.Lists.{by_Bool}
+use Rattle.tcp_streams.proofs.Words.{is_request, segment_in, is_same_pair, is_of, pair_of, Membership, Connection}
+use Rattle.tcp_streams.{specs.Membership.with_segment, proofs.Lists.by_Bool}
 use Rattle.tcp_streams.proofs.Pairs.{is_pair-same, same-pair}
+use Rattle.std.{proofs.Common.ap₂, specs.List.AllZip, specs.Prelude.fold}
+use Rattle.packet_heads.specs.declared.packets.Packet.TheVariants.{Skipped, Refused}
+use Rattle.tcp_streams.specs.code.Past as past_words
 
 -- the past's segments with their openings
 abbrev belong : List Segment → List Belonging

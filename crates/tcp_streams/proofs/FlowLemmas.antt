@@ -6,13 +6,11 @@ use Rattle.tcp_streams.proofs.Words.{segment_of, payload_length, AreMembers, pay
 use Rattle.tcp_streams.proofs.Words.{ap, map, if◌then◌else◌, option_to_list, nat_tests, append-nil, true, append_assoc}
 use Rattle.tcp_streams.proofs.Words.{map-append, AreNumberedFrom, is_opening, with_if, members, opening_at, openings}
 use Rattle.tcp_streams.proofs.Words.{Membership, membership, connection_of, connections_of, past_after, past_of, Falls}
-use Rattle.std.specs.Prelude.{sum_by}
-use Rattle.std.proofs.lemmas.List.Filters.{sum_by-filter_both}
-use Rattle.std.proofs.lemmas.List.Folds.{fold-map}
-use Rattle.std.proofs.lemmas.List.Sums.{sum_by_push}
 use Rattle.tcp_streams.proofs.Lists.{by_option, slice_get-drop}
 use Rattle.tcp_streams.proofs.Numbered.{Falls-past_after, Known, Known-past_of, recs}
 use Rattle.tcp_streams.proofs.PieceLemmas.{PayloadsRise-end, found-at, rise-drop}
+use Rattle.std.specs.Prelude.{sum_by}
+use Rattle.std.proofs.lemmas.List.{Filters.sum_by-filter_both, Folds.fold-map, Sums.sum_by_push}
 
 -- the payloads of rising members lie apart
 members-fit : (packets : List Packet) (done from size : ℕ) (members : List ℕ)
@@ -43,11 +41,8 @@ pub sides-fit : (packets : List Packet) (size : ℕ) (connection : Connection) �
     → payload_sum (side_segments packets connection Client) + payload_sum
     (side_segments packets connection Server) ≤ size
 sides-fit packets size connection rise members =
-    omega (
-      arith,
-      sides-sum connection (segments_of packets connection.members.items),
-      members-fit packets 0 0 size connection.members.items rise members,
-    )
+    let sum = sides-sum connection (segments_of packets connection.members.items) in
+    omega (arith, sum, members-fit packets 0 0 size connection.members.items rise members)
 
 pub side-fits : (packets : List Packet) (size : ℕ) (connection : Connection) (side : Side) → PayloadsRise 0 size packets
     → AreMembers 0 packets connection.members.items
@@ -113,15 +108,11 @@ members-sum n all f [] = omega (arith, share-none 0 (openings all))
 members-sum n all f (s ∷ past) =
     let before = λ (o : Segment). payload_sum (members o past) in
     let own = share (opening_at s past) (payload_length s) in
-    omega (
-      arith,
-      sum-agree (λ (o : Segment). payload_sum (members o (s ∷ past))) (λ o. before o + own o) (openings all)
-          (λ o. payload-push (is_opening o (opening_at s past)) (members o past) s),
-      sum-plus before own (openings all),
-      share-most (opening_at s past) (payload_length s) n all f,
-      sum_by-cons payload_length s past,
-      members-sum n all f past,
-    )
+    let pushed = sum-agree (λ (o : Segment). payload_sum (members o (s ∷ past))) (λ o. before o + own o) (openings all)
+    (λ o. payload-push (is_opening o (opening_at s past)) (members o past) s) in
+    let most = share-most (opening_at s past) (payload_length s) n all f in
+    let both = sum-plus before own (openings all) in
+    omega (arith, pushed, both, most, sum_by-cons payload_length s past, members-sum n all f past)
 
 -- the segments that an opening's members name are these
 segments-push : (packets : List Packet) (xs : List ℕ) (m : ℕ) → segments_of packets (xs ++ m ∷ [])
@@ -133,12 +124,9 @@ segments-push packets (x ∷ xs) m =
 members-named : (packets : List Packet) (o : Segment) (past : List Segment) → Known packets past
     → segments_of packets (recs (members o past)) ≡ members o past
 members-named packets o [] k = refl
-members-named packets o (s ∷ past) k = grind (
-  arith,
-  map-append (λ (t : Segment). t.rec) (members o past) (s ∷ []),
-  segments-push packets (recs (members o past)) s.rec,
-  members-named packets o past k.2,
-)
+members-named packets o (s ∷ past) k =
+    let grown = map-append (λ (t : Segment). t.rec) (members o past) (s ∷ []) in
+    grind (arith, grown, segments-push packets (recs (members o past)) s.rec, members-named packets o past k.2)
 
 -- all flows together
 pub flows-fit : (packets : List Packet) (size : ℕ) (found : List Connection) → AreNumberedFrom 1 packets
@@ -154,12 +142,7 @@ flows-fit packets size found numbered rise same =
     let defined = sum-map payload (connection_of past) (openings past) in
     let named = sum-agree (λ o. payload (connection_of past o)) (λ o. payload_sum (members o past)) (openings past)
     (λ o. ap payload_sum (members-named packets o past (Known-past_of packets numbered))) in
-    omega (
-      arith,
-      sides,
-      ap (sum_by payload) same,
-      members-sum _ past (Falls-past_after 1 [] packets numbered tt) past,
-      past-sum 0 size [] packets rise,
-    )
+    let falls = members-sum _ past (Falls-past_after 1 [] packets numbered tt) past in
+    omega (arith, sides, ap (sum_by payload) same, falls, past-sum 0 size [] packets rise)
 
 pub ruleset laws = (sides-fit)

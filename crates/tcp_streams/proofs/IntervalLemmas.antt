@@ -4,10 +4,8 @@ use Rattle.tcp_streams.proofs.Words.{◌+◌, ◌-◌, ◌^◌, ◌++◌, length
 use Rattle.tcp_streams.proofs.Words.{take-append-drop, All-head, All-tail, sum_by-cons, end_of_offsets, IsInterval}
 use Rattle.tcp_streams.proofs.Words.{Spans, at, size_of, source_in, width, clipped, lie_apart, overlay, Interval}
 use Rattle.tcp_streams.proofs.Words.{if◌then◌else◌, nat_lt, ◌&&◌, IsSome, false≢true}
-use Rattle.std.specs.Prelude.{nat_le}
-use Rattle.std.proofs.Common.{min, max}
-use Rattle.tcp_streams.specs.code.Interval.{AreSetApart}
-use Rattle.tcp_streams.proofs.Lists.{by_lt}
+use Rattle.tcp_streams.{specs.code.Interval.AreSetApart, proofs.Lists.by_lt}
+use Rattle.std.{specs.Prelude.nat_le, proofs.Common.min, proofs.Common.max}
 
 -- what stands where no interval does
 abbrev pub no_interval : Interval
@@ -54,15 +52,6 @@ clipped-beyond low high a b [] le h = refl
 clipped-beyond low high a b (y ∷ ys) le h =
     grind (arith, nat_tests, clipped-beyond low high y.upto b ys (omega (arith, h.0, h.1.some)) h.2)
 
--- the part of the first, and then those of the others; of one that is passed there is none
-pub clipped-cons : (low high : ℕ) (y : Interval) (ys : List Interval)
-    → clipped low high (y ∷ ys) ≡ clipped low high (y ∷ []) ++ clipped low high ys
-clipped-cons low high y ys = grind arith
-
-pub clipped-passed : (low high : ℕ) (y : Interval) (ys : List Interval) → y.upto ≤ low
-    → clipped low high (y ∷ ys) ≡ clipped low high ys
-clipped-passed low high y ys le = grind (arith, nat_tests)
-
 -- where an interval passes the end, those after it have no part
 pub clipped-last : (low high a b : ℕ) (ys : List Interval) (k : ℕ) (d : Interval) → k < length ys
     → high < (get_or ys k d).upto → Spans a ys b
@@ -105,13 +94,7 @@ overlay-before : (low : ℕ) (kept later : List Interval) (o : ℕ) → Spans lo
     → at (overlay kept later low) o ≡ None
 overlay-before low [] later o h lt = grind (arith, nat_tests, at-clipped low end_of_offsets later o)
 overlay-before low (x ∷ kept) later o h lt =
-    grind (
-      arith,
-      nat_tests,
-      at-append (clipped low x.from later) (x ∷ overlay kept later x.upto) o,
-      at-clipped low x.from later o,
-      overlay-before x.upto kept later o h.2 (omega (arith, h.0, h.1.some)),
-    )
+    grind (arith, nat_tests, at-append, at-clipped, overlay-before x.upto kept later o h.2)
 
 -- from low on, the first of the two brings the byte, and the second where the first has none
 at-overlay : (low : ℕ) (kept later : List Interval) (o : ℕ) → Spans low kept end_of_offsets → low ≤ o
@@ -119,15 +102,9 @@ at-overlay : (low : ℕ) (kept later : List Interval) (o : ℕ) → Spans low ke
     → at (overlay kept later low) o ≡ option_or (at kept o) (at later o)
 at-overlay low [] later o h a b = grind (arith, nat_tests, at-clipped low end_of_offsets later o)
 at-overlay low (x ∷ kept) later o h a b =
-    grind (
-      arith,
-      nat_tests,
-      at-append (clipped low x.from later) (x ∷ overlay kept later x.upto) o,
-      at-clipped low x.from later o,
-      overlay-before x.upto kept later o h.2,
-      (λ (lt : o < x.upto). Spans-before x.upto end_of_offsets kept o lt h.2),
-      (λ (le : x.upto ≤ o). at-overlay x.upto kept later o h.2 le b),
-    )
+    let before = λ (lt : o < x.upto). Spans-before x.upto end_of_offsets kept o lt h.2 in
+    let later_on = λ (le : x.upto ≤ o). at-overlay x.upto kept later o h.2 le b in
+    grind (arith, nat_tests, at-append, at-clipped, overlay-before x.upto kept later o h.2, before, later_on)
 
 -- how many offsets below n the intervals hold, each counted as often as it is held
 abbrev below : ℕ → List Interval → ℕ

@@ -1,16 +1,13 @@
 -- Cases of a test; lists by index, and lists to which one may be added.
 use Rattle.tcp_streams.proofs.Words.{◌≡◌, ℕ, ◌<◌, ◌≤◌, Bool, true, false, List, [], ◌∷◌, Option, None, Some, refl, sym}
-use Rattle.tcp_streams.proofs.Words.{◌∙◌, arith, ◌+◌, ◌-◌, ◌++◌, length, drop, slice_get, ap, get_or, ◌⊎◌, map}
-use Rattle.tcp_streams.proofs.Words.{set, inl, inr, All, nat_lt, AllPairs, list_any, slice_range, lt-ltb, le-ltb}
+use Rattle.tcp_streams.proofs.Words.{◌∙◌, arith, ◌+◌, ◌-◌, ◌++◌, length, drop, slice_get, ap, get_or, ◌⊎◌, map, set}
+use Rattle.tcp_streams.proofs.Words.{inl, inr, All, nat_lt, AllPairs, list_any, slice_range, lt-ltb, le-ltb}
 use Rattle.tcp_streams.proofs.Words.{common_steps, get_or-map, length-map, map-append, length-take-le, All-head}
 use Rattle.tcp_streams.proofs.Words.{All-tail, All-push, list_any-append, get_or_from_slice_get, slice_get_within}
 use Rattle.tcp_streams.proofs.Words.{Segment, with_if, take, filter_map, filter_map-append, option_to_list}
-use Rattle.std.proofs.Common.{◌≢◌}
+use Rattle.std.proofs.{Common.◌≢◌, lemmas.Bool.cases_lt, lemmas.List.Quantifiers.all_pairs_push, lemmas.Option.gets}
 use Rattle.std.specs.Prelude.{Result, Ok, Err, OnOk}
-use Rattle.std.proofs.lemmas.Bool.{cases_lt}
 use Rattle.std.proofs.lemmas.List.{length-drop, get_or-set_other, get_or-set_same, length-set, same_lists, take_more}
-use Rattle.std.proofs.lemmas.List.Quantifiers.{all_pairs_push}
-use Rattle.std.proofs.lemmas.Option.{gets}
 
 -- a goal, by whether one number is below another
 pub by_lt : {G : Type 0} (a b : ℕ) → (nat_lt a b ≡ true → a < b → G) → (nat_lt a b ≡ false → b ≤ a → G) → G

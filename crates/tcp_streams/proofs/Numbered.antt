@@ -1,17 +1,15 @@
 -- On packets that are numbered by their records: what their past is, and that members name segments.
 use Rattle.tcp_streams.proofs.Words.{◌≡◌, ℕ, ◌<◌, ◌≤◌, List, [], ◌∷◌, Some, refl, sym, ◌∙◌, arith, zero, suc, ◌+◌, ◌-◌}
 use Rattle.tcp_streams.proofs.Words.{◌++◌, length, drop, take, slice_get, ap, IsSome, get_or, map, All, common_steps}
-use Rattle.tcp_streams.proofs.Words.{get_or-map, length-map, map-append, drop-drop, All-nil, All-weaker}
-use Rattle.tcp_streams.proofs.Words.{All-head, All-tail, All-push, none-some, AreNumberedFrom, Packet, Carried, Segment}
+use Rattle.tcp_streams.proofs.Words.{get_or-map, length-map, map-append, drop-drop, All-nil, All-weaker, All-head}
+use Rattle.tcp_streams.proofs.Words.{All-tail, All-push, none-some, AreNumberedFrom, Packet, Carried, Segment}
 use Rattle.tcp_streams.proofs.Words.{is_opening, segment_of, AreMembers, members, opening_at, openings, Membership}
 use Rattle.tcp_streams.proofs.Words.{membership, connection_of, connections_of, past_after, past_of, with_packet, Falls}
 use Rattle.tcp_streams.proofs.Words.{Connection, IfSome, get_or_from_slice_get, inl, inr, slice_get_within}
-use Rattle.std.proofs.lemmas.List.{length-take, take_more}
-use Rattle.std.proofs.lemmas.List.Elements.{All-map}
+use Rattle.tcp_streams.proofs.{Lists.by_Bool, Past.Falls-weaker}
+use Rattle.std.proofs.lemmas.List.{length-take, take_more, Elements.All-map}
 use Rattle.std.proofs.lemmas.Option.{gets, slice_get_cases}
 use Rattle.packet_heads.specs.code.Standing.{IsPassedOver}
-use Rattle.tcp_streams.proofs.Lists.{by_Bool}
-use Rattle.tcp_streams.proofs.Past.{Falls-weaker}
 
 past_after-push : (past : List Segment) (xs : List Packet) (p : Packet) → past_after past (xs ++ p ∷ []) ≡ with_packet
     (past_after past xs) p

@@ -1,20 +1,16 @@
 -- On the pieces of a side's segments: they bring what the segments bring.
-use Rattle.tcp_streams.proofs.Words.{◌≡◌, ℕ, ◌<◌, ◌≤◌, List, [], ◌∷◌, Option, None, Some, refl, sym, ◌∙◌, arith}
-use Rattle.tcp_streams.proofs.Words.{zero, suc, ◌+◌, ◌-◌, ◌^◌, slice_get, ◌%◌, filter, drop}
-use Rattle.tcp_streams.proofs.Words.{if◌then◌else◌, All, IfSome, nat_lt, option_and_then, filter_map, option_or}
-use Rattle.tcp_streams.proofs.Words.{option_to_list, lt-ltb, nat_tests, All-nil, All-cons, sum_by-cons, IfSome_then}
-use Rattle.tcp_streams.proofs.Words.{none-some, Side, AreNumberedFrom, PayloadsRise, TimesFit, Packet, Carried, Segment}
-use Rattle.tcp_streams.proofs.Words.{is_sent_by, segments_of, segment_in, segment_of, Source, end_of_offsets}
-use Rattle.tcp_streams.proofs.Words.{payload_length, source, IsInterval, IsCaptured, at, size_of, width, IsSame}
-use Rattle.tcp_streams.proofs.Words.{member_piece, piece, AreMembers, payload_sum, Interval, Connection}
-use Rattle.std.proofs.Common.{min}
-use Rattle.std.specs.List.{cons_option}
+use Rattle.tcp_streams.proofs.Words.{◌≡◌, ℕ, ◌<◌, ◌≤◌, List, [], ◌∷◌, Option, None, Some, refl, sym, ◌∙◌, arith, zero}
+use Rattle.tcp_streams.proofs.Words.{suc, ◌+◌, ◌-◌, ◌^◌, slice_get, ◌%◌, filter, drop, if◌then◌else◌, All, IfSome}
+use Rattle.tcp_streams.proofs.Words.{nat_lt, option_and_then, filter_map, option_or, option_to_list, lt-ltb, nat_tests}
+use Rattle.tcp_streams.proofs.Words.{All-nil, All-cons, sum_by-cons, IfSome_then, none-some, Side, AreNumberedFrom}
+use Rattle.tcp_streams.proofs.Words.{PayloadsRise, TimesFit, Packet, Carried, Segment, is_sent_by, segments_of}
+use Rattle.tcp_streams.proofs.Words.{segment_in, segment_of, Source, end_of_offsets, payload_length, source, IsInterval}
+use Rattle.tcp_streams.proofs.Words.{IsCaptured, at, size_of, width, IsSame, member_piece, piece, AreMembers}
+use Rattle.tcp_streams.proofs.Words.{payload_sum, Interval, Connection}
 use Rattle.tcp_streams.specs.Sequence.{brings, distance, earlier_of, modulus, start_of}
-use Rattle.tcp_streams.specs.code.Interval.{stretch}
-use Rattle.tcp_streams.specs.laws.Flows.{ByteHasOffset}
-use Rattle.tcp_streams.proofs.IntervalLemmas.{at-append}
-use Rattle.tcp_streams.proofs.Lists.{by_Bool, by_lt, by_option}
-use Rattle.tcp_streams.proofs.Numbered.{numbered_at}
+use Rattle.tcp_streams.{specs.code.Interval.stretch, specs.laws.Flows.ByteHasOffset, proofs.Numbered.numbered_at}
+use Rattle.tcp_streams.proofs.{IntervalLemmas.at-append, Lists.by_Bool, Lists.by_lt, Lists.by_option}
+use Rattle.std.{proofs.Common.min, specs.List.cons_option}
 
 -- a payload that stands in the capture
 pub record StandsIn (size : ℕ) (s : Segment) : Type 0 where

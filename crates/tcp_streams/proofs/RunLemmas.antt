@@ -7,9 +7,7 @@ use Rattle.tcp_streams.proofs.Words.{if◌then◌else◌, nat_lt, All-tail, Rise
 use Rattle.tcp_streams.proofs.Words.{Source, arrival, end_of_offsets, AreCaptured, IsInterval, IsCaptured, Spans}
 use Rattle.tcp_streams.proofs.Words.{arrival_with, arrivals_after, arrivals_in, at, bytes_in, run_length, source_in}
 use Rattle.tcp_streams.proofs.Words.{width, AreTimely, Interval, Arrival, Flow, IsSame, IsTrue, bytes_of}
-use Rattle.tcp_streams.specs.Sequence.{later_of}
-use Rattle.tcp_streams.specs.code.Assembled.{IsLaidOut}
-use Rattle.tcp_streams.specs.code.Interval.{IsInside}
+use Rattle.tcp_streams.specs.{Sequence.later_of, code.Assembled.IsLaidOut, code.Interval.IsInside}
 use Rattle.tcp_streams.proofs.IntervalLemmas.{Spans-before, at-append, at-in, at-past}
 use Rattle.tcp_streams.proofs.Lists.{by_lt, length-slice_range, slice_get-left, slice_get-right, slice_get-slice_range}
 
@@ -102,14 +100,10 @@ module _ (capture : List ℕ) where
   length-bytes_in : (low : ℕ) (run : List Interval) → Follows low run → All (IsHeld (length capture)) run
       → low + length (bytes_in capture run) ≡ run_end low run
   length-bytes_in low [] f h = omega arith
-  length-bytes_in low (x ∷ xs) f h = omega (
-    arith,
-    f.0,
-    f.1.some,
-    length-append (part capture x) (bytes_in capture xs),
-    length-part capture x (All-head (IsHeld (length capture)) x xs h).inside.captured,
-    length-bytes_in x.upto xs f.2 (All-tail (IsHeld (length capture)) x xs h),
-  )
+  length-bytes_in low (x ∷ xs) f h =
+      let here = length-part capture x (All-head (IsHeld (length capture)) x xs h).inside.captured in
+      let rest = length-bytes_in x.upto xs f.2 (All-tail (IsHeld (length capture)) x xs h) in
+      omega (arith, f.0, f.1.some, length-append (part capture x) (bytes_in capture xs), here, rest)
 
   -- each byte is the capture's at its index
   bytes-at : (low : ℕ) (run : List Interval) (o : ℕ) → Follows low run → All (IsHeld (length capture)) run
@@ -259,18 +253,9 @@ module _ (capture : List ℕ) (whole run rest : List Interval) (same : run ++ re
             → IsGap sources (run_end 0 run) (gap_of r (run_end 0 run))
         by [] leaves later = λ o lt counts. later o (omega arith) counts
         by (y ∷ ys) leaves later =
-            let counts : y.from < end_of_offsets = omega (arith, leaves.1.some, leaves.1.counts) in (
-              refl,
-              (
-                y.from,
-                leaves.0,
-                counts,
-                rw (
-                  later y.from (omega (arith, leaves.0)) counts,
-                  at-in y ys y.from (omega arith) leaves.1.some,
-                ) refl,
-              ),
-            )
+            let counts : y.from < end_of_offsets = omega (arith, leaves.1.some, leaves.1.counts) in
+            let here = later y.from (omega (arith, leaves.0)) counts in
+            (refl, (y.from, leaves.0, counts, rw (here, at-in y ys y.from (omega arith) leaves.1.some) refl))
 
     pub run-arrived : AreArrived sources 0 0 (length (bytes_in capture run)) (arrivals_in run)
     run-arrived = rw run-length (run-arrivals (length capture) sources run is.follows run-held in-run)

@@ -1,16 +1,13 @@
 -- On the pieces of a side: what lies apart and brings what they bring makes the side's flow, and so do pieces that
 -- follow each other, laid out as they come.
 use Rattle.tcp_streams.proofs.Words.{◌≡◌, ℕ, ◌<◌, ◌≤◌, List, [], ◌∷◌, None, Some, refl, sym, ◌∙◌, arith, ◌+◌, ◌-◌, ◌^◌}
-use Rattle.tcp_streams.proofs.Words.{◌++◌, length, ap, map, IfSome, IsTrue, slice_range, filter_map, lt-ltb}
-use Rattle.tcp_streams.proofs.Words.{append-nil, map-append, IfSome_then, Side, PayloadsRise, Packet, bytes_of}
-use Rattle.tcp_streams.proofs.Words.{is_sent_by, segment_of, side_segments, source, end_of_offsets, IsAssembled}
-use Rattle.tcp_streams.proofs.Words.{AreCaptured, IsInterval, IsSame, arrival_with, arrivals_after, arrivals_in, at}
-use Rattle.tcp_streams.proofs.Words.{bytes_in, width, member_piece, piece, Interval, Connection, Arrival, Flow}
-use Rattle.tcp_streams.specs.code.Assembled.{IsLaidOut, IsOfCapture}
-use Rattle.tcp_streams.specs.code.Interval.{IsInside}
-use Rattle.tcp_streams.proofs.FlowLemmas.{side-fits}
-use Rattle.tcp_streams.proofs.IntervalLemmas.{covered-fit}
-use Rattle.tcp_streams.proofs.Lists.{by_Bool, by_option}
+use Rattle.tcp_streams.proofs.Words.{◌++◌, length, ap, map, IfSome, IsTrue, slice_range, filter_map, lt-ltb, append-nil}
+use Rattle.tcp_streams.proofs.Words.{map-append, IfSome_then, Side, PayloadsRise, Packet, bytes_of, is_sent_by}
+use Rattle.tcp_streams.proofs.Words.{segment_of, side_segments, source, end_of_offsets, IsAssembled, AreCaptured}
+use Rattle.tcp_streams.proofs.Words.{IsInterval, IsSame, arrival_with, arrivals_after, arrivals_in, at, bytes_in, width}
+use Rattle.tcp_streams.proofs.Words.{member_piece, piece, Interval, Connection, Arrival, Flow}
+use Rattle.tcp_streams.specs.code.{Assembled.IsLaidOut, Assembled.IsOfCapture, Interval.IsInside}
+use Rattle.tcp_streams.proofs.{FlowLemmas.side-fits, IntervalLemmas.covered-fit, Lists.by_Bool, Lists.by_option}
 use Rattle.tcp_streams.proofs.PieceLemmas.{ArePiecesOf, AreRising, found-at, piece-is, pieces-are, stands-at}
 use Rattle.tcp_streams.proofs.RunLemmas.{Follows, IsRunOf, bytes_in-push, run-laid, run_end}
 

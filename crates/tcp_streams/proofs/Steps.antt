@@ -6,26 +6,20 @@ use Rattle.tcp_streams.proofs.Words.{is_none, All, list_any, option_or, ne_eqb, 
 use Rattle.tcp_streams.proofs.Words.{length-append, length-map, map-append, All-weaker, list_any-append, Segment}
 use Rattle.tcp_streams.proofs.Words.{is_opening, is_of, pair_of, is_pair, first_strays, last_opening, members}
 use Rattle.tcp_streams.proofs.Words.{opening_at, openings, opens, strays, Membership, connection_of, stray_of, Falls}
-use Rattle.tcp_streams.proofs.Words.{IsOpened, IsUnopened, Stray, Pair, Opened}
-use Rattle.tcp_streams.proofs.Words.{◌≤◌, not, sym, slice_get, ap, get_or-map, get_or_from_slice_get, slice_get_within}
-use Rattle.tcp_streams.proofs.Words.{is_request, membership, standing_of, IsTableOf, Connection, Table}
-use Rattle.std.specs.Prelude.{◌||◌, find, option_map}
-use Rattle.std.proofs.lemmas.List.Elements.{filter-append}
-use Rattle.std.proofs.lemmas.List.Folds.{find-append}
-use Rattle.std.proofs.lemmas.List.Sums.{count_by-le-length, length-filter}
-use Rattle.std.proofs.lemmas.Option.{slice_get-map}
-use Rattle.tcp_streams.specs.code.Past.{is_again}
-use Rattle.tcp_streams.specs.Membership.{is_answer}
-use Rattle.tcp_streams.specs.code.Standings.{SetsStandingIn}
-use Rattle.tcp_streams.specs.code.Table.{IsShown, IsUnknown, Stands, counted, first_stray, joined, opened_by}
-use Rattle.tcp_streams.specs.declared.standings.Standing.{Standing}
-use Rattle.tcp_streams.specs.declared.standings.Standing.TheVariants.{Unopened}
+use Rattle.tcp_streams.proofs.Words.{IsOpened, IsUnopened, Stray, Pair, Opened, ◌≤◌, not, sym, slice_get, ap}
+use Rattle.tcp_streams.proofs.Words.{get_or-map, get_or_from_slice_get, slice_get_within, is_request, membership}
 use Rattle.tcp_streams.proofs.Lists.{by_Bool, list_any-other, map-agree, map-but, map-pushed, slice_get-last}
-use Rattle.tcp_streams.proofs.Lists.{slice_get-with_if}
-use Rattle.tcp_streams.proofs.Pairs.{is_endpoint-refl, is_pair-refl, is_pair-same, is_pair-sym}
 use Rattle.tcp_streams.proofs.Past.{AreOfTwo, IsBefore, first_strays-apart, first_strays-other, last_opening-kept}
 use Rattle.tcp_streams.proofs.Past.{last_opening-new, last_opening-other, members-to_come, opening_at-kept}
-use Rattle.tcp_streams.proofs.Past.{opening_at-opens, openings-below, openings-rise}
+use Rattle.tcp_streams.proofs.Words.{standing_of, IsTableOf, Connection, Table}
+use Rattle.tcp_streams.specs.{code.Past.is_again, Membership.is_answer, code.Standings.SetsStandingIn}
+use Rattle.tcp_streams.specs.code.Table.{IsShown, IsUnknown, Stands, counted, first_stray, joined, opened_by}
+use Rattle.tcp_streams.specs.declared.standings.Standing.{Standing, TheVariants.Unopened}
+use Rattle.tcp_streams.proofs.{Lists.slice_get-with_if, Past.opening_at-opens, Past.openings-below, Past.openings-rise}
+use Rattle.tcp_streams.proofs.Pairs.{is_endpoint-refl, is_pair-refl, is_pair-same, is_pair-sym}
+use Rattle.std.specs.Prelude.{◌||◌, find, option_map}
+use Rattle.std.proofs.lemmas.{List.Elements.filter-append, List.Folds.find-append, Option.slice_get-map}
+use Rattle.std.proofs.lemmas.List.Sums.{count_by-le-length, length-filter}
 
 -- what was so of a pair is so still, where its last opening and whether it has strays stay
 Stands-grown : (past : List Segment) (s : Segment) (p : Pair) (w : Option Standing)

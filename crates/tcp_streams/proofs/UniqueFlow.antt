@@ -2,11 +2,9 @@
 use Rattle.tcp_streams.proofs.Words.{◌≡◌, ℕ, ◌<◌, ◌≤◌, List, [], ◌∷◌, Option, None, Some, refl, sym, ◌∙◌, arith, length}
 use Rattle.tcp_streams.proofs.Words.{slice_get, ap, get_or, IfSome, IsSomeAnd, false≢true, lt-ltb, le-ltb, IfSome_then}
 use Rattle.tcp_streams.proofs.Words.{Rises, IsArrivalOf, IsFlow, IsGap, arrival_at, Source, arrival, Arrival}
-use Rattle.std.specs.Prelude.{unwrap_or}
-use Rattle.std.proofs.lemmas.Grind.{same_number_lists}
+use Rattle.tcp_streams.{specs.Flow.IsLongestRun, proofs.Lists.by_lt}
+use Rattle.std.{specs.Prelude.unwrap_or, proofs.lemmas.Grind.same_number_lists}
 use Rattle.std.proofs.lemmas.Option.{unwrap_or-slice_get}
-use Rattle.tcp_streams.specs.Flow.{IsLongestRun}
-use Rattle.tcp_streams.proofs.Lists.{by_lt}
 
 -- no longest run is shorter than another
 not-shorter : (F : ℕ → Option Source) (n m : ℕ) → IsLongestRun F n → IsLongestRun F m → n < m → ⊥

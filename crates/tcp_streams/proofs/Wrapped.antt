@@ -1,13 +1,10 @@
 -- The worked example of a flow whose sequence numbers come round.
-use Rattle.tcp_streams.proofs.Words.{◌≡◌, ℕ, ◌<◌, List, [], ◌∷◌, Option, None, Some, refl, arith, zero, suc}
-use Rattle.tcp_streams.proofs.Words.{◌+◌, ◌-◌, ◌^◌, length, slice_get, ap, ◌%◌, filter, map, le-ltb, Segment, bytes_of}
-use Rattle.tcp_streams.proofs.Words.{IsFlow, segments_of, is_endpoint, Source, source, Membership, membership}
-use Rattle.tcp_streams.proofs.Words.{Connection, Arrival, length-map}
-use Rattle.std.proofs.Common.{subst, lit<}
-use Rattle.std.specs.Prelude.{codes}
+use Rattle.tcp_streams.proofs.Words.{◌≡◌, ℕ, ◌<◌, List, [], ◌∷◌, Option, None, Some, refl, arith, zero, suc, ◌+◌, ◌-◌}
+use Rattle.tcp_streams.proofs.Words.{◌^◌, length, slice_get, ap, ◌%◌, filter, map, le-ltb, Segment, bytes_of, IsFlow}
+use Rattle.tcp_streams.proofs.Words.{segments_of, is_endpoint, Source, source, Membership, membership, Connection}
+use Rattle.tcp_streams.proofs.{Words.Arrival, Words.length-map, Belongings.connections-shown, UniqueFlow.IsFlow-unique}
 use Rattle.tcp_streams.specs.examples.Retransmission.{WrappedRetransmission, client, letters, server, wrapped}
-use Rattle.tcp_streams.proofs.Belongings.{connections-shown}
-use Rattle.tcp_streams.proofs.UniqueFlow.{IsFlow-unique}
+use Rattle.std.{proofs.Common.subst, proofs.Common.lit<, specs.Prelude.codes}
 
 -- what the client's segments bring, by the connection's view
 abbrev brought : Membership → ℕ → Option Source

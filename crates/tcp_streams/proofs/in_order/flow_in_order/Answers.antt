@@ -1,8 +1,7 @@
 use Rattle.tcp_streams.proofs.Words.{true, None, refl, arith, take, filter_map, append-nil, take_all, member_piece}
-use Rattle.tcp_streams.proofs.Lists.{filter_map-more}
-use Rattle.tcp_streams.proofs.Sides.{IsLaid-more, laid-assembled, piece-inside}
-use Rattle.tcp_streams.proofs.in_order.flow_in_order.Goals as goal
+use Rattle.tcp_streams.proofs.{Lists.filter_map-more, Sides.IsLaid-more, Sides.laid-assembled, Sides.piece-inside}
 use Rattle.tcp_streams.proofs.in_order.flow_in_order.Goals.{in-Some+else-piece-laid+in_ok-add, in_default}
+use Rattle.tcp_streams.proofs.in_order.flow_in_order.Goals as goal
 
 pub add-requires : goal.add-requires
 add-requires c =

@@ -1,5 +1,4 @@
-use Rattle.tcp_streams.proofs.Words.{take, filter_map, joined, member_piece}
-use Rattle.tcp_streams.proofs.Sides.{IsLaid}
+use Rattle.tcp_streams.proofs.{Words.take, Words.filter_map, Words.joined, Words.member_piece, Sides.IsLaid}
 use Rattle.tcp_streams.proofs.in_order.flow_in_order.Given as goal
 
 abbrev pub invariant-loop-member : goal.invariant-loop-member

@@ -1,5 +1,4 @@
-use Rattle.tcp_streams.proofs.Belongings.{connections-shown}
-use Rattle.tcp_streams.proofs.FlowLemmas.{flows-fit}
+use Rattle.tcp_streams.proofs.{Belongings.connections-shown, FlowLemmas.flows-fit}
 use Rattle.tcp_streams.proofs.laws.flows_fit.Goals as goal
 
 pub returns : goal.returns

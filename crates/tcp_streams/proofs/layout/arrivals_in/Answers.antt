@@ -1,8 +1,7 @@
-use Rattle.tcp_streams.proofs.Words.{append_assoc, le-ltb, lt-ltb}
-use Rattle.std.proofs.lemmas.List.{at_drop_more}
-use Rattle.tcp_streams.proofs.IntervalLemmas.{no_interval}
-use Rattle.tcp_streams.proofs.layout.arrivals_in.Goals as goal
+use Rattle.tcp_streams.proofs.{Words.append_assoc, Words.le-ltb, Words.lt-ltb, IntervalLemmas.no_interval}
 use Rattle.tcp_streams.proofs.layout.arrivals_in.Goals.{then-last-x+in_ok-push, else-last-x}
+use Rattle.std.proofs.lemmas.List.{at_drop_more}
+use Rattle.tcp_streams.proofs.layout.arrivals_in.Goals as goal
 
 pub loop-x-preserved : goal.loop-x-preserved
 loop-x-preserved c =

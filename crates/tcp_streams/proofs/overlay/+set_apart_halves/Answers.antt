@@ -1,8 +1,5 @@
-use Rattle.tcp_streams.proofs.Words.{length}
-use Rattle.std.proofs.Common.{◌/◌}
-use Rattle.std.proofs.lemmas.List.{take_rest}
-use Rattle.std.proofs.lemmas.Result.{MatchResult-weaker}
-use Rattle.tcp_streams.proofs.IntervalLemmas.{apart-already, halves-apart}
+use Rattle.tcp_streams.proofs.{Words.length, IntervalLemmas.apart-already, IntervalLemmas.halves-apart}
+use Rattle.std.proofs.{Common.◌/◌, lemmas.List.take_rest, lemmas.Result.MatchResult-weaker}
 use Rattle.tcp_streams.proofs.overlay.+set_apart_halves.Goals as goal
 
 pub returns-then-lie_apart : goal.returns-then-lie_apart

@@ -1,6 +1,5 @@
-use Rattle.tcp_streams.proofs.Words.{◌∙◌, arith, append_assoc}
+use Rattle.tcp_streams.proofs.{Words.◌∙◌, Words.arith, Words.append_assoc, IntervalLemmas.no_interval}
 use Rattle.std.proofs.lemmas.List.{at_drop_all, at_drop_more}
-use Rattle.tcp_streams.proofs.IntervalLemmas.{no_interval}
 use Rattle.tcp_streams.proofs.overlay.overlay.Goals as goal
 
 pub loop-x-preserved : goal.loop-x-preserved

@@ -1,5 +1,4 @@
-use Rattle.tcp_streams.proofs.Words.{arith}
-use Rattle.tcp_streams.proofs.PieceLemmas.{stands-at}
+use Rattle.tcp_streams.proofs.{Words.arith, PieceLemmas.stands-at}
 use Rattle.tcp_streams.proofs.pieces.piece_of_member.Goals as goal
 
 pub piece_of-requires : goal.piece_of-requires

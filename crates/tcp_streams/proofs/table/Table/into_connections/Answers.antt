@@ -1,6 +1,5 @@
-use Rattle.tcp_streams.proofs.Words.{sym, ◌∙◌}
+use Rattle.tcp_streams.proofs.{Words.sym, Words.◌∙◌, Numbered.connections-members}
 use Rattle.tcp_streams.proofs.Belongings.{shown-connections, strays-of-past}
-use Rattle.tcp_streams.proofs.Numbered.{connections-members}
 use Rattle.tcp_streams.proofs.table.Table.into_connections.Goals as goal
 
 pub returns : goal.returns

@@ -1,10 +1,7 @@
+use Rattle.tcp_streams.proofs.Steps.{shown-begins, shown-counts, shown-joins, shown-opens, counted-few, stands-opened}
 use Rattle.tcp_streams.proofs.Words.{refl, ◌∙◌, ap, map, set, length-map, pair_of, membership}
-use Rattle.std.proofs.Common.{rules}
-use Rattle.std.proofs.lemmas.List.{map-set}
-use Rattle.std.proofs.lemmas.Result.{on_ok_weaker}
-use Rattle.tcp_streams.proofs.Lists.{on_ok_3}
-use Rattle.tcp_streams.proofs.Steps.{shown-begins, shown-counts, shown-joins, shown-opens}
-use Rattle.tcp_streams.proofs.Steps.{counted-few, stands-opened, stands-unopened}
+use Rattle.tcp_streams.proofs.{Lists.on_ok_3, Steps.stands-unopened}
+use Rattle.std.proofs.{Common.rules, lemmas.List.map-set, lemmas.Result.on_ok_weaker}
 use Rattle.tcp_streams.proofs.table.Table.take.Goals as goal
 
 pub returns-in-Opens : goal.returns-in-Opens

@@ -1,8 +1,7 @@
-use Rattle.tcp_streams.proofs.Words.{not, Some, sym, ◌∙◌, ap}
-use Rattle.tcp_streams.proofs.Steps.{decides, stands_so}
-use Rattle.tcp_streams.proofs.table.Table.turn.Goals as goal
 use Rattle.tcp_streams.proofs.table.Table.turn.Goals.{else-is_request-3-via-then-is_request-3+else-not-is_reopened_by}
+use Rattle.tcp_streams.proofs.{Words.not, Words.Some, Words.sym, Words.◌∙◌, Words.ap, Steps.decides, Steps.stands_so}
 use Rattle.tcp_streams.proofs.table.Table.turn.Goals.{else-is_request-3-via-else-is_request-3}
+use Rattle.tcp_streams.proofs.table.Table.turn.Goals as goal
 
 pub returns-then-not-is_reopened_by : goal.returns-then-not-is_reopened_by
 returns-then-not-is_reopened_by c = λ past shown.

@@ -1,9 +1,8 @@
 use Rattle.std.proofs.Common.{◌≡◌, ◌∙◌, [], ap, Err, None, Option, Result, Some}
-use Rattle.std.proofs.{lemmas.Option.MatchOption-from_none, lemmas.Result.err_from_is_err_and}
+use Rattle.std.proofs.lemmas.{Option.MatchOption-from_none, Result.err_from_is_err_and}
 use Rattle.pcap_records.specs.declared.faults.PcapFault.{PcapFault}
-use Rattle.tcp_streams.proofs.Words.{IfSome}
+use Rattle.tcp_streams.proofs.{Words.IfSome, Fronts.front-shown}
 use Rattle.packet_heads.specs.code.Walk.{made_by, packets_in}
-use Rattle.tcp_streams.proofs.Fronts.{front-shown}
 use Rattle.tcp_streams.proofs.walk.ConnectionWalk.finish.Goals as goal
 
 -- a refusal is the same whatever else was to be answered
