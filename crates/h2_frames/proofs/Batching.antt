@@ -1,10 +1,9 @@
 -- A walk over the frames of both sides goes on by a batch.
-use Rattle.std.proofs.Common.{◌≡◌, ℕ, ◌+◌, ◌*◌, ◌^◌, ◌<◌, ◌≤◌, List, [], ◌∷◌, ◌++◌, length, refl, ap, ap₂, ◌∙◌}
-use Rattle.std.proofs.Common.{sym, arith, append_assoc, length-append}
+use Rattle.std.proofs.Common.{◌≡◌, ℕ, ◌+◌, ◌*◌, ◌^◌, ◌<◌, ◌≤◌, List, [], ◌∷◌, ◌++◌, length, refl, ap, ap₂, ◌∙◌, sym}
+use Rattle.std.proofs.Common.{arith, append_assoc, length-append}
 use Rattle.h2_frames.proofs.Words.{AllByRecursion, Flow, Frame, IsInRange, IsOrderlyFrom, FrameWalk, Limit, Unread}
-use Rattle.h2_frames.proofs.Words.{numbered, merged, append-nil, bytes_left, AreLeft, AreTakenUpTo}
-use Rattle.h2_frames.proofs.Words.{IsHttp2, IsReadable, IsReady, IsWalkAfter, Over}
-use Rattle.h2_frames.proofs.Words.{taken_of, tails_of, weight_of}
+use Rattle.h2_frames.proofs.Words.{numbered, merged, append-nil, bytes_left, AreLeft, AreTakenUpTo, IsHttp2, IsReadable}
+use Rattle.h2_frames.proofs.Words.{IsReady, IsWalkAfter, Over, taken_of, tails_of, weight_of}
 use Rattle.h2_frames.proofs.Splitting.{merged-split, merged-all, length-merged, left-past}
 
 pub numbered-append : (k : ℕ) (xs ys : List Frame) →

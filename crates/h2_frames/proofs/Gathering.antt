@@ -1,10 +1,8 @@
 -- Going on in bytes that lie in pieces.
 use Rattle.std.proofs.Common.{◌≡◌, ℕ, zero, suc, ◌+◌, ◌-◌, ◌<◌, ◌≤◌, List, [], ◌∷◌, ◌++◌, length, get_or, take, drop}
 use Rattle.std.proofs.Common.{refl, ap, sym, ◌∙◌, arith, append_assoc, add-one, length-append, length-drop, drop-cons}
-use Rattle.std.proofs.lemmas.List.{take_all}
-use Rattle.std.specs.Borrow.{Bor}
-use Rattle.h2_frames.proofs.Words.{Pieces, joined, IsCounted}
-use Rattle.h2_frames.specs.code.Pieces.{bytes_of}
+use Rattle.std.{proofs.lemmas.List.take_all, specs.Borrow.Bor}
+use Rattle.h2_frames.{proofs.Words.Pieces, proofs.Words.joined, proofs.Words.IsCounted, specs.code.Pieces.bytes_of}
 
 none_before : (xs ys : List ℕ) → length xs ≡ 0 → xs ++ ys ≡ ys
 none_before [] ys h = refl

@@ -3,10 +3,9 @@ use Rattle.std.proofs.Common.{◌≡◌, ℕ, ◌+◌, ◌-◌, ◌*◌, ◌≤�
 use Rattle.std.proofs.Common.{◌∙◌, length-append}
 use Rattle.h2_frames.proofs.Words.{Arrival, Frame, Over, Read, Spelled, ToRead, Unread, byte_arrival, captured}
 use Rattle.h2_frames.proofs.Words.{captured_from, arrivals_from, AreAhead, HoldsNoFrame, IsCounted, IsOneTaken}
-use Rattle.h2_frames.proofs.Words.{IsPlaced, IsReadable, IsReadOn, IsReady, Pieces}
-use Rattle.h2_frames.specs.code.Pieces.{bytes_of}
-use Rattle.h2_frames.proofs.Promised.{promised-fits}
 use Rattle.h2_frames.proofs.Arriving.{captured_from-from, get_or-arrivals_from, arrivals_from-not_empty}
+use Rattle.h2_frames.proofs.Words.{IsPlaced, IsReadable, IsReadOn, IsReady, Pieces}
+use Rattle.h2_frames.{specs.code.Pieces.bytes_of, proofs.Promised.promised-fits}
 use Rattle.h2_frames.proofs.Arriving.{arrivals_from-rise, arrivals_from-timely, first_timely}
 
 -- the frame and what follows make up the length

@@ -1,8 +1,7 @@
 -- Reading the settings of a payload one after the other.
-use Rattle.std.proofs.Common.{◌≡◌, ℕ, ◌<◌, ◌≤◌, ◌+◌, Bool, not, ◌&&◌, List, [], ◌∷◌, length, take, drop, Option, None}
-use Rattle.std.proofs.Common.{Some, refl, arith, sym}
+use Rattle.std.proofs.Common.{◌≡◌, ℕ, ◌≤◌, ◌+◌, Bool, not, ◌&&◌, List, ◌∷◌, length, take, drop, Option, None, Some}
+use Rattle.std.{proofs.Common.refl, proofs.Common.arith, proofs.Common.sym, specs.Option.option_or}
 use Rattle.std.specs.Prelude.{is_none, if◌then◌else◌, find, option_map}
-use Rattle.std.specs.Option.{option_or}
 use Rattle.h2_frames.proofs.Words.{◌==◌, Settings, Setting, setting_at, settings_in, is_in_range, last_value, first_bad}
 use Rattle.h2_frames.proofs.Words.{with_setting}
 
@@ -41,16 +40,6 @@ pub settings_in-step : (payload : List ℕ) → 6 ≤ length payload →
     settings_in payload ≡ setting_at (take 6 payload) ∷ settings_in (drop 6 payload)
 settings_in-step (a ∷ b ∷ c ∷ d ∷ e ∷ f ∷ later) h = refl
 settings_in-step _ h = absurd (omega arith)
-
-settings_in-short : (rest : List ℕ) → length rest < 6 → settings_in rest ≡ []
-settings_in-short (a ∷ b ∷ c ∷ d ∷ e ∷ f ∷ later) h = absurd (omega arith)
-settings_in-short _ h = refl
-
--- fewer bytes than a setting has say nothing
-pub with_later-none : (settings : Settings) (rest : List ℕ) → length rest < 6
-    → with_later settings (settings_in rest) ≡ settings
-with_later-none settings rest h =
-    rw (settings_in-short rest h) (grind arith)
 
 -- one turn of the loop over a payload
 pub with_later-turn : (settings new : Settings) (s : Setting) (rest pair later : List ℕ) →

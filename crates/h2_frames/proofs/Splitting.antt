@@ -1,8 +1,7 @@
 -- Frames of both sides up to a limit are merged, and then those past it.
-use Rattle.std.proofs.Common.{◌≡◌, ℕ, ◌+◌, true, false, List, [], ◌∷◌, ◌++◌, length, refl, ap, sym}
-use Rattle.std.proofs.Common.{◌∙◌, arith}
-use Rattle.h2_frames.proofs.Words.{nat_tests, AllByRecursion, Frame, Limit, Next, Over, Read, ToRead}
-use Rattle.h2_frames.proofs.Words.{Unread, comes_after, cond_both, is_past, merged, AreLeftAfter, IsPassed}
+use Rattle.std.proofs.Common.{◌≡◌, ℕ, ◌+◌, true, false, List, [], ◌∷◌, ◌++◌, length, refl, ap, sym, ◌∙◌, arith}
+use Rattle.h2_frames.proofs.Words.{nat_tests, AllByRecursion, Frame, Limit, Next, Over, Read, ToRead, Unread}
+use Rattle.h2_frames.proofs.Words.{comes_after, cond_both, is_past, merged, AreLeftAfter, IsPassed}
 
 -- what is not past the limit comes before what is
 past-after : (limit : Limit) (x y : Frame) → is_past limit x ≡ false → is_past limit y ≡ true →

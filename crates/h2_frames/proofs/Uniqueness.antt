@@ -1,14 +1,12 @@
 -- Bytes have one spelling, flows one cut.
-use Rattle.std.proofs.Common.{◌≡◌, ℕ, List, [], ◌∷◌, ◌++◌, length, take, drop, refl, ap, sym, ◌∙◌}
-use Rattle.std.proofs.Common.{arith, length-append, append_assoc, inl, inr}
-use Rattle.std.specs.Prelude.{IfOk}
-use Rattle.std.specs.declared.alloc.AllocError.{AllocError}
-use Rattle.std.proofs.lemmas.Bool.{false≢true}
+use Rattle.std.proofs.Common.{◌≡◌, ℕ, List, [], ◌∷◌, ◌++◌, length, take, drop, refl, ap, sym, ◌∙◌, arith, length-append}
+use Rattle.std.proofs.Common.{append_assoc, inl, inr}
+use Rattle.std.{specs.Prelude.IfOk, specs.declared.alloc.AllocError.AllocError, proofs.lemmas.Bool.false≢true}
 use Rattle.std.proofs.lemmas.List.{append_cancel_left, take_at, drop_at}
 use Rattle.h2_frames.proofs.Words.{Result, Ok, Err, Cut, Flow, Frame, Sides, Http2, NotHttp2, NoPreface, NoHandshake}
-use Rattle.h2_frames.proofs.Words.{Header, Spelled, header_of, HoldsNoFrame, Makes, Spells, preface}
-use Rattle.h2_frames.proofs.Words.{IsPrefaceCutShort, BeginsWithPreface, IsCut, IsHttp2, SpellingIsUnique, IsSameFlow}
-use Rattle.h2_frames.proofs.Words.{CutIsUnique, IsSameCut}
+use Rattle.h2_frames.proofs.Words.{Header, Spelled, header_of, HoldsNoFrame, Makes, Spells, preface, IsPrefaceCutShort}
+use Rattle.h2_frames.proofs.Words.{BeginsWithPreface, IsCut, IsHttp2, SpellingIsUnique, IsSameFlow, CutIsUnique}
+use Rattle.h2_frames.proofs.Words.{IsSameCut}
 
 -- two fronts of one length are one front, and so are the rests
 same_parts : (a b x y : List ℕ) → a ++ x ≡ b ++ y → length a ≡ length b → (a ≡ b) × (x ≡ y)

@@ -1,6 +1,5 @@
 use Rattle.std.proofs.Common.{◌≡◌, ◌++◌, take}
-use Rattle.h2_frames.proofs.Words.{preface, IsCounted}
-use Rattle.h2_frames.specs.code.Pieces.{bytes_of}
+use Rattle.h2_frames.{proofs.Words.preface, proofs.Words.IsCounted, specs.code.Pieces.bytes_of}
 use Rattle.h2_frames.proofs.beginning.beginning_of.Given as goal
 
 abbrev pub invariant-loop-expected : goal.invariant-loop-expected

@@ -1,5 +1,4 @@
-use Rattle.h2_frames.proofs.Words.{NoPreface, NotHttp2}
-use Rattle.h2_frames.proofs.Uniqueness.{only-cut, only-found}
+use Rattle.h2_frames.proofs.{Words.NoPreface, Words.NotHttp2, Uniqueness.only-cut, Uniqueness.only-found}
 use Rattle.h2_frames.proofs.cutting.cut.Goals as goal
 
 pub returns-in-NoPreface-clause-only : goal.returns-in-NoPreface-clause-only

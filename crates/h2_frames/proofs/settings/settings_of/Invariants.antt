@@ -1,6 +1,5 @@
 use Rattle.std.proofs.Common.{◌≡◌, length}
-use Rattle.h2_frames.proofs.Words.{settings_in, settings_of}
-use Rattle.h2_frames.proofs.SettingsRead.{with_later}
+use Rattle.h2_frames.proofs.{Words.settings_in, Words.settings_of, SettingsRead.with_later}
 use Rattle.h2_frames.proofs.settings.settings_of.Given as goal
 
 abbrev pub invariant-loop-pair : goal.invariant-loop-pair

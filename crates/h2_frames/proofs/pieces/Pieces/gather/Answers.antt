@@ -1,6 +1,5 @@
 use Rattle.std.proofs.Common.{[], refl, sym, append_assoc, arith}
-use Rattle.h2_frames.proofs.Words.{append-nil}
-use Rattle.h2_frames.proofs.Gathering.{partly_taken-turn}
+use Rattle.h2_frames.proofs.{Words.append-nil, Gathering.partly_taken-turn}
 use Rattle.h2_frames.proofs.pieces.Pieces.gather.Goals as goal
 
 pub loop-wanted-init : goal.loop-wanted-init

@@ -1,7 +1,6 @@
 use Rattle.std.proofs.Common.{refl}
+use Rattle.h2_frames.proofs.{Words.IsOneTaken, Words.bytes_left, Reading.read-on, Reading.read-over}
 use Rattle.h2_frames.proofs.unread.Unread.read.Goals as goal
-use Rattle.h2_frames.proofs.Words.{IsOneTaken, bytes_left}
-use Rattle.h2_frames.proofs.Reading.{read-on, read-over}
 
 pub returns : goal.returns
 returns c =

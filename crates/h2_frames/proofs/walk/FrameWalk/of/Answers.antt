@@ -1,7 +1,6 @@
 use Rattle.std.proofs.Common.{◌≡◌, length, refl, ap, ◌∙◌, arith, length-append}
-use Rattle.h2_frames.proofs.Words.{bytes_of, preface, bytes_left}
+use Rattle.h2_frames.proofs.{Words.bytes_of, Words.preface, Words.bytes_left, BothSides.http2-is}
 use Rattle.tcp_streams.specs.Bytes.{joined}
-use Rattle.h2_frames.proofs.BothSides.{http2-is}
 use Rattle.h2_frames.proofs.walk.FrameWalk.of.Goals as goal
 
 pub returns-clause-ready : goal.returns-clause-ready

@@ -1,5 +1,4 @@
-use Rattle.h2_frames.proofs.Batching.{walk-batch, walk-over}
-use Rattle.h2_frames.proofs.Walking.{few-on, walk-on}
+use Rattle.h2_frames.proofs.{Batching.walk-batch, Batching.walk-over, Walking.few-on, Walking.walk-on}
 use Rattle.h2_frames.proofs.walk.FrameWalk.take_batch.Goals as goal
 
 pub returns-in_default-clause-over : goal.returns-in_default-clause-over
