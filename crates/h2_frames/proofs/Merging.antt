@@ -71,12 +71,8 @@ pub rec_rises : (low rec high o p : ℕ) (arrivals : List Arrival) → Rises low
     (byte_arrival arrivals o).rec ≤ (byte_arrival arrivals p).rec
 rec_rises low rec high o p [] rises h k l = absurd (omega arith)
 rec_rises low rec high o p (a ∷ later) rises h k l =
-    grind (
-      arith,
-      nat_tests,
-      rec_above a.upto a.rec high p later rises.2,
-      rec_rises a.upto a.rec high o p later rises.2,
-    )
+    let above = rec_above a.upto a.rec high p later rises.2 in
+    grind (arith, nat_tests, above, rec_rises a.upto a.rec high o p later rises.2)
 
 later_number : (x y : Frame) → x.number < y.number → x.rec ≤ y.rec → comes_after x y ≡ false
 later_number x y h k = grind (arith, nat_tests)

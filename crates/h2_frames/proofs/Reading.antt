@@ -1,5 +1,5 @@
 -- One frame is read of what is ahead.
-use Rattle.std.proofs.Common.{◌≡◌, ℕ, ◌+◌, ◌-◌, ◌*◌, ◌≤◌, ◌<◌, List, [], ◌∷◌, ◌++◌, length, get_or, refl, ap, arith}
+use Rattle.std.proofs.Common.{◌≡◌, ℕ, ◌+◌, ◌-◌, ◌*◌, ◌≤◌, ◌<◌, List, [], ◌∷◌, length, get_or, refl, ap, arith}
 use Rattle.std.proofs.Common.{◌∙◌, length-append}
 use Rattle.h2_frames.proofs.Words.{Arrival, Frame, Over, Read, Spelled, ToRead, Unread, byte_arrival, captured}
 use Rattle.h2_frames.proofs.Words.{captured_from, arrivals_from, AreAhead, HoldsNoFrame, IsCounted, IsOneTaken}
@@ -12,14 +12,7 @@ use Rattle.h2_frames.proofs.Arriving.{arrivals_from-rise, arrivals_from-timely, 
 size_of_taken : (s : Spelled) (old : List ℕ) (new : Pieces) → IsOneTaken s old new
     → length old ≡ 9 + s.header.length + length (bytes_of new)
 size_of_taken s old new one =
-    omega (
-      arith,
-      ap length one.bytes,
-      length-append (one.header ++ one.payload) (bytes_of new),
-      length-append one.header one.payload,
-      one.makes.nine,
-      one.makes.whole,
-    )
+    omega (arith, ap length one.bytes, length-append {A = ℕ}, one.makes.nine, one.makes.whole)
 
 -- the first whole frame ahead has an arrival
 pub frame_arrives : (unread : Unread) → IsPlaced unread → (s : Spelled) (after : Pieces)

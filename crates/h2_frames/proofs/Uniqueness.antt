@@ -78,14 +78,8 @@ spelling-unique bytes (f ∷ frames) (g ∷ others) tail other_tail first second
 -- no bytes are a part of the preface and begin with all of it
 not_both : (bytes rest : List ℕ) → IsPrefaceCutShort bytes → BeginsWithPreface bytes rest → ⊥
 not_both bytes rest short begins =
-    omega (
-      arith,
-      length-append bytes short.0,
-      ap length short.2,
-      ap length begins,
-      length-append preface rest,
-      short.1,
-    )
+    let all = simp length-append at (ap length begins) in
+    omega (arith, length-append bytes short.0, ap length short.2, all, short.1)
 
 module _ (client server other_client other_server : Flow) (c : IsSameFlow client other_client)
     (s : IsSameFlow server other_server) where

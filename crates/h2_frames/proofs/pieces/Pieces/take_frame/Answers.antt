@@ -15,14 +15,7 @@ returns-in-Some c =
       makes = makes;
       length_fits = c.in-Some.ensures.ranges.0;
       stream_fits = c.in-Some.ensures.ranges.1;
-      counted = omega (
-        arith,
-        c.go_on.ensures.counted,
-        length-append c.go_on.new.self.first.now rest,
-        length-append later rest,
-        ap length is,
-        length-append (header ++ payload) later,
-      );
+      counted = omega (arith, c.go_on.ensures.counted, length-append {A = ℕ}, ap length is);
     }
 
 pub returns-in-None : goal.returns-in-None
