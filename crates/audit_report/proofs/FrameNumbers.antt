@@ -1,13 +1,10 @@
 -- A frame is found by its number, since numbers rise.
-use Rattle.std.proofs.Common.{◌≡◌, ◌≢◌, ℕ, zero, suc, ◌+◌, ◌<◌, ◌≤◌, true, false, List, [], ◌∷◌, length, get_or, refl}
+use Rattle.std.proofs.Common.{◌≡◌, ◌≢◌, ℕ, zero, suc, ◌+◌, ◌<◌, ◌≤◌, false, List, [], ◌∷◌, length, get_or, refl}
 use Rattle.std.proofs.Common.{arith, Some, None, nat_eq, eq-eqb, sym, subst, ⊎_elim}
-use Rattle.std.proofs.lemmas.Bool.{cases_lt}
-use Rattle.std.proofs.lemmas.Grind.{common_steps}
-use Rattle.std.specs.List.Sorted.{IsNonDecreasingBy, IsPartitionPoint}
-use Rattle.std.specs.Ordering.{nat_cmp, ordering_index}
+use Rattle.std.{proofs.lemmas.Bool.cases_lt, specs.List.Sorted.IsNonDecreasingBy, specs.List.Sorted.IsPartitionPoint}
+use Rattle.std.{proofs.lemmas.Grind.common_steps, specs.Ordering.nat_cmp, specs.Ordering.ordering_index}
 use Rattle.std.specs.declared.cmp.Ordering.TheVariants.{Less, Equal, Greater}
-use Rattle.audit_terms.specs.declared.frames.Frame.{Frame}
-use Rattle.audit_terms.specs.code.runs.Orderly.{IsInRange, IsOrderlyFrom}
+use Rattle.audit_terms.specs.{declared.frames.Frame.Frame, code.runs.Orderly.IsInRange, code.runs.Orderly.IsOrderlyFrom}
 use Rattle.audit_report.specs.FrameLookup.{frame_numbered}
 
 -- each frame's number is at least the bound
@@ -15,8 +12,8 @@ pub number_at_least : (low : ℕ) (frames : List Frame) → IsOrderlyFrom low fr
     → i < length frames → low ≤ (get_or frames i d).number
 number_at_least low [] h i d l = omega arith
 number_at_least low (x ∷ xs) h zero d l = h.0
-number_at_least low (x ∷ xs) h (suc i) d l = let later = number_at_least (x.number + 1) xs h.2 i d
-    (omega arith) in omega (arith, later, h.0)
+number_at_least low (x ∷ xs) h (suc i) d l =
+    omega (arith, number_at_least (x.number + 1) xs h.2 i d (omega arith), h.0)
 
 -- each frame is in range
 pub in_range_at : (low : ℕ) (frames : List Frame) → IsOrderlyFrom low frames → (i : ℕ) (d : Frame) → i < length frames
@@ -25,15 +22,11 @@ in_range_at low [] h i d l = absurd (omega arith)
 in_range_at low (x ∷ xs) h zero d l = h.1
 in_range_at low (x ∷ xs) h (suc i) d l = in_range_at (x.number + 1) xs h.2 i d (omega arith)
 
--- a frame has its own number
-same_number : (n : ℕ) → nat_eq n n ≡ true
-same_number n = eq-eqb n n refl
-
 -- the frame at an index is the one of its number
 pub frame_numbered_at : (low : ℕ) (frames : List Frame) → IsOrderlyFrom low frames → (i : ℕ) (d : Frame)
     → i < length frames → frame_numbered frames (get_or frames i d).number ≡ Some (get_or frames i d)
 frame_numbered_at low [] h i d l = absurd (omega arith)
-frame_numbered_at low (x ∷ xs) h zero d l = rw same_number refl
+frame_numbered_at low (x ∷ xs) h zero d l = rw (eq-eqb x.number x.number refl) refl
 frame_numbered_at low (x ∷ xs) h (suc i) d l =
     let later = number_at_least (x.number + 1) xs h.2 i d (omega arith) in
     let apart : nat_eq x.number (get_or xs i d).number ≡ false = grind (arith, common_steps) in
@@ -53,8 +46,8 @@ numbers_rise : (low : ℕ) (frames : List Frame) → IsOrderlyFrom low frames �
     → j < length frames → (get_or frames i d).number ≤ (get_or frames j d).number
 numbers_rise low [] h i j d le l = absurd (omega arith)
 numbers_rise low (x ∷ xs) h zero zero d le l = omega arith
-numbers_rise low (x ∷ xs) h zero (suc j) d le l = let later = number_at_least (x.number + 1) xs h.2 j d
-    (omega arith) in omega (arith, later)
+numbers_rise low (x ∷ xs) h zero (suc j) d le l =
+    omega (arith, number_at_least (x.number + 1) xs h.2 j d (omega arith))
 numbers_rise low (x ∷ xs) h (suc i) zero d le l = absurd (omega arith)
 numbers_rise low (x ∷ xs) h (suc i) (suc j) d le l = numbers_rise (x.number + 1) xs h.2 i j d (omega arith)
     (omega arith)

@@ -1,12 +1,10 @@
 -- Going down the connections and what is told of them, side by side.
 use Rattle.std.proofs.Common.{◌≡◌, ℕ, zero, suc, ◌+◌, ◌<◌, ◌≤◌, Bool, List, [], ◌∷◌, ◌++◌, take, drop, length, get_or}
 use Rattle.std.proofs.Common.{◌-◌, ◌∙◌, refl, ap, sym, append_assoc, arith, length-drop}
-use Rattle.std.proofs.lemmas.List.{drop_more, length-take}
-use Rattle.std.proofs.lemmas.List.Elements.{All-drop, All-take}
+use Rattle.std.proofs.lemmas.List.{drop_more, length-take, Elements.All-drop, Elements.All-take}
 use Rattle.audit_report.specs.code.Contents.{contents_in, opening_text}
 use Rattle.audit_report.specs.code.Reported.{AreHeaded, HasOrderlyOutcome, extents_in, outcome_text, told_text}
-use Rattle.audit_report.specs.declared.told.Told.{Told}
-use Rattle.audit_report.specs.declared.headings.Heading.{Heading}
+use Rattle.audit_report.specs.declared.{told.Told.Told, headings.Heading.Heading}
 
 -- a list from the index of an element
 from_here : {X : Type 0} (xs : List X) (i : ℕ) (x : X) → i < length xs → x ≡ get_or xs i x

@@ -1,26 +1,19 @@
 -- What is kept of connections makes the text of the audits that it stands for.
 use Rattle.std.proofs.Common.{◌≡◌, ℕ, ◌+◌, Bool, List, [], ◌∷◌, ◌++◌, ◌∙◌, map, refl, ap, append_assoc}
 use Rattle.std.specs.Prelude.{codes}
-use Rattle.audit_report.specs.ConnectionLine.{contents_text, heading_text}
-use Rattle.audit_report.specs.Endpoint.{endpoint_text}
-use Rattle.audit_report.specs.FlowLine.{flow_line, tail_of}
-use Rattle.audit_report.specs.Line.{field, line}
+use Rattle.audit_report.specs.{ConnectionLine.contents_text, ConnectionLine.heading_text}
+use Rattle.audit_report.specs.{FlowLine.flow_line, FlowLine.tail_of, Line.field, Line.line, code.Roles.roles_text}
 use Rattle.audit_report.specs.Section.{connection_text, findings_text, sections_text}
 use Rattle.audit_report.specs.code.Contents.{contents_in, contents_of, opening_text}
-use Rattle.audit_report.specs.code.Heading.{heading_of, headed_text}
-use Rattle.audit_report.specs.code.Roles.{roles_text}
+use Rattle.audit_report.specs.{code.Heading.heading_of, code.Heading.headed_text, declared.audited.Audited.Audited}
 use Rattle.audit_report.specs.code.Reported.{AreToldOf, IsOutcomeOf, outcome_text, told_text}
-use Rattle.audit_report.specs.declared.audited.Audited.{Audited}
-use Rattle.audit_report.specs.declared.extents.Extent.{Extent}
-use Rattle.audit_report.specs.declared.told.Outcome.{Outcome}
-use Rattle.audit_report.specs.declared.told.Outcome.TheVariants as outcome
-use Rattle.audit_report.specs.declared.told.Told.{Told}
-use Rattle.audit_terms.specs.declared.findings.Finding.{Finding}
+use Rattle.audit_report.specs.declared.{extents.Extent.Extent, told.Outcome.Outcome, told.Told.Told}
+use Rattle.audit_terms.specs.declared.{findings.Finding.Finding, sides.Sides.Sides}
 use Rattle.audit_terms.specs.declared.sides.Side.TheVariants.{Client, Server}
-use Rattle.audit_terms.specs.declared.sides.Sides.{Sides}
 use Rattle.h2_frames.specs.declared.connections.Cut.{Cut}
 use Rattle.h2_frames.specs.declared.connections.Cut.TheVariants.{Http2, NotHttp2, NoPreface, NoHandshake}
 use Rattle.tcp_streams.specs.declared.members.Connection.{Connection}
+use Rattle.audit_report.specs.declared.told.Outcome.TheVariants as outcome
 
 regroup : (a b c d e f : List ℕ) → a ++ (b ++ c ++ d ++ e) ++ f ≡ a ++ b ++ c ++ d ++ e ++ f
 regroup a b c d e f = simp append_assoc
@@ -28,9 +21,7 @@ regroup a b c d e f = simp append_assoc
 -- the ends of the connection in the midst of its heading
 heading-is : (k : ℕ) (c : Connection) → headed_text k (heading_of c) ≡ heading_text k c
 unfolding roles_text
-heading-is k c =
-    regroup (field (codes "connection ") k) (codes " client ") (endpoint_text c.client) (codes " server ")
-    (endpoint_text c.server) (field (codes " record ") c.rec)
+heading-is k c = regroup (field (codes "connection ") k) (codes " client ") _ (codes " server ") _ _
 
 -- the lines of a connection need of it the heading, and of its cut the contents alone
 pub opening-is : (k : ℕ) (c : Connection) (e : Sides Extent) (cut : Cut)

@@ -2,15 +2,11 @@
 use Rattle.std.proofs.Common.{◌≡◌, ℕ, ◌+◌, ◌-◌, ◌<◌, ◌≤◌, Bool, true, false, if◌then◌else◌, List, [], ◌∷◌, ◌++◌}
 use Rattle.std.proofs.Common.{reverse, drop, length, get_or, ap, subst, sym, ◌∙◌, arith, Option, Some}
 use Rattle.std.proofs.lemmas.List.{reverse-append, drop_more}
-use Rattle.audit_terms.specs.declared.sides.Side.{Side}
-use Rattle.audit_terms.specs.declared.findings.Finding.{Finding}
-use Rattle.audit_terms.specs.declared.frames.Frame.{Frame}
-use Rattle.audit_terms.specs.Place.{place_stream}
+use Rattle.audit_terms.specs.declared.{sides.Side.Side, findings.Finding.Finding, frames.Frame.Frame}
+use Rattle.audit_terms.specs.{Place.place_stream, Kind.begins_stall}
 use Rattle.audit_report.specs.code.Ends.{end_in, begun_by}
-use Rattle.audit_terms.specs.Kind.{begins_stall}
 use Rattle.audit_report.specs.Stalls.{is_end_of, first_end, stall_of, stalls}
-use Rattle.audit_report.specs.declared.ends.Ends.{Ends}
-use Rattle.audit_report.specs.declared.stalls.Stall.{Stall}
+use Rattle.audit_report.specs.declared.{ends.Ends.Ends, stalls.Stall.Stall}
 
 -- the table has the first end of each window among the findings
 pub record HasFirstEnds (ends : Ends) (later : List Finding) : Type 0 where

@@ -1,6 +1,5 @@
 use Rattle.std.proofs.Common.{◌+◌, length, arith}
-use Rattle.std.proofs.lemmas.Result.{MatchResult-weaker}
-use Rattle.std.specs.String.{string_bytes}
+use Rattle.std.{proofs.lemmas.Result.MatchResult-weaker, specs.String.string_bytes}
 use Rattle.audit_report.proofs.Pairs.{headed_parts, told_joined}
 use Rattle.audit_report.proofs.batches.+halving.Goals as goal
 

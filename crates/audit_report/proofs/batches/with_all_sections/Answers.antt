@@ -1,8 +1,6 @@
 use Rattle.std.proofs.Common.{◌+◌, ◌++◌, ◌∙◌, drop, ap, sym, arith}
-use Rattle.std.proofs.lemmas.List.{drop-drop}
-use Rattle.std.specs.String.{string_bytes}
-use Rattle.audit_report.specs.code.Reported.{told_text}
-use Rattle.audit_report.proofs.Pairs.{told_joined}
+use Rattle.std.{proofs.lemmas.List.drop-drop, specs.String.string_bytes}
+use Rattle.audit_report.{specs.code.Reported.told_text, proofs.Pairs.told_joined}
 use Rattle.audit_report.proofs.batches.with_all_sections.Goals as goal
 
 -- a batch more is written

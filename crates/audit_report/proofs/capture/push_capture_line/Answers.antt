@@ -1,11 +1,8 @@
 use Rattle.std.proofs.Common.{◌≡◌, ℕ, List, ◌++◌, OnOk, subst, append_assoc}
-use Rattle.std.specs.Prelude.{codes, count_by}
-use Rattle.std.specs.String.{string_bytes}
+use Rattle.std.specs.{Prelude.codes, Prelude.count_by, String.string_bytes}
 use Rattle.packet_heads.specs.declared.packets.Packet.{Packet}
 use Rattle.audit_report.specs.CaptureLine.{is_fragment, is_not_ipv4, is_not_tcp, is_refused, is_segment, is_snapped}
-use Rattle.audit_report.specs.Line.{field}
-use Rattle.audit_report.specs.code.Packets.{packet_counts}
-use Rattle.audit_report.proofs.Joins.{three}
+use Rattle.audit_report.{specs.Line.field, specs.code.Packets.packet_counts, proofs.Joins.three}
 use Rattle.audit_report.proofs.capture.push_capture_line.Goals as goal
 
 regroup : (a b c d e f g : List ℕ) → a ++ (b ++ c ++ d ++ e ++ f ++ g) ≡ a ++ b ++ c ++ d ++ e ++ f ++ g
@@ -22,13 +19,7 @@ counted front packets = front ++ field (codes " segments ") (count_by is_segment
 -- the counts behind the front of the line
 counted-is : (front : List ℕ) (packets : List Packet) → front ++ packet_counts packets ≡ counted front packets
 unfolding counted
-counted-is front packets =
-    regroup front (field (codes " segments ") (count_by is_segment packets))
-    (field (codes " snapped ") (count_by is_snapped packets))
-    (field (codes " not-ipv4 ") (count_by is_not_ipv4 packets))
-    (field (codes " fragments ") (count_by is_fragment packets))
-    (field (codes " not-tcp ") (count_by is_not_tcp packets))
-    (field (codes " refused ") (count_by is_refused packets))
+counted-is front packets = regroup front _ _ _ _ _ _
 
 pub returns : goal.returns
 unfolding counted

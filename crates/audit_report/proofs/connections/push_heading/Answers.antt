@@ -1,7 +1,5 @@
-use Rattle.audit_report.specs.Line.{field}
+use Rattle.audit_report.{specs.Line.field, specs.code.Roles.roles_text, proofs.Joins.three}
 use Rattle.std.specs.Prelude.{codes}
-use Rattle.audit_report.specs.code.Roles.{roles_text}
-use Rattle.audit_report.proofs.Joins.{three}
 use Rattle.audit_report.proofs.connections.push_heading.Goals as goal
 
 pub returns : goal.returns

@@ -1,8 +1,6 @@
 use Rattle.std.proofs.Common.{◌≡◌, ℕ, ◌<◌, List, length, get_or, Some, subst, sym}
-use Rattle.audit_terms.specs.declared.frames.Frame.{Frame}
-use Rattle.audit_terms.specs.code.runs.Orderly.{IsOrderly}
-use Rattle.audit_report.specs.FrameLookup.{frame_numbered}
-use Rattle.audit_report.proofs.FrameNumbers.{frame_numbered_at}
+use Rattle.audit_terms.specs.{declared.frames.Frame.Frame, code.runs.Orderly.IsOrderly}
+use Rattle.audit_report.{specs.FrameLookup.frame_numbered, proofs.FrameNumbers.frame_numbered_at}
 use Rattle.audit_report.proofs.findings.frame_of.Goals as goal
 
 -- a frame with the number, wherever it stands, is the one

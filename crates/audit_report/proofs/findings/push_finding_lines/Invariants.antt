@@ -1,5 +1,4 @@
-use Rattle.std.proofs.Common.{◌≡◌, ◌++◌, drop}
-use Rattle.std.specs.String.{string_bytes}
+use Rattle.std.{proofs.Common.◌≡◌, proofs.Common.◌++◌, proofs.Common.drop, specs.String.string_bytes}
 use Rattle.audit_report.specs.FindingLine.{finding_lines}
 use Rattle.audit_report.proofs.findings.push_finding_lines.Given as goal
 

@@ -9,14 +9,8 @@ loop-connection-preserved c =
     let so_far = take c.loop-connection.connection-index connections in
     let next = take_more connections c.loop-connection.connection-index c.connection-item.result
     c.loop-connection-test.true in
-    rw (
-      c.in_ok-push.ensures.items,
-      c.loop-connection.invariant,
-      c.of.ensures,
-      next,
-      map-append heading_of so_far _,
-      ← c.connection-item.is,
-    ) refl
+    rw (c.in_ok-push.ensures.items, c.loop-connection.invariant, c.of.ensures, next)
+    (rw (map-append heading_of so_far _, ← c.connection-item.is) refl)
 
 pub returns : goal.returns
 returns c =

@@ -1,5 +1,4 @@
-use Rattle.std.proofs.Common.{◌≡◌, ◌++◌, ◌+◌, drop}
-use Rattle.std.specs.String.{string_bytes}
+use Rattle.std.{proofs.Common.◌≡◌, proofs.Common.◌++◌, proofs.Common.◌+◌, proofs.Common.drop, specs.String.string_bytes}
 use Rattle.audit_report.specs.RecordLines.{record_lines_from}
 use Rattle.audit_report.proofs.numbered.push_record_lines.Given as goal
 

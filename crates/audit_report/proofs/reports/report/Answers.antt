@@ -1,7 +1,6 @@
 use Rattle.std.proofs.Common.{◌≡◌, ◌++◌, ℕ, List, ap, ◌∙◌, rules}
 use Rattle.std.specs.String.{string_bytes}
-use Rattle.audit_report.specs.code.Reported.{told_text}
-use Rattle.audit_report.proofs.Standing.{told-same}
+use Rattle.audit_report.{specs.code.Reported.told_text, proofs.Standing.told-same}
 use Rattle.audit_report.proofs.reports.report.Goals as goal
 
 pub returns : goal.returns

@@ -1,5 +1,4 @@
-use Rattle.std.proofs.Common.{◌≡◌, ◌++◌, ◌+◌, drop}
-use Rattle.std.specs.String.{string_bytes}
+use Rattle.std.{proofs.Common.◌≡◌, proofs.Common.◌++◌, proofs.Common.◌+◌, proofs.Common.drop, specs.String.string_bytes}
 use Rattle.audit_report.specs.code.Reported.{told_text}
 use Rattle.audit_report.proofs.sections.push_sections.Given as goal
 

@@ -1,7 +1,5 @@
-use Rattle.std.proofs.Common.{◌≡◌, drop, refl, ap, ◌∙◌, arith}
-use Rattle.std.proofs.Math.Seq.{drop-length}
-use Rattle.audit_report.specs.Stalls.{stalls}
-use Rattle.audit_report.proofs.Sweep.{swept_down}
+use Rattle.std.proofs.{Common.◌≡◌, Common.drop, Common.refl, Common.ap, Common.◌∙◌, Common.arith, Math.Seq.drop-length}
+use Rattle.audit_report.{specs.Stalls.stalls, proofs.Sweep.swept_down}
 use Rattle.audit_report.proofs.stalls.stall_pairs.Goals as goal
 
 pub loop-left-preserved : goal.loop-left-preserved

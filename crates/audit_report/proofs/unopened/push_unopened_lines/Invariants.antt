@@ -1,5 +1,4 @@
-use Rattle.std.proofs.Common.{◌≡◌, ◌++◌, drop}
-use Rattle.std.specs.String.{string_bytes}
+use Rattle.std.{proofs.Common.◌≡◌, proofs.Common.◌++◌, proofs.Common.drop, specs.String.string_bytes}
 use Rattle.audit_report.specs.UnopenedLines.{unopened_lines}
 use Rattle.audit_report.proofs.unopened.push_unopened_lines.Given as goal
 

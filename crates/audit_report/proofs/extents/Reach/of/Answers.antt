@@ -1,7 +1,5 @@
 use Rattle.std.proofs.Common.{◌≡◌, ℕ, Bool, Option, None, Some, is_some, if◌then◌else◌, refl, ap, sym, ◌∙◌}
-use Rattle.audit_report.specs.FlowLine.{extent_of}
-use Rattle.audit_report.specs.code.Reported.{extent_in}
-use Rattle.audit_report.specs.declared.extents.Extent.{Extent}
+use Rattle.audit_report.specs.{FlowLine.extent_of, code.Reported.extent_in, declared.extents.Extent.Extent}
 use Rattle.audit_report.proofs.extents.Reach.of.Goals as goal
 
 -- a gap that is where it is known to be, if there is one
