@@ -1,5 +1,5 @@
-use Rattle.std.proofs.{Common.◌≡◌, Common.drop, Common.refl, Common.ap, Common.◌∙◌, Common.arith, Math.Seq.drop-length}
-use Rattle.audit_report.{specs.Stalls.stalls, proofs.Sweep.swept_down}
+use Rattle.std.proofs.{Common.arith}
+use Rattle.audit_report.{proofs.Sweep.swept_down}
 use Rattle.audit_report.proofs.stalls.stall_pairs.Goals as goal
 
 pub loop-left-preserved : goal.loop-left-preserved
@@ -10,16 +10,3 @@ loop-left-preserved c = record {
       (omega arith) c.loop-left.invariant.within c.index-findings-left.is c.loop-left.invariant.swept
       c.in_ok-take_in.ensures.ended c.in_ok-take_in.ensures.begun;
 }
-
-pub loop-left-init : goal.loop-left-init
-loop-left-init c = record {
-  within = omega arith;
-  swept = rw (drop-length c.args.findings.now, c.new-stalls.ensures.items)
-      (record { first = record { at = c.new-ends.ensures }; reversed = refl });
-}
-
-pub returns : goal.returns
-returns c =
-    let none : c.loop-left.left ≡ 0 = omega arith in
-    let all : drop c.loop-left.left c.args.findings.now ≡ c.args.findings.now = rw none refl in
-    c.reverse.ensures.items ∙ c.loop-left.invariant.swept.reversed ∙ ap (stalls c.args.frames.now) all
