@@ -1,7 +1,7 @@
 -- What is kept of connections makes the text of the audits that it stands for.
 use Rattle.std.proofs.Common.{◌≡◌, ℕ, ◌+◌, Bool, List, [], ◌∷◌, ◌++◌, ◌∙◌, map, refl, ap, append_assoc}
 use Rattle.std.specs.Prelude.{codes}
-use Rattle.audit_report.specs.{ConnectionLine.contents_text, ConnectionLine.heading_text}
+use Rattle.audit_report.specs.ConnectionLine.{contents_text, heading_text}
 use Rattle.audit_report.specs.{FlowLine.flow_line, FlowLine.tail_of, Line.field, Line.line, code.Roles.roles_text}
 use Rattle.audit_report.specs.Section.{connection_text, findings_text, sections_text}
 use Rattle.audit_report.specs.code.Contents.{contents_in, contents_of, opening_text}

@@ -1,5 +1,5 @@
-use Rattle.std.proofs.{Common.arith}
-use Rattle.audit_report.{proofs.Sweep.swept_down}
+use Rattle.std.proofs.Common.{arith}
+use Rattle.audit_report.proofs.Sweep.{swept_down}
 use Rattle.audit_report.proofs.stalls.stall_pairs.Goals as goal
 
 pub loop-left-preserved : goal.loop-left-preserved
