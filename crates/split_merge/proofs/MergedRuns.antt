@@ -1,6 +1,6 @@
 -- Two runs in order, merged, are all their elements in order.
-use Rattle.split_merge.proofs.Terms.{◌≡◌, Bool, not, List, [], ◌∷◌, ◌++◌, refl, sym, ap, ◌∙◌, arith, comes_after, in_order}
-use Rattle.split_merge.proofs.Terms.{append_assoc}
+use Rattle.split_merge.proofs.Terms.{◌≡◌, Bool, not, List, [], ◌∷◌, ◌++◌, refl, sym, ap, ◌∙◌, arith, append_assoc}
+use Rattle.split_merge.proofs.Terms.{comes_after, in_order}
 use Rattle.itertools.specs.List.{merge_by}
 use Rattle.audit_terms.specs.declared.findings.Finding.{Finding}
 use Rattle.audit_terms.specs.Order.{put_by}
