@@ -31,8 +31,9 @@
 //!   frames shows the same.
 //! - [`laws::openings_are_found`] and [`laws::items_are_found`]: the numbers that streams tell, and the changes, make
 //!   the items of the pass.
-//! - Refused by the prover: a look that answers nothing in place of the worker's, in the round over streams; what is
-//!   found of a connection, given to another. Wrong bodies of single rounds stand in the crates below.
+//! - Refused by the prover, in the crates below: what is found of a connection, given to another (`split_merge`); wrong
+//!   looks and stops (`stop_desk`), runs of streams (`stream_credit`) and blocks (`conn_scan`). Here none is tried: an
+//!   edit costs a second proof of its crate, and this is the longest.
 //! - Tested by whole reports, in many mixes of workers, groups and block lengths: that the call succeeds where there is
 //!   memory.
 #![tactic(auto)]
@@ -50,7 +51,6 @@ mod gathering;
 mod halves;
 pub mod laws;
 mod merging;
-mod pending;
 mod prepared;
 mod stream_jobs;
 mod stream_round;

@@ -8,3 +8,4 @@ pub mod LoudStreams
 pub mod GroupRanges
 pub mod ShownMerge
 pub mod MergedRuns
+pub mod PutBack

@@ -10,9 +10,11 @@
 //!   a stream of three frames costs no list of its own.
 //! - [`merge`] puts lists of findings into one, up to the least connection error (5.4.1). It asks for neither sorted
 //!   nor distinct findings, since their order is total.
+//! - [`pending_of`] gives the connections of a batch that are still to be gone through, and [`put_back`] puts what is
+//!   found of these in their places.
 //! - [`worked_examples`] shows splits, quiet streams, groups, and where a merge ends.
 //! - Refused by the prover: a rest of streams left out, positions overwritten, a stream that is called quiet before its
-//!   last changes, a cut at the first reported error.
+//!   last changes, a cut at the first reported error, what is found of a connection, given to another.
 //! - Tested by whole reports: that the calls succeed where there is memory.
 //! - Trusted: the ports of `indexmap` and `itertools`.
 #![tactic(auto)]
@@ -20,6 +22,7 @@
 mod grouping;
 mod loud;
 mod merging;
+mod pending;
 mod row_index;
 mod splits;
 mod visits;
@@ -27,4 +30,5 @@ pub mod worked_examples;
 
 pub use grouping::groups;
 pub use merging::merge;
+pub use pending::{pending_of, put_back};
 pub use splits::{SplitFrames, StreamRow, split};

@@ -2,7 +2,7 @@
 //! was found of them so far. Any TCP connection may have no frame, and a SYN is enough to open one.
 
 ghost use Rattle.std.specs.Prelude.{◌≡◌, IfOk, length, map};
-ghost use Rattle.audit_rounds.specs.code.Pending.{has_stopped, is_pending, pending_of, put_back};
+ghost use Rattle.split_merge.specs.code.Pending.{has_stopped, is_pending, pending_of, put_back};
 
 use audit_terms::{Finding, Frame};
 use std::alloc::{AllocError, Global};
@@ -22,7 +22,7 @@ fn is_pending(frames: &[Frame], found: &[Finding]) -> bool
 }
 
 /// Those that are, of connections of each of which this was found.
-pub(crate) fn pending_of<'a>(
+pub fn pending_of<'a>(
     alloc: Global,
     connections: &[&'a [Frame]],
     found: &[Vec<Finding>],
@@ -41,7 +41,7 @@ pub(crate) fn pending_of<'a>(
 
 /// What was found of each connection, with the next of these lists in place of it for one that was still to be gone
 /// through.
-pub(crate) fn put_back(
+pub fn put_back(
     connections: &[&[Frame]],
     found: Vec<Vec<Finding>>,
     later: Vec<Vec<Finding>>,

@@ -1,6 +1,6 @@
-use Rattle.audit_rounds.proofs.Words.{sym, ◌∙◌, arith}
-use Rattle.audit_rounds.proofs.Batches.{back-all}
-use Rattle.audit_rounds.proofs.pending.put_back.Goals as goal
+use Rattle.split_merge.proofs.Terms.{sym, ◌∙◌, arith}
+use Rattle.split_merge.proofs.PutBack.{back-all}
+use Rattle.split_merge.proofs.pending.put_back.Goals as goal
 
 pub returns : goal.returns
 returns c =

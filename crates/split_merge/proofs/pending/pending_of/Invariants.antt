@@ -1,6 +1,6 @@
-use Rattle.audit_rounds.proofs.Words.{◌≡◌, ◌++◌, drop}
-use Rattle.audit_rounds.specs.code.Pending.{pending_of}
-use Rattle.audit_rounds.proofs.pending.pending_of.Given as goal
+use Rattle.split_merge.proofs.Terms.{◌≡◌, ◌++◌, drop}
+use Rattle.split_merge.specs.code.Pending.{pending_of}
+use Rattle.split_merge.proofs.pending.pending_of.Given as goal
 
 -- those so far, and those of the connections to come
 abbrev pub invariant-loop-n : goal.invariant-loop-n

@@ -1,7 +1,8 @@
-use Rattle.audit_rounds.proofs.Words.{◌≡◌, ◌++◌, drop, length, map, take, into_iter_items}
-use Rattle.audit_rounds.proofs.Lists.{items_in}
-use Rattle.audit_rounds.specs.code.Pending.{put_back}
-use Rattle.audit_rounds.proofs.pending.put_back.Given as goal
+use Rattle.split_merge.proofs.Terms.{◌≡◌, ◌++◌, drop, length, map, take}
+use Rattle.std.specs.Vec.Iter.{into_iter_items}
+use Rattle.split_merge.proofs.PutBack.{items_in}
+use Rattle.split_merge.specs.code.Pending.{put_back}
+use Rattle.split_merge.proofs.pending.put_back.Given as goal
 
 -- the lists of the connections so far, and what comes of the others
 abbrev pub invariant-loop-n : goal.invariant-loop-n
