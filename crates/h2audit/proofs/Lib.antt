@@ -6,3 +6,4 @@ mod Found
 mod Opened
 mod Walked
 mod OptionReads
+mod Added

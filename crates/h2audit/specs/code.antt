@@ -5,3 +5,4 @@ pub mod Found
 pub mod Quiet
 pub mod Options
 pub mod Choices
+pub mod Arguments

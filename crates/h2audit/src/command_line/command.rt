@@ -1,7 +1,7 @@
-ghost use Rattle.std.specs.Prelude.{◌≡◌, IfOk, Some, false, map, pos};
-ghost use Rattle.clap.specs.Words.{App, app_of, fault_of, found_of, matches_of, rows_of, rule_of, with_rule, FailsBy};
-ghost use Rattle.h2audit.specs.CommandLine.{app, command_start, command_with_numbers};
-ghost use Rattle.h2audit.specs.CommandLine.{file_rule, frames_rule, number_rule, option_rule};
+ghost use Rattle.std.specs.Prelude.{◌≡◌, IfOk, false, map};
+ghost use Rattle.clap.specs.Words.{app_of, fault_of, found_of, matches_of, rows_of, rule_of, FailsBy};
+ghost use Rattle.h2audit.specs.CommandLine.{app, command_start, file_rule, frames_rule, number_rule};
+ghost use Rattle.h2audit.specs.code.Arguments.{AreArguments};
 
 use crate::command_line::options::Options;
 use clap::builder::ValueParser;
@@ -31,33 +31,23 @@ pub(crate) fn matches<'a>(alloc: Global, words: &'a [&'a str]) -> Result<ArgMatc
 fn command<'a>(alloc: Global) -> Result<Command<'a>, AllocError>
     ensures { IfOk result (λ c. app_of c ≡ app) }
 {
-    let flagged = with_arg(command_with_numbers(alloc), frames_flag(alloc));
-    with_arg(flagged, file_word(alloc))
+    bare_command(alloc).args(arguments(alloc)?)
 }
 
-/// The same, so far as its arguments are numbers.
-fn command_with_numbers<'a>(alloc: Global) -> Result<Command<'a>, AllocError>
-    ensures { IfOk result (λ c. app_of c ≡ command_with_numbers) }
+/// The arguments, in the order in which help shows them.
+fn arguments<'a>(alloc: Global) -> Result<Vec<Arg<'a>>, AllocError>
+    ensures { IfOk result (λ args. AreArguments args.items) }
 {
     let workers = numbered(alloc, WORKERS, Options::MOST_WORKERS, "4", WORKERS_HELP);
     let groups = numbered(alloc, GROUPS, Options::MOST_GROUPS, "16", GROUPS_HELP);
     let block = numbered(alloc, BLOCK, Options::LONGEST_BLOCK, "4096", BLOCK_HELP);
-    with_arg(with_arg(bare_command(alloc).arg(workers), groups), block)
-}
-
-/// The command with one more argument.
-fn with_arg<'a>(
-    command: Result<Command<'a>, AllocError>,
-    arg: Arg<'a>,
-) -> Result<Command<'a>, AllocError>
-    requires { arg.global ≡ false }
-    ensures { (given : App) → IfOk command.entry (λ c. app_of c ≡ given)
-        → IfOk result (λ c. app_of c ≡ with_rule given (rule_of arg.entry)) }
-{
-    match command {
-        Ok(command) => command.arg(arg),
-        Err(error) => Err(error),
-    }
+    Ok(vec![in alloc;
+        workers,
+        groups,
+        block,
+        frames_flag(alloc),
+        file_word(alloc),
+    ]?)
 }
 
 /// The version of the program and of its report.
@@ -94,27 +84,13 @@ fn numbered<'a>(alloc: Global, name: &'a str, most: u32, default: &'a str, help:
     ensures rule { rule_of result ≡ number_rule name.entry.now most default.entry.now }
     ensures local { result.global ≡ false }
 {
-    in_range(option(alloc, name), most)
-        .default_value(default)
-        .help(help)
-}
-
-/// `--NAME N`.
-fn option<'a>(alloc: Global, name: &'a str) -> Arg<'a>
-    ensures rule { rule_of result ≡ option_rule name.entry.now }
-    ensures local { result.global ≡ false }
-{
     Arg::new(alloc, name)
         .long(name)
         .action(ArgAction::Set)
         .value_name("N")
-}
-
-/// The argument, whose value is a number from 1 to `most`.
-fn in_range<'a>(arg: Arg<'a>, most: u32) -> Arg<'a>
-    ensures { result ≡ record arg.entry { value_parser = Some (ValueParser.Signed (pos 1) (pos most)) } }
-{
-    arg.value_parser(ValueParser::Signed(1, i64::from(most)))
+        .value_parser(ValueParser::Signed(1, i64::from(most)))
+        .default_value(default)
+        .help(help)
 }
 
 fn frames_flag<'a>(alloc: Global) -> Arg<'a>
