@@ -1,4 +1,4 @@
-ghost use Rattle.std.specs.Prelude.{◌≡◌, ◌<◌, ◌^◌, All, IfOk, IfErr, None, length, string_bytes};
+ghost use Rattle.std.specs.Prelude.{◌≡◌, ◌<◌, ◌^◌, All, IfOk, IfErr, None, Ok, length, string_bytes};
 ghost use Rattle.audit_report.specs.code.Reported.{HasOrderlyOutcome};
 ghost use Rattle.audit_report.specs.declared.told.Told.{Told as ToldTerm};
 ghost use Rattle.pcap_records.specs.Refusal.{refusal};
@@ -135,8 +135,20 @@ fn lines_and_flows<R: Threads + Sync, G: Gate>(
 {
     let packets = Packets::of(team.alloc, &found.packets)?;
     let lines = capture_lines(team.alloc, found.cut, &packets, strays)?;
-    let parts = flows_each(team, options, capture, &packets, opened)?;
-    Ok((lines, parts))
+    with_flows(lines, flows_each(team, options, capture, &packets, opened))
+}
+
+/// The lines, and the flows where there are some.
+fn with_flows(
+    lines: String,
+    flows: Result<Vec<Part<Told>>, AllocError>,
+) -> Result<(String, Vec<Part<Told>>), AllocError>
+    ensures { IfOk result (λ r. (r.0 ≡ lines) × (flows ≡ Ok r.1)) }
+{
+    match flows {
+        Ok(parts) => Ok((lines, parts)),
+        Err(error) => Err(error),
+    }
 }
 
 /// The report of connections of which this is told, behind the lines of the capture, and its verdict.
