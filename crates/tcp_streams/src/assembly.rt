@@ -60,19 +60,27 @@ pub fn assemble<'a>(
 {
     match connection.initial_of(side) {
         Some(initial_number) => {
-            match flow_in_order(alloc, capture, packets, connection, side, initial_number)? {
-                Some(flow) => Ok(flow),
-                None => flow_in_any_order(
-                    alloc,
-                    capture,
-                    packets,
-                    connection,
-                    side,
-                    initial_number,
-                ),
-            }
+            flow_from(alloc, capture, packets, connection, side, initial_number)
         }
         None => Ok(Flow::unknown(alloc)),
+    }
+}
+
+/// The flow of a side whose initial sequence number is known.
+fn flow_from<'a>(
+    alloc: Global,
+    capture: &Capture<'a>,
+    packets: &Packets<'_>,
+    connection: &Connection,
+    side: Side,
+    initial_number: u32,
+) -> Result<Flow<'a>, AllocError>
+    requires { IsOfCapture capture.now packets.now connection.now }
+    ensures { IfOk result (IsAssembled capture.now packets.now connection.now side initial_number) }
+{
+    match flow_in_order(alloc, capture, packets, connection, side, initial_number)? {
+        Some(flow) => Ok(flow),
+        None => flow_in_any_order(alloc, capture, packets, connection, side, initial_number),
     }
 }
 

@@ -47,8 +47,7 @@ impl<'a> Laid<'a> {
         ensures arrivals { OnOk result (self.new.arrivals.items ≡ self.old.arrivals.items ++ arrival_with x.now ∷ []) }
         ensures end { OnOk result (self.new.end ≡ x.now.upto) }
     {
-        let (index, width) = (x.index as usize, (x.upto - x.from) as usize);
-        capture.pieces(index, index + width, &mut self.pieces)?;
+        x.push_bytes(capture, &mut self.pieces)?;
         self.arrivals.push(arrival_with(x))?;
         self.end = x.upto;
         Ok(())

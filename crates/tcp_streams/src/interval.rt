@@ -1,4 +1,7 @@
-ghost use Rattle.std.specs.Prelude.{◌≡◌, ◌+◌, ◌-◌, ◌<◌, ◌≤◌, ◌^◌};
+ghost use Rattle.std.specs.Prelude.{◌≡◌, ◌+◌, ◌-◌, ◌<◌, ◌≤◌, ◌^◌, ◌++◌, length, OnOk};
+
+use input_output::Capture;
+use std::alloc::AllocError;
 
 /// The first offset that doesn't count: a flow is shorter than this.
 pub const END_OF_OFFSETS: u32 = 0x8000_0000;
@@ -15,7 +18,23 @@ pub struct Interval {
 }
 
 impl Interval {
-    ghost use Rattle.tcp_streams.specs.code.Interval.{IsInterval, part_of};
+    ghost use Rattle.std.specs.List.{slice_range};
+    ghost use Rattle.tcp_streams.specs.Bytes.{joined};
+    ghost use Rattle.tcp_streams.specs.code.Interval.{IsInside, IsInterval, part_of, width};
+
+    /// Puts the interval's bytes behind the pieces that were found.
+    pub fn push_bytes<'a>(
+        &self,
+        capture: &Capture<'a>,
+        found: &mut Vec<&'a [u8]>,
+    ) -> Result<(), AllocError>
+        requires { IsInside (length capture.now) self.now }
+        ensures { OnOk result (joined found.new.items ≡ joined found.old.items
+            ++ slice_range capture.now self.now.index (self.now.index + width self.now)) }
+    {
+        let index = self.index as usize;
+        capture.pieces(index, index + (self.upto - self.from) as usize, found)
+    }
 
     /// The part between two offsets of the interval.
     pub fn part(&self, low: u32, high: u32) -> Interval

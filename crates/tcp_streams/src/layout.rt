@@ -61,8 +61,7 @@ fn pieces_in<'a>(
 {
     let mut pieces = Vec::with_capacity(alloc, run.len())?;
     for x in run {
-        let (index, width) = (x.index as usize, (x.upto - x.from) as usize);
-        capture.pieces(index, index + width, &mut pieces)?;
+        x.push_bytes(capture, &mut pieces)?;
     }
     Ok(pieces)
 }

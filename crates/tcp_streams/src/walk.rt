@@ -1,12 +1,14 @@
 //! The connections of a capture, found while it is read.
 
-ghost use Rattle.std.specs.Prelude.{◌≡◌, ◌<◌, ◌≤◌, ◌^◌, ◌⊎◌, All, IfErr, IfOk, IfSome, None, OnOk, Some, length};
+ghost use Rattle.std.specs.Prelude.{◌≡◌, ◌<◌, ◌≤◌, ◌^◌, ◌⊎◌, List, All, IfErr, IfOk, IfSome, None, OnOk, Some};
+ghost use Rattle.std.specs.Prelude.{length};
+ghost use Rattle.packet_heads.specs.declared.packets.Packet.{Packet};
 ghost use Rattle.pcap_records.specs.Refusal.{refusal};
 ghost use Rattle.packet_heads.specs.code.Walk.{AreInOrder, ArePacketsOf, packets_in};
 ghost use Rattle.tcp_streams.specs.Membership.{AreConnections, strays_of};
 ghost use Rattle.tcp_streams.specs.code.Orderly.{AreMembers};
 ghost use Rattle.tcp_streams.specs.code.Past.{past_of};
-ghost use Rattle.tcp_streams.specs.code.Table.{IsTableOf, IsTableOfFront};
+ghost use Rattle.tcp_streams.specs.code.Table.{AreFoundIn, IsTableOf, IsTableOfFront};
 ghost use Rattle.tcp_streams.specs.code.Walk.{HasTakenIn, IsConnectionWalkIn};
 
 use crate::members::Connections;
@@ -77,32 +79,41 @@ impl ConnectionWalk {
             All (λ c. AreMembers 0 (packets_in found.0) c.members.items) found.1.opened.items) }
         ensures short { OnOk result (length capture.now < 2 ^ 31) }
     {
-        let ConnectionWalk {
-            packets,
-            mut table,
-            ..
-        } = self;
-        let known = packets.count();
-        let found = packets.finish(alloc, capture)?;
-        match take_rest(&mut table, alloc, &found, known) {
-            Ok(()) => Ok((found, table.into_connections())),
+        let known = self.packets.count();
+        let found = self.packets.finish(alloc, capture)?;
+        match connections_of(self.table, alloc, &found, known) {
+            Ok(connections) => Ok((found, connections)),
             Err(_) => Err(PcapFault::OutOfMemory),
         }
     }
 }
 
-/// Takes the packets from this index on into a table that has taken in those before it.
-fn take_rest(
-    table: &mut Table,
+/// The connections of packets, of which a table has taken in those before this index.
+fn connections_of(
+    mut table: Table,
     alloc: Global,
     found: &CapturePackets,
     known: usize,
-) -> Result<(), AllocError>
-    requires { IsTableOfFront (packets_in found.now) known table.old }
-    ensures { OnOk result (IsTableOf (past_of (packets_in found.now)) table.new) }
+) -> Result<Connections, AllocError>
+    requires { IsTableOfFront (packets_in found.now) known table }
+    ensures { IfOk result (AreFoundIn (packets_in found.now)) }
 {
-    let packets = Packets::of(alloc, &found.packets)?;
-    take_in(table, &packets, known)
+    take_read(&mut table, Packets::of(alloc, &found.packets), known)?;
+    Ok(table.into_connections())
+}
+
+/// Takes packets from this index on, where there was memory to read them, into a table that has taken in those before
+/// it.
+fn take_read(
+    table: &mut Table,
+    packets: Result<Packets<'_>, AllocError>,
+    known: usize,
+) -> Result<(), AllocError>
+    requires { IfOk packets (λ packets. IsTableOfFront packets known table.old) }
+    ensures { OnOk result ((all : List Packet) → IfOk packets.entry (λ packets. packets ≡ all)
+        → IsTableOf (past_of all) table.new) }
+{
+    take_in(table, &packets?, known)
 }
 
 impl FrontWalk for ConnectionWalk {
@@ -111,7 +122,6 @@ impl FrontWalk for ConnectionWalk {
     fn advance(&mut self, alloc: Global, capture: &Capture<'_>) -> Result<(), AllocError> {
         let known = self.packets.count();
         self.packets.advance(alloc, capture)?;
-        let packets = self.packets.made(alloc)?;
-        take_in(&mut self.table, &packets, known)
+        take_read(&mut self.table, self.packets.made(alloc), known)
     }
 }

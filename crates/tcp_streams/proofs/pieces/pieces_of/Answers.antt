@@ -1,4 +1,4 @@
-use Rattle.tcp_streams.proofs.Words.{refl, append-nil, take, filter_map, member_piece}
+use Rattle.tcp_streams.proofs.Words.{refl, append-nil, take, take_all, filter_map, member_piece}
 use Rattle.tcp_streams.proofs.Lists.{filter_map-more}
 use Rattle.tcp_streams.proofs.pieces.pieces_of.Goals as goal
 use Rattle.tcp_streams.proofs.pieces.pieces_of.Goals.{in-Some+in_ok-push, in_default}
@@ -16,3 +16,8 @@ loop-member-preserved c =
       | in_default w ↦ rw (w.pieces-is, next, w.in_default.is, append-nil (filter_map f so_far))
           c.loop-member.invariant
     ]
+
+pub returns : goal.returns
+returns c =
+    rw (take_all c.loop-member.member-index c.args.connection.now.members.items
+    (rw c.deref-member-items.ensures.value at c.loop-member-test.false)) at c.loop-member.invariant

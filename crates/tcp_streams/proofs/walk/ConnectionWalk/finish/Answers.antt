@@ -12,8 +12,8 @@ refused-so : {T U : Type 0} (refusal : Option PcapFault) (r : Result T PcapFault
 refused-so None r s fault r_is s_is same = tt
 refused-so (Some e) r s fault r_is s_is same = let is : fault ≡ e = cc in cc
 
-pub take_rest-requires : goal.take_rest-requires
-take_rest-requires c =
+pub connections_of-requires : goal.connections_of-requires
+connections_of-requires c =
     let all = c.in_ok-found.ensures in
     front-shown (made_by c.args.self.packets) (packets_in c.in_ok-found.found) _ _ c.count-known.ensures all.front
     all.order c.args.self.table (c.requires.walk []).table
@@ -27,7 +27,7 @@ returns-in_err-found-clause-refused c =
 pub returns-in-Ok : goal.returns-in-Ok
 returns-in-Ok c =
     let all = c.in_ok-found.ensures in
-    let found = c.into_connections.ensures _ all.order.numbered c.in-Ok.ensures in
+    let found = c.in-Ok.ensures in
     record {
       ok = all.ok;
       opened = found.opened;
