@@ -36,7 +36,21 @@ pub fn local_faults(
         return faults_after(alloc, none_before(), frames);
     }
     let befores = befores(alloc, size, frames)?;
-    let befores = befores.as_slice();
+    faults_in_shares(rt, alloc, size, frames, befores.as_slice())
+}
+
+/// The local faults of the frames, worked out share by share, from the last frames before each.
+fn faults_in_shares(
+    rt: &(impl Threads + Sync),
+    alloc: Global,
+    size: usize,
+    frames: &[Frame],
+    befores: &[Sides<Option<Frame>>],
+) -> Result<Vec<Finding>, AllocError>
+    requires in_range { All IsInRange frames.now }
+    requires befores { AreBefores size frames.now befores.now }
+    ensures { IfOk result (λ found. found.items ≡ local_run frames.now) }
+{
     let shares = (0..befores.len())
         .into_par_iter()
         .map(
