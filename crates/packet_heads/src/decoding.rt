@@ -79,7 +79,6 @@ fn decision_on(link: u16, number: u32, row: &Record, packet: &[u8]) -> Packet
 /// `link` is the link type of the capture, 1 (Ethernet) or 101 (raw IP); `number` is the record's. The captured
 /// bytes of `row` are to lie in `capture`, as those of `pcap_records::records` do. They are read where they lie;
 /// those in which chunks of the capture meet are gathered first.
-#[tactic(auto, using(crate::proofs::Headers::in_front), unfolding(crate::specs::Decision::packet_decision))]
 pub fn decode(
     alloc: Global,
     link: u16,

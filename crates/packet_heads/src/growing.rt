@@ -1,6 +1,8 @@
 //! A list that grows in chunks.
 
-ghost use Rattle.std.specs.Prelude.{◌≡◌, ◌<◌, ◌^◌, [], ◌∷◌, ◌++◌, IfOk, OnErr, OnOk, length};
+ghost use Rattle.std.specs.Prelude.{◌≡◌, ◌+◌, ◌*◌, ◌<◌, ◌≤◌, ◌^◌, [], ◌∷◌, ◌++◌, IfOk, OnOk, length, map, vec_len};
+ghost use Rattle.std.specs.List.{All};
+ghost use Rattle.input_output.specs.Chunks.{joined};
 
 use crate::packets::PACKET_CHUNK;
 use input_output::Chunks;
@@ -79,9 +81,14 @@ fn begin_chunk<T: Copy>(
     last: &mut Vec<T>,
     item: T,
 ) -> Result<(), AllocError>
-    ensures ok { OnOk result ((full.new.items ≡ full.old.items ++ last.old ∷ [])
-        × (last.new.items ≡ item ∷ [])) }
-    ensures err { OnErr result ((full.new.items ≡ full.old.items) × (last.new ≡ last.old)) }
+    requires full { All (λ chunk. vec_len chunk ≡ 8192) full.old.items }
+    requires last { vec_len last.old ≡ 8192 }
+    requires room { length full.old.items * 8192 < 2 ^ 31 }
+    ensures full { All (λ chunk. vec_len chunk ≡ 8192) full.new.items }
+    ensures last { vec_len last.new ≤ 8192 }
+    ensures room { length full.new.items * 8192 + vec_len last.new < 2 ^ 32 }
+    ensures more { OnOk result (joined (map (λ chunk. chunk.items) full.new.items) ++ last.new.items
+        ≡ (joined (map (λ chunk. chunk.items) full.old.items) ++ last.old.items) ++ item ∷ []) }
 {
     full.reserve(1)?;
     let mut next = Vec::with_capacity(alloc, PACKET_CHUNK)?;
