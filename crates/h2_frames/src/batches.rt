@@ -154,14 +154,16 @@ pub(crate) fn take_in_turn(
     limit: Limit,
     client: &mut Unread<'_>,
     server: &mut Unread<'_>,
-    batch: &mut FrameBatch,
+    sent: &mut Vec<Frame>,
+    answered: &mut Vec<Frame>,
 ) -> Result<(), AllocError>
     requires client { IsAhead client.old }
     requires server { IsAhead server.old }
-    ensures { OnOk result (AreBothTaken limit client.old client.new server.old server.new batch.new) }
+    ensures { OnOk result (AreBothTaken limit client.old client.new server.old server.new sent.new.items
+        answered.new.items) }
 {
-    client.take_up_to(limit, &mut batch.client)?;
-    server.take_up_to(limit, &mut batch.server)
+    client.take_up_to(limit, sent)?;
+    server.take_up_to(limit, answered)
 }
 
 /// The same, each side's on a thread of its own where these can be had.
@@ -170,17 +172,18 @@ pub(crate) fn take_side_by_side<R: Threads>(
     limit: Limit,
     client: &mut Unread<'_>,
     server: &mut Unread<'_>,
-    batch: &mut FrameBatch,
+    sent: &mut Vec<Frame>,
+    answered: &mut Vec<Frame>,
 ) -> Result<(), AllocError>
     requires client { IsAhead client.old }
     requires server { IsAhead server.old }
-    ensures { OnOk result (AreBothTaken limit client.old client.new server.old server.new batch.new) }
+    ensures { OnOk result (AreBothTaken limit client.old client.new server.old server.new sent.new.items
+        answered.new.items) }
 {
-    let alloc = batch.alloc;
-    let (sent, answered) = join_mut(
+    let (first, second) = join_mut(
         rt,
-        &mut || client.take_apart(alloc, limit, &mut batch.client),
-        &mut || server.take_apart(alloc, limit, &mut batch.server),
+        &mut || client.take_apart(limit, sent),
+        &mut || server.take_apart(limit, answered),
     );
-    sent.and(answered)
+    first.and(second)
 }

@@ -5,7 +5,7 @@ ghost use Rattle.h2_frames.specs.declared.unread.Next.TheVariants.{Over};
 
 use crate::unread::{Next, Unread};
 use audit_terms::Frame;
-use std::alloc::{AllocError, Global};
+use std::alloc::AllocError;
 use std::mem;
 
 /// How many frames are enough of one record.
@@ -101,15 +101,11 @@ impl<'a> Unread<'a> {
     ///
     /// What is written for each frame stands with this thread alone meanwhile. In their places both sides' values lie
     /// together, and a line of the cache would go from one processor to the other with each frame.
-    pub fn take_apart(
-        &mut self,
-        alloc: Global,
-        limit: Limit,
-        frames: &mut Vec<Frame>,
-    ) -> Result<(), AllocError>
+    pub fn take_apart(&mut self, limit: Limit, frames: &mut Vec<Frame>) -> Result<(), AllocError>
         requires { IsAhead self.old }
         ensures { IfOk result (λ done. AreTakenUpTo limit self.old self.new frames.new.items) }
     {
+        let alloc = *frames.allocator();
         let mut own = Unread {
             side: self.side,
             next: self.next,

@@ -141,13 +141,15 @@ impl<'a> FrameWalk<'a> {
         requires server { IsAhead self.old.server }
         ensures taken { OnOk result (self.new.taken ≡ self.old.taken) }
         ensures both { OnOk result
-            (AreBothTaken limit self.old.client self.new.client self.old.server self.new.server batch.new) }
+            (AreBothTaken limit self.old.client self.new.client self.old.server self.new.server
+            batch.new.client.items batch.new.server.items) }
     {
         let (client, server) = (&mut self.client, &mut self.server);
+        let (sent, answered) = (&mut batch.client, &mut batch.server);
         if threads < 3 {
-            take_in_turn(limit, client, server, batch)
+            take_in_turn(limit, client, server, sent, answered)
         } else {
-            take_side_by_side(rt, limit, client, server, batch)
+            take_side_by_side(rt, limit, client, server, sent, answered)
         }
     }
 

@@ -3,7 +3,6 @@ use Rattle.std.specs.Prelude.{◌≡◌, ℕ, ◌+◌, ◌*◌, ◌≤◌, Bool,
 use Rattle.std.specs.Prelude.{◌⊎◌, Option, Some, None}
 use Rattle.std.specs.List.{AllByRecursion}
 use Rattle.audit_terms.specs.declared.frames.Frame.{Frame}
-use Rattle.h2_frames.specs.declared.batches.FrameBatch.{FrameBatch}
 use Rattle.h2_frames.specs.declared.limits.Limit.{Limit}
 use Rattle.h2_frames.specs.declared.unread.Next.{Next}
 use Rattle.h2_frames.specs.declared.unread.Next.TheVariants.{Over, Read, Unread as ToRead}
@@ -43,6 +42,7 @@ pub record AreTakenUpTo (limit : Limit) (old new : Unread) (frames : List Frame)
   pub none : length frames ≡ 0 → new.next ≡ old.next
 
 -- these frames of both sides were taken
-pub record AreBothTaken (limit : Limit) (client client' server server' : Unread) (batch : FrameBatch) : Type 0 where
-  pub sent : AreTakenUpTo limit client client' batch.client.items
-  pub answered : AreTakenUpTo limit server server' batch.server.items
+pub record AreBothTaken (limit : Limit) (client client' server server' : Unread) (sent_frames answers : List Frame)
+    : Type 0 where
+  pub sent : AreTakenUpTo limit client client' sent_frames
+  pub answered : AreTakenUpTo limit server server' answers
