@@ -68,6 +68,19 @@ sizes b view orderly is =
       sym (ap (λ (v : InChunks). v.room) is),
     )
 
+-- what was read into the last chunk, behind what is filled of it, lies within that
+pub read_within : (b : Inside) (chunk : Vec ℕ Global) → IsOrderly b → vec_len chunk ≡ vec_len b.last → (n : ℕ)
+    → length (take n (drop b.filled chunk.items)) ≡ n → b.filled + n ≤ vec_len chunk
+read_within b chunk orderly same n count = omega (
+  arith,
+  count,
+  length-take n (drop b.filled chunk.items),
+  length-drop b.filled chunk.items,
+  orderly.1,
+  same,
+  chunk.ok.0,
+)
+
 -- a read into the last chunk, behind what is filled of it, is kept behind what was kept
 module _ (b : Inside) (chunk : Vec ℕ Global) (old : InChunks) (orderly : IsOrderly b) (is : view_of b ≡ old)
     (length_same : vec_len chunk ≡ vec_len b.last)
@@ -85,9 +98,8 @@ module _ (b : Inside) (chunk : Vec ℕ Global) (old : InChunks) (orderly : IsOrd
   pub is_grown : (n filled : ℕ) → filled ≡ b.filled + n → length (take n (drop b.filled chunk.items)) ≡ n
       → IsGrown old (view_of (record b { last = chunk; filled = filled }))
   is_grown n filled grown count =
-      let taken = length-take n (drop b.filled chunk.items) in
       let within : filled ≤ length chunk.items =
-      omega (arith, grown, count, length-drop b.filled chunk.items, orderly.1, length_same, chunk.ok.0) in record {
+      omega (arith, grown, chunk.ok.0, read_within b chunk orderly length_same n count) in record {
         front = starts_with_of_append _ old.kept _ (more n filled grown);
         room = ap (λ k. vec_len b.full * 1048576 + k) length_same ∙ ap (λ (v : InChunks). v.room) is;
         within = omega

@@ -1,4 +1,4 @@
-use Rattle.std.proofs.Common.{rules, take}
+use Rattle.std.proofs.Common.{rules, take, inr}
 use Rattle.input_output.proofs.Kept.{passed_more}
 use Rattle.input_output.proofs.reading.pass_over.Goals as goal
 
@@ -7,3 +7,16 @@ loop-piece-preserved g c =
     let bytes = passed_more g.R.Read.remaining c.args.reader.now c.loop-piece.reader c.pass_once.new.self
     (take c.in_ok-pass_once.field-0 c.pass_once.new.piece) c.in_ok-pass_once.field-0 c.loop-piece.invariant.bytes
     c.in_ok-pass_once.ensures.count c.in_ok-pass_once.ensures.read in search (rules, bytes)
+
+pub returns-then-branch-eq0-clause-sound : goal.returns-then-branch-eq0-clause-sound
+returns-then-branch-eq0-clause-sound g c = record {
+  within = rw c.pass_once.ensures.kept c.loop-piece.invariant.sound.within;
+  limit = c.pass_once.ensures.limit;
+  well = inr (c.in_ok-pass_once.ensures.state.ended c.if-branch-eq0.true);
+}
+
+pub returns-then-branch-eq0-clause-bytes : goal.returns-then-branch-eq0-clause-bytes
+returns-then-branch-eq0-clause-bytes g c =
+    passed_more g.R.Read.remaining c.args.reader.now c.loop-piece.reader c.pass_once.new.self
+    (take c.in_ok-pass_once.field-0 c.pass_once.new.piece) c.in_ok-pass_once.field-0 c.loop-piece.invariant.bytes
+    c.in_ok-pass_once.ensures.count c.in_ok-pass_once.ensures.read

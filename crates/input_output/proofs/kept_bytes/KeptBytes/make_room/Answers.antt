@@ -1,4 +1,4 @@
-use Rattle.std.proofs.Common.{arith}
+use Rattle.std.proofs.Common.{◌∷◌, [], ap, arith, length, length-append}
 use Rattle.std.proofs.lemmas.Result.{on_ok_weaker}
 use Rattle.input_output.proofs.Bytes.{all_full, kept_size, sizes}
 use Rattle.input_output.proofs.kept_bytes.KeptBytes.make_room.Goals as goal
@@ -38,4 +38,27 @@ returns-clause-room g c =
       kept_size full.items c.begin_chunk.new.last.items 0 all (omega arith),
       full.ok.0,
       c.in_ok-begin_chunk.ensures.ok.1,
+    )
+
+pub invariant_of-self : goal.invariant_of-self
+invariant_of-self g c = (c.self.invariant.0, omega arith, omega arith, omega arith)
+
+pub invariant_of-self-2 : goal.invariant_of-self-2
+invariant_of-self-2 g c =
+    let full = c.begin_chunk.new.full in
+    let begun = c.in_ok-begin_chunk.ensures.ok in
+    let size = ap length begun.0 in (
+      all_full c.self.inside.full.items full.items c.self.inside.last c.self.invariant.0
+          (omega (arith, c.self.invariant.2)) begun.0,
+      omega arith,
+      begun.3,
+      omega (
+        arith,
+        begun.2,
+        size,
+        length-append c.self.inside.full.items (c.self.inside.last ∷ []),
+        full.ok.0,
+        c.self.inside.full.ok.0,
+        c.requires.limit.1,
+      ),
     )
