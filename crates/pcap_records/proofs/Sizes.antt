@@ -74,7 +74,3 @@ header_refuses_lem header rest e size refused =
     rw (refusal-long (header ++ rest) (omega (arith, size, length-append header rest)), front)
     (refusal_by-header (format_of header) header _ e
     (rw (alone, size) at (sym (refusal-long header (omega (arith, size))) ∙ refused)))
-
--- a header that is whole
-pub whole_header : (capture : List ℕ) → 24 ≤ length capture → length (header_of capture) ≡ 24
-whole_header capture long = length-take-le 24 capture long

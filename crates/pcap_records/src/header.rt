@@ -52,14 +52,16 @@ pub fn late_fault<T: ByteOrder>(header: &[u8], size: usize) -> Option<PcapFault>
 
 /// The header at the front of a capture, or what there is of it.
 pub fn header(capture: &[u8]) -> &[u8]
-    ensures { result.now ≡ header_of capture.now }
+    ensures bytes { result.now ≡ header_of capture.now }
+    ensures length { length result.now ≡ min 24 (length capture.now) }
 {
     &capture[..capture.len().min(FILE_HEADER)]
 }
 
 /// The same of a capture in chunks, the first of which has room for it.
 pub fn header_in_chunks<'a>(capture: &Capture<'a>) -> &'a [u8]
-    ensures { result.now ≡ header_of capture.now }
+    ensures bytes { result.now ≡ header_of capture.now }
+    ensures length { length result.now ≡ min 24 (length capture.now) }
 {
     if capture.len() == 0 {
         &[]

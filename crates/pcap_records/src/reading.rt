@@ -35,7 +35,6 @@ pub fn refusal_in_chunks(capture: &Capture<'_>) -> Option<PcapFault>
 /// and all before it is kept. Times are in nanoseconds; a fraction above its usual range is used as
 /// it is. [`PcapFault::OutOfMemory`] comes only where the table of records could not grow, or a record's
 /// header, in which chunks of the capture meet, could not be gathered.
-#[tactic(auto, using(crate::proofs::Sizes::whole_header))]
 pub fn records(alloc: Global, capture: &Capture<'_>) -> Result<Records, PcapFault>
     // Nothing refuses the capture, and this is all that it holds.
     ensures ok { IfOk result (λ found. (refusal capture.now ≡ None) × IsReading capture.now found) }

@@ -30,7 +30,6 @@ pub struct RecordWalk {
 
 impl RecordWalk {
     /// A walk that stands behind the file header, or the refusal of these bytes.
-    #[tactic(auto, using(crate::proofs::Sizes::whole_header))]
     pub fn begin(front: &[u8]) -> Result<RecordWalk, PcapFault>
         ensures ok { IfOk result (HasPassed front.now []) }
         ensures taken { OnOk result (refusal front.now ≡ None) }
