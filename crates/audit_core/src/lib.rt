@@ -17,8 +17,9 @@
 //!   connection, and the streams. So the state of one is its own run along the frames. Sorting a joined list is a sum
 //!   in which parts may change places, so all findings split by machine; and a stream that has no frame and no change
 //!   at a number says nothing there. From this the law on parts follows.
-//! - Refused by the prover: content of a reset stream that the connection does not count. Wrong bodies of the calls
-//!   that it makes stand with these, as a change that counts before its acknowledgement in `settings_pair`.
+//! - Refused by the prover in other crates, on the same definitions: content of a reset stream that the connection does
+//!   not count, in `quiet_pass`; and wrong bodies of the calls that it makes with these, as a change that counts before
+//!   its acknowledgement in `settings_pair`.
 //! - Tested, in `crate_tests`: that `one_pass` succeeds where there is memory, and that the rounds show what it does of
 //!   random frames.
 #![tactic(auto)]
