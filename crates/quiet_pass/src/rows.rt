@@ -161,14 +161,11 @@ pub(crate) fn meet(rows: &mut Vec<Row>, at: usize, frame: &Frame) -> bool
     ensures { OnTrue result (AreRising rows.old.items → (initial : SidesTerm ℕ)
         → HasMet frame.now.stream initial frame.now false rows.old.items rows.new.items) }
 {
-    let row = rows[at];
-    match row.after(frame) {
-        Some(next) => {
-            rows[at] = next;
-            true
-        }
-        None => false,
-    }
+    let Some(next) = rows[at].after(frame) else {
+        return false;
+    };
+    rows[at] = next;
+    true
 }
 
 /// Is a stream past those of all rows?

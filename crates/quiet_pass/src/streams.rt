@@ -3,6 +3,7 @@
 ghost use Rattle.std.specs.Prelude.{◌≡◌, ℕ, ◌<◌, true, false, [], IfOk};
 ghost use Rattle.std.specs.Bool.{OnTrue};
 ghost use Rattle.std.specs.Option.{ForSome};
+ghost use Rattle.audit_terms.specs.declared.sides.Sides.{Sides as SidesTerm};
 ghost use Rattle.audit_terms.specs.declared.streams.Stream.{Stream};
 ghost use Rattle.audit_terms.specs.Frame.{is_server_promise};
 ghost use Rattle.quiet_pass.specs.code.Rows.{AreRising, HasMet};
@@ -60,13 +61,7 @@ impl Streams {
         ensures { IfOk result (λ quiet. OnTrue quiet ((streams : ℕ → Stream) → AreStreams streams self.old
             → AreMetOn initial.now frame.now false streams self.new)) }
     {
-        if frame.stream % 2 == 0 {
-            return Ok(false);
-        }
-        let Some(at) = find(self.opened.as_slice(), frame.stream) else {
-            return Ok(false);
-        };
-        if !meet(&mut self.opened, at, frame) {
+        if frame.stream % 2 == 0 || !meet_opened(&mut self.opened, frame) {
             return Ok(false);
         }
         open(&mut self.promised, frame.body.promised(), initial, frame)
@@ -77,6 +72,17 @@ impl Streams {
         ensures { OnTrue result (AreAllMoved before.now after.now self.old self.new) }
     {
         move_all(&mut self.opened, before, after) && move_all(&mut self.promised, before, after)
+    }
+}
+
+/// Meets a frame on a stream that has to be opened, and answers whether nothing of that may be shown.
+fn meet_opened(rows: &mut Vec<Row>, frame: &Frame) -> bool
+    ensures { OnTrue result (AreRising rows.old.items → (initial : SidesTerm ℕ)
+        → HasMet frame.now.stream initial frame.now false rows.old.items rows.new.items) }
+{
+    match find(rows.as_slice(), frame.stream) {
+        Some(at) => meet(rows, at, frame),
+        None => false,
     }
 }
 

@@ -9,5 +9,6 @@ returns c =
     IfOk-weaker c.open.result _ _
     (λ opened was. OnTrue_from opened _ (λ quiet. λ streams h.
     met-promise c.args.initial.now c.args.frame.now c.args.self.now _ streams h c.requires odd
-    (λ rising. c.if-not-meet.ensures rising c.args.initial.now) (rw c.promised.ensures at (OnTrue_at quiet was))))
+    (λ rising. c.if-not-meet_opened.ensures rising c.args.initial.now)
+    (rw c.promised.ensures at (OnTrue_at quiet was))))
     c.open.ensures
