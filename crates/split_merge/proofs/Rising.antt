@@ -169,3 +169,9 @@ module _ (streams : List ℕ) (before after : RowIndex) (is : IsIndex streams be
           others = rw (same, kept) is.others;
         },
       )
+
+-- which is at most one past all rows
+pub row-within : (added : Bool) (stream row : ℕ) (streams : List ℕ) (index : RowIndex)
+    → IsRowOf added stream row streams index → row ≤ length streams
+row-within true stream row streams index h = omega (arith, h.0)
+row-within false stream row streams index h = (let l = slice_get_within streams row stream h.0 in omega (arith, l))
