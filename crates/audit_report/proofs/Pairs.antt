@@ -28,7 +28,7 @@ pub written_more : (o o' piece rest all whole : List ℕ) → o' ≡ o ++ piece 
 written_more o o' piece rest all whole pushed split so_far =
     ap (λ l. l ++ rest) pushed ∙ append_assoc o piece rest ∙ ap (λ l. o ++ l) (sym split) ∙ so_far
 
-none-told : (shown : Bool) (k : ℕ) (headings : List Heading) → told_text shown k headings [] ≡ []
+pub none-told : (shown : Bool) (k : ℕ) (headings : List Heading) → told_text shown k headings [] ≡ []
 none-told shown k [] = refl
 none-told shown k (h ∷ hs) = refl
 
@@ -45,29 +45,34 @@ told_parts shown k (suc n) (h ∷ hs) (t ∷ ts) =
     rw on (append_assoc piece (told_text shown (k + 1) (take n hs) (take n ts)) _
     ∙ ap (λ l. piece ++ l) (told_parts shown (k + 1) n hs ts))
 
--- the lines of connections that lie in two parts, behind a text
-pub told_joined : (shown : Bool) (k next n : ℕ) (headings front back : List Heading)
-    (told told_front told_back : List Told) (text all : List ℕ) → k + n ≡ next
-    → front ≡ take n headings → back ≡ drop n headings → told_front ≡ take n told → told_back ≡ drop n told
-    → all ≡ (text ++ told_text shown k front told_front) ++ told_text shown next back told_back
-    → all ≡ text ++ told_text shown k headings told
-told_joined shown k next n headings front back told told_front told_back text all on f b tf tb all_is =
-    all_is ∙ rw (← on, f, b, tf, tb) (append_assoc text (told_text shown k (take n headings) (take n told)) _
-    ∙ ap (λ l. text ++ l) (told_parts shown k n headings told))
+-- the same of parts that are given
+pub told_in_parts : (shown : Bool) (k next n : ℕ) (headings front back : List Heading)
+    (told told_front told_back : List Told)
+    → k + n ≡ next → front ≡ take n headings → back ≡ drop n headings → told_front ≡ take n told
+    → told_back ≡ drop n told
+    → told_text shown k headings told ≡ told_text shown k front told_front ++ told_text shown next back told_back
+told_in_parts shown k next n headings front back told told_front told_back on f b tf tb =
+    rw (← on, f, b, tf, tb) (sym (told_parts shown k n headings told))
 
 -- each part stands under its headings
-pub headed_parts : (before n : ℕ) (headings front back : List Heading) (told told_front told_back : List Told)
-    → AreHeaded before headings told → n ≤ length told
-    → front ≡ take n headings → back ≡ drop n headings → told_front ≡ take n told → told_back ≡ drop n told
-    → AreHeaded before front told_front × AreHeaded (before + length front) back told_back
-headed_parts before n headings front back told told_front told_back headed within f b tf tb =
+pub front-headed : (before n : ℕ) (headings front : List Heading) (told told_front : List Told)
+    → AreHeaded before headings told → n ≤ length told → front ≡ take n headings → told_front ≡ take n told
+    → AreHeaded before front told_front
+front-headed before n headings front told told_front headed within f tf =
     let each = headed.each in
     let numbers = headed.numbers in
     let size : length front ≡ n = omega (arith, ap length f, length-take n headings) in
     let size' : length told_front ≡ n = omega (arith, ap length tf, length-take n told) in
+    let P : Told → Type 0 = λ t. HasOrderlyOutcome t.outcome in
+    record { each = omega arith; orderly = rw tf (All-take P n told headed.orderly); numbers = omega arith }
+
+pub back-headed : (before next n : ℕ) (headings back : List Heading) (told told_back : List Told)
+    → AreHeaded before headings told → n ≤ length told → next ≤ before + n → back ≡ drop n headings
+    → told_back ≡ drop n told → AreHeaded next back told_back
+back-headed before next n headings back told told_back headed within upto b tb =
+    let each = headed.each in
+    let numbers = headed.numbers in
     let left : length back ≡ length headings - n = omega (arith, ap length b, length-drop n headings) in
     let left' : length told_back ≡ length told - n = omega (arith, ap length tb, length-drop n told) in
-    let P : Told → Type 0 = λ t. HasOrderlyOutcome t.outcome in (
-      record { each = omega arith; orderly = rw tf (All-take P n told headed.orderly); numbers = omega arith },
-      record { each = omega arith; orderly = rw tb (All-drop P n told headed.orderly); numbers = omega arith },
-    )
+    let P : Told → Type 0 = λ t. HasOrderlyOutcome t.outcome in
+    record { each = omega arith; orderly = rw tb (All-drop P n told headed.orderly); numbers = omega arith }

@@ -5,4 +5,5 @@ pub mod Heading
 pub mod Packets
 pub mod Reported
 pub mod Roles
+pub mod Shares
 pub mod Tally

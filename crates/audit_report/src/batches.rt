@@ -1,17 +1,19 @@
 //! The sections of connections by several workers: in batches, of which halves are written side by side. So no more
 //! than a batch's text is in memory twice.
 
-ghost use Rattle.std.specs.Prelude.{◌≡◌, ◌+◌, ◌<◌, ◌≤◌, ◌++◌, IfOk, List, ℕ, length};
+ghost use Rattle.std.specs.Prelude.{◌≡◌, ◌+◌, ◌<◌, ◌≤◌, ◌++◌, Bool, IsOk, OnOk, length};
 ghost use Rattle.std.specs.String.{string_bytes};
 ghost use Rattle.std.specs.Thread.{IsSync};
 ghost use Rattle.audit_report.specs.code.Reported.{AreHeaded, told_text};
+ghost use Rattle.audit_report.specs.code.Shares.{IsHeaded, share_text};
 
 use crate::headings::Heading;
 use crate::sections::push_sections;
 use crate::telling::Telling;
 use crate::told::{Outcome, Told};
+use crate::words::push_word;
 use std::alloc::AllocError;
-use std::thread::{Threads, join};
+use std::thread::{Threads, join_mut};
 
 /// For so many bytes of each connection room is made at once: its three lines have about as many.
 const SECTION: usize = 128;
@@ -57,116 +59,150 @@ fn count_within(told: &[Told], most: usize) -> usize
     count
 }
 
-/// One text with the other behind it, where both were made.
-fn behind(
-    text: Result<String, AllocError>,
-    more: Result<String, AllocError>,
-) -> Result<String, AllocError>
-    ensures { (before after : List ℕ) → IfOk text (λ text. string_bytes text ≡ before)
-        → IfOk more (λ more. string_bytes more ≡ after)
-        → IfOk result (λ all. string_bytes all ≡ before ++ after) }
-{
-    let mut all = text?;
-    all.push_str(more?.as_str())?;
-    Ok(all)
+/// Connections that stand one after the other, and how many there are before them.
+#[derive(Clone, Copy)]
+pub struct Share<'a> {
+    pub before: u64,
+    pub headings: &'a [Heading],
+    pub told: &'a [Told],
 }
 
-/// The text with the sections of connections behind it, before which there are so many others.
-#[cycle(halving)]
-fn with_sections<R: Threads + Sync>(
-    rt: &R,
-    telling: Telling,
-    text: String,
-    before: u64,
-    headings: &[Heading],
-    told: &[Told],
-) -> Result<String, AllocError>
-    requires { AreHeaded before headings.now told.now }
-    ensures { IfOk result (λ all. string_bytes all ≡ string_bytes text
-        ++ told_text telling.frames_shown (before + 1) headings.now told.now) }
-{
-    let mut text = text;
-    // A text that doubles leaves its former places in the C library's heap.
-    text.reserve(told.len().saturating_mul(SECTION))?;
-    let weight = together(told);
-    if telling.workers < 2 || told.len() < 2 || weight < FEW {
-        push_sections(telling, &mut text, before, headings, told)?;
-        return Ok(text);
+impl<'a> Share<'a> {
+    /// So many of its connections, from the first on, and the others.
+    #[tactic(auto, using(crate::proofs::Pairs::told_in_parts))]
+    fn split_at(self, count: usize) -> (Share<'a>, Share<'a>)
+        requires headed { IsHeaded self }
+        requires within { count ≤ length self.told.now }
+        ensures front { IsHeaded result.0 }
+        ensures back { IsHeaded result.1 }
+        ensures text { (shown : Bool) → share_text shown self.entry
+            ≡ share_text shown result.0 ++ share_text shown result.1 }
+        ensures left { length result.1.told.now + count ≡ length self.entry.told.now }
+    {
+        let (headings, headings_left) = self.headings.split_at(count);
+        let (told, told_left) = self.told.split_at(count);
+        let front = Share {
+            before: self.before,
+            headings,
+            told,
+        };
+        let back = Share {
+            before: self.before + count as u64,
+            headings: headings_left,
+            told: told_left,
+        };
+        (front, back)
     }
-    let count = count_within(told, weight / 2);
-    let headings = headings.split_at(count);
-    let told = told.split_at(count);
-    with_halves(rt, telling, text, before, headings, told)
 }
 
-/// The same, of connections in two halves: the back's text is made apart, and put behind the front's.
+/// Adds the sections of a share's connections.
 #[cycle(halving)]
-fn with_halves<R: Threads + Sync>(
+fn push_share<R: Threads + Sync>(
     rt: &R,
     telling: Telling,
-    text: String,
-    before: u64,
-    headings: (&[Heading], &[Heading]),
-    told: (&[Told], &[Told]),
-) -> Result<String, AllocError>
-    requires workers { 2 ≤ telling.workers }
-    requires front { AreHeaded before headings.0.now told.0.now }
-    requires back { AreHeaded (before + length headings.0.now) headings.1.now told.1.now }
-    ensures { IfOk result (λ all. string_bytes all ≡ string_bytes text
-        ++ told_text telling.frames_shown (before + 1) headings.entry.0.now told.entry.0.now
-        ++ told_text telling.frames_shown (before + length headings.entry.0.now + 1) headings.entry.1.now
-        told.entry.1.now) }
+    out: &mut String,
+    share: Share<'_>,
+) -> Result<(), AllocError>
+    requires { IsHeaded share }
+    ensures { OnOk result (string_bytes out.new ≡ string_bytes out.old
+        ++ share_text telling.frames_shown share.entry) }
 {
-    let (front, back) = headings;
-    let (told_front, told_back) = told;
-    let between = before + front.len() as u64;
+    // A text that doubles leaves its former places in the C library's heap.
+    out.reserve(share.told.len().saturating_mul(SECTION))?;
+    let weight = together(share.told);
+    if telling.workers < 2 || share.told.len() < 2 || weight < FEW {
+        return push_sections(telling, out, share.before, share.headings, share.told);
+    }
+    let (front, back) = share.split_at(count_within(share.told, weight / 2));
+    push_halves(rt, telling, out, front, back)
+}
+
+/// The same of two halves: the back's text is made apart, and put behind the front's.
+#[cycle(halving)]
+fn push_halves<R: Threads + Sync>(
+    rt: &R,
+    telling: Telling,
+    out: &mut String,
+    front: Share<'_>,
+    back: Share<'_>,
+) -> Result<(), AllocError>
+    requires workers { 2 ≤ telling.workers }
+    requires front { IsHeaded front }
+    requires back { IsHeaded back }
+    ensures { OnOk result (string_bytes out.new ≡ string_bytes out.old
+        ++ (share_text telling.frames_shown front.entry ++ share_text telling.frames_shown back.entry)) }
+{
     let few = telling.workers / 2;
     let others = telling.workers - few;
-    let (later, earlier) = join(
-        rt,
-        || -> Result<String, AllocError>
-            requires { IsSync R.row × (0 < few) × AreHeaded between back.now told_back.now }
-            ensures { IfOk result (λ all. string_bytes all
-                ≡ told_text telling.frames_shown (between + 1) back.entry.now told_back.entry.now) }
-        {
-            let own = String::new(telling.alloc);
-            with_sections(rt, telling.by(few), own, between, back, told_back)
-        },
-        || -> Result<String, AllocError>
-            requires { IsSync R.row × (0 < others) × AreHeaded before front.now told_front.now }
-            ensures { IfOk result (λ all. string_bytes all ≡ string_bytes text
-                ++ told_text telling.frames_shown (before + 1) front.entry.now told_front.entry.now) }
-        { with_sections(rt, telling.by(others), text, before, front, told_front) },
-    );
-    behind(earlier, later)
+    let mut behind = String::new(telling.alloc);
+    let mut push_back = || -> Result<(), AllocError>
+        requires { IsSync R.row × (0 < few) × IsHeaded back }
+        ensures { OnOk result (string_bytes behind.exit
+            ≡ string_bytes behind.entry ++ share_text telling.frames_shown back.entry) }
+    { push_share(rt, telling.by(few), &mut behind, back) };
+    let mut push_front = || -> Result<(), AllocError>
+        requires { IsSync R.row × (0 < others) × IsHeaded front }
+        ensures { OnOk result (string_bytes out.exit.now
+            ≡ string_bytes out.entry.now ++ share_text telling.frames_shown front.entry) }
+    { push_share(rt, telling.by(others), out, front) };
+    let (later, earlier) = join_mut(rt, &mut push_back, &mut push_front);
+    push_behind(out, earlier.and(later), behind.as_str())
 }
 
-/// The text with the sections of all connections behind it.
-pub fn with_all_sections<R: Threads + Sync>(
+/// Adds the back's text, where both halves were made.
+fn push_behind(
+    out: &mut String,
+    made: Result<(), AllocError>,
+    behind: &str,
+) -> Result<(), AllocError>
+    ensures made { OnOk result (IsOk made) }
+    ensures text { OnOk result (string_bytes out.new ≡ string_bytes out.old ++ behind.now) }
+{
+    made?;
+    push_word(out, behind)
+}
+
+/// Adds the sections of a share's connections in batches.
+fn push_batches<R: Threads + Sync>(
     rt: &R,
     telling: Telling,
-    text: String,
+    out: &mut String,
+    share: Share<'_>,
+) -> Result<(), AllocError>
+    requires { IsHeaded share }
+    ensures { OnOk result (string_bytes out.new ≡ string_bytes out.old
+        ++ share_text telling.frames_shown share.entry) }
+{
+    out.reserve(share.told.len().saturating_mul(SECTION))?;
+    let mut left = share;
+    while !left.told.is_empty() {
+        let (batch, later) = left.split_at(count_within(left.told, BATCH));
+        push_share(rt, telling, out, batch)?;
+        left = later;
+    }
+    Ok(())
+}
+
+/// Adds the sections of all connections.
+pub fn push_all_sections<R: Threads + Sync>(
+    rt: &R,
+    telling: Telling,
+    out: &mut String,
     headings: &[Heading],
     told: &[Told],
-) -> Result<String, AllocError>
+) -> Result<(), AllocError>
     requires { AreHeaded 0 headings.now told.now }
-    ensures { IfOk result (λ all. string_bytes all ≡ string_bytes text
+    ensures { OnOk result (string_bytes out.new ≡ string_bytes out.old
         ++ told_text telling.frames_shown 1 headings.now told.now) }
 {
+    let all = Share {
+        before: 0,
+        headings,
+        told,
+    };
     if telling.workers < 2 {
-        return with_sections(rt, telling, text, 0, headings, told);
+        push_share(rt, telling, out, all)
+    } else {
+        push_batches(rt, telling, out, all)
     }
-    let mut all = text;
-    all.reserve(told.len().saturating_mul(SECTION))?;
-    let mut done = 0;
-    while done < told.len() {
-        let (_, told_left) = told.split_at(done);
-        let (_, headings_left) = headings.split_at(done);
-        let count = count_within(told_left, BATCH);
-        let (told_batch, _) = told_left.split_at(count);
-        let (batch, _) = headings_left.split_at(count);
-        all = with_sections(rt, telling, all, done as u64, batch, told_batch)?;
-        done += count;
-    }
-    Ok(all)
 }

@@ -7,7 +7,7 @@ ghost use Rattle.audit_report.specs.declared.audited.Audited.{Audited};
 ghost use Rattle.audit_report.specs.declared.told.Told.{Told};
 ghost use Rattle.tcp_streams.specs.declared.members.Connection.{Connection};
 
-use crate::batches::with_all_sections;
+use crate::batches::push_all_sections;
 use crate::headings::Heading;
 use crate::telling::Telling;
 use crate::told::Told;
@@ -30,6 +30,7 @@ pub fn report<R: Threads + Sync>(
         → headings.now ≡ map heading_of connections → AreToldOf told.now audited → text.items
         ≡ string_bytes capture_lines ++ sections_text telling.frames_shown 1 connections audited) }
 {
-    let text = with_all_sections(rt, telling, capture_lines, headings, told)?;
+    let mut text = capture_lines;
+    push_all_sections(rt, telling, &mut text, headings, told)?;
     Ok(text.into_bytes())
 }

@@ -1,32 +1,21 @@
-use Rattle.std.proofs.Common.{◌+◌, length, arith}
-use Rattle.std.{proofs.lemmas.Result.MatchResult-weaker, specs.String.string_bytes}
-use Rattle.audit_report.proofs.Pairs.{headed_parts, told_joined}
+use Rattle.std.proofs.Common.{◌≡◌, ◌++◌, OnOk, rules}
+use Rattle.std.specs.String.{string_bytes}
+use Rattle.audit_report.{specs.code.Shares.share_text, proofs.Joins.apart}
 use Rattle.audit_report.proofs.batches.+halving.Goals as goal
 
 -- the text of both halves is that of all
-pub with_sections-returns : goal.with_sections-returns
-with_sections-returns g t c =
-    let front = c.split_at-headings.result.0.now in
-    let headings = c.split_at-headings.ensures in
-    let told = c.split_at-told.ensures in
-    let long = headings.front_len in
-    rw (← c.reserve.ensures.bytes)
-    (MatchResult-weaker c.with_halves.result c.with_halves.ensures
-    (λ all halves. told_joined c.args.telling.frames_shown (c.args.before + 1) (c.args.before + length front + 1)
-    c.count_within-count.result _ _ _ _ _ _ (string_bytes c.reserve.new.self) (string_bytes all) (omega (arith, long))
-    headings.front headings.back told.front told.back halves)
-    (λ _ u. u))
+pub push_share-returns : goal.push_share-returns
+push_share-returns g t c =
+    rw (← c.reserve.ensures.bytes, c.split_at.ensures.text c.args.telling.frames_shown) c.push_halves.ensures
 
-pub with_sections-with_halves-requires-clause-front : goal.with_sections-with_halves-requires-clause-front
-with_sections-with_halves-requires-clause-front g t c = λ κs lives.
-    let headings = c.split_at-headings.ensures in
-    let told = c.split_at-told.ensures in
-    (headed_parts c.args.before c.count_within-count.result _ _ _ _ _ _ c.requires c.count_within-count.ensures.within
-    headings.front headings.back told.front told.back).0
-
-pub with_sections-with_halves-requires-clause-back : goal.with_sections-with_halves-requires-clause-back
-with_sections-with_halves-requires-clause-back g t c = λ κs lives.
-    let headings = c.split_at-headings.ensures in
-    let told = c.split_at-told.ensures in
-    (headed_parts c.args.before c.count_within-count.result _ _ _ _ _ _ c.requires c.count_within-count.ensures.within
-    headings.front headings.back told.front told.back).1
+pub push_halves-returns : goal.push_halves-returns
+push_halves-returns g t c =
+    let shown = c.args.telling.frames_shown in
+    let both = c.join_mut-later in
+    let front = string_bytes both.new.g.3.now in
+    let back = string_bytes both.new.f.3.now in
+    let all = string_bytes c.push_behind.new.out in
+    let pushed : OnOk c.push_behind.result (all ≡ front ++ back) = search rules in
+    apart both.result.1 both.result.0 c.and.result c.push_behind.result (string_bytes c.args.out.now) front all
+    (string_bytes c.new-behind.result) back (share_text shown c.args.front) (share_text shown c.args.back)
+    both.ensures.1.met.1 both.ensures.0.met.1 c.and.ensures c.new-behind.ensures.bytes c.push_behind.ensures.made pushed

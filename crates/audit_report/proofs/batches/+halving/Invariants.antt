@@ -1,14 +1,14 @@
 use Rattle.std.proofs.Common.{◌+◌, ◌*◌}
 use Rattle.audit_report.proofs.batches.+halving.Given as goal
 
-abbrev pub decreases-with_halves-join+arg2 : goal.decreases-with_halves-join+arg2
-decreases-with_halves-join+arg2 g l = 3 * l.few + 2
+abbrev pub decreases-push_halves-push_back : goal.decreases-push_halves-push_back
+decreases-push_halves-push_back g l = 3 * l.few + 2
 
-abbrev pub decreases-with_halves-join+arg3 : goal.decreases-with_halves-join+arg3
-decreases-with_halves-join+arg3 g l = 3 * l.others + 2
+abbrev pub decreases-push_halves-push_front : goal.decreases-push_halves-push_front
+decreases-push_halves-push_front g l = 3 * l.others + 2
 
-abbrev pub decreases-with_halves : goal.decreases-with_halves
-decreases-with_halves g l = 3 * l.telling.workers
+abbrev pub decreases-push_halves : goal.decreases-push_halves
+decreases-push_halves g l = 3 * l.telling.workers
 
-abbrev pub decreases-with_sections : goal.decreases-with_sections
-decreases-with_sections g l = 3 * l.telling.workers + 1
+abbrev pub decreases-push_share : goal.decreases-push_share
+decreases-push_share g l = 3 * l.telling.workers + 1

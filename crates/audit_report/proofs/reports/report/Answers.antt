@@ -7,7 +7,7 @@ pub returns : goal.returns
 returns g c = λ connections audited headed stand.
     let before = string_bytes c.args.capture_lines in
     let shown = c.args.telling.frames_shown in
-    let bytes : c.into_bytes.result.items ≡ string_bytes c.in_ok-text.text = search rules in
-    bytes ∙ c.in_ok-text.ensures
+    let bytes : c.into_bytes.result.items ≡ string_bytes c.push_all_sections.new.out = search rules in
+    bytes ∙ c.in_ok-push_all_sections.ensures
     ∙ ap (λ headings. before ++ told_text shown 1 headings c.args.told.now) headed
     ∙ ap (λ (l : List ℕ). before ++ l) (told-same shown 1 connections c.args.told.now audited stand)

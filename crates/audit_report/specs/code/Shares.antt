@@ -1,0 +1,12 @@
+-- A share of the connections, and the text that it makes.
+use Rattle.std.specs.Prelude.{ℕ, ◌+◌, Bool, List}
+use Rattle.audit_report.specs.code.Reported.{AreHeaded, told_text}
+use Rattle.audit_report.specs.declared.batches.Share.{Share}
+
+-- what is told of its connections stands under their headings
+abbrev pub IsHeaded : Share → Type 0
+IsHeaded share = AreHeaded share.before share.headings.now share.told.now
+
+-- all that the report says of its connections
+abbrev pub share_text : (credits_shown : Bool) → Share → List ℕ
+share_text credits_shown share = told_text credits_shown (share.before + 1) share.headings.now share.told.now
