@@ -26,7 +26,7 @@ const HEADERS: usize = 40;
 /// Flags of a segment.
 pub const SYN: u8 = 0x02;
 
-pub const SYN_ACK: u8 = 0x12;
+const SYN_ACK: u8 = 0x12;
 
 pub const ACK: u8 = 0x10;
 
@@ -50,24 +50,24 @@ pub struct Capture {
 }
 
 impl Capture {
-    /// A capture with no record.
-    pub fn new(alloc: Global) -> Result<Capture, AllocError> {
-        let bytes = Vec::from_slice(alloc, &FILE_HEADER)?;
-        Ok(Capture {
+    /// Records 1 and 2: the handshake, where the client has this initial sequence number.
+    pub fn opened(alloc: Global, client_initial: u32) -> Result<Capture, AllocError> {
+        let mut capture = Capture {
             alloc,
-            bytes,
+            bytes: Vec::from_slice(alloc, &FILE_HEADER)?,
             records: 0,
-            client_next: CLIENT_INITIAL.wrapping_add(1),
+            client_next: client_initial.wrapping_add(1),
             server_next: SERVER_INITIAL.wrapping_add(1),
-        })
+        };
+        capture.record(Side::Client, client_initial, SYN, &[])?;
+        capture.record(Side::Server, SERVER_INITIAL, SYN_ACK, &[])?;
+        Ok(capture)
     }
 
     /// Records 1 to 7: the handshake and the client's preface; a SETTINGS of the client (frame 1) and of the server
     /// (frame 2); their acknowledgements by the client (frame 3) and the server (frame 4). Then these frames.
     pub fn of_frames(alloc: Global, frames: &[Frame]) -> Result<Capture, AllocError> {
-        let mut capture = Capture::new(alloc)?;
-        capture.record(Side::Client, CLIENT_INITIAL, SYN, &[])?;
-        capture.record(Side::Server, SERVER_INITIAL, SYN_ACK, &[])?;
+        let mut capture = Capture::opened(alloc, CLIENT_INITIAL)?;
         capture.send(Side::Client, &PREFACE)?;
         let opening = [
             initial_window(1, Side::Client, None),

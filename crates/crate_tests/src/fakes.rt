@@ -163,21 +163,26 @@ impl TestGate {
     }
 }
 
+/// Whether a job that waits is joined by another one of its round.
+fn meets_another(jobs: &AtomicU32) -> bool {
+    for _ in 0..TURNS {
+        if jobs.load(Ordering::SeqCst) > 1 {
+            return true;
+        }
+        yield_now();
+    }
+    false
+}
+
 impl Gate for TestGate {
     fn enter(&self, round: u8, job: u32) {
         let Some(jobs) = self.jobs.get(usize::from(round)) else {
             return;
         };
         jobs.fetch_add(1, Ordering::SeqCst);
-        if job > 0 || self.held & (1 << (round & 3)) == 0 {
-            return;
+        let is_held = job == 0 && self.held & (1 << (round & 3)) > 0;
+        if is_held && !meets_another(jobs) {
+            self.given_up.fetch_add(1, Ordering::SeqCst);
         }
-        for _ in 0..TURNS {
-            if jobs.load(Ordering::SeqCst) > 1 {
-                return;
-            }
-            yield_now();
-        }
-        self.given_up.fetch_add(1, Ordering::SeqCst);
     }
 }

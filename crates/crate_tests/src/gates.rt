@@ -24,8 +24,8 @@ fn has_jobs(
         return false;
     };
     let gate = TestGate::holding(held);
-    let answer = audit(rt, alloc, &options, capture.bytes.as_slice(), &gate);
-    answer.is_ok() && gate.counts() == Some(want)
+    audit(rt, alloc, &options, capture.bytes.as_slice(), &gate).is_ok()
+        && gate.counts() == Some(want)
 }
 
 /// Whether an audit by each of these numbers of workers has so many jobs in each round.

@@ -170,23 +170,27 @@ fn credits(alloc: Global) -> Result<Vec<Finding>, AllocError> {
     Ok(credits)
 }
 
+/// Whether the run of a stream comes to this with its look, and shows the first of these credits.
+fn has_looked(alloc: Global, mut look: TestLook, want: Looked, credits: &[Finding]) -> bool {
+    let Some(run) = run_of_frames(alloc, &mut look) else {
+        return false;
+    };
+    look.with(run.looks, [run.upto, run.last_look], run.findings.len()) == want
+        && run.opened_at == (want.3 > 0).then_some(1)
+        && credits.get(..want.3) == Some(run.findings.as_slice())
+}
+
 /// A stop at frame 300 is answered before frame 257, and one at frame 0 before the opening.
 pub fn looks_of_a_stream(alloc: Global) -> Answer {
     let credits = credits(alloc)?;
-    for (before, number, handed, looks, found, opened_at) in [
-        (4, 0, [0, 257, 513, 769], 4, 1001, Some(1)),
-        (1, 300, [0, 257, 0, 0], 2, 300, Some(1)),
-        (0, 0, [0; 4], 1, 0, None),
+    for (before, number, handed, looks, found) in [
+        (4, 0, [0, 257, 513, 769], 4, 1001),
+        (1, 300, [0, 257, 0, 0], 2, 300),
+        (0, 0, [0; 4], 1, 0),
     ] {
-        let mut look = TestLook::after(before, Place::of(number, 4, 0));
+        let look = TestLook::after(before, Place::of(number, 4, 0));
         let want = look.wanted(looks, handed, found);
-        let Some(run) = run_of_frames(alloc, &mut look) else {
-            return Ok(false);
-        };
-        if look.with(run.looks, [run.upto, run.last_look], run.findings.len()) != want
-            || run.opened_at != opened_at
-            || Some(run.findings.as_slice()) != credits.get(..found)
-        {
+        if !has_looked(alloc, look, want, credits.as_slice()) {
             return Ok(false);
         }
     }
