@@ -34,3 +34,14 @@ loop-at-preserved g c =
       dealt = rw (take-add at n unread, ← take_rest unread at) (Deals-trans g.W.Write.contents
           _ _ _ _ _ _ _ _ c.loop-at.invariant.dealt step);
     }
+
+pub returns-then-not-branch-clause-rest : goal.returns-then-not-branch-clause-rest
+returns-then-not-branch-clause-rest g c = λ within.
+    let stays = c.in_ok-begin.ensures.few c.if-not-branch.true in (
+      rw stays.0 c.if-self-eq0.true,
+      rw (stays.0, ← take_rest c.args.unread.now c.loop-at.at) stays.3,
+    )
+
+pub returns-then-not-branch-clause-dealt : goal.returns-then-not-branch-clause-dealt
+returns-then-not-branch-clause-dealt g c =
+    let stays = c.in_ok-begin.ensures.few c.if-not-branch.true in rw (stays.0, stays.1) c.loop-at.invariant.dealt
