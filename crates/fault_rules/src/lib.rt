@@ -17,14 +17,11 @@
 //!   before it is the last frame of each side. That is carried from share to share first, by a look back from each
 //!   share's end as far as the frame sought, so that no frame is looked at more than once for each side. The shares'
 //!   findings are joined in order, whichever thread was done first.
-//! - Refused by the prover: an overflowing grant that is added. More stand in the crates above, whose contracts rest on
-//!   these calls: content of streams that were reset, left out, in `audit_core`.
 //! - Tested by whole reports: that the calls succeed where there is memory, once over several shares.
 //! - Trusted: the port of `rayon`, which starts the threads; that several work at once is not proved.
 #![tactic(auto)]
 
 mod connections;
-mod counts;
 mod frame_faults;
 mod previous;
 mod shares;

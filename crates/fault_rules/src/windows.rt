@@ -13,9 +13,8 @@ ghost use Rattle.audit_terms.specs.code.runs.Streams.{IsAcknowledged};
 ghost use Rattle.audit_terms.specs.code.Room.{HasRoom, WindowHasRoom};
 ghost use Rattle.fault_rules.specs.code.StreamSteps.{counted};
 
-use crate::counts::Count;
 use crate::spots::{Spot, say_each};
-use audit_terms::{Finding, Kind, Side, Sides, Step, new_initial};
+use audit_terms::{Count, Finding, Kind, Side, Sides, Step, new_initial};
 use std::alloc::AllocError;
 
 /// A step as the window of one side on a stream meets it.
@@ -196,11 +195,10 @@ impl LiveStep {
     {
         let count = count(before, met);
         let is_overflowing = is_overflowing_grant(&count, met);
-        let ends = met.step.ends_window(met.side) || is_overflowing;
         LiveStep {
-            last: last_known(&count, is_overflowing),
+            last: count.last_known(is_overflowing),
             is_overflowing,
-            after: left_live(&count, ends),
+            after: count.left_live(met.step.ends_window(met.side), is_overflowing),
             count,
         }
     }
@@ -234,27 +232,6 @@ fn is_overflowing_grant(count: &Count, met: &WindowStep<'_>) -> bool
         && overflows count.now.before count.now.after) }
 {
     met.step.grant_to(met.side, met.stream) > 0 && count.overflows()
-}
-
-/// The count up to the last credit that is known: an overflowing grant is not added.
-fn last_known(count: &Count, is_overflowing: bool) -> Count
-    ensures { result ≡ (if is_overflowing then record count.now { after = count.now.before } else count.now) }
-{
-    if is_overflowing {
-        Count {
-            after: count.before,
-            ..*count
-        }
-    } else {
-        *count
-    }
-}
-
-/// The credit after the step, unless the window ends.
-fn left_live(count: &Count, ends: bool) -> Option<i64>
-    ensures { result ≡ (if ends then None else Some count.now.after) }
-{
-    if ends { None } else { Some(count.after) }
 }
 
 /// What a step does to the credit of a live window: less the content, plus the grant, plus the new initial window
