@@ -140,6 +140,21 @@ fn both_ready<'a>(
     Ok(made)
 }
 
+/// Makes each connection ready, one after the other.
+fn prepare_in_turn<'a, R: Threads + Sync, G: Gate>(
+    crew: &Crew<'_, R, G>,
+    connections: &[&'a [Frame]],
+) -> Result<MadeReady<'a>, AllocError>
+    requires { IsBatch connections.now }
+    ensures { IfOk result (AreMadeReady crew.now.setup.credits_shown connections.now) }
+{
+    let mut made = MadeReady::with_capacity(crew.setup.alloc, connections.len())?;
+    for frames in connections {
+        prepare(crew, &mut made, *frames)?;
+    }
+    Ok(made)
+}
+
 /// Makes each connection ready, halves of them side by side where there are workers, and answers what is found of each
 /// before the rounds.
 pub(crate) fn prepare_each<'a, R: Threads + Sync, G: Gate>(
@@ -150,11 +165,7 @@ pub(crate) fn prepare_each<'a, R: Threads + Sync, G: Gate>(
     ensures { IfOk result (AreMadeReady crew.now.setup.credits_shown connections.now) }
 {
     if crew.workers == 1 || connections.len() < 2 {
-        let mut made = MadeReady::with_capacity(crew.setup.alloc, connections.len())?;
-        for frames in connections {
-            prepare(crew, &mut made, *frames)?;
-        }
-        return Ok(made);
+        return prepare_in_turn(crew, connections);
     }
     let (front, back) = in_halves(connections);
     let (rt, gate, setup) = (crew.rt, crew.gate, crew.setup);

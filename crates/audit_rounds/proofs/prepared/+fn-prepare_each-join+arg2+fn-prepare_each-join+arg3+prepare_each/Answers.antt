@@ -1,16 +1,6 @@
-use Rattle.audit_rounds.proofs.Words.{take_more, subst, IfOk, AreMadeReady}
+use Rattle.audit_rounds.proofs.Words.{subst, IfOk, AreMadeReady}
 use Rattle.audit_rounds.proofs.prepared.+fn-prepare_each-join+arg2+fn-prepare_each-join+arg3+prepare_each.Goals as
     goal
-
-pub loop-frames-init : goal.loop-frames-init
-loop-frames-init g t c = c.in_ok-made.ensures c.args.crew.now.setup.credits_shown
-
-pub loop-frames-preserved : goal.loop-frames-preserved
-loop-frames-preserved g t c =
-    rw (
-      take_more c.args.connections.now c.loop-frames.frames-index c.frames-item.result c.loop-frames-test.true,
-      ← c.frames-item.is,
-    ) (c.in_ok-prepare.ensures _ c.loop-frames.invariant)
 
 pub returns : goal.returns
 returns g t c =

@@ -1,0 +1,12 @@
+use Rattle.audit_rounds.proofs.Words.{take_more}
+use Rattle.audit_rounds.proofs.prepared.prepare_in_turn.Goals as goal
+
+pub loop-frames-init : goal.loop-frames-init
+loop-frames-init g c = c.in_ok-made.ensures c.args.crew.now.setup.credits_shown
+
+pub loop-frames-preserved : goal.loop-frames-preserved
+loop-frames-preserved g c =
+    rw (
+      take_more c.args.connections.now c.loop-frames.frames-index c.frames-item.result c.loop-frames-test.true,
+      ← c.frames-item.is,
+    ) (c.in_ok-prepare.ensures _ c.loop-frames.invariant)
