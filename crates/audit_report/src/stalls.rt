@@ -81,14 +81,21 @@ fn stall_between(frames: &[Frame], begin: Finding, end: Option<Finding>) -> Stal
     requires { IsOrderly frames.now }
     ensures { result ≡ stall_of frames.now begin end }
 {
-    let from = begin.place.number();
-    let to = end.map(|end| end.place.number());
-    Stall {
+    let open = Stall {
         side: begin.side,
         stream: begin.place.stream(),
-        from,
-        to,
-        nanos: to.map_or(0, |to| time_of(frames, to) - time_of(frames, from)),
+        from: begin.place.number(),
+        to: None,
+        nanos: 0,
+    };
+    let Some(end) = end else {
+        return open;
+    };
+    let to = end.place.number();
+    Stall {
+        to: Some(to),
+        nanos: time_of(frames, to) - time_of(frames, open.from),
+        ..open
     }
 }
 
