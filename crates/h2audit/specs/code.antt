@@ -6,3 +6,4 @@ pub mod Quiet
 pub mod Options
 pub mod Choices
 pub mod Arguments
+pub mod Inputs

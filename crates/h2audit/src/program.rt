@@ -1,4 +1,4 @@
-ghost use Rattle.std.specs.Prelude.{◌≡◌, ◌≢◌, [], map, IfErr, IfOk, Some, string_bytes};
+ghost use Rattle.std.specs.Prelude.{◌≡◌, ◌≢◌, [], map, IfErr, IfOk, IfSome, None, Some, string_bytes};
 ghost use Rattle.std.specs.Fn.{CalledAt};
 ghost use Rattle.std.specs.Io.KnownBytes.{Appends};
 ghost use Rattle.std.specs.IoError.{error_kind};
@@ -9,6 +9,7 @@ ghost use Rattle.h2audit.specs.Asked.{Asks};
 ghost use Rattle.h2audit.specs.Account.{HasGiven, Tells};
 ghost use Rattle.h2audit.specs.Ending.{ending_of};
 ghost use Rattle.h2audit.specs.Program.{AreAsked, Does, Ends, IsShown, IsUnopened};
+ghost use Rattle.h2audit.specs.code.Inputs.{HasAuditedFile, HasAuditedInput};
 
 use crate::command_line::{Options, Parsed, parse};
 use crate::fault::AuditFault;
@@ -75,20 +76,8 @@ pub fn run_program<
         (written outside.new.output) }
 {
     match asked(rt.alloc(), words) {
-        Ok(Parsed::Run(options, Some(path))) => {
-            let opened = (outside.open_file)(path.as_str());
-            let answer = audit_file(rt, &options, opened, &mut outside.file, &mut outside.output);
-            end(&answer, &mut outside.say)
-        }
-        Ok(Parsed::Run(options, None)) => {
-            let answer = run(
-                rt,
-                rt.alloc(),
-                &options,
-                &mut outside.input,
-                &mut outside.output,
-                &NoGate,
-            );
+        Ok(Parsed::Run(options, path)) => {
+            let answer = audit_input(rt, &options, path, outside);
             end(&answer, &mut outside.say)
         }
         Ok(Parsed::Help(text)) => end(&show(text, &mut outside.output), &mut outside.say),
@@ -123,6 +112,40 @@ fn texts<'a>(alloc: Global, words: &'a [String]) -> Result<Vec<&'a str>, AllocEr
     ensures { IfOk result (λ texts. map (λ text. text.now) texts.items ≡ map string_bytes words.now) }
 {
     words.iter().map(|word| word.as_str()).collect(alloc)
+}
+
+/// What the audit of FILE answers, if this is its path, or that of standard input. Only one of them is read.
+fn audit_input<O: FnMut(&str) -> io::Result<F>, S, I: Read, F: Read + Drop, W: Write>(
+    rt: &(impl AllocGlobal + Threads + Sync + RandomSource),
+    options: &Options,
+    path: Option<String>,
+    outside: &mut Outside<O, S, I, F, W>,
+) -> Result<Verdict, AuditFault>
+    requires unread { IsUnread outside.old.input }
+    requires unwritten { IsUnwritten outside.old.output }
+    requires opens { O.IsAlwaysCallable outside.old.open_file }
+    ensures file { IfSome path (λ path. HasAuditedFile (CalledAt O.FnMut) F.remaining outside.old outside.new
+        (string_bytes path) options.now.frames_shown result) }
+    ensures file_alone { IfSome path (λ path. outside.new.input ≡ outside.old.input) }
+    ensures input { path ≡ None → HasAuditedInput I.remaining outside.old outside.new options.now.frames_shown result }
+    ensures silent { outside.new.say ≡ outside.old.say }
+    ensures taken { Appends (W.contents outside.old.output.writer) (W.contents outside.new.output.writer)
+        (written outside.new.output) }
+{
+    match path {
+        Some(path) => {
+            let opened = (outside.open_file)(path.as_str());
+            audit_file(rt, options, opened, &mut outside.file, &mut outside.output)
+        }
+        None => run(
+            rt,
+            rt.alloc(),
+            options,
+            &mut outside.input,
+            &mut outside.output,
+            &NoGate,
+        ),
+    }
 }
 
 /// What the audit of FILE answers, and the account of its reads. One that could not be opened is a failure to read, or

@@ -59,3 +59,9 @@ returns-clause-given g c =
     let left = g.R.Read.remaining c.args.reader.now.reader in
     subst (HasGiven left) (sym c.in_ok-text.ensures.same)
     (IfSome_then left c.in_ok-header.ensures.read.bytes (λ all is read. is))
+
+pub returns-clause-brief : goal.returns-clause-brief
+returns-clause-brief g c = λ read. rw c.in_ok-text.ensures.same c.in_ok-header.ensures.read.brief
+
+pub returns-clause-taken : goal.returns-clause-taken
+returns-clause-taken g c = c.write_out.ensures.taken
