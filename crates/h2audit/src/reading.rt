@@ -1,4 +1,4 @@
-ghost use Rattle.std.specs.Prelude.{◌≡◌, List, ℕ, IfErr, IfOk, Some};
+ghost use Rattle.std.specs.Prelude.{◌≡◌, List, ℕ, Err, IfErr, IfOk, Ok, Some};
 ghost use Rattle.pcap_records.specs.Refusal.{refusal};
 ghost use Rattle.tcp_streams.specs.code.Walk.{IsConnectionWalkIn};
 ghost use Rattle.input_output.specs.Account.{IsUnread};
@@ -66,13 +66,21 @@ fn read_in_chunks<T: Threads, R: Read>(
     }
     match begun {
         Ok(mut walk) => {
-            keep_and_walk(ahead, reader, &mut walk)?;
-            Ok(FileHeader::Taken(walk))
+            let read = keep_and_walk(ahead, reader, &mut walk);
+            behind_read(read, FileHeader::Taken(walk))
         }
-        Err(refusal) => {
-            pass_over(reader)?;
-            Ok(FileHeader::Refused(refusal))
-        }
+        Err(refusal) => behind_read(pass_over(reader), FileHeader::Refused(refusal)),
+    }
+}
+
+/// What the file header gives, where all behind it was read.
+fn behind_read(read: Result<(), ReadFault>, header: FileHeader) -> Result<FileHeader, ReadFault>
+    ensures ok { IfOk result (λ given. (read ≡ Ok tt) × (given ≡ header)) }
+    ensures err { IfErr result (λ e. read ≡ Err e) }
+{
+    match read {
+        Ok(()) => Ok(header),
+        Err(fault) => Err(fault),
     }
 }
 

@@ -1,4 +1,5 @@
 use Rattle.std.proofs.Common.{rules, ◌≡◌, ◌∙◌, ◌+◌, ◌^◌, ◌++◌, [], length, sym, ap, refl, arith}
+use Rattle.std.proofs.lemmas.Result.{IfOk-weaker}
 use Rattle.std.proofs.KnownBytes.{Consumes-more, Consumes-trans}
 use Rattle.pcap_records.specs.Refusal.{refusal}
 use Rattle.input_output.specs.Account.{kept}
@@ -21,13 +22,13 @@ returns-then-has_ended-clause-read g c =
       header = search rules;
     }
 
-pub returns-in_ok-keep_and_walk-in-Ok-clause-read : goal.returns-in_ok-keep_and_walk-in-Ok-clause-read
-returns-in_ok-keep_and_walk-in-Ok-clause-read g c =
+pub returns-in-Ok-clause-read : goal.returns-in-Ok-clause-read
+returns-in-Ok-clause-read g c = IfOk-weaker c.behind_read.result _ _ (λ given is.
     let header = c.keep_up_to.new.reader in
-    let now = c.keep_and_walk.new.reader in
-    let none = c.keep_and_walk.ensures.unpassed in
-    let front = c.keep_and_walk.ensures.front in
-    let read = c.in_ok-keep_and_walk-in-Ok.ensures in
+    let now = c.keep_and_walk-read.new.reader in
+    let none = c.keep_and_walk-read.ensures.unpassed in
+    let front = c.keep_and_walk-read.ensures.front in
+    let read = rw is.0 at c.keep_and_walk-read.ensures in
     let whole : now.state ≡ Open → length (kept now) + now.passed ≡ 2 ^ 31 =
     λ unended. omega (arith, read.whole unended, none) in
     let start = rw c.requires.kept at c.in_ok-keep_up_to.ensures.bytes in
@@ -39,7 +40,7 @@ returns-in_ok-keep_and_walk-in-Ok-clause-read g c =
       c.in_ok-keep_up_to.ensures.sound.within,
       c.keep_up_to.ensures.room,
     ) in
-    record {
+    rw is.1 (record {
       bytes = gave_front (g.R.Read.remaining c.args.reader.now.reader) (g.R.Read.remaining now.reader) now (kept now)
           (gave_kept now none) (Consumes-more _ _ _ [] (kept header) (kept now) refl front start read.bytes) read.sound
           whole read.end;
@@ -47,20 +48,20 @@ returns-in_ok-keep_and_walk-in-Ok-clause-read g c =
       answers = whole_answers now none;
       brief = λ refused. absurd
           (refused (header_stays header now filled front (ap refusal (sym same) ∙ c.in-Ok.ensures.taken)));
-      header = search rules;
-    }
+      header = read.walk;
+    })) c.behind_read.ensures.ok
 
-pub returns-in_ok-pass_over-in-Err-clause-read : goal.returns-in_ok-pass_over-in-Err-clause-read
-returns-in_ok-pass_over-in-Err-clause-read g c =
+pub returns-in-Err-clause-read : goal.returns-in-Err-clause-read
+returns-in-Err-clause-read g c = IfOk-weaker c.behind_read-in-Err.result _ _ (λ given is.
     let header = c.keep_up_to.new.reader in
     let now = c.pass_over.new.reader in
-    let read = c.in_ok-pass_over-in-Err.ensures in
+    let read = rw is.0 at c.pass_over.ensures in
     let (passed, size, given) = read.bytes in
     let start = rw c.requires.kept at c.in_ok-keep_up_to.ensures.bytes in
     let same : kept now ≡ kept header = search rules in
     let filled : length (kept header) ≡ 24 = search rules in
     let refused = ap refusal (same ∙ sym c.together.ensures) ∙ c.in-Err.ensures.err in
-    record {
+    rw is.1 (record {
       bytes = gave_front (g.R.Read.remaining c.args.reader.now.reader) (g.R.Read.remaining now.reader) now
           (kept header ++ passed)
           (passed, ap (λ front. front ++ passed) (sym same), omega (arith, size, c.keep_up_to.ensures.unpassed))
@@ -69,4 +70,4 @@ returns-in_ok-pass_over-in-Err-clause-read g c =
       answers = header_answers now c.in-Err.refusal (ap length same ∙ filled) refused;
       brief = search rules;
       header = search rules;
-    }
+    })) c.behind_read-in-Err.ensures.ok

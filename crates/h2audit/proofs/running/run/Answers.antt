@@ -62,6 +62,3 @@ returns-clause-given g c =
 
 pub returns-clause-brief : goal.returns-clause-brief
 returns-clause-brief g c = λ read. rw c.in_ok-text.ensures.same c.in_ok-header.ensures.read.brief
-
-pub returns-clause-taken : goal.returns-clause-taken
-returns-clause-taken g c = c.write_out.ensures.taken
