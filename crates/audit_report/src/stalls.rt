@@ -12,7 +12,7 @@ use audit_terms::{Finding, Frame, Side};
 use std::alloc::{AllocError, Global};
 
 /// A time during which a window had no credit.
-#[derive(Clone, Copy, PartialEq, Eq)]
+#[derive(Clone, Copy)]
 pub struct Stall {
     /// The side that sends through the window.
     pub side: Side,
