@@ -252,15 +252,16 @@ module _ {M : Type 0} (makes : ℕ → Option ℕ → M → Type 0) (jobs : List
       )
 
   -- the same of two groups, of which each may lack memory
-  pub worked-together : {E : Type 0} (desk : DeskId) (first second : ℕ)
-      (one other : Result (Vec (Part M) Global × PassView) E) (parts : List (Part M)) (joined : PassView)
+  pub worked-together : {E : Type 0} (desk : DeskId) (first second whole : ℕ)
+      (one other both : Result (Vec (Part M) Global × PassView) E) → first + second ≡ whole
       → IfOk one (λ m. IsAllWorked makes jobs desk round first m.0.items m.1)
       → IfOk other (λ t. IsAllWorked makes jobs desk round second t.0.items t.1)
-      → MatchResult one (λ m. MatchResult other (λ t. (parts ≡ m.0.items ++ t.0.items)
-      × (joined ≡ pass_of m.1.desk (m.1.allowance + t.1.allowance) (m.1.drawn ++ t.1.drawn)
-      (m.1.seen ++ t.1.seen) (m.1.lowered ++ t.1.lowered))) (λ _. ⊥)) (λ _. ⊥)
-      → IsAllWorked makes jobs desk round (first + second) parts joined
-  worked-together desk first second (Ok m) (Ok t) parts joined w v is =
-      rw is.0 (worked-both desk first second m.0.items t.0.items m.1 t.1 joined w v is.1)
-  worked-together desk first second (Ok m) (Err e) parts joined w v is = absurd is
-  worked-together desk first second (Err e) other parts joined w v is = absurd is
+      → IfOk both (λ r. MatchResult one (λ m. MatchResult other (λ t. (r.0.items ≡ m.0.items ++ t.0.items)
+      × (r.1 ≡ pass_of m.1.desk (m.1.allowance + t.1.allowance) (m.1.drawn ++ t.1.drawn)
+      (m.1.seen ++ t.1.seen) (m.1.lowered ++ t.1.lowered))) (λ _. ⊥)) (λ _. ⊥))
+      → IfOk both (λ r. IsAllWorked makes jobs desk round whole r.0.items r.1)
+  worked-together desk first second whole one other (Err e) sum w v is = tt
+  worked-together desk first second whole (Ok m) (Ok t) (Ok r) sum w v is =
+      rw (is.0, ← sum) (worked-both desk first second m.0.items t.0.items m.1 t.1 r.1 w v is.1)
+  worked-together desk first second whole (Ok m) (Err e) (Ok r) sum w v is = absurd is
+  worked-together desk first second whole (Err e) other (Ok r) sum w v is = absurd is

@@ -1,5 +1,5 @@
 use Rattle.{std.proofs.lemmas.Result.IfOk-weaker, stop_desk.proofs.Working.worked-together}
-use Rattle.stop_desk.proofs.Words.{ap, arith, rules, sym, ℕ, ◌*◌, ◌+◌, ◌-◌, ◌/◌, ◌≡◌, ◌≤◌}
+use Rattle.stop_desk.proofs.Words.{ap, arith, rules, ℕ, ◌*◌, ◌+◌, ◌-◌, ◌/◌, ◌≡◌, ◌≤◌}
 use Rattle.stop_desk.proofs.crews.+fn-fork-join+arg2+fn-fork-join+arg3+fork.Goals as goal
 
 -- two groups of workers are all workers
@@ -18,13 +18,12 @@ together-requires-clause-theirs g t c =
 pub returns : goal.returns
 returns g t c =
     let shift = c.args.shift.now in
+    let workers = c.args.workers in
     let each = shift.desk.now.jobs + 1 in
-    let half = c.args.workers / 2 in
-    let rest = c.args.workers - half in
-    IfOk-weaker c.together.result _ _ (λ r is. rw (sym (both-groups half c.args.workers each (omega arith)))
-    (worked-together (g.P.Round.makes shift.plan.now) (g.P.Round.jobs shift.plan.now) shift.round shift.desk.now.id
-    (half * each) (rest * each) c.join-mine.result.0 c.join-mine.result.1 r.0.items r.1 c.join-mine.ensures.first
-    c.join-mine.ensures.second is)) c.together.ensures
+    worked-together (g.P.Round.makes shift.plan.now) (g.P.Round.jobs shift.plan.now) shift.round shift.desk.now.id
+    (workers / 2 * each) ((workers - workers / 2) * each) (workers * each) c.join-mine.result.0 c.join-mine.result.1
+    c.together.result (both-groups (workers / 2) workers each (omega arith)) c.join-mine.ensures.first
+    c.join-mine.ensures.second c.together.ensures
 
 pub join+arg2-fork-requires : goal.join+arg2-fork-requires
 join+arg2-fork-requires g t c = λ κs (rt, (gate, (plan, made))).
