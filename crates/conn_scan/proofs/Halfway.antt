@@ -169,6 +169,12 @@ module _ {L : Type 0} {answers : L → List Finding → Option ℕ → L → Typ
         up None = h.below
         up (Some place) = each-filter (IsBelow h.low) _ found h.below
 
+  pub is-numbered : {left : List Item} → Halfway answers before now credits numbers whole found state left watch
+      → All IsNumbered found
+  is-numbered h =
+      let narrow = h.narrow in
+      All-from_recursion IsNumbered found (each-weaker (IsBelow h.low) IsNumbered (λ one lt. omega arith) found h.below)
+
   pub is-whole : Halfway answers before now credits numbers whole found state [] watch
       → IsRun answers before now numbers whole found None watch.stop watch.looks
   is-whole h =

@@ -41,12 +41,12 @@ fn take_moves(frame: &Frame, own: &mut Credit, other: &mut Credit, zero_grant: &
     ensures zero { zero_grant.new ≡ zero_grant.old || ((frame.now.stream == 0) && is_zero_grant frame.now.body) }
     ensures little { HasRoom (2 ^ 32) (spent_by frame.now) × HasRoom (2 ^ 32) (granted_by frame.now) }
 {
+    if frame.body.is_content() {
+        own.meet(-i64::from(frame.length.get()));
+    }
     if frame.stream == 0 {
-        own.meet(-i64::from(frame.content_by(frame.side)));
         other.meet(i64::from(frame.body.increment()));
         *zero_grant |= frame.body.is_zero_grant();
-    } else if frame.body.is_content() {
-        own.meet(-i64::from(frame.length.get()));
     }
 }
 

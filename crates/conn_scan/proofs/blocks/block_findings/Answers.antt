@@ -1,6 +1,6 @@
 use Rattle.conn_scan.proofs.Terms.{◌≡◌, ◌^◌, arith, items_in, room-wider, walked}
 use Rattle.conn_scan.proofs.WalkLemmas.{block_walked}
-use Rattle.conn_scan.proofs.Halfway.{begins, fits_next, goes, stops, stops-numbered, is-whole}
+use Rattle.conn_scan.proofs.Halfway.{begins, fits_next, goes, stops, stops-numbered, is-numbered, is-whole}
 use Rattle.conn_scan.proofs.blocks.block_findings.Goals as goal
 
 pub loop-item-init : goal.loop-item-init
@@ -44,3 +44,9 @@ loop-item-preserved g c =
 
 pub returns-clause-run : goal.returns-clause-run
 returns-clause-run g c = is-whole (rw c.in-None.ensures.steps.0 at c.loop-item.invariant.halfway)
+
+pub returns-clause-numbered : goal.returns-clause-numbered
+returns-clause-numbered g c = is-numbered c.loop-item.invariant.halfway
+
+pub add_item-requires-clause-frame : goal.add_item-requires-clause-frame
+add_item-requires-clause-frame g c = (rw c.in-Some.ensures.steps at c.loop-item.invariant.halfway).orderly.1
