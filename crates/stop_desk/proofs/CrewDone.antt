@@ -47,8 +47,6 @@ last_stops-is closed count long =
     let same : count ≡ length (drop 1 closed.desk.opened) = omega (arith, length-drop 1 closed.desk.opened) in
     rw same (sym (last_from-is closed 0 (drop 1 closed.desk.opened)))
 
-pub ruleset stops_read = (last_stops-is)
-
 length-last_stops : (closed : ClosedView) → length (last_stops closed) ≡ length (drop 1 closed.desk.opened)
 length-last_stops closed = ap length (last_from-is closed 0 _) ∙ length-map-range_with_len (final_stop closed) 0 _
 

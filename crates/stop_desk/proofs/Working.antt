@@ -215,6 +215,11 @@ module _ {M : Type 0} (makes : ℕ → Option ℕ → M → Type 0) (jobs : List
           (grind (arith, nat_tests, after-times, drew.0), grind (arith, nat_tests, after-times, drew.1, draws.fresh)),
         )
 
+  -- before the first draw
+  pub worked-none : (desk : DeskId) (whole : ℕ) → IsWorked makes jobs desk round whole [] (pass_of desk whole [] [] [])
+      × DrewJobs jobs (pass_of desk whole [] [] [])
+  worked-none desk whole = grind (arith, contains-none)
+
   -- no job is left: a worker whose allowance is one more than the jobs never runs out of it
   pub worked-ends : (desk : DeskId) (count : ℕ) (parts : List (Part M)) (before after : PassView) (claim : Claim) →
       count ≡ length jobs → IsWorked makes jobs desk round (count + 1) parts before → DrewJobs jobs before →

@@ -35,7 +35,6 @@ fn put_in_order<M>(parts: &mut Vec<Part<M>>)
 }
 
 /// The last stop of each connection, where `opening` is the stop that it had first.
-#[tactic(auto, using(crate::proofs::CrewDone::stops_read))]
 fn stops_of(
     alloc: Global,
     closed: &Closed,

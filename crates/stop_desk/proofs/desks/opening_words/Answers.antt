@@ -1,5 +1,5 @@
-use Rattle.stop_desk.proofs.Words.{refl, ◌∙◌}
-use Rattle.std.proofs.lemmas.List.{map-append, take_more}
+use Rattle.stop_desk.proofs.Words.{arith, refl, ◌∙◌}
+use Rattle.std.proofs.lemmas.List.{map-append, take_all, take_more}
 use Rattle.stop_desk.proofs.desks.opening_words.Goals as goal
 
 pub loop-stop-init : goal.loop-stop-init
@@ -14,3 +14,6 @@ loop-stop-preserved c =
       ← c.stop-item.is,
       c.word_of.ensures,
     )
+
+pub returns : goal.returns
+returns c = rw (take_all c.loop-stop.stop-index c.args.stops.now (omega arith)) at c.loop-stop.invariant

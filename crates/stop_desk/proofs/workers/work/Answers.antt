@@ -1,5 +1,11 @@
-use Rattle.stop_desk.proofs.{Words.subst, Words.◌<◌, Working.worked-ends, Working.worked-job}
+use Rattle.stop_desk.proofs.{Words.subst, Words.◌<◌, Working.worked-ends, Working.worked-job, Working.worked-none}
 use Rattle.stop_desk.proofs.workers.work.Goals as goal
+
+pub loop-job-init : goal.loop-job-init
+loop-job-init g c =
+    let shift = c.args.shift.now in
+    rw (c.requires, c.in_ok-parts.ensures.items)
+    (worked-none (g.P.Round.makes shift.plan.now) (g.P.Round.jobs shift.plan.now) shift.round shift.desk.now.id _)
 
 pub loop-job-preserved : goal.loop-job-preserved
 loop-job-preserved g c =
