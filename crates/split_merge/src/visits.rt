@@ -49,6 +49,20 @@ pub struct Visits {
 }
 
 impl Visits {
+    /// No stream yet, with room for rows to be remembered where there are many frames.
+    fn none_yet(alloc: Global, hash: TableHash, frames: usize) -> Result<Visits, AllocError>
+        ensures { IfOk result IsEmpty }
+    {
+        let hints = hints_for(alloc, frames)?;
+        Ok(Visits {
+            rows: Vec::new(alloc),
+            quiets: Vec::new(alloc),
+            index: RowIndex::new(alloc, hash),
+            hints,
+            last: 0,
+        })
+    }
+
     /// The streams that meet some frames, each after the changes behind its last one: nothing is shown of a quiet one.
     /// Where credits are shown, none is quiet.
     pub fn ended(
@@ -63,14 +77,7 @@ impl Visits {
         ensures hushed { IfOk result (λ table.
             AreHushed credits_shown changes.now frames.now (streams_in table.rows.items) table.quiets.items) }
     {
-        let hints = hints_for(alloc, frames.len())?;
-        let mut table = Visits {
-            rows: Vec::new(alloc),
-            quiets: Vec::new(alloc),
-            index: RowIndex::new(alloc, hash),
-            hints,
-            last: 0,
-        };
+        let mut table = Self::none_yet(alloc, hash, frames.len())?;
         let mut said = Vec::new(alloc);
         table.note_all(&mut said, credits_shown, changes, frames)?;
         finish(

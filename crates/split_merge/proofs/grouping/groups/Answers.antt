@@ -1,4 +1,4 @@
-use Rattle.split_merge.proofs.Terms.{sym, arith}
+use Rattle.split_merge.proofs.Terms.{◌≡◌, sym, arith}
 use Rattle.std.proofs.lemmas.List.FromFn.{map-range_with_len_more}
 use Rattle.split_merge.specs.code.Groups.{group_at}
 use Rattle.split_merge.proofs.GroupRanges.{groups-consecutive}
@@ -18,3 +18,8 @@ returns-in_err-push-clause-consecutive c = groups-consecutive c.args.count c.arg
 
 pub returns-clause-consecutive : goal.returns-clause-consecutive
 returns-clause-consecutive c = groups-consecutive c.args.count c.args.n c.requires.some
+
+pub returns-clause-value : goal.returns-clause-value
+returns-clause-value c =
+    let all : c.loop-group.group ≡ c.min-number.result = omega arith in
+    rw (all, c.min-number.ensures) at c.loop-group.invariant
