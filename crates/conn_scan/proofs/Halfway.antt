@@ -159,21 +159,16 @@ module _ {L : Type 0} {answers : L → List Finding → Option ℕ → L → Typ
         rw (← h.all) (is-cut answers before whole after _ item.frame.number then kept
         (on before whole h.met (numbers_of (frames_of left)) is-found h.watches) (cut ∙ ap (up_to then.stop) is-found))
 
-    pub stops-numbered : (kept : List Finding) (stop : Option ℕ) → kept ≡ up_to stop found → All IsNumbered kept
-    stops-numbered kept stop cut =
-        let narrow = h.narrow in
-        rw cut (All-from_recursion IsNumbered (up_to stop found)
-        (each-weaker (IsBelow h.low) IsNumbered (λ one lt. omega arith) (up_to stop found) (up stop)))
-      where
-        up : (stop : Option ℕ) → AllByRecursion (IsBelow h.low) (up_to stop found)
-        up None = h.below
-        up (Some place) = each-filter (IsBelow h.low) _ found h.below
-
-  pub is-numbered : {left : List Item} → Halfway answers before now credits numbers whole found state left watch
-      → All IsNumbered found
-  is-numbered h =
+  pub stops-numbered : {left : List Item} → Halfway answers before now credits numbers whole found state left watch
+      → (kept : List Finding) (stop : Option ℕ) → kept ≡ up_to stop found → All IsNumbered kept
+  stops-numbered h kept stop cut =
       let narrow = h.narrow in
-      All-from_recursion IsNumbered found (each-weaker (IsBelow h.low) IsNumbered (λ one lt. omega arith) found h.below)
+      rw cut (All-from_recursion IsNumbered (up_to stop found)
+      (each-weaker (IsBelow h.low) IsNumbered (λ one lt. omega arith) (up_to stop found) (up stop)))
+    where
+      up : (stop : Option ℕ) → AllByRecursion (IsBelow h.low) (up_to stop found)
+      up None = h.below
+      up (Some place) = each-filter (IsBelow h.low) _ found h.below
 
   pub is-whole : Halfway answers before now credits numbers whole found state [] watch
       → IsRun answers before now numbers whole found None watch.stop watch.looks

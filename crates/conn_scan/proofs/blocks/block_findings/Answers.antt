@@ -1,6 +1,6 @@
-use Rattle.conn_scan.proofs.Terms.{◌≡◌, ◌^◌, arith, items_in, room-wider, walked}
+use Rattle.conn_scan.proofs.Terms.{◌≡◌, ◌^◌, None, arith, refl, items_in, room-wider, walked}
 use Rattle.conn_scan.proofs.WalkLemmas.{block_walked}
-use Rattle.conn_scan.proofs.Halfway.{begins, fits_next, goes, stops, stops-numbered, is-numbered, is-whole}
+use Rattle.conn_scan.proofs.Halfway.{begins, fits_next, goes, stops, stops-numbered, is-whole}
 use Rattle.conn_scan.proofs.blocks.block_findings.Goals as goal
 
 pub loop-item-init : goal.loop-item-init
@@ -23,8 +23,8 @@ returns-then-not-goes_on-clause-run g c =
 
 pub returns-then-not-goes_on-clause-numbered : goal.returns-then-not-goes_on-clause-numbered
 returns-then-not-goes_on-clause-numbered g c =
-    stops-numbered (rw c.in-Some.ensures.steps at c.loop-item.invariant.halfway)
-    c.keep_up_to.new.found.items c.goes_on.new.watch.stop c.keep_up_to.ensures
+    stops-numbered c.loop-item.invariant.halfway c.keep_up_to.new.found.items c.goes_on.new.watch.stop
+    c.keep_up_to.ensures
 
 pub add_item-requires-clause-client : goal.add_item-requires-clause-client
 add_item-requires-clause-client g c = room-wider _ (2 ^ 60) _ (omega arith) c.loop-item.invariant.fits.client
@@ -46,7 +46,7 @@ pub returns-clause-run : goal.returns-clause-run
 returns-clause-run g c = is-whole (rw c.in-None.ensures.steps.0 at c.loop-item.invariant.halfway)
 
 pub returns-clause-numbered : goal.returns-clause-numbered
-returns-clause-numbered g c = is-numbered c.loop-item.invariant.halfway
+returns-clause-numbered g c = stops-numbered c.loop-item.invariant.halfway _ None refl
 
 pub add_item-requires-clause-frame : goal.add_item-requires-clause-frame
 add_item-requires-clause-frame g c = (rw c.in-Some.ensures.steps at c.loop-item.invariant.halfway).orderly.1
