@@ -190,8 +190,7 @@ impl Dealer {
         let header = RECORD_HEADER.min(rest.len());
         let packet = &rest[header..];
         self.enter(&packet[..FRONT.min(packet.len())], parts)?;
-        give(parts, self.part, rest, self.pair)?;
-        Ok(())
+        give(parts, self.part, rest, self.pair)
     }
 }
 

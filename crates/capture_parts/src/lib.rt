@@ -18,8 +18,8 @@
 //! - [`laws`]: a record goes to one part, whole; a packet in which `packet_heads` finds a segment names that segment's
 //!   endpoints in its front; either order of two endpoints goes to the same part; the records are those that the reader
 //!   of the whole capture finds.
-//! - Refused by the prover: a pair of a sender alone, a record without its header, a part that gets another part's
-//!   bytes, one number for all records, a full part that goes on; no parts, a buffer that is too short.
+//! - Refused by the prover: a pair of a sender alone, a part that gets another part's bytes, one number for all
+//!   records, a full part that goes on; no parts, a buffer that is too short.
 //! - Tested, in `tests/` at the root: the parts of whole captures, beside a model; reports of parts, merged.
 #![tactic(auto)]
 

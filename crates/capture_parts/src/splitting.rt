@@ -62,8 +62,7 @@ pub fn split_capture<R: Read, W: Write + Drop>(
         (link_of (number_of format.endian) header.now) given parts.old parts.new)) }
 {
     let mut dealer = Dealer::behind(header);
-    split_last(&mut dealer, reader, buffer, parts)?;
-    Ok(())
+    split_last(&mut dealer, reader, buffer, parts)
 }
 
 /// Deals the last file of a capture, from behind its header on.
@@ -84,8 +83,7 @@ pub fn split_last<R: Read, W: Write + Drop>(
         → AreSplit W.contents (order_of dealer.old.is_little) dealer.old.link (bytes ++ given) first parts.new)) }
 {
     let filled = deal_file(dealer, reader, buffer, parts)?;
-    dealer.finish(&buffer[..filled], parts)?;
-    Ok(())
+    dealer.finish(&buffer[..filled], parts)
 }
 
 /// Deals a file of a capture behind which another one comes, from behind its header on. It has to end with a whole

@@ -1,4 +1,4 @@
-use Rattle.capture_parts.proofs.Terms.{AreSplit, IfSome, List, None, Option, Some, [], ℕ, ◌≡◌}
+use Rattle.capture_parts.proofs.Terms.{AreSplit, IfSome, List, None, Option, Some, [], on_ok_weaker, ℕ, ◌≡◌}
 use Rattle.pcap_records.specs.FileHeader.{ByteOrder, link_of, number_of}
 use Rattle.pcap_records.specs.declared.format.Format.{Format}
 use Rattle.capture_parts.proofs.Standing.{none_dealt}
@@ -14,10 +14,13 @@ by_header P order link header (Some format) orders links holds = rw (← links, 
 
 pub returns : goal.returns
 returns g c =
-    let (given, consumed, end, split) = c.in_ok-split_last.ensures.split in
     let behind = c.behind-dealer.ensures in
     let parts = c.args.parts.now in
     let none = none_dealt g.W.Write.contents c.behind-dealer.result parts behind.number behind.left in
-    let holds = by_header (λ number link. AreSplit g.W.Write.contents number link given parts c.split_last.new.parts)
-    _ _ c.args.header.now _ behind.order behind.link (split parts [] none) in
-    (given, consumed, end, holds)
+    on_ok_weaker c.split_last.result (λ (given, consumed, end, split). (
+      given,
+      consumed,
+      end,
+      by_header (λ number link. AreSplit g.W.Write.contents number link given parts c.split_last.new.parts)
+          _ _ c.args.header.now _ behind.order behind.link (split parts [] none),
+    )) c.split_last.ensures.split

@@ -1,20 +1,20 @@
-use Rattle.capture_parts.proofs.Terms.{List, ap, append-nil, arith, drop, drop_min, length}
-use Rattle.capture_parts.proofs.Terms.{nil_from_length, take, take_min, take_rest, ℕ, ◌-◌, ◌<◌, ◌∙◌, ◌≡◌}
+use Rattle.capture_parts.proofs.Terms.{List, ap, append-nil, arith, drop, drop_min, eqb-false, eqb-true, length}
+use Rattle.capture_parts.proofs.Terms.{nil_from_length, on_ok_weaker, sym, take, take_min, take_rest, ℕ, ◌-◌, ◌<◌, ◌∙◌, ◌≡◌}
 use Rattle.capture_parts.proofs.Standing.{dealt_all, dealt_rest}
-use Rattle.std.proofs.lemmas.Bool.Decides.{nat_tests}
 use Rattle.capture_parts.proofs.dealer.Dealer.finish.Goals as goal
 
 pub returns-then-is_empty-clause-split : goal.returns-then-is_empty-clause-split
 returns-then-is_empty-clause-split g c = λ first bytes cut was.
-    let none : length c.args.rest.now ≡ 0 = grind (arith, nat_tests) in
+    let none = eqb-true (length c.args.rest.now) 0 (sym c.is_empty.ensures ∙ c.if-is_empty.true) in
     rw (nil_from_length c.args.rest.now none, append-nil bytes) (dealt_all g.W.Write.contents was)
 
 pub returns-clause-split : goal.returns-clause-split
-returns-clause-split g c = λ first bytes cut was.
+returns-clause-split g c = on_ok_weaker c.give.result (λ one first bytes cut was.
     let rest : List ℕ = c.args.rest.now in
-    let some : 0 < length rest = grind (arith, nat_tests) in
+    let some : 0 < length rest =
+    omega (arith, eqb-false (length rest) 0 (sym c.is_empty.ensures ∙ c.if-is_empty.false)) in
     let packet : take (length rest - c.min-header.result) (drop c.min-header.result rest) ≡ drop 16 rest =
     take_rest rest c.min-header.result ∙ ap (λ (k : ℕ). drop k rest) c.min-header.ensures ∙ drop_min 16 rest in
     let held = cut some in
     dealt_rest g.W.Write.contents c.enter.new.self held.0 held.1 some
-    (rw (c.min.ensures, take_min, packet) at c.in_ok-enter.ensures.entered) c.in_ok-give.ensures was
+    (rw (c.min.ensures, take_min, packet) at c.in_ok-enter.ensures.entered) one was) c.give.ensures
