@@ -1,24 +1,27 @@
-use thiserror::Error;
+use std::error::Error;
+use std::fmt::{self, Display, Formatter, Write};
 
 /// Why a capture is refused. Faults are tested in the order of their numbers.
-#[derive(Clone, Copy, Debug, PartialEq, Eq, Error)]
+#[derive(Clone, Copy, Debug, PartialEq, Eq)]
 pub enum PcapFault {
     /// Fewer than the 24 bytes of a file header.
-    #[error("fault 1")]
-    ShortHeader,
+    ShortHeader = 1,
     /// None of the four magic numbers of a classic capture.
-    #[error("fault 2")]
-    BadMagic,
+    BadMagic = 2,
     /// A version other than 2.4.
-    #[error("fault 3")]
-    BadVersion,
+    BadVersion = 3,
     /// A link type other than Ethernet and raw IP.
-    #[error("fault 4")]
-    LinkType,
+    LinkType = 4,
     /// More than 2^31 - 1 bytes.
-    #[error("fault 5")]
-    TooLarge,
+    TooLarge = 5,
     /// No memory for the table of records, or for a record's header in which chunks of the capture meet.
-    #[error("fault 6")]
-    OutOfMemory,
+    OutOfMemory = 6,
 }
+
+impl Display for PcapFault {
+    fn fmt<W: Write>(&self, f: &mut Formatter<W>) -> fmt::Result {
+        write!(f, "fault {}", *self as u8)
+    }
+}
+
+impl Error for PcapFault {}

@@ -16,11 +16,22 @@ pub const FILE_HEADER: usize = 24;
 pub const MOST_BYTES: usize = 0x7fff_ffff;
 
 /// The link type that a header names.
-pub fn link_type<T: ByteOrder>(header: &[u8]) -> u16
+fn link_type<T: ByteOrder>(header: &[u8]) -> u16
     requires { 24 ≤ length header.now }
     ensures { result ≡ link_of T.number_of header.now }
 {
     (T::read_u32(&header[20..]) & 0xffff) as u16
+}
+
+/// The same of a header whose numbers are in this order.
+pub fn link_in(endian: Endian, header: &[u8]) -> u16
+    requires { 24 ≤ length header.now }
+    ensures { result ≡ link_of (number_of endian) header.now }
+{
+    match endian {
+        Endian::Big => link_type::<BigEndian>(header),
+        Endian::Little => link_type::<LittleEndian>(header),
+    }
 }
 
 /// Whether a header names version 2.4.

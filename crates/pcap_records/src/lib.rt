@@ -22,7 +22,7 @@
 //! - [`worked_examples`]: the four magics, each refusal at the value that decides, their order, times in both units,
 //!   cut records.
 //! - Refused by the prover: a walk that begins with the file header, or goes on in another order of bytes; a refusal
-//!   left out, a short file header taken.
+//!   left out.
 //! - Tested, in `crate_tests`: that `records` succeeds where there is memory, and how faults print.
 #![tactic(auto)]
 

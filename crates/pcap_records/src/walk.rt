@@ -10,7 +10,7 @@ ghost use Rattle.pcap_records.specs.code.Walk.{AreAll, HasPassed, HasStepped};
 use crate::capture::Record;
 use crate::faults::PcapFault;
 use crate::format::{Endian, Format};
-use crate::header::{FILE_HEADER, format_or_refusal, header, link_type};
+use crate::header::{FILE_HEADER, format_or_refusal, header, link_in};
 use crate::rows::next_record;
 use byteorder::{BigEndian, LittleEndian};
 use input_output::Capture;
@@ -50,13 +50,9 @@ impl RecordWalk {
         ensures link { result.link ≡ link_of (number_of format.endian) header.now }
         ensures at { result.at ≡ 24 }
     {
-        let link = match format.endian {
-            Endian::Big => link_type::<BigEndian>(header),
-            Endian::Little => link_type::<LittleEndian>(header),
-        };
         RecordWalk {
             format,
-            link,
+            link: link_in(format.endian, header),
             at: FILE_HEADER,
         }
     }
