@@ -31,7 +31,7 @@
 //! so no answer depends on the key: no contract of a table names it.
 //!
 //! Refused by the prover: a read that is told to have filled, a write that is told to have taken all; a reading that
-//! ends at half of 2^31 bytes; a range that ends with its first chunk. Tested, in `crate_tests`: which calls readers
+//! ends at half of its limit; a range that ends with its first chunk. Tested, in `crate_tests`: which calls readers
 //! and writers get. Trusted: that a file or a pipe gives and keeps its bytes.
 #![tactic(auto)]
 
