@@ -100,6 +100,7 @@ impl Dealer {
         requires part { self.old.part < length parts.old }
         ensures part { self.new.part < length parts.new }
         ensures count { IfOk result (λ n. n ≡ min self.old.left (length unread.now)) }
+        ensures some { IfOk result (λ n. 0 < n) }
         ensures left { IfOk result (λ n. self.new ≡ record self.old { left = self.old.left - n }) }
         ensures grows { IfOk result
             (λ n. OneGrows W.contents parts.old parts.new self.old.part (take n unread.now) []) }

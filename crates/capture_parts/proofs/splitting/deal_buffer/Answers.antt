@@ -17,3 +17,7 @@ pub returns-clause-dealt : goal.returns-clause-dealt
 returns-clause-dealt g c =
     let moved = moved_to_front _ _ _ _ c.in_ok-dealt.ensures.within c.requires.filled c.copy_within.ensures.after in
     rw (← moved.0) c.in_ok-dealt.ensures.dealt
+
+pub returns-clause-left : goal.returns-clause-left
+returns-clause-left g c =
+    let size = length-take-le _ _ c.requires.filled in (omega (arith, size, c.in_ok-dealt.ensures.few), omega arith)

@@ -1,5 +1,6 @@
 use Rattle.capture_parts.proofs.Terms.{List, ap, append-nil, arith, drop, drop_min, eqb-false, eqb-true, length}
-use Rattle.capture_parts.proofs.Terms.{nil_from_length, on_ok_weaker, sym, take, take_min, take_rest, ℕ, ◌-◌, ◌<◌, ◌∙◌, ◌≡◌}
+use Rattle.capture_parts.proofs.Terms.{length-take-le, nil_from_length, on_ok_weaker, sym, take, take_min}
+use Rattle.capture_parts.proofs.Terms.{take_rest, ℕ, ◌-◌, ◌<◌, ◌∙◌, ◌≡◌}
 use Rattle.capture_parts.proofs.Standing.{dealt_all, dealt_rest}
 use Rattle.capture_parts.proofs.dealer.Dealer.finish.Goals as goal
 
@@ -18,3 +19,6 @@ returns-clause-split g c = on_ok_weaker c.give.result (λ one first bytes cut wa
     let held = cut some in
     dealt_rest g.W.Write.contents c.enter.new.self held.0 held.1 some
     (rw (c.min.ensures, take_min, packet) at c.in_ok-enter.ensures.entered) one was) c.give.ensures
+
+pub slice_bounds-enter-end : goal.slice_bounds-enter-end
+slice_bounds-enter-end g c = sym (length-take-le _ _ (omega (arith, c.min.ensures)))
