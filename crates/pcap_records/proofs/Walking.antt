@@ -141,16 +141,6 @@ pub has_stepped : (front : List ℕ) (rows : List Record) (old new : RecordWalk)
 has_stepped front rows old new None next some none passed = rw none (passed, next)
 has_stepped front rows old new (Some row) next some none passed = steps-over front rows old new row some next passed
 
--- what was found lies within the front
-pub found_within : (front : List ℕ) (walk : RecordWalk) (found : Option Record) → walk.at ≤ length front
-    → IsNextRecord (number_of walk.format.endian) walk.format.unit walk.at (drop walk.at front) found
-    → IfSome found (λ row. row.start + row.length ≤ length front)
-found_within front walk None high next = tt
-found_within front walk (Some row) high next =
-    let bytes = drop walk.at front in
-    let after = after_record (number_of walk.format.endian) walk.format.unit walk.at bytes row next.1 in
-    omega (arith, after, next.0.1, length-drop walk.at front, high)
-
 -- where a walk is through, its records are a reading of the capture
 pub all_passed : (capture : List ℕ) (walk : RecordWalk) (found : Records) → HasPassed capture found.rows.items walk
     → IsThrough capture walk → found.link ≡ walk.link

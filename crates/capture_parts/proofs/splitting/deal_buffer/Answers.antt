@@ -19,5 +19,4 @@ returns-clause-dealt g c =
     rw (← moved.0) c.in_ok-dealt.ensures.dealt
 
 pub returns-clause-left : goal.returns-clause-left
-returns-clause-left g c =
-    let size = length-take-le _ _ c.requires.filled in (omega (arith, size, c.in_ok-dealt.ensures.few), omega arith)
+returns-clause-left g c = (omega (arith, length-take-le _ _ c.requires.filled, c.in_ok-dealt.ensures.few), omega arith)

@@ -1,4 +1,5 @@
 use Rattle.std.proofs.Common.{◌≡◌, ◌∙◌, ◌≤◌, ◌∷◌, [], ◌++◌, List, length, map, arith, ap, sym, subst}
+use Rattle.std.proofs.lemmas.Grind.{common_steps}
 use Rattle.std.proofs.lemmas.List.{map-append}
 use Rattle.input_output.specs.Chunks.{joined}
 use Rattle.input_output.specs.code.Sizes.{AreChunksOf}
@@ -18,3 +19,6 @@ invariant_of-result g c =
           (full_and_last (λ chunk. chunk.now) g.row.N c.loop-rest.all.items last c.loop-rest.invariant.0 short),
       ap length (sym (ap joined more ∙ joined-push before last ∙ c.loop-rest.invariant.1)),
     )
+
+pub loop-rest-preserved : goal.loop-rest-preserved
+loop-rest-preserved g c = grind (arith, common_steps)

@@ -1,5 +1,6 @@
-use Rattle.std.proofs.Common.{rules}
-use Rattle.pcap_records.proofs.Walking.{found_within, has_stepped}
+use Rattle.std.proofs.Common.{arith, rules}
+use Rattle.std.proofs.lemmas.Grind.{common_steps}
+use Rattle.pcap_records.proofs.Walking.{has_stepped}
 use Rattle.pcap_records.proofs.walk.RecordWalk.next.Goals as goal
 
 pub returns-clause-next : goal.returns-clause-next
@@ -8,5 +9,4 @@ returns-clause-next c rows passed =
     (search rules) (search rules) passed
 
 pub returns-clause-within : goal.returns-clause-within
-returns-clause-within c =
-    found_within c.args.capture.now c.args.self.now c.in_ok-found.found c.requires.walk.1.read.high (search rules)
+returns-clause-within c = grind (arith, common_steps)
