@@ -1,4 +1,5 @@
 use Rattle.capture_parts.proofs.Terms.{arith, length-take-le}
+use Rattle.std.proofs.lemmas.Grind.{common_steps}
 use Rattle.capture_parts.proofs.Buffer.{moved_to_front}
 use Rattle.capture_parts.proofs.splitting.deal_buffer.Goals as goal
 
@@ -20,3 +21,9 @@ returns-clause-dealt g c =
 
 pub returns-clause-left : goal.returns-clause-left
 returns-clause-left g c = (omega (arith, length-take-le _ _ c.requires.filled, c.in_ok-dealt.ensures.few), omega arith)
+
+pub overflow_sub-result : goal.overflow_sub-result
+overflow_sub-result g c = grind (arith, common_steps)
+
+pub copy_within-requires-clause-start_le_end : goal.copy_within-requires-clause-start_le_end
+copy_within-requires-clause-start_le_end g c = grind (arith, common_steps)

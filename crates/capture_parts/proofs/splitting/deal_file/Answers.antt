@@ -1,7 +1,8 @@
-use Rattle.capture_parts.proofs.Terms.{List, [], append-nil, arith, length, length-take, rules, sym, take}
-use Rattle.capture_parts.proofs.Terms.{take-put_mid_below, ℕ, ◌-◌, ◌∙◌, ◌≤◌}
+use Rattle.capture_parts.proofs.Terms.{List, arith, length, length-take, rules, sym, take}
+use Rattle.capture_parts.proofs.Terms.{ℕ, ◌-◌, ◌∙◌, ◌≤◌}
+use Rattle.std.proofs.lemmas.Grind.{common_steps}
 use Rattle.capture_parts.proofs.Buffer.{read_behind}
-use Rattle.capture_parts.proofs.Turns.{Deals-nil, next_turn, no_turn}
+use Rattle.capture_parts.proofs.Turns.{next_turn, no_turn}
 use Rattle.capture_parts.proofs.splitting.deal_file.Goals as goal
 
 pub loop-init : goal.loop-init
@@ -12,16 +13,7 @@ loop-init g c = record {
 }
 
 pub returns-in-Ok-eq0-clause-turned : goal.returns-in-Ok-eq0-clause-turned
-returns-in-Ok-eq0-clause-turned g c =
-    let a : ℕ = c.loop.filled in
-    let old : List ℕ = c.loop.buffer in
-    let was = c.loop.invariant in
-    let within : a ≤ length old = omega (arith, was.few, c.loop.auto.buffer, c.requires.buffer) in
-    let read = rw c.in-Ok-eq0.field-0-test at c.in-Ok-eq0.ensures.bytes.0 in
-    rw (take-put_mid_below a (length old - a) old c.read.new.buf a (omega arith) within)
-    (next_turn g.W.Write.contents g.R.Read.remaining _ _ c.read.new.self [] [] (take a old) read
-    (append-nil (take a old)) was.turned.none_whole (Deals-nil g.W.Write.contents c.loop.dealer c.loop.parts)
-    was.turned)
+returns-in-Ok-eq0-clause-turned g c = grind (arith, common_steps)
 
 pub loop-preserved : goal.loop-preserved
 loop-preserved g c =

@@ -1,4 +1,5 @@
-use Rattle.std.proofs.Common.{rules, take, inr}
+use Rattle.std.proofs.Common.{arith, rules, take}
+use Rattle.std.proofs.lemmas.Grind.{common_steps}
 use Rattle.input_output.proofs.Kept.{passed_more}
 use Rattle.input_output.proofs.reading.pass_over.Goals as goal
 
@@ -9,11 +10,7 @@ loop-piece-preserved g c =
     c.in_ok-pass_once.ensures.count c.in_ok-pass_once.ensures.read in search (rules, bytes)
 
 pub returns-then-branch-eq0-clause-sound : goal.returns-then-branch-eq0-clause-sound
-returns-then-branch-eq0-clause-sound g c = record {
-  within = rw c.pass_once.ensures.kept c.loop-piece.invariant.sound.within;
-  limit = c.pass_once.ensures.limit;
-  well = inr (c.in_ok-pass_once.ensures.state.ended c.if-branch-eq0.true);
-}
+returns-then-branch-eq0-clause-sound g c = grind (arith, common_steps)
 
 pub returns-then-branch-eq0-clause-bytes : goal.returns-then-branch-eq0-clause-bytes
 returns-then-branch-eq0-clause-bytes g c =

@@ -1,4 +1,5 @@
 use Rattle.capture_parts.proofs.Terms.{arith, drop-take, min, rules, ℕ, ◌+◌, ◌-◌, ◌≡◌}
+use Rattle.std.proofs.lemmas.Grind.{common_steps}
 use Rattle.capture_parts.proofs.Given.{take-min}
 use Rattle.capture_parts.proofs.dealer.Dealer.begin.Goals as goal
 
@@ -18,3 +19,6 @@ returns-clause-begun g c = λ _.
       };
       front = search rules;
     }
+
+pub returns-then-unread-front-clause-left : goal.returns-then-unread-front-clause-left
+returns-then-unread-front-clause-left g c = grind (arith, common_steps)

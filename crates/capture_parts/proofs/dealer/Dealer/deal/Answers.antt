@@ -1,5 +1,6 @@
 use Rattle.capture_parts.proofs.Terms.{Dealer, Deals, List, ap, arith, drop, length, rules, sym, take, take-add}
 use Rattle.capture_parts.proofs.Terms.{take_rest, ℕ, ◌-◌, ◌≡◌}
+use Rattle.std.proofs.lemmas.Grind.{common_steps}
 use Rattle.capture_parts.proofs.Standing.{dealt_first, dealt_more}
 use Rattle.capture_parts.proofs.Turns.{Deals-trans}
 use Rattle.capture_parts.proofs.dealer.Dealer.deal.Goals as goal
@@ -36,12 +37,17 @@ loop-at-preserved g c =
     }
 
 pub returns-then-not-branch-clause-rest : goal.returns-then-not-branch-clause-rest
-returns-then-not-branch-clause-rest g c = λ within.
-    let stays = c.in_ok-begin.ensures.few c.if-not-branch.true in (
-      rw stays.0 c.if-self-eq0.true,
-      rw (stays.0, ← take_rest c.args.unread.now c.loop-at.at) stays.3,
-    )
+returns-then-not-branch-clause-rest g c = grind (arith, common_steps)
 
 pub returns-then-not-branch-clause-dealt : goal.returns-then-not-branch-clause-dealt
 returns-then-not-branch-clause-dealt g c =
     let stays = c.in_ok-begin.ensures.few c.if-not-branch.true in rw (stays.0, stays.1) c.loop-at.invariant.dealt
+
+pub returns-then-not-branch-clause-few : goal.returns-then-not-branch-clause-few
+returns-then-not-branch-clause-few g c = grind (arith, common_steps)
+
+pub deal_more-requires-clause-part : goal.deal_more-requires-clause-part
+deal_more-requires-clause-part g c = grind (arith, common_steps)
+
+pub deal_more-requires-clause-begun : goal.deal_more-requires-clause-begun
+deal_more-requires-clause-begun g c = grind (arith, common_steps)

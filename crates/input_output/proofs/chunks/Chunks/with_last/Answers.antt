@@ -1,6 +1,7 @@
 use Rattle.std.proofs.Common.{◌≤◌, slice_index_or, ◌≡◌, ◌∙◌, ◌∷◌, [], ◌++◌, List, length, map, length-append, arith, ap}
 use Rattle.std.proofs.Common.{sym, subst}
-use Rattle.std.proofs.lemmas.List.{map-append, map_more, map_push, take_all}
+use Rattle.std.proofs.lemmas.Grind.{common_steps}
+use Rattle.std.proofs.lemmas.List.{map-append, take_all}
 use Rattle.input_output.specs.Chunks.{joined}
 use Rattle.input_output.specs.code.Sizes.{AreChunksOf}
 use Rattle.input_output.proofs.ChunkLemmas.{AreFull, full_and_last, full_count, joined-push}
@@ -35,18 +36,7 @@ invariant_of-result g c =
     )
 
 pub loop-chunk-preserved : goal.loop-chunk-preserved
-loop-chunk-preserved g c = record {
-  items = rw (
-    c.push_reserved.ensures.items,
-    map_push,
-    c.loop-chunk.invariant.items,
-    c.as_slice.ensures.value,
-    map_more (λ chunk. chunk.items) c.args.full.now c.loop-chunk.chunk-index c.chunk-item.result c.loop-chunk-test.true,
-    ← c.chunk-item.is,
-  );
-  count = omega (arith, c.push_reserved.ensures.len);
-  room = omega (arith, c.push_reserved.ensures.capacity);
-}
+loop-chunk-preserved g c = grind (arith, common_steps)
 
 pub returns : goal.returns
 returns g c = ap joined (pushed g c) ∙ joined-push (map (λ chunk. chunk.items) c.args.full.now) c.args.last.now

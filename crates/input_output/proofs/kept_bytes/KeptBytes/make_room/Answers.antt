@@ -1,4 +1,5 @@
-use Rattle.std.proofs.Common.{◌∷◌, [], ap, arith, length, length-append}
+use Rattle.std.proofs.Common.{arith}
+use Rattle.std.proofs.lemmas.Grind.{common_steps}
 use Rattle.std.proofs.lemmas.Result.{on_ok_weaker}
 use Rattle.input_output.proofs.Bytes.{all_full, kept_size, sizes}
 use Rattle.input_output.proofs.kept_bytes.KeptBytes.make_room.Goals as goal
@@ -44,21 +45,13 @@ pub invariant_of-self : goal.invariant_of-self
 invariant_of-self g c = (c.self.invariant.0, omega arith, omega arith, omega arith)
 
 pub invariant_of-self-2 : goal.invariant_of-self-2
-invariant_of-self-2 g c =
-    let full = c.begin_chunk.new.full in
-    let begun = c.in_ok-begin_chunk.ensures.ok in
-    let size = ap length begun.0 in (
-      all_full c.self.inside.full.items full.items c.self.inside.last c.self.invariant.0
-          (omega (arith, c.self.invariant.2)) begun.0,
-      omega arith,
-      begun.3,
-      omega (
-        arith,
-        begun.2,
-        size,
-        length-append c.self.inside.full.items (c.self.inside.last ∷ []),
-        full.ok.0,
-        c.self.inside.full.ok.0,
-        c.requires.limit.1,
-      ),
-    )
+invariant_of-self-2 g c = grind (arith, common_steps)
+
+pub returns-clause-limit : goal.returns-clause-limit
+returns-clause-limit g c = grind (arith, common_steps)
+
+pub returns-clause-kept : goal.returns-clause-kept
+returns-clause-kept g c = grind (arith, common_steps)
+
+pub returns-then-len-lt-CAPTURE_CHUNK-clause-kept : goal.returns-then-len-lt-CAPTURE_CHUNK-clause-kept
+returns-then-len-lt-CAPTURE_CHUNK-clause-kept g c = grind (arith, common_steps)

@@ -1,5 +1,6 @@
 use Rattle.std.proofs.Common.{arith, refl}
-use Rattle.input_output.proofs.Bytes.{has_read, is_grown, read_within, sizes}
+use Rattle.std.proofs.lemmas.Grind.{common_steps}
+use Rattle.input_output.proofs.Bytes.{has_read, is_grown, sizes}
 use Rattle.input_output.proofs.kept_bytes.KeptBytes.read_once.Goals as goal
 
 pub read_into-requires : goal.read_into-requires
@@ -18,25 +19,10 @@ pub invariant_of-self : goal.invariant_of-self
 invariant_of-self g c = (c.self.invariant.0, omega arith, omega arith, omega arith)
 
 pub invariant_of-self-2 : goal.invariant_of-self-2
-invariant_of-self-2 g c =
-    let chunk = c.read_into.new.chunk in (
-      c.self.invariant.0,
-      read_within c.self.inside chunk c.self.invariant c.read_into.ensures.length _ c.in_ok-count.ensures.read.count,
-      omega arith,
-      omega arith,
-    )
+invariant_of-self-2 g c = grind (arith, common_steps)
 
 pub overflow_add-self : goal.overflow_add-self
-overflow_add-self g c =
-    let chunk = c.read_into.new.chunk in
-    omega (
-      arith,
-      chunk.ok.0,
-      read_within c.self.inside chunk c.self.invariant c.read_into.ensures.length
-          c.in_ok-count.count c.in_ok-count.ensures.read.count,
-    )
+overflow_add-self g c = grind (arith, common_steps)
 
 pub returns-in_err-count-clause-grown : goal.returns-in_err-count-clause-grown
-returns-in_err-count-clause-grown g c =
-    is_grown c.self.inside c.read_into.new.chunk c.args.self.now c.self.invariant c.self.view_is
-    c.read_into.ensures.length c.read_into.ensures.front 0 c.self.inside.filled (omega arith) refl
+returns-in_err-count-clause-grown g c = grind (arith, common_steps)
