@@ -59,11 +59,4 @@ returns-clause-decided c =
     ) (ap Segment c.segment_of.ensures.segment)
 
 pub returns-clause-placed : goal.returns-clause-placed
-returns-clause-placed c =
-    let made = c.segment_of.ensures in (
-      ap (λ s. s.rec) made.segment,
-      ap (λ s. s.nanos) made.segment,
-      grind (arith, made.from),
-      made.payload,
-      grind (arith, common_steps, made.upto, c.datagram-datagram.ensures.len),
-    )
+returns-clause-placed c = grind (arith, common_steps)

@@ -1,5 +1,5 @@
-use Rattle.std.proofs.Common.{◌∙◌, ap, arith, drop}
-use Rattle.std.proofs.lemmas.List.{length-drop, length-take-le}
+use Rattle.std.proofs.Common.{◌∙◌, ap, arith}
+use Rattle.std.proofs.lemmas.Grind.{common_steps}
 use Rattle.packet_heads.{proofs.Headers.in_front, specs.Decision.decision_on, specs.Decision.packet_decision}
 use Rattle.packet_heads.proofs.decoding.decode.Goals as goal
 
@@ -10,10 +10,7 @@ returns-then-length-front-clause-decided c =
     (in_front _ _ _ _ c.args.capture.now c.from-front.ensures.front c.if-length-front.true)
 
 pub decision_on-requires-2-clause-captured : goal.decision_on-requires-2-clause-captured
-decision_on-requires-2-clause-captured c =
-    let rest = length-drop c.args.row.now.start c.args.capture.now in
-    rw (c.deref.ensures.value, c.in_ok-packet.ensures) (length-take-le _ (drop c.args.row.now.start c.args.capture.now)
-    (omega (arith, rest, c.requires.inside)) ∙ omega arith)
+decision_on-requires-2-clause-captured c = grind (arith, common_steps)
 
 pub returns-clause-decided : goal.returns-clause-decided
 unfolding packet_decision

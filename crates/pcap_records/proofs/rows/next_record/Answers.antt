@@ -1,4 +1,5 @@
 use Rattle.std.proofs.Common.{◌+◌, ◌-◌, ◌∙◌, drop, length-drop, ap, length, arith}
+use Rattle.std.proofs.lemmas.Grind.{common_steps}
 use Rattle.std.proofs.lemmas.List.{length-take-le}
 use Rattle.pcap_records.proofs.Fronts.{next_by_front}
 use Rattle.pcap_records.proofs.rows.next_record.Goals as goal
@@ -21,3 +22,6 @@ returns g c =
     c.args.at c.len-size.result _ c.deref.result.now bytes (omega (arith, ap length front, long))
     (omega (arith, left)) front c.record_behind-2.result c.record_behind-2.ensures.found
     c.record_behind-2.ensures.time c.record_behind-2.ensures.none)
+
+pub record_behind-requires-2-clause-header : goal.record_behind-requires-2-clause-header
+record_behind-requires-2-clause-header g c = grind (arith, common_steps)

@@ -1,5 +1,6 @@
-use Rattle.std.proofs.Common.{◌∙◌, ◌++◌, ◌∷◌, [], arith, ap, length}
-use Rattle.std.proofs.lemmas.{List.append_assoc, Result.on_ok_weaker}
+use Rattle.std.proofs.Common.{arith, ap, length}
+use Rattle.std.proofs.lemmas.Grind.{common_steps}
+use Rattle.std.proofs.lemmas.{List.append_assoc}
 use Rattle.packet_heads.proofs.Held.{held_length}
 use Rattle.packet_heads.proofs.growing.Growing.push.Goals as goal
 
@@ -24,6 +25,4 @@ begin_chunk-requires g c = record {
 }
 
 pub returns : goal.returns
-returns g c =
-    on_ok_weaker c.begin_chunk.result (λ is. is ∙ ap (λ l. l ++ c.args.item ∷ []) c.self.view_is)
-    c.begin_chunk.ensures.more
+returns g c = grind (arith, common_steps)
