@@ -1,5 +1,4 @@
-use Rattle.std.proofs.Common.{arith, rules, take}
-use Rattle.std.proofs.lemmas.Grind.{common_steps}
+use Rattle.std.proofs.Common.{rules, take}
 use Rattle.input_output.proofs.Kept.{passed_more}
 use Rattle.input_output.proofs.reading.pass_over.Goals as goal
 
@@ -8,9 +7,6 @@ loop-piece-preserved g c =
     let bytes = passed_more g.R.Read.remaining c.args.reader.now c.loop-piece.reader c.pass_once.new.self
     (take c.in_ok-pass_once.field-0 c.pass_once.new.piece) c.in_ok-pass_once.field-0 c.loop-piece.invariant.bytes
     c.in_ok-pass_once.ensures.count c.in_ok-pass_once.ensures.read in search (rules, bytes)
-
-pub returns-then-branch-eq0-clause-sound : goal.returns-then-branch-eq0-clause-sound
-returns-then-branch-eq0-clause-sound g c = grind (arith, common_steps)
 
 pub returns-then-branch-eq0-clause-bytes : goal.returns-then-branch-eq0-clause-bytes
 returns-then-branch-eq0-clause-bytes g c =

@@ -25,8 +25,7 @@ by_answers link number row packet start datagram start_is datagram_is =
     (drop (datagram_start link packet) packet) (segment_bytes (drop (datagram_start link packet) packet)) _)
 
 pub returns-in-Some-clause-decided : goal.returns-in-Some-clause-decided
-returns-in-Some-clause-decided c =
-    rw (by_parts (c.args.link == raw_ip) (is_partial c.args.row.now) c.args.packet.now, ← c.in-Some.ensures.answer)
+returns-in-Some-clause-decided c = grind (arith, common_steps)
 
 pub returns-in-Some-answer-clause-decided : goal.returns-in-Some-answer-clause-decided
 returns-in-Some-answer-clause-decided c =
@@ -57,6 +56,3 @@ returns-clause-decided c =
       ← c.in_default-answer.ensures.answer,
       ← (rw c.segment.ensures at c.in_default-answer-2.ensures.answer),
     ) (ap Segment c.segment_of.ensures.segment)
-
-pub returns-clause-placed : goal.returns-clause-placed
-returns-clause-placed c = grind (arith, common_steps)

@@ -40,8 +40,7 @@ pub returns-then-not-branch-clause-rest : goal.returns-then-not-branch-clause-re
 returns-then-not-branch-clause-rest g c = grind (arith, common_steps)
 
 pub returns-then-not-branch-clause-dealt : goal.returns-then-not-branch-clause-dealt
-returns-then-not-branch-clause-dealt g c =
-    let stays = c.in_ok-begin.ensures.few c.if-not-branch.true in rw (stays.0, stays.1) c.loop-at.invariant.dealt
+returns-then-not-branch-clause-dealt g c = grind (arith, common_steps)
 
 pub returns-then-not-branch-clause-few : goal.returns-then-not-branch-clause-few
 returns-then-not-branch-clause-few g c = grind (arith, common_steps)

@@ -1,6 +1,5 @@
 use Rattle.std.proofs.Common.{arith, ap, length}
 use Rattle.std.proofs.lemmas.Grind.{common_steps}
-use Rattle.std.proofs.lemmas.{List.append_assoc}
 use Rattle.packet_heads.proofs.Held.{held_length}
 use Rattle.packet_heads.proofs.growing.Growing.push.Goals as goal
 
@@ -14,8 +13,7 @@ invariant_of-self-then-len-lt-PACKET_CHUNK g c =
     )
 
 pub returns-then-len-lt-PACKET_CHUNK : goal.returns-then-len-lt-PACKET_CHUNK
-returns-then-len-lt-PACKET_CHUNK g c =
-    rw (c.push_reserved.ensures.items, c.in_ok-reserve.ensures.items, ← c.self.view_is, append_assoc)
+returns-then-len-lt-PACKET_CHUNK g c = grind (arith, common_steps)
 
 pub begin_chunk-requires : goal.begin_chunk-requires
 begin_chunk-requires g c = record {
@@ -23,6 +21,3 @@ begin_chunk-requires g c = record {
   last = omega (arith, c.self.invariant.1, c.len.ensures, c.if-len-lt-PACKET_CHUNK.false);
   room = omega (arith, held_length _ c.self.inside.last c.self.invariant.0, ap length c.self.view_is, c.requires);
 }
-
-pub returns : goal.returns
-returns g c = grind (arith, common_steps)

@@ -7,3 +7,6 @@ returns-in_ok-push-in-Segment-clause-sound c = grind (arith, common_steps)
 
 pub returns-in-Refused-clause-sound : goal.returns-in-Refused-clause-sound
 returns-in-Refused-clause-sound c = grind (arith, common_steps)
+
+pub returns-in-Skipped-clause-sound : goal.returns-in-Skipped-clause-sound
+returns-in-Skipped-clause-sound c = grind (arith, common_steps)
