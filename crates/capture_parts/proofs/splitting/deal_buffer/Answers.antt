@@ -27,3 +27,6 @@ overflow_sub-result g c = grind (arith, common_steps)
 
 pub copy_within-requires-clause-start_le_end : goal.copy_within-requires-clause-start_le_end
 copy_within-requires-clause-start_le_end g c = grind (arith, common_steps)
+
+pub slice_bounds-deal-end-2 : goal.slice_bounds-deal-end-2
+slice_bounds-deal-end-2 g c = grind (arith, common_steps)

@@ -22,3 +22,6 @@ returns-clause-begun g c = λ _.
 
 pub returns-then-unread-front-clause-left : goal.returns-then-unread-front-clause-left
 returns-then-unread-front-clause-left g c = grind (arith, common_steps)
+
+pub returns-then-unread-lt-RECORD_HEADER-clause-left : goal.returns-then-unread-lt-RECORD_HEADER-clause-left
+returns-then-unread-lt-RECORD_HEADER-clause-left g c = grind (arith, common_steps)
