@@ -28,7 +28,7 @@ pub const SYN: u8 = 0x02;
 
 const SYN_ACK: u8 = 0x12;
 
-pub const ACK: u8 = 0x10;
+const ACK: u8 = 0x10;
 
 /// The sides' initial sequence numbers.
 const CLIENT_INITIAL: u32 = 1000;
@@ -50,16 +50,16 @@ pub struct Capture {
 }
 
 impl Capture {
-    /// Records 1 and 2: the handshake, where the client has this initial sequence number.
-    pub fn opened(alloc: Global, client_initial: u32) -> Result<Capture, AllocError> {
+    /// Records 1 and 2: the handshake.
+    fn opened(alloc: Global) -> Result<Capture, AllocError> {
         let mut capture = Capture {
             alloc,
             bytes: Vec::from_slice(alloc, &FILE_HEADER)?,
             records: 0,
-            client_next: client_initial.wrapping_add(1),
-            server_next: SERVER_INITIAL.wrapping_add(1),
+            client_next: CLIENT_INITIAL + 1,
+            server_next: SERVER_INITIAL + 1,
         };
-        capture.record(Side::Client, client_initial, SYN, &[])?;
+        capture.record(Side::Client, CLIENT_INITIAL, SYN, &[])?;
         capture.record(Side::Server, SERVER_INITIAL, SYN_ACK, &[])?;
         Ok(capture)
     }
@@ -67,7 +67,7 @@ impl Capture {
     /// Records 1 to 7: the handshake and the client's preface; a SETTINGS of the client (frame 1) and of the server
     /// (frame 2); their acknowledgements by the client (frame 3) and the server (frame 4). Then these frames.
     pub fn of_frames(alloc: Global, frames: &[Frame]) -> Result<Capture, AllocError> {
-        let mut capture = Capture::opened(alloc, CLIENT_INITIAL)?;
+        let mut capture = Capture::opened(alloc)?;
         capture.send(Side::Client, &PREFACE)?;
         let opening = [
             initial_window(1, Side::Client, None),

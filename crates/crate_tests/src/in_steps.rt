@@ -1,5 +1,7 @@
 //! Runs over readers and writers that go in steps or fail: which calls they get, and what the accounts tell.
 
+ghost use Rattle.input_output.specs.Account.{IsUnread, IsUnwritten};
+
 use crate::Answer;
 use crate::captures::FILE_HEADER;
 use crate::fakes::{Failure, Pieces, Slow, TestGate};
@@ -53,10 +55,13 @@ fn is_read(alloc: Global, reader: &CaptureReader<Pieces>, whole: &[u8], at_most:
 
 /// Whether these few bytes, of one chunk, are what is kept.
 fn has_kept(alloc: Global, reader: &CaptureReader<Pieces>, bytes: &[u8]) -> bool {
-    match reader.capture(alloc) {
-        Ok(kept) if kept.len() == 0 => bytes.is_empty(),
-        Ok(kept) => kept.from(0) == bytes,
-        Err(_) => false,
+    let Ok(kept) = reader.capture(alloc) else {
+        return false;
+    };
+    if kept.len() == 0 {
+        bytes.is_empty()
+    } else {
+        kept.from(0) == bytes
     }
 }
 
@@ -67,6 +72,21 @@ fn is_written(writer: &ReportWriter<Slow>, text: &[u8], is_flushed: bool) -> boo
         && writer.is_flushed() == is_flushed
 }
 
+/// What a run answers.
+fn answer_of(
+    rt: &(impl Sync + Threads + RandomSource),
+    alloc: Global,
+    reader: &mut CaptureReader<Pieces>,
+    writer: &mut ReportWriter<Slow>,
+) -> Option<Result<Verdict, AuditFault>>
+    requires unread { IsUnread reader.old }
+    requires unwritten { IsUnwritten writer.old }
+{
+    let options = Options::of(4, 16, 4096, false)?;
+    let gate = TestGate::holding(0);
+    Some(run(rt, alloc, &options, reader, writer, &gate))
+}
+
 /// Whether a run comes to what is wanted.
 fn goes_so(
     rt: &(impl Sync + Threads + RandomSource),
@@ -75,20 +95,15 @@ fn goes_so(
     writer: Slow,
     (wanted, calls, written): Wanted,
 ) -> bool {
-    let Some(options) = Options::of(4, 16, 4096, false) else {
-        return false;
-    };
     let whole = reader.left;
     let mut reader = CaptureReader::new(alloc, reader);
     let mut writer = ReportWriter::new(alloc, writer);
-    let gate = TestGate::holding(0);
-    let answer = run(rt, alloc, &options, &mut reader, &mut writer, &gate);
     let at_most = if wanted == BAD_MAGIC { 24 } else { usize::MAX };
     let report = &REPORT.as_bytes()[..written.min(REPORT.len())];
-    answer == wanted
+    answer_of(rt, alloc, &mut reader, &mut writer) == Some(wanted)
         && calls_of(reader.reader(), writer.writer()) == Some(calls)
         && is_read(alloc, &reader, whole, at_most)
-        && is_written(&writer, report, answer.is_ok())
+        && is_written(&writer, report, wanted.is_ok())
 }
 
 /// 24 bytes in steps of 5 are five reads, and one more finds the end.

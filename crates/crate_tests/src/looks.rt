@@ -3,10 +3,12 @@
 ghost use Rattle.std.specs.Prelude.{◌≡◌, length, IfOk, IfSome};
 ghost use Rattle.std.specs.List.{range_with_len};
 ghost use Rattle.audit_terms.specs.code.runs.Orderly.{IsOrderly};
+ghost use Rattle.settings_pair.specs.code.Changes.{AreAcknowledged, AreOrderly};
+ghost use Rattle.stream_credit.specs.code.StreamPart.{IsStreamPart, frames_met};
 
 use crate::Answer;
 use crate::frames::{acknowledgement, are_orderly, data, headers, initial_window};
-use audit_terms::{ConnectionState, Finding, Frame, Kind, Look, Place, Side};
+use audit_terms::{Change, ConnectionState, Finding, Frame, Kind, Look, Place, Side};
 use conn_scan::{Block, block_findings};
 use settings_pair::pair;
 use std::alloc::{AllocError, Global};
@@ -43,6 +45,11 @@ impl TestLook {
     /// What it and a run come to, which looked so often, with these places and so many findings.
     fn with(&self, looks: u32, places: [Option<Place>; 2], found: usize) -> Looked {
         ([self.calls, looks], self.handed, places, found)
+    }
+
+    /// What it and the run of a stream come to.
+    fn with_run(&self, run: &StreamRun) -> Looked {
+        self.with(run.looks, [run.upto, run.last_look], run.findings.len())
     }
 
     /// What they are to come to where the run makes so many looks, and ends by the last if that answers the place.
@@ -105,9 +112,17 @@ fn in_order(frames: Result<Vec<Frame>, AllocError>, count: usize) -> Option<Vec<
     }
 }
 
+/// The frames on a stream.
+fn frames_on_stream(alloc: Global) -> Option<Vec<Frame>>
+    ensures orderly { IfSome result (λ frames. IsOrderly frames.items) }
+    ensures count { IfSome result (λ frames. length frames.items ≡ 1000) }
+{
+    in_order((1..=FRAMES).map(on_stream).collect(alloc), 1000)
+}
+
 /// What a run of the frames as one block comes to, with credits: one finding at each frame but the first.
 fn looked_over_block(alloc: Global, mut look: TestLook) -> Option<Looked> {
-    let frames = in_order((1..=FRAMES).map(on_stream).collect(alloc), 1000)?;
+    let frames = frames_on_stream(alloc)?;
     let block = Block {
         frames: frames.as_slice(),
         opened: &[],
@@ -143,9 +158,24 @@ fn numbers(alloc: Global, count: u32) -> Result<Vec<u32>, AllocError>
     Ok(numbers)
 }
 
-/// What the frames show as those of a stream, with credits.
+/// What a stream shows, with credits.
+fn run_of(
+    alloc: Global,
+    own: &StreamPart<'_>,
+    changes: &[Change],
+    look: &mut TestLook,
+) -> Option<StreamRun>
+    requires own { IsStreamPart own.now }
+    requires changes { AreOrderly changes.now }
+    requires acknowledged { AreAcknowledged (frames_met own.now) changes.now }
+{
+    let changes = Changes::of(alloc, changes).ok()?;
+    stream_run(alloc, own, &changes, true, look).ok()
+}
+
+/// What the frames show as those of a stream.
 fn run_of_frames(alloc: Global, look: &mut TestLook) -> Option<StreamRun> {
-    let frames = in_order((1..=FRAMES).map(on_stream).collect(alloc), 1000)?;
+    let frames = frames_on_stream(alloc)?;
     let Ok(positions) = numbers(alloc, FRAMES) else {
         return None;
     };
@@ -154,8 +184,7 @@ fn run_of_frames(alloc: Global, look: &mut TestLook) -> Option<StreamRun> {
         frames: frames.as_slice(),
         positions: positions.as_slice(),
     };
-    let changes = Changes::of(alloc, &[]).ok()?;
-    stream_run(alloc, &own, &changes, true, look).ok()
+    run_of(alloc, &own, &[], look)
 }
 
 /// The credits of both sides as the stream opens, and then that of the client at each frame.
@@ -175,7 +204,7 @@ fn has_looked(alloc: Global, mut look: TestLook, want: Looked, credits: &[Findin
     let Some(run) = run_of_frames(alloc, &mut look) else {
         return false;
     };
-    look.with(run.looks, [run.upto, run.last_look], run.findings.len()) == want
+    look.with_run(&run) == want
         && run.opened_at == (want.3 > 0).then_some(1)
         && credits.get(..want.3) == Some(run.findings.as_slice())
 }
@@ -197,21 +226,25 @@ pub fn looks_of_a_stream(alloc: Global) -> Answer {
     Ok(true)
 }
 
-/// What a look comes to, and the run of a stream without frames, where settings change a thousand times.
-fn looked_among_changes(alloc: Global, mut look: TestLook) -> Option<Looked> {
+/// The changes of settings, a thousand.
+fn thousand_changes(alloc: Global) -> Option<Vec<Change>>
+    ensures { IfSome result (λ changes. AreOrderly changes.items) }
+{
     let frames = in_order((1..=2 * FRAMES).map(of_settings).collect(alloc), 2000)?;
     let changes = pair(alloc, frames.as_slice()).ok()?.changes;
-    if changes.len() != 1000 {
-        return None;
-    }
+    (changes.len() == 1000).then_some(changes)
+}
+
+/// What a look comes to, and the run of a stream without frames, where settings change a thousand times.
+fn looked_among_changes(alloc: Global, mut look: TestLook) -> Option<Looked> {
+    let changes = thousand_changes(alloc)?;
     let own = StreamPart {
         stream: 1,
         frames: &[],
         positions: &[],
     };
-    let changes = Changes::of(alloc, changes.as_slice()).ok()?;
-    let run = stream_run(alloc, &own, &changes, true, &mut look).ok()?;
-    Some(look.with(run.looks, [run.upto, run.last_look], run.findings.len()))
+    let run = run_of(alloc, &own, changes.as_slice(), &mut look)?;
+    Some(look.with_run(&run))
 }
 
 /// A change is no step of a stream that has no window: so the run looks once, and nothing lies past the stop.

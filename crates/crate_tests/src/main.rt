@@ -3,14 +3,14 @@
 //!
 //! - What the calls answer is proved in their own crates, and worked out by proof in their `worked_examples`; no test
 //!   repeats an equation.
-//! - From bytes to flows: `assemble` beside a slow program over random segments, and what comes before it; random keys.
 //! - From frames to findings: that a look answers what another pass of the desk lowered; that a later job sees the stop
 //!   which an earlier one lowered; and that `findings_of_each` and `one_pass` have an answer, where there is memory,
 //!   and the same one, of random frames. How often runs over 1,000 frames look, and what they are handed and keep,
 //!   stands in their contracts; here it stands in numbers that a reader can check.
 //! - The text, and runs: the words of refused packets, and how faults print; readers and writers that go in steps or
-//!   fail; that two workers are in one round of an audit at once, and how many jobs each round has. What the program
-//!   answers to words and to whole captures is asked of the program, in `tests/` at the root.
+//!   fail; random keys; that two workers are in one round of an audit at once, and how many jobs each round has. What
+//!   the program answers to words and to whole captures is asked of the program, in `tests/` at the root, and of random
+//!   captures in `tools/tests/`.
 //! - It is one program, since a program takes all that stands below it anew. [`fakes`], [`frames`] and [`captures`] are
 //!   what the tests share.
 #![tactic(auto)]
@@ -18,7 +18,6 @@
 mod captures;
 mod desks;
 mod fakes;
-mod flows;
 mod frames;
 mod gates;
 mod in_steps;
@@ -30,39 +29,67 @@ mod texts;
 
 use desks::two_passes_of_a_desk;
 use gates::jobs_up_to_the_stop;
-use in_steps::interrupted_reader;
 use rounds::later_job_sees_stop;
-use std::alloc::AllocError;
+use std::alloc::{AllocError, Global};
 use std::io;
+use std::random::RandomSource;
+use std::thread::Threads;
 
 /// Whether what a test compares is the same; there may be no memory to tell.
 pub type Answer = Result<bool, AllocError>;
 
-fn main(rt: HostRuntime) -> io::Result<()> {
-    let alloc = rt.alloc();
-    let answers = [
-        ("random_segments", flows::random_segments(alloc)),
-        ("drawn_keys", keys::drawn_keys(&rt)),
+/// The names of some tests, and what they answer.
+type Answers = [(&'static str, Answer); 6];
+
+/// Keys, texts and looks.
+fn of_parts(rt: &impl RandomSource, alloc: Global) -> Answers {
+    [
+        ("drawn_keys", keys::drawn_keys(rt)),
         ("each_kind_of_packet", texts::each_kind_of_packet(alloc)),
         ("printed_faults", texts::printed_faults(alloc)),
-        ("slow_steps", in_steps::slow_steps(&rt, alloc)),
-        ("interrupted_reader", interrupted_reader(&rt, alloc)),
-        ("failing_writer", in_steps::failing_writer(&rt, alloc)),
-        ("failing_flush", in_steps::failing_flush(&rt, alloc)),
-        ("refused_capture", in_steps::refused_capture(&rt, alloc)),
-        ("refused_header", in_steps::refused_header(&rt, alloc)),
-        ("jobs_of_blocks", gates::jobs_of_blocks(&rt, alloc)),
-        ("jobs_up_to_the_stop", jobs_up_to_the_stop(&rt, alloc)),
-        ("two_at_once", gates::two_at_once(&rt, alloc)),
-        ("two_passes_of_a_desk", two_passes_of_a_desk(&rt, alloc)),
-        ("later_job_sees_stop", later_job_sees_stop(&rt, alloc)),
         ("looks_of_a_block", looks::looks_of_a_block(alloc)),
         ("looks_of_a_stream", looks::looks_of_a_stream(alloc)),
         ("looks_at_no_change", looks::looks_at_no_change(alloc)),
-        ("random_frames", random_frames::random_frames(&rt, alloc)),
-    ];
-    for (name, answer) in answers {
-        println!(rt; "{name} {answer:?}")?;
+    ]
+}
+
+/// Runs over readers and writers.
+fn of_runs(rt: &(impl Sync + Threads + RandomSource), alloc: Global) -> Answers {
+    [
+        ("slow_steps", in_steps::slow_steps(rt, alloc)),
+        (
+            "interrupted_reader",
+            in_steps::interrupted_reader(rt, alloc),
+        ),
+        ("failing_writer", in_steps::failing_writer(rt, alloc)),
+        ("failing_flush", in_steps::failing_flush(rt, alloc)),
+        ("refused_capture", in_steps::refused_capture(rt, alloc)),
+        ("refused_header", in_steps::refused_header(rt, alloc)),
+    ]
+}
+
+/// Rounds, and their threads.
+fn of_rounds(rt: &(impl Sync + Threads + RandomSource), alloc: Global) -> Answers {
+    [
+        ("jobs_of_blocks", gates::jobs_of_blocks(rt, alloc)),
+        ("jobs_up_to_the_stop", jobs_up_to_the_stop(rt, alloc)),
+        ("two_at_once", gates::two_at_once(rt, alloc)),
+        ("two_passes_of_a_desk", two_passes_of_a_desk(rt, alloc)),
+        ("later_job_sees_stop", later_job_sees_stop(rt, alloc)),
+        ("random_frames", random_frames::random_frames(rt, alloc)),
+    ]
+}
+
+fn main(rt: HostRuntime) -> io::Result<()> {
+    let alloc = rt.alloc();
+    for answers in [
+        of_parts(&rt, alloc),
+        of_runs(&rt, alloc),
+        of_rounds(&rt, alloc),
+    ] {
+        for (name, answer) in answers {
+            println!(rt; "{name} {answer:?}")?;
+        }
     }
     Ok(())
 }

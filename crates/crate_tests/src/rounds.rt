@@ -8,7 +8,7 @@ use crate::fakes::TestGate;
 use audit_terms::{Finding, Kind, Look, Place, Side};
 use std::alloc::{AllocError, Global};
 use std::thread::Threads;
-use stop_desk::{AuditRound, Round, Team, Work, settle};
+use stop_desk::{AuditRound, Round, Settled, Team, Work, settle};
 
 /// Two jobs of one connection, which both find this error, whatever their look answers.
 #[derive(Drop)]
@@ -42,18 +42,19 @@ impl Round for TwoJobs {
         look: &mut L,
     ) -> Result<Work<Option<Place>>, AllocError> {
         let made = look.look(&[]);
-        let mut findings = Vec::new(alloc);
-        findings.push(self.error)?;
         Ok(Work {
-            findings,
+            findings: Vec::from_slice(alloc, &[self.error])?,
             upto: None,
             made,
         })
     }
 }
 
-/// One worker does both in turn: the first job finds an error at frame 5, and the second sees it.
-pub fn later_job_sees_stop(rt: &(impl Sync + Threads), alloc: Global) -> Answer {
+/// What one worker makes of both, which find an error at frame 5.
+fn settled(
+    rt: &(impl Sync + Threads),
+    alloc: Global,
+) -> Result<Settled<Option<Place>>, AllocError> {
     let round = TwoJobs {
         error: Finding::at(Kind::NotOpened, 5, 9, Side::Server, 3),
     };
@@ -63,7 +64,12 @@ pub fn later_job_sees_stop(rt: &(impl Sync + Threads), alloc: Global) -> Answer 
         workers: 1,
         gate: &TestGate::holding(0),
     };
-    let settled = settle(&team, AuditRound::Streams, &[None], &round)?;
+    settle(&team, AuditRound::Streams, &[None], &round)
+}
+
+/// The jobs are done in turn: the first one finds the error, and the second one sees it.
+pub fn later_job_sees_stop(rt: &(impl Sync + Threads), alloc: Global) -> Answer {
+    let settled = settled(rt, alloc)?;
     let stop = Some(Place::of(5, Kind::NotOpened.rank(), 9));
     let [first, second] = settled.parts.as_slice() else {
         return Ok(false);

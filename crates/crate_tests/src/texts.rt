@@ -50,8 +50,8 @@ unopened 10.0.0.2:80 10.0.0.1:40000 segments 2
 ";
 
 /// One packet of each kind, in record order.
-fn packets() -> [Packet; 13] {
-    [
+fn packets(alloc: Global) -> Result<MadePackets, AllocError> {
+    let packets = [
         Packet::Refused(Refusal::ShortEthernet),
         Packet::Skipped(Skip::NotIpv4),
         Packet::Refused(Refusal::ShortIpv4),
@@ -65,25 +65,36 @@ fn packets() -> [Packet; 13] {
         segment(11, true),
         Packet::Refused(Refusal::BadDataOffset),
         segment(13, false),
-    ]
+    ];
+    MadePackets::of(alloc, &packets)
 }
 
-/// The lines of a capture of these packets, and of a pair of endpoints that it did not see open.
-fn lines(alloc: Global, packets: &[Packet; 13]) -> Result<String, AllocError> {
-    let made = MadePackets::of(alloc, packets)?;
-    let packets = Packets::of(alloc, &made)?;
-    let mut strays = Vec::new(alloc);
-    strays.push(Stray {
+/// A pair of endpoints that the capture did not see open.
+fn strays(alloc: Global) -> Result<Vec<Stray>, AllocError> {
+    let stray = Stray {
         from: SERVER,
         to: CLIENT,
         segments: 2,
-    })?;
+    };
+    Vec::from_slice(alloc, &[stray])
+}
+
+/// The lines of a capture of these packets, and of the strays.
+fn lines(alloc: Global, made: &MadePackets) -> Result<String, AllocError> {
+    let strays = strays(alloc)?;
+    let packets = Packets::of(alloc, made)?;
     capture_lines(alloc, Some(14), &packets, strays)
+}
+
+/// The lines of these packets.
+fn capture_text(alloc: Global) -> Result<String, AllocError> {
+    let made = packets(alloc)?;
+    lines(alloc, &made)
 }
 
 /// Which packets are counted where, and which have a line of their own.
 pub fn each_kind_of_packet(alloc: Global) -> Answer {
-    let text = lines(alloc, &packets())?;
+    let text = capture_text(alloc)?;
     Ok(text.as_str() == CAPTURE_LINES)
 }
 
