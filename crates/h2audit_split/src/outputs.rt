@@ -7,10 +7,11 @@ use crate::inputs::Header;
 use capture_parts::{FullPart, Part};
 use packet_heads::Endpoint;
 use std::alloc::{AllocError, Global};
+use std::fs;
 use std::fs::File;
 use std::io::{BufWriter, Write};
+use std::net::{Ipv4Addr, SocketAddrV4};
 use std::rt::Files;
-use std::{fmt, fs};
 
 /// The bytes that are gathered for one write.
 const PACKETS_BUFFER: usize = 32_768;
@@ -121,8 +122,7 @@ fn finish_with<R: Files + AllocGlobal + Eprint>(
     summary: &mut String,
 ) -> Result<Ending, Failure> {
     let are_refused = finish_each(rt, folder, parts, summary)?;
-    write_summary(rt, folder, summary.as_str())?;
-    Ok(ending(are_refused))
+    write_summary(rt, folder, summary.as_str(), ending(are_refused))
 }
 
 fn ending(are_refused: bool) -> Ending {
@@ -195,14 +195,16 @@ fn tell_refused(
     Ok(())
 }
 
+/// Writes the summary, and gives the ending that it tells of.
 fn write_summary<R: Files + AllocGlobal>(
     rt: &R,
     folder: &str,
     summary: &str,
-) -> Result<(), Failure> {
+    ending: Ending,
+) -> Result<Ending, Failure> {
     let path = format!(in rt.alloc(); "{folder}/split.txt")?;
     match fs::write(rt, path.as_str(), summary) {
-        Ok(()) => Ok(()),
+        Ok(()) => Ok(ending),
         Err(_) => Err(Failure::Io("write failed")),
     }
 }
@@ -229,22 +231,15 @@ fn remove_file<R: Files + AllocGlobal>(
 fn full_reason(alloc: Global, full: FullPart) -> Result<String, AllocError> {
     match full.pair {
         Some(pair) => {
-            let from = Shown(pair.from);
-            let to = Shown(pair.to);
+            let from = shown(pair.from);
+            let to = shown(pair.to);
             format!(in alloc; "connection-too-large {from} {to}")
         }
         None => String::from_str(alloc, "too-large"),
     }
 }
 
-/// An endpoint as a report writes it.
-#[derive(Clone, Copy)]
-struct Shown(Endpoint);
-
-impl fmt::Display for Shown {
-    fn fmt<W: fmt::Write>(&self, f: &mut fmt::Formatter<W>) -> fmt::Result {
-        let [a, b, c, d] = self.0.address.to_be_bytes();
-        let port = self.0.port;
-        write!(f, "{a}.{b}.{c}.{d}:{port}")
-    }
+/// An endpoint, which is written as a report writes it.
+fn shown(endpoint: Endpoint) -> SocketAddrV4 {
+    SocketAddrV4::new(Ipv4Addr::from_bits(endpoint.address), endpoint.port)
 }
