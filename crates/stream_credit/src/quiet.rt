@@ -28,8 +28,7 @@ pub(crate) fn move_of(stream: u32, life: &StreamLife, frame: &Frame) -> Option<M
         return None;
     }
     match frame.body {
-        Body::Content => sent(life, frame),
-        Body::Headers => sent(life, frame),
+        Body::Content | Body::Headers => sent(life, frame),
         Body::WindowUpdate(increment) => granted(stream, frame, increment.get()),
         _ => None,
     }

@@ -1,5 +1,5 @@
-use Rattle.stream_credit.proofs.Words.{◌≡◌, ℕ, ◌+◌, ◌<◌, ◌++◌, List, [], ◌∷◌, Some, length, drop, drop_more, ap, ◌∙◌}
-use Rattle.stream_credit.proofs.Words.{append_assoc, slice_index_or, Sides, Change, initial_after, after_each}
+use Rattle.stream_credit.proofs.Words.{◌≡◌, ℕ, ◌+◌, ◌<◌, ◌++◌, List, [], ◌∷◌, Some, length, drop, drop_more, ap, sym, ◌∙◌}
+use Rattle.stream_credit.proofs.Words.{append_assoc, append-nil, drop_all, slice_index_or, Sides, Change, initial_after, after_each}
 use Rattle.stream_credit.proofs.changes.Changes.of.Goals as goal
 
 -- the windows after one change more
@@ -15,3 +15,8 @@ loop-change-preserved c =
     rw c.in_ok-push.ensures.items (more c.loop-change.in_force.items c.loop-change.now c.windows_after-now.result
     c.args.all.now c.loop-change.change-index _ c.loop-change-test.true c.windows_after-now.ensures
     ∙ c.loop-change.invariant)
+
+pub invariant_of-result : goal.invariant_of-result
+invariant_of-result c =
+    sym (append-nil c.loop-change.in_force.items)
+    ∙ rw (drop_all c.loop-change.change-index c.args.all.now c.loop-change-test.false) at c.loop-change.invariant
