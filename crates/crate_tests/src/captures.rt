@@ -88,12 +88,8 @@ impl Capture {
         flags: u8,
         payload: &[u8],
     ) -> Result<(), AllocError> {
-        self.records = self.records.saturating_add(1);
         let total = payload.len().saturating_add(HEADERS);
-        let length = u32::try_from(total.saturating_add(14)).unwrap_or(u32::MAX);
-        for number in [0, self.records, length, length] {
-            self.bytes.extend_from_slice(&number.to_le_bytes())?;
-        }
+        self.begin_record(total)?;
         let ends = match side {
             Side::Client => &FROM_CLIENT,
             Side::Server => &FROM_SERVER,
@@ -109,6 +105,16 @@ impl Capture {
         ];
         for part in parts {
             self.bytes.extend_from_slice(part)?;
+        }
+        Ok(())
+    }
+
+    /// The header of the next record, of a packet of this length behind its Ethernet header.
+    fn begin_record(&mut self, total: usize) -> Result<(), AllocError> {
+        self.records = self.records.saturating_add(1);
+        let length = u32::try_from(total.saturating_add(14)).unwrap_or(u32::MAX);
+        for number in [0, self.records, length, length] {
+            self.bytes.extend_from_slice(&number.to_le_bytes())?;
         }
         Ok(())
     }
