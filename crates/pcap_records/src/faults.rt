@@ -1,27 +1,24 @@
-use std::error::Error;
-use std::fmt::{self, Display, Formatter, Write};
+use thiserror::Error;
 
 /// Why a capture is refused. Faults are tested in the order of their numbers.
-#[derive(Clone, Copy, Debug, PartialEq, Eq)]
+#[derive(Clone, Copy, Debug, PartialEq, Eq, Error)]
 pub enum PcapFault {
     /// Fewer than the 24 bytes of a file header.
-    ShortHeader = 1,
+    #[error("fault 1")]
+    ShortHeader,
     /// None of the four magic numbers of a classic capture.
-    BadMagic = 2,
+    #[error("fault 2")]
+    BadMagic,
     /// A version other than 2.4.
-    BadVersion = 3,
+    #[error("fault 3")]
+    BadVersion,
     /// A link type other than Ethernet and raw IP.
-    LinkType = 4,
+    #[error("fault 4")]
+    LinkType,
     /// More than 2^31 - 1 bytes.
-    TooLarge = 5,
+    #[error("fault 5")]
+    TooLarge,
     /// No memory for the table of records, or for a record's header in which chunks of the capture meet.
-    OutOfMemory = 6,
+    #[error("fault 6")]
+    OutOfMemory,
 }
-
-impl Display for PcapFault {
-    fn fmt<W: Write>(&self, f: &mut Formatter<W>) -> fmt::Result {
-        write!(f, "fault {}", *self as u8)
-    }
-}
-
-impl Error for PcapFault {}

@@ -25,8 +25,8 @@
 //! - Refused by the prover: the last retransmission wins, a SYN of any number repeats an opening, a packet is left out
 //!   where a walk goes on.
 //! - [`worked_examples`] go from packets to a flow, and compute openings, strays and offsets that wrap.
-//! - Tested, in `crate_tests`: random segments beside a slow program that goes offset by offset, and that keys are
-//!   drawn; by whole reports: interleaved connections.
+//! - Tested, in `crate_tests`: that keys are drawn; by whole reports: interleaved connections; by those of random
+//!   captures, beside the definitions, run: segments that overlap, come late or not at all.
 #![tactic(auto)]
 
 mod assembly;
