@@ -11,8 +11,8 @@
 //!   acknowledgement brings into force.
 //! - [`Stream`], [`StreamLife`] and [`ConnectionState`] are a stream and a connection between two frames. What a frame
 //!   shows of them, and makes of them, is said by the calls of `fault_rules`; a life goes on by itself.
-//! - [`Count`] is what a step does to the credit of a window, with the tests of it: stalls, an overrun, an overflow, and
-//!   what is left of a window that a grant overflows.
+//! - [`Count`] is what a step does to the credit of a window, with the tests of it: stalls, an overrun, an overflow;
+//!   and what a grant leaves that overflows the window.
 //! - [`PackedSettings`], [`Word`] and [`Length`] need no alignment, so that a frame takes 40 bytes; contracts see the
 //!   settings and the numbers that they hold.
 //! - [`Place`], [`Kind`] and [`Finding`] say where a finding stands, what it says and whether it stops the audit;
@@ -24,7 +24,8 @@
 //! - Each contract gives exactly what its definition says. The order of findings goes on from the place to side, kind
 //!   and value, so it is total, and putting in order asks for no condition.
 //! - Refused by the prover: a cut by the frame, an order with the server first, an overflowing grant that is added,
-//!   padding that does not count, a place with four bits for the rank. That calls succeed where there is memory is tested by those above them.
+//!   padding that does not count, a place with four bits for the rank. That calls succeed where there is memory is
+//!   tested by those above them.
 #![tactic(auto)]
 
 mod connections;

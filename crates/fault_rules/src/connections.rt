@@ -22,7 +22,8 @@ ghost use Rattle.audit_terms.specs.code.runs.Orderly.{IsInRange};
 use crate::frame_faults::say_fault;
 use crate::spots::{Spot, say_at, say_each, spot_of};
 use audit_terms::{
-    ConnectionState, Count, Finding, Frame, Item, Kind, Side, Sides, limit_after, new_limit, new_push,
+    ConnectionState, Count, Finding, Frame, Item, Kind, Side, Sides, limit_after, new_limit,
+    new_push,
 };
 use std::alloc::AllocError;
 
