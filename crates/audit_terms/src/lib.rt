@@ -12,7 +12,7 @@
 //! - [`Stream`], [`StreamLife`] and [`ConnectionState`] are a stream and a connection between two frames. What a frame
 //!   shows of them, and makes of them, is said by the calls of `fault_rules`; a life goes on by itself.
 //! - [`Count`] is what a step does to the credit of a window, with the tests of it: stalls, an overrun, an overflow;
-//!   and what a grant leaves that overflows the window.
+//!   and what is left of a window that a grant overflows.
 //! - [`PackedSettings`], [`Word`] and [`Length`] need no alignment, so that a frame takes 40 bytes; contracts see the
 //!   settings and the numbers that they hold.
 //! - [`Place`], [`Kind`] and [`Finding`] say where a finding stands, what it says and whether it stops the audit;
