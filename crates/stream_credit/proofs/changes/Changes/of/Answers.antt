@@ -1,5 +1,5 @@
-use Rattle.stream_credit.proofs.Words.{◌≡◌, ℕ, ◌+◌, ◌<◌, ◌++◌, List, [], ◌∷◌, Some, length, drop, drop_more, ap, sym}
-use Rattle.stream_credit.proofs.Words.{◌∙◌, append_assoc, append-nil, drop_all, slice_index_or, Sides, Change}
+use Rattle.stream_credit.proofs.Words.{◌≡◌, ℕ, ◌+◌, ◌<◌, ◌++◌, List, [], ◌∷◌, Some, length, drop, ap, sym, ◌∙◌}
+use Rattle.stream_credit.proofs.Words.{append_assoc, append-nil, drop_all, drop_more, slice_index_or, Sides, Change}
 use Rattle.stream_credit.proofs.Words.{initial_after, after_each}
 use Rattle.stream_credit.proofs.changes.Changes.of.Goals as goal
 
