@@ -1,5 +1,5 @@
 use Rattle.std.proofs.Common.{◌≡◌, ℕ, List, Option, Some, None, IfSome, Result, String, ap, inr, refl, rules}
-use Rattle.std.proofs.Common.{string_bytes}
+use Rattle.std.specs.Prelude.{string_bytes}
 use Rattle.std.proofs.KnownBytes.{Appends-nil}
 use Rattle.std.specs.Fn.{CalledAt}
 use Rattle.std.specs.Global.{Global}

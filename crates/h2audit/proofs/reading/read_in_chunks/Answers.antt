@@ -18,8 +18,9 @@ returns-then-has_ended-clause-read g c =
           (gave_kept now none) (rw c.requires.kept at read.bytes) read.sound (λ unended. search rules) read.end;
       ok = search rules;
       answers = whole_answers now none;
-      brief = search rules;
-      header = search rules;
+      brief = λ _. c.keep_up_to.ensures.room;
+      header = c.header_by.ensures (kept now) (rw c.together.ensures at c.begin-begun.ensures.ok)
+          (rw c.together.ensures at c.begin-begun.ensures.err);
     }
 
 pub returns-in-Ok-clause-read : goal.returns-in-Ok-clause-read
@@ -58,7 +59,7 @@ returns-in-Err-clause-read g c = IfOk-weaker c.behind_read-in-Err.result _ _ (λ
     let read = rw is.0 at c.pass_over.ensures in
     let (passed, size, given) = read.bytes in
     let start = rw c.requires.kept at c.in_ok-keep_up_to.ensures.bytes in
-    let same : kept now ≡ kept header = search rules in
+    let same : kept now ≡ kept header = rw c.pass_over.ensures.kept refl in
     let filled : length (kept header) ≡ 24 = search rules in
     let refused = ap refusal (same ∙ sym c.together.ensures) ∙ c.in-Err.ensures.err in
     rw is.1 (record {
@@ -68,6 +69,6 @@ returns-in-Err-clause-read g c = IfOk-weaker c.behind_read-in-Err.result _ _ (λ
           (Consumes-trans _ _ _ (kept header) passed start given) read.sound read.whole read.end;
       ok = read_to_end now read.sound read.whole;
       answers = header_answers now c.in-Err.refusal (ap length same ∙ filled) refused;
-      brief = search rules;
+      brief = λ _. rw c.pass_over.ensures.kept c.keep_up_to.ensures.room;
       header = search rules;
     })) c.behind_read-in-Err.ensures.ok
