@@ -1,4 +1,5 @@
-use Rattle.std.proofs.Common.{◌∙◌}
+use Rattle.std.proofs.Common.{◌∙◌, arith}
+use Rattle.std.proofs.lemmas.Grind.{common_steps}
 use Rattle.h2_frames.proofs.SettingsRead.{with_later-turn}
 use Rattle.h2_frames.proofs.settings.settings_of.Goals as goal
 
@@ -7,3 +8,6 @@ loop-pair-preserved c =
     let parts = c.in-Some.ensures.cases in
     with_later-turn c.loop-pair.settings _ _ c.loop-pair.rest.now _ _ parts.0 parts.1 parts.2 c.read.ensures
     c.with_setting-settings.ensures ∙ c.loop-pair.invariant
+
+pub loop-pair-init : goal.loop-pair-init
+loop-pair-init c = grind (arith, common_steps)

@@ -11,3 +11,6 @@ push_part-requires-then-index-later c = Spans-interval _ _ c.args.later.now c.lo
 
 pub returns-in_ok-push_part-2-clause-added : goal.returns-in_ok-push_part-2-clause-added
 returns-in_ok-push_part-2-clause-added c = grind (arith, common_steps, clipped-last)
+
+pub loop-index-preserved : goal.loop-index-preserved
+loop-index-preserved c = grind (arith, common_steps)

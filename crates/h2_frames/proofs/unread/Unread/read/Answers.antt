@@ -1,5 +1,6 @@
-use Rattle.std.proofs.Common.{refl}
-use Rattle.h2_frames.proofs.{Words.IsOneTaken, Words.bytes_left, Reading.read-on, Reading.read-over}
+use Rattle.std.proofs.Common.{arith, refl}
+use Rattle.std.proofs.lemmas.Grind.{common_steps}
+use Rattle.h2_frames.proofs.{Words.IsOneTaken, Words.bytes_left, Reading.frame_arrives, Reading.read-on}
 use Rattle.h2_frames.proofs.unread.Unread.read.Goals as goal
 
 pub returns : goal.returns
@@ -10,7 +11,7 @@ returns c =
     c.arrivals_of_frame-to_come.ensures _ c.captured.result c.captured.ensures refl refl
 
 pub returns-in_default : goal.returns-in_default
-returns-in_default c =
-    let old = c.args.self.now in
-    read-over old (record old { bytes = c.take_frame.new.self; gathered = c.take_frame.new.gathered }) c.args.number
-    c.requires.ready c.requires.number (rw c.in_default.is at c.in_ok-spelled.ensures)
+returns-in_default c = grind (arith, common_steps)
+
+pub bounds-to_come-0 : goal.bounds-to_come-0
+bounds-to_come-0 c = grind (arith, frame_arrives)
