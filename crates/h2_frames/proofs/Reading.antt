@@ -1,8 +1,8 @@
 -- One frame is read of what is ahead.
-use Rattle.std.proofs.Common.{◌≡◌, ℕ, ◌+◌, ◌-◌, ◌*◌, ◌≤◌, ◌<◌, List, [], ◌∷◌, length, get_or, refl, ap, arith}
+use Rattle.std.proofs.Common.{◌≡◌, ℕ, ◌+◌, ◌-◌, ◌*◌, ◌≤◌, ◌<◌, List, ◌∷◌, length, get_or, refl, ap, arith}
 use Rattle.std.proofs.Common.{◌∙◌, length-append}
-use Rattle.h2_frames.proofs.Words.{Arrival, Frame, Over, Read, Spelled, ToRead, Unread, byte_arrival, captured}
-use Rattle.h2_frames.proofs.Words.{captured_from, arrivals_from, AreAhead, HoldsNoFrame, IsCounted, IsOneTaken}
+use Rattle.h2_frames.proofs.Words.{Arrival, Frame, Read, Spelled, ToRead, Unread, byte_arrival, captured}
+use Rattle.h2_frames.proofs.Words.{captured_from, arrivals_from, AreAhead, IsOneTaken}
 use Rattle.h2_frames.proofs.Arriving.{captured_from-from, get_or-arrivals_from, arrivals_from-not_empty}
 use Rattle.h2_frames.proofs.Words.{IsPlaced, IsReadable, IsReadOn, IsReady, Pieces}
 use Rattle.h2_frames.{specs.code.Pieces.bytes_of, proofs.Promised.promised-fits}
@@ -95,30 +95,4 @@ read-on old new number s ready number_is one offset_is to_come_is d frame frame_
           rw number_is (ahead_before old new number s one offset_is to_come_is frame (rw first at frame_is) side_is
           frames later tail frames_are ahead);
       weight = rw (next_is, number_is) (omega arith);
-    }
-
--- there is none
-pub read-over : (old : Unread) (new : Unread) (number : ℕ) → IsReady old → old.next ≡ ToRead number
-    → (bytes_of new.bytes ≡ bytes_of old.bytes) × HoldsNoFrame (bytes_of old.bytes) × IsCounted new.bytes
-    → IsReadOn old (record old { next = Over; bytes = new.bytes; gathered = new.gathered })
-read-over old new number ready number_is (same, none, counted) =
-    let placed = ready.placed in
-    record {
-      ahead = record {
-        ready = record {
-          placed = record {
-            counted = counted;
-            low = placed.low;
-            rec = placed.rec;
-            before = placed.before;
-            rises = rw same placed.rises;
-            timely = placed.timely;
-            short = rw same placed.short;
-          };
-          next = rw same none;
-        };
-        known = tt;
-      };
-      left = λ frames tail left. rw number_is ([], rw same at left.1, left.0);
-      weight = rw (number_is, same) (omega arith);
     }
