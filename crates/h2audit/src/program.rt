@@ -114,7 +114,7 @@ fn texts<'a>(alloc: Global, words: &'a [String]) -> Result<Vec<&'a str>, AllocEr
     words.iter().map(|word| word.as_str()).collect(alloc)
 }
 
-/// What the audit of FILE answers, if this is its path, or that of standard input. Only one of them is read.
+/// Audits FILE, where its path is given, and else standard input, and gives the answer. The other is not read.
 fn audit_input<O: FnMut(&str) -> io::Result<F>, S, I: Read, F: Read + Drop, W: Write>(
     rt: &(impl AllocGlobal + Threads + Sync + RandomSource),
     options: &Options,

@@ -78,10 +78,8 @@ fn behind_read(read: Result<(), ReadFault>, header: FileHeader) -> Result<FileHe
     ensures ok { IfOk result (λ given. (read ≡ Ok tt) × (given ≡ header)) }
     ensures err { IfErr result (λ e. read ≡ Err e) }
 {
-    match read {
-        Ok(()) => Ok(header),
-        Err(fault) => Err(fault),
-    }
+    read?;
+    Ok(header)
 }
 
 /// The walk or the refusal that the beginning of a capture gives.

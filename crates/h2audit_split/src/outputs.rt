@@ -122,7 +122,8 @@ fn finish_with<R: Files + AllocGlobal + Eprint>(
     summary: &mut String,
 ) -> Result<Ending, Failure> {
     let are_refused = finish_each(rt, folder, parts, summary)?;
-    write_summary(rt, folder, summary.as_str(), ending(are_refused))
+    write_summary(rt, folder, summary.as_str())?;
+    Ok(ending(are_refused))
 }
 
 fn ending(are_refused: bool) -> Ending {
@@ -195,16 +196,14 @@ fn tell_refused(
     Ok(())
 }
 
-/// Writes the summary, and gives the ending that it tells of.
 fn write_summary<R: Files + AllocGlobal>(
     rt: &R,
     folder: &str,
     summary: &str,
-    ending: Ending,
-) -> Result<Ending, Failure> {
+) -> Result<(), Failure> {
     let path = format!(in rt.alloc(); "{folder}/split.txt")?;
     match fs::write(rt, path.as_str(), summary) {
-        Ok(()) => Ok(ending),
+        Ok(()) => Ok(()),
         Err(_) => Err(Failure::Io("write failed")),
     }
 }

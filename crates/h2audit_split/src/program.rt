@@ -90,8 +90,7 @@ fn split_behind<R: Files + AllocGlobal + Eprint, I: Read>(
     finish_parts(rt, words.folder.as_str(), parts)
 }
 
-/// Splits standard input or files, which make one capture in their order. The reader stands behind the header of the
-/// first.
+/// Splits files, which make one capture in their order. The reader stands behind the header of the first.
 fn split_files<R: Files + AllocGlobal, I: Read, W: Write + Drop>(
     rt: &R,
     files: &[String],
@@ -106,22 +105,6 @@ fn split_files<R: Files + AllocGlobal, I: Read, W: Write + Drop>(
     if files.is_empty() {
         return Ok(split_capture(header, reader, buffer, parts)?);
     }
-    split_all(rt, files, reader, header, buffer, parts)
-}
-
-/// Splits these files, of which there is a first.
-fn split_all<R: Files + AllocGlobal, I: Read, W: Write + Drop>(
-    rt: &R,
-    files: &[String],
-    reader: &mut I,
-    header: &Header,
-    buffer: &mut [u8],
-    parts: &mut [Part<W>],
-) -> Result<(), Failure>
-    requires files { 0 < length files.now }
-    requires some { 0 < length parts.old }
-    requires buffer { 98 ≤ length buffer.old }
-{
     let mut dealer = Dealer::behind(header);
     let first = CaptureFile {
         path: files[0].as_str(),
@@ -143,10 +126,11 @@ fn split_others<R: Files + AllocGlobal, W: Write + Drop>(
     requires part { dealer.old.part < length parts.old }
     requires buffer { 98 ≤ length buffer.old }
 {
-    for index in 0..later.len() {
+    let count = later.len();
+    for (index, path) in later.iter().enumerate() {
         let named = CaptureFile {
-            path: later[index].as_str(),
-            is_last: index + 1 == later.len(),
+            path: path.as_str(),
+            is_last: index + 1 == count,
         };
         split_later(rt, named, header, dealer, buffer, parts)?;
     }

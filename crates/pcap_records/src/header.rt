@@ -23,7 +23,7 @@ fn link_type<T: ByteOrder>(header: &[u8]) -> u16
     (T::read_u32(&header[20..]) & 0xffff) as u16
 }
 
-/// The same of a header whose numbers are in this order.
+/// The link type that a header whose numbers are in this order of bytes names.
 pub fn link_in(endian: Endian, header: &[u8]) -> u16
     requires { 24 ≤ length header.now }
     ensures { result ≡ link_of (number_of endian) header.now }

@@ -32,12 +32,9 @@ impl Options {
         ensures { SomeIff (option_map choices result) (AreInRange workers groups block)
             (record { workers = workers; groups = groups; block = block; frames_shown = frames_shown }) }
     {
-        let are_in_range = 0 < workers
-            && workers <= Self::MOST_WORKERS
-            && 0 < groups
-            && groups <= Self::MOST_GROUPS
-            && 0 < block
-            && block <= Self::LONGEST_BLOCK;
+        let are_in_range = (1..=Self::MOST_WORKERS).contains(&workers)
+            && (1..=Self::MOST_GROUPS).contains(&groups)
+            && (1..=Self::LONGEST_BLOCK).contains(&block);
         if are_in_range {
             Some(Options {
                 workers,
