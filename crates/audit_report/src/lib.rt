@@ -23,7 +23,7 @@
 //!   own.
 //! - [`worked_examples`] shows stalls: of both sides, of several windows, without an end, by a clock that went back.
 //! - Refused by the prover: the cut record left out, ends exchanged, a sign left out, a half whose connections are
-//!   numbered afresh, a frame looked up by its record, an end of a stall that has none.
+//!   numbered afresh, an end of a stall that has none.
 //! - Tested: in `crate_tests` the lines on one packet of each kind, and by whole reports that the calls succeed where
 //!   there is memory; by `threads_test.py` that several workers write.
 //! - Trusted: what `itoa` states of the digits that it writes of a number, and std of `join`.

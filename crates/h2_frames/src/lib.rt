@@ -39,10 +39,10 @@
 //! both sides is merging the front of all that is left of them. The limit is taken from the arrivals of both flows. No
 //! contract says which it is, but that one frame at least is up to it.
 //!
-//! Refused by the prover: padding as long as the payload, a value out of range left out, an order by first bytes, tails
-//! exchanged, batches merged by records alone, a batch numbered from one too high. [`worked_examples`] compute bodies,
-//! headers and order on small inputs, by proof: each type's payload at the lengths where its answer changes, padding,
-//! values of settings at the ends of their ranges.
+//! Refused by the prover: a value out of range left out, an order by first bytes, tails exchanged, batches merged by
+//! records alone, a batch numbered from one too high. [`worked_examples`] compute bodies, headers and order on small
+//! inputs, by proof: each type's payload at the lengths where its answer changes, padding, values of settings at the
+//! ends of their ranges.
 //! Tested by whole reports: that `cut` succeeds where there is memory, on connections of each of the four kinds; how
 //! many threads batches start.
 #![tactic(auto)]

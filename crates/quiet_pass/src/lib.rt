@@ -16,9 +16,8 @@
 //! - A row answers each kind of frame on its stream by the same rule, ends and resets too.
 //! - Frames cost no memory, but for a new stream and SETTINGS. No sum wraps, and nothing is asked of the caller:
 //!   credits are kept in 32 bits, and each sum is made in 64.
-//! - Refused by the prover: a change that forgets the rows of promised streams, a grant of 0 that passes, a field block
-//!   that goes on with another stream's, content of a reset stream that the connection does not count (5.1). That it
-//!   gives up only where something may be shown, and succeeds where there is memory, no contract says.
+//! - Refused by the prover: content of a reset stream that the connection does not count (5.1). That it gives up only
+//!   where something may be shown, and succeeds where there is memory, no contract says.
 #![tactic(auto)]
 
 mod connections;

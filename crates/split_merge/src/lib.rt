@@ -13,8 +13,8 @@
 //! - [`pending_of`] gives the connections of a batch that are still to be gone through, and [`put_back`] puts what is
 //!   found of these in their places.
 //! - [`worked_examples`] shows splits, quiet streams, groups, and where a merge ends.
-//! - Refused by the prover: a rest of streams left out, positions overwritten, a stream that is called quiet before its
-//!   last changes, a cut at the first reported error, what is found of a connection, given to another.
+//! - Refused by the prover: a rest of streams left out, a stream that is called quiet before its last changes, a cut at
+//!   the first reported error, what is found of a connection, given to another.
 //! - Tested by whole reports: that the calls succeed where there is memory.
 //! - Trusted: the ports of `indexmap` and `itertools`.
 #![tactic(auto)]

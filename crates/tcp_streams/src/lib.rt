@@ -22,8 +22,7 @@
 //!   leaves free; so it takes n log n steps in whichever order segments come. Pairs are looked up by a hash whose key
 //!   no capture can foresee (`TableHash`); the contract of [`connections`] holds for every key, so no answer depends on
 //!   it.
-//! - Refused by the prover: the last retransmission wins, a SYN of any number repeats an opening, a packet is left out
-//!   where a walk goes on.
+//! - Refused by the prover: the last retransmission wins, a SYN of any number repeats an opening.
 //! - [`worked_examples`] go from packets to a flow, and compute openings, strays and offsets that wrap.
 //! - Tested, in `crate_tests`: that keys are drawn; by whole reports: interleaved connections; by those of random
 //!   captures, beside the definitions, run: segments that overlap, come late or not at all.
