@@ -22,3 +22,6 @@ invariant_of-result g c =
 
 pub loop-rest-preserved : goal.loop-rest-preserved
 loop-rest-preserved g c = grind (arith, common_steps)
+
+pub returns : goal.returns
+returns g c = grind (arith, common_steps)
