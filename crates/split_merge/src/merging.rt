@@ -24,13 +24,13 @@ pub fn merge(alloc: Global, lists: Vec<Vec<Finding>>) -> Result<Vec<Finding>, Al
 /// The findings of two lists in order. A list that is in order already is only looked through.
 fn merged(
     alloc: Global,
-    mut found: Vec<Finding>,
-    mut more: Vec<Finding>,
+    found: Vec<Finding>,
+    more: Vec<Finding>,
 ) -> Result<Vec<Finding>, AllocError>
     ensures { IfOk result (λ all. all.items ≡ in_order (found.items ++ more.items)) }
 {
-    put_in_order(&mut found)?;
-    put_in_order(&mut more)?;
+    let found = ordered(found)?;
+    let more = ordered(more)?;
     if more.is_empty() {
         return Ok(found);
     }
@@ -38,6 +38,14 @@ fn merged(
         return Ok(more);
     }
     merged_runs(alloc, found, more)
+}
+
+/// The findings of a list in order.
+fn ordered(mut list: Vec<Finding>) -> Result<Vec<Finding>, AllocError>
+    ensures { IfOk result (λ all. all.items ≡ in_order list.items) }
+{
+    put_in_order(&mut list)?;
+    Ok(list)
 }
 
 /// The findings of two runs that are in order: always the one next that stands first of both.
