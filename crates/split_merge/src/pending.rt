@@ -2,10 +2,12 @@
 //! was found of them so far. Any TCP connection may have no frame, and a SYN is enough to open one.
 
 ghost use Rattle.std.specs.Prelude.{◌≡◌, IfOk, length, map};
-ghost use Rattle.split_merge.specs.code.Pending.{has_stopped, is_pending, pending_of, put_back};
+ghost use Rattle.std.specs.Vec.Iter.{into_iter_items};
+ghost use Rattle.split_merge.specs.code.Pending.{IsPutNext, has_stopped, is_pending, pending_of, put_back};
 
 use audit_terms::{Finding, Frame};
 use std::alloc::{AllocError, Global};
+use std::vec::IntoIter;
 
 /// Does one of these findings stop the connection?
 fn has_stopped(found: &[Finding]) -> bool
@@ -52,11 +54,18 @@ pub fn put_back(
     let mut all = found;
     let mut rest = later.into_iter();
     for n in 0..connections.len() {
-        if is_pending(connections[n], all[n].as_slice()) {
-            if let Some(list) = rest.next() {
-                all[n] = list;
-            }
-        }
+        put_next(connections[n], &mut all[n], &mut rest);
     }
     all
+}
+
+/// The next of these lists in place of what was found of a connection, if it was still to be gone through.
+fn put_next(frames: &[Frame], found: &mut Vec<Finding>, later: &mut IntoIter<Vec<Finding>>)
+    ensures { IsPutNext frames.entry found.old found.new (into_iter_items later.old) (into_iter_items later.new) }
+{
+    if is_pending(frames, found.as_slice()) {
+        if let Some(list) = later.next() {
+            *found = list;
+        }
+    }
 }

@@ -1,6 +1,6 @@
 -- Connections that are still to be gone through.
 use Rattle.std.specs.Global.{Global}
-use Rattle.std.specs.Prelude.{◌==◌, ◌&&◌, not, if◌then◌else◌, Bool, List, [], ◌∷◌, Vec, length}
+use Rattle.std.specs.Prelude.{◌≡◌, ◌==◌, ◌&&◌, not, if◌then◌else◌, Bool, List, [], ◌∷◌, Vec, length}
 use Rattle.std.specs.List.{list_any}
 use denote.Ref.{Bor}
 use Rattle.audit_terms.specs.declared.findings.Finding.{Finding}
@@ -30,3 +30,9 @@ put_back (frames ∷ rest) (one ∷ found) [] = one.items ∷ put_back rest foun
 put_back (frames ∷ rest) (one ∷ found) (list ∷ later) =
     if is_pending frames.now one.items then list.items ∷ put_back rest found later
     else one.items ∷ put_back rest found (list ∷ later)
+
+-- of one connection: the next of these lists in place of what was found of it, if it is one of those
+abbrev pub IsPutNext : Bor (List Frame) → (found now : Vec Finding Global) → (later left : List (Vec Finding Global))
+    → Type 0
+IsPutNext frames found now later left = (rest : List (Bor (List Frame))) (others : List (Vec Finding Global))
+    → now.items ∷ put_back rest others left ≡ put_back (frames ∷ rest) (found ∷ others) later
