@@ -134,7 +134,7 @@ fn audit_input<O: FnMut(&str) -> io::Result<F>, S, I: Read, F: Read + Drop, W: W
 {
     match path {
         Some(path) => {
-            let opened = (outside.open_file)(path.as_str());
+            let opened = open(path.as_str(), outside);
             audit_file(rt, options, opened, &mut outside.file, &mut outside.output)
         }
         None => run(
@@ -146,6 +146,18 @@ fn audit_input<O: FnMut(&str) -> io::Result<F>, S, I: Read, F: Read + Drop, W: W
             &NoGate,
         ),
     }
+}
+
+/// Opens FILE. All else that is lent stays as it was.
+fn open<O: FnMut(&str) -> io::Result<F>, S, I, F, W>(
+    path: &str,
+    outside: &mut Outside<O, S, I, F, W>,
+) -> io::Result<F>
+    requires { O.IsAlwaysCallable outside.old.open_file }
+    ensures opened { CalledAt O.FnMut outside.old.open_file path.now result outside.new.open_file }
+    ensures same { outside.new ≡ record outside.old { open_file = outside.new.open_file } }
+{
+    (outside.open_file)(path)
 }
 
 /// What the audit of FILE answers, and the account of its reads. One that could not be opened is a failure to read, or

@@ -3,11 +3,11 @@ use Rattle.h2audit.proofs.program.audit_input.Goals as goal
 
 pub returns-in-Some-clause-file : goal.returns-in-Some-clause-file
 returns-in-Some-clause-file g c =
-    let opened = c.open_file-opened in
+    let opened = c.open-opened in
     let audited = c.audit_file.ensures in
     let either = MatchResult-from_both opened.result _ _ audited.opened audited.unopened in
     rw c.in-Some.is (
       opened.result,
-      record { shown = c.as_str.result; shows = c.as_str.ensures.value; called = opened.ensures },
-      either,
+      rw c.as_str.ensures.value at opened.ensures.opened,
+      rw opened.ensures.same at either,
     )
