@@ -1,21 +1,15 @@
 -- What the proofs of this crate name, in one place.
 pub use Rattle.std.proofs.Common.{◌≡◌, ℕ, ◌<◌, ◌≤◌, Bool, true, false, nat_lt, if◌then◌else◌, List, [], ◌∷◌, map, take}
 pub use Rattle.std.proofs.Common.{drop, length, get_or, refl, sym, ap, ◌∙◌, subst, arith, Bor, Vec, Global, not, ◌==◌}
-pub use Rattle.std.proofs.Common.{◌||◌, ◌&&◌, ◌++◌, filter, append_assoc, append-nil, true≢false, ◌+◌, All, Option}
-pub use Rattle.std.proofs.Common.{Some, None, slice_get, set, zero, suc, ◌*◌, ◌-◌, ◌^◌, flat_map, ◌⊎◌, inl, inr, min}
-pub use Rattle.std.proofs.Common.{nat_le, leb-true, leb-false, Contains, pos, is_none, get_or-set_same}
-pub use Rattle.std.proofs.Common.{get_or-set_other, ⊎_elim, leb, rules, length-set}
+pub use Rattle.std.proofs.Common.{◌||◌, ◌&&◌, ◌++◌, filter, append_assoc, append-nil, ◌+◌, All, Option, Some, None}
+pub use Rattle.std.proofs.Common.{slice_get, set, zero, suc, ◌*◌, ◌-◌, ◌^◌, flat_map, ◌⊎◌, inl, inr, min, Contains, pos}
+pub use Rattle.std.proofs.Common.{is_none, get_or-set_other, ⊎_elim, leb, rules, length-set}
 pub use Rattle.std.proofs.Math.Seq.{get_or-append_seam}
-pub use Rattle.std.proofs.lemmas.Bool.{ne_eqb, cases_eq}
+pub use Rattle.std.proofs.lemmas.Bool.{ne_eqb}
 pub use Rattle.std.proofs.lemmas.Bool.Decides.{nat_tests}
 pub use Rattle.std.proofs.lemmas.Grind.{flat_map-append}
-pub use Rattle.std.proofs.lemmas.Iterator.{YieldsList-from_map, items_from_collect, YieldsList-from_zip}
-pub use Rattle.std.proofs.lemmas.Iterator.{YieldsList-from_slice, YieldsList-from_map_by}
-pub use Rattle.std.proofs.lemmas.Iterator.Adapters.{YieldsList-from_vec}
-pub use Rattle.std.proofs.lemmas.Iterator.Consumers.{map_from_collect}
 pub use Rattle.std.proofs.lemmas.List.{take-append-drop, length-map, get_or-map, nil_from_length, take_more}
-pub use Rattle.std.proofs.lemmas.List.{get_or_default, map-append, take_all, length-take-le, length-drop, length-append}
-pub use Rattle.std.proofs.lemmas.List.{length_push}
+pub use Rattle.std.proofs.lemmas.List.{get_or_default, map-append, take_all, length-take-le, length-append, length_push}
 pub use Rattle.std.proofs.lemmas.List.Elements.{All-map, All-nil, All-head, All-tail, All-append, All-contains}
 pub use Rattle.std.proofs.lemmas.List.Elements.{All-filter, Contains-append_left, All-push, All-take, All-drop}
 pub use Rattle.std.proofs.lemmas.List.Folds.{list_any-append}
@@ -24,7 +18,6 @@ pub use Rattle.std.proofs.lemmas.List.Sums.{sum_by-cons, sum_by_more}
 pub use Rattle.std.proofs.lemmas.Option.{slice_get_within, get_or_from_slice_get, slice_get-get_or}
 pub use Rattle.std.proofs.lemmas.Result.{IfOk-at_ok}
 pub use Rattle.std.proofs.lemmas.Slice.Zip.{get_or-zip, length-zip, AllZip-long}
-pub use Rattle.std.specs.Iterator.Adapters.{zip_first, zip_second}
 pub use Rattle.std.specs.List.{list_any, sum_by, zip, AllByRecursion, AllZip}
 pub use Rattle.std.specs.List.Sorted.{IsPermutation}
 pub use Rattle.std.specs.Option.{option_map_or, option_to_list}
@@ -35,8 +28,8 @@ pub use Rattle.audit_core.proofs.StreamsMet.{streams_met_lem}
 pub use Rattle.audit_core.specs.laws.Parts.{joined}
 pub use Rattle.audit_rounds.specs.code.AfterStreams.{AreAfterStreams, HaveSettled}
 pub use Rattle.audit_rounds.specs.code.Batch.{IsBatch, AreReady}
-pub use Rattle.audit_rounds.specs.code.Blocks.{IsSum, AreSums, wholes, IsShort, AreShort}
-pub use Rattle.audit_rounds.specs.code.Blocks.{blocks_of_connection, AddsBlocks}
+pub use Rattle.audit_rounds.specs.code.Blocks.{IsSum, AreSums, wholes, IsShort, AreShort, blocks_of_connection}
+pub use Rattle.audit_rounds.specs.code.Blocks.{AddsBlocks}
 pub use Rattle.audit_rounds.specs.code.Connections.{AreRests, IsRest}
 pub use Rattle.audit_rounds.specs.code.EarlyStops.{front_of, IsEarly}
 pub use Rattle.audit_rounds.specs.code.Few.{AreFew, RowsAreFew}
@@ -52,12 +45,9 @@ pub use Rattle.audit_rounds.specs.code.StreamRound.{IsFirstStop, IsStreamsOf}
 pub use Rattle.audit_rounds.specs.code.Streams.{IsRow, rows_opened, lesser, AreOpenedUpTo, RowsLook, rows_shown, IsWork}
 pub use Rattle.audit_rounds.specs.code.Streams.{row_shown, row_opened}
 pub use Rattle.audit_rounds.specs.code.Within.{AgreeWithin, IsAfterStreams, frames_within}
-pub use Rattle.audit_rounds.specs.declared.block_plans.ReadyBlock.{ReadyBlock}
-pub use Rattle.audit_rounds.specs.declared.blocks.ConnectionBlock.{ConnectionBlock}
-pub use Rattle.audit_rounds.specs.declared.prepared.MadeReady.{MadeReady}
-pub use Rattle.audit_rounds.specs.declared.prepared.Prepared.{Prepared}
-pub use Rattle.audit_rounds.specs.declared.stream_jobs.StreamJob.{StreamJob}
-pub use Rattle.audit_rounds.specs.declared.streams.Streams.{Streams}
+pub use Rattle.audit_rounds.specs.declared.{block_plans.ReadyBlock.ReadyBlock, blocks.ConnectionBlock.ConnectionBlock}
+pub use Rattle.audit_rounds.specs.declared.{prepared.MadeReady.MadeReady, prepared.Prepared.Prepared}
+pub use Rattle.audit_rounds.specs.declared.{stream_jobs.StreamJob.StreamJob, streams.Streams.Streams}
 pub use Rattle.audit_rounds.specs.laws.Settling.{Reaches}
 pub use Rattle.audit_terms.proofs.FindingOrder.{comes_after_is, in_order-append_left}
 pub use Rattle.audit_terms.proofs.OrderedLists.{ordered-in_order, in_order-append, in_order-ordered}
@@ -78,38 +68,29 @@ pub use Rattle.audit_terms.specs.code.runs.Look.{is_past, Asked, IsRun}
 pub use Rattle.audit_terms.specs.code.runs.Orderly.{IsOrderly, IsOrderlyFrom}
 pub use Rattle.audit_terms.specs.code.runs.States.{state_from, items_from}
 pub use Rattle.audit_terms.specs.code.runs.Streams.{frames_of, stream_at_end, stream_run, initial_after}
-pub use Rattle.audit_terms.specs.declared.connections.ConnectionState.{ConnectionState}
-pub use Rattle.audit_terms.specs.declared.findings.Finding.{Finding}
-pub use Rattle.audit_terms.specs.declared.frames.Body.{Body}
-pub use Rattle.audit_terms.specs.declared.frames.Body.TheVariants.{Unreadable}
-pub use Rattle.audit_terms.specs.declared.frames.Frame.{Frame}
-pub use Rattle.audit_terms.specs.declared.items.Change.{Change}
-pub use Rattle.audit_terms.specs.declared.items.Item.{Item}
-pub use Rattle.audit_terms.specs.declared.items.Step.{Step}
-pub use Rattle.audit_terms.specs.declared.sides.Sides.{Sides}
+pub use Rattle.audit_terms.specs.declared.{connections.ConnectionState.ConnectionState, findings.Finding.Finding}
+pub use Rattle.audit_terms.specs.declared.{frames.Body.Body, frames.Body.TheVariants.Unreadable, frames.Frame.Frame}
+pub use Rattle.audit_terms.specs.declared.{items.Change.Change, items.Item.Item, items.Step.Step, sides.Sides.Sides}
 pub use Rattle.audit_terms.specs.declared.streams.Stream.{Stream}
 pub use Rattle.block_scan.specs.code.List.{items_of}
 pub use Rattle.conn_scan.specs.code.Block.{BlockFits}
 pub use Rattle.conn_scan.specs.code.ConnSum.{conn_sum_of}
 pub use Rattle.conn_scan.specs.code.Items.{items_in, IsBlock, NeverFallFrom, is_marked, item_with, items_with}
 pub use Rattle.conn_scan.specs.code.Items.{change_at}
-pub use Rattle.conn_scan.specs.declared.block_items.Block.{Block}
-pub use Rattle.conn_scan.specs.declared.sums.ConnSum.{ConnSum}
+pub use Rattle.conn_scan.specs.declared.{block_items.Block.Block, sums.ConnSum.ConnSum}
 pub use Rattle.stop_desk.proofs.RoundCuts.{whole_is_cut_lem}
-pub use Rattle.stop_desk.proofs.RoundMembers.{contains-none, contains-cases}
+pub use Rattle.stop_desk.proofs.RoundMembers.{contains-none}
 pub use Rattle.stop_desk.proofs.RoundMerge.{board_merges_lem}
 pub use Rattle.stop_desk.specs.code.Board.{Job, IsLeast, StopsAt, findings_of_parts, findings_of_jobs, IsCut, IsPast}
 pub use Rattle.stop_desk.specs.code.Heeding.{Heeds, RunLooks}
 pub use Rattle.stop_desk.specs.code.Laid.{part_of}
 pub use Rattle.stop_desk.specs.code.Settling.{HasSettled}
-pub use Rattle.stop_desk.specs.declared.parts.Part.{Part}
-pub use Rattle.stop_desk.specs.declared.settling.Settled.{Settled}
+pub use Rattle.stop_desk.specs.declared.{parts.Part.Part, settling.Settled.Settled}
 pub use Rattle.settings_pair.specs.code.Changes.{AreOrderly, AreAcknowledged}
 pub use Rattle.split_merge.proofs.ShownMerge.{shown-append, in_order-shown}
 pub use Rattle.split_merge.specs.code.Groups.{groups}
 pub use Rattle.split_merge.specs.code.Split.{IsSplit, frames_at}
-pub use Rattle.split_merge.specs.declared.splits.SplitFrames.{SplitFrames}
-pub use Rattle.split_merge.specs.declared.splits.StreamRow.{StreamRow}
+pub use Rattle.split_merge.specs.declared.{splits.SplitFrames.SplitFrames, splits.StreamRow.StreamRow}
 pub use Rattle.stop_desk.specs.code.Stop.{IsStop}
 pub use Rattle.stream_credit.specs.code.Looks.{opened_up_to}
-pub use borrow.Author.Tests.{eqb-true, eq-eqb, ltb-true, ltb-false}
+pub use borrow.Author.Tests.{eqb-true, eq-eqb, ltb-true}

@@ -1,4 +1,4 @@
-use Rattle.audit_rounds.proofs.Words.{subst, IfOk, AllZip-long}
+use Rattle.audit_rounds.proofs.Words.{subst, IfOk, AllZip-long, arith, rules}
 use Rattle.audit_rounds.specs.code.Batch.{AreShown}
 use Rattle.audit_rounds.proofs.Lists.{if_ok-then}
 use Rattle.audit_rounds.proofs.Batches.{early-shown}
@@ -19,3 +19,9 @@ returns g t c =
     let back = c.in_halves.result.1.now in
     subst (λ all. IfOk c.both_shown.result (λ found. AreShown shows all found.items)) c.in_halves.ensures.whole
     (c.both_shown.ensures shows front back c.join-one.ensures.first c.join-one.ensures.second)
+
+pub join-one-requires-after_bounds : goal.join-one-requires-after_bounds
+join-one-requires-after_bounds g t c κs within = (
+  (omega arith, (λ a m. m, (λ a m. m, (search rules, search rules)))),
+  (omega arith, (λ a m. m, (λ a m. m, (search rules, search rules)))),
+)

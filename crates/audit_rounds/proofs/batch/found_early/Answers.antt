@@ -1,3 +1,4 @@
+use Rattle.audit_rounds.proofs.Words.{◌∙◌, sym, ap, length, length-map}
 use Rattle.audit_rounds.proofs.Lists.{if_ok-then}
 use Rattle.audit_rounds.proofs.Batches.{early-none, early-fronts, fronts-batch}
 use Rattle.audit_rounds.proofs.batch.found_early.Goals as goal
@@ -17,3 +18,8 @@ returns g c =
     early-fronts c.args.crew.now.setup.credits_shown c.args.connections.now c.in_ok-fronts.fronts.items
     c.in_ok-none.none.items all.items c.in_ok-none.ensures.number c.in_ok-none.ensures.each c.in_ok-fronts.ensures
     (rw c.as_slice.ensures.value at is))
+
+pub found_after-requires-clause-number : goal.found_after-requires-clause-number
+found_after-requires-clause-number g c κs within =
+    let long = simp length-map at (ap length c.in_ok-fronts.ensures) in
+    rw (c.as_slice.ensures.value, long) c.in_ok-none.ensures.number

@@ -1,4 +1,4 @@
-use Rattle.audit_rounds.proofs.Words.{◌∙◌, ap, subst, IsFirstStop}
+use Rattle.audit_rounds.proofs.Words.{◌∙◌, ap, subst, IsFirstStop, take_all, arith}
 use Rattle.audit_rounds.proofs.Lists.{zip-more}
 use Rattle.audit_rounds.proofs.beginnings.opening_stops.Goals as goal
 
@@ -9,3 +9,6 @@ loop-one-preserved c =
     (subst (λ l. IsFirstStop l c.first_stop.result) (c.as_slice.ensures.value ∙ ap (λ one. one.items) c.one-item.is)
     c.first_stop.ensures)
     c.in_ok-push.ensures.items
+
+pub returns : goal.returns
+returns c = rw (take_all c.loop-one.one-index c.args.found.now (omega arith)) at c.loop-one.invariant

@@ -1,4 +1,4 @@
-use Rattle.audit_rounds.proofs.Words.{length, ap, arith, sum_by_more, Block}
+use Rattle.audit_rounds.proofs.Words.{length, ap, arith, sum_by_more, Block, take_all}
 use Rattle.audit_rounds.proofs.Plans.{cut-next}
 use Rattle.audit_rounds.proofs.blocks.in_blocks.Goals as goal
 
@@ -17,3 +17,13 @@ loop-connection-preserved c =
           c.loop-connection-test.true in
           omega (arith, i.few, adds.few, is, more);
     }
+
+pub returns-clause-of : goal.returns-clause-of
+returns-clause-of c =
+    let at = c.loop-connection in
+    rw (take_all at.connection c.args.connections.now (omega arith)) at at.invariant.cut
+
+pub returns-clause-few : goal.returns-clause-few
+returns-clause-few c =
+    let at = c.loop-connection in
+    omega (arith, c.requires.few, rw (take_all at.connection c.args.connections.now (omega arith)) at at.invariant.few)

@@ -1,4 +1,4 @@
-use Rattle.audit_rounds.proofs.Words.{List, refl, arith, Bor, Frame, shown, pass}
+use Rattle.audit_rounds.proofs.Words.{List, refl, arith, Bor, Frame, shown, pass, take_all}
 use Rattle.audit_rounds.proofs.Lists.{items_in, batch-more}
 use Rattle.audit_rounds.proofs.divisions.findings_of_each.Goals as goal
 
@@ -20,3 +20,7 @@ loop-done-preserved g c =
 
 pub by_halves-requires : goal.by_halves-requires
 by_halves-requires g c = (c.type_bounds.sync-R, (c.type_bounds.sync-G, c.next_batch-batch.ensures.batch))
+
+pub returns : goal.returns
+returns g c =
+    rw (take_all c.loop-done.done c.args.connections.now c.loop-done-test.false) at c.loop-done.invariant.shown

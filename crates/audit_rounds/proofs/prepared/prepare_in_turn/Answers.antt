@@ -1,4 +1,4 @@
-use Rattle.audit_rounds.proofs.Words.{take_more}
+use Rattle.audit_rounds.proofs.Words.{take_more, take_all, arith}
 use Rattle.audit_rounds.proofs.prepared.prepare_in_turn.Goals as goal
 
 pub loop-frames-init : goal.loop-frames-init
@@ -10,3 +10,6 @@ loop-frames-preserved g c =
       take_more c.args.connections.now c.loop-frames.frames-index c.frames-item.result c.loop-frames-test.true,
       ← c.frames-item.is,
     ) (c.in_ok-prepare.ensures _ c.loop-frames.invariant)
+
+pub returns : goal.returns
+returns g c = rw (take_all c.loop-frames.frames-index c.args.connections.now (omega arith)) at c.loop-frames.invariant

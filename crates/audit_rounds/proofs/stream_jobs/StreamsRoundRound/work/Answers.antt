@@ -1,4 +1,5 @@
 use Rattle.audit_rounds.proofs.StreamWork.{job-cut, job-ends, job-looks, job-makes, job-planned, job-ready, job-rows}
+use Rattle.audit_rounds.proofs.Words.{arith}
 use Rattle.audit_rounds.proofs.Lists.{if_ok-then}
 use Rattle.audit_rounds.proofs.stream_jobs.StreamsRoundRound.work.Goals as goal
 
@@ -44,3 +45,9 @@ returns-clause-looks g c =
           c.deref.ensures.value made.looks.asked work.upto made.looks.in_time;
       answered = made.looks.answered;
     })
+
+pub offset_bounds-deref-job : goal.offset_bounds-deref-job
+offset_bounds-deref-job g c =
+    let ends = job-ends c.args.self.now c.args.job c.requires c.index-self-job.result c.deref.result.now
+    c.deref.ensures.value in
+    omega (arith, (job-planned c.args.self.now c.args.job c.requires).rising, ends, c.deref.type_inv)
