@@ -1,6 +1,7 @@
-use Rattle.std.proofs.{Math.Seq.take-append_seam, lemmas.List.Folds.list_any_at}
-use Rattle.std.proofs.Common.{arith, length, refl, subst, sym, true, ◌∙◌, ◌≡◌}
-use Rattle.audit_core.proofs.{OrderlyRest.drop-at, Words.Frame, Words.eq-eqb, Words.list_any, Words.meets}
+use Rattle.std.proofs.{Math.Seq.take-append_seam, lemmas.List.Folds.list_any_at, lemmas.List.drop_all}
+use Rattle.std.proofs.Common.{ap, append-nil, arith, length, refl, subst, sym, true, ◌∙◌, ◌≡◌}
+use Rattle.audit_core.proofs.OrderlyRest.{drop-at}
+use Rattle.audit_core.proofs.Words.{Frame, eq-eqb, list_any, meets, upto_stop}
 use Rattle.audit_core.proofs.PassRows.{brings, pass-begins, pass-next, room, step_of-acknowledged}
 use Rattle.audit_core.proofs.passes.one_pass.Goals as goal
 
@@ -44,3 +45,12 @@ loop-frame-preserved c =
     c.keep_last.ensures c.initial_after-in_force.ensures c.in_ok-say_connection.ensures.after
     (rw rows at c.in_ok-meet_all.ensures.after) c.say_connection.ensures.client c.say_connection.ensures.server
     (rw rows at c.in_ok-meet_all.ensures.fits))
+
+pub say_alone-requires : goal.say_alone-requires
+say_alone-requires c =
+    (rw (drop-at c.args.frames.now _ _ c.frame-item.is c.loop-frame-test.true) at c.loop-frame.invariant).orderly.1
+
+pub returns : goal.returns
+returns c =
+    let none = drop_all c.loop-frame.frame-index c.args.frames.now (omega arith) in
+    c.cut_at_stop.ensures ∙ ap upto_stop (rw (none, append-nil) at c.loop-frame.invariant.found)
