@@ -24,8 +24,8 @@
 //! - Packets are made, and connections found, while the capture is read. Round 0 has a job for each connection, which
 //!   makes both of its flows, and meets their frames where credits are not shown. What may show something goes through
 //!   the rounds of `audit_rounds`. docs/ARCHITECTURE.md follows the data all the way.
-//! - Refused by the prover: an empty report, a verdict by errors alone, standard input read beside FILE, the path of the
-//!   capture left out.
+//! - Refused by the prover: an empty report, a verdict by errors alone, standard input read beside FILE, the path of
+//!   the capture left out.
 //! - Tested, in `crate_tests`: the texts of faults; in `tests/` at the root: what the program answers to words, the
 //!   texts of help and of refused words, whole reports, long captures.
 #![tactic(auto)]
