@@ -196,6 +196,7 @@ fn tell_refused(
     Ok(())
 }
 
+/// Writes the summary to its file in the folder.
 fn write_summary<R: Files + AllocGlobal>(
     rt: &R,
     folder: &str,

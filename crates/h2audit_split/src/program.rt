@@ -90,7 +90,8 @@ fn split_behind<R: Files + AllocGlobal + Eprint, I: Read>(
     finish_parts(rt, words.folder.as_str(), parts)
 }
 
-/// Splits files, which make one capture in their order. The reader stands behind the header of the first.
+/// Splits standard input or files, which make one capture in their order. The reader stands behind the header of the
+/// first.
 fn split_files<R: Files + AllocGlobal, I: Read, W: Write + Drop>(
     rt: &R,
     files: &[String],
