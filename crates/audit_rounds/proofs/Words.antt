@@ -62,7 +62,7 @@ pub use Rattle.audit_terms.specs.Place.{place_number}
 pub use Rattle.audit_terms.specs.Sides.{side_of}
 pub use Rattle.audit_terms.specs.Stream.{idle_stream, stream_said, stream_after}
 pub use Rattle.audit_terms.specs.code.runs.Blocks.{block_run, connection_after_all}
-pub use Rattle.audit_terms.specs.code.runs.Changes.{changes_of, settings_run, settings_run_from}
+pub use Rattle.audit_terms.specs.code.runs.Changes.{AreAcknowledged, AreOrderly, changes_of, settings_run, settings_run_from}
 pub use Rattle.audit_terms.specs.code.runs.LocalFaults.{local_run, local_run_from}
 pub use Rattle.audit_terms.specs.code.runs.Look.{is_past, Asked, IsRun}
 pub use Rattle.audit_terms.specs.code.runs.Orderly.{IsOrderly, IsOrderlyFrom}
@@ -86,7 +86,6 @@ pub use Rattle.stop_desk.specs.code.Heeding.{Heeds, RunLooks}
 pub use Rattle.stop_desk.specs.code.Laid.{part_of}
 pub use Rattle.stop_desk.specs.code.Settling.{HasSettled}
 pub use Rattle.stop_desk.specs.declared.{parts.Part.Part, settling.Settled.Settled}
-pub use Rattle.settings_pair.specs.code.Changes.{AreOrderly, AreAcknowledged}
 pub use Rattle.split_merge.proofs.ShownMerge.{shown-append, in_order-shown}
 pub use Rattle.split_merge.specs.code.Groups.{groups}
 pub use Rattle.split_merge.specs.code.Split.{IsSplit, frames_at}

@@ -4,7 +4,7 @@ ghost use Rattle.std.specs.Prelude.{◌≡◌, ◌<◌, ◌^◌, Bool, [], ◌�
 ghost use Rattle.std.specs.Thread.{IsSync};
 ghost use Rattle.audit_terms.specs.code.runs.Orderly.{IsOrderly};
 ghost use Rattle.audit_terms.specs.code.runs.LocalFaults.{local_run};
-ghost use Rattle.settings_pair.specs.code.Changes.{AreOrderly, AreAcknowledged};
+ghost use Rattle.audit_terms.specs.code.runs.Changes.{AreOrderly, AreAcknowledged};
 ghost use Rattle.split_merge.specs.code.Split.{IsSplit};
 ghost use Rattle.audit_rounds.specs.code.Batch.{AreJoined, IsBatch};
 ghost use Rattle.audit_rounds.specs.code.MadeReady.{AddsReady, AreMadeReady};

@@ -2,7 +2,7 @@
 
 ghost use Rattle.std.specs.Prelude.{◌≡◌, ◌++◌, ◌<◌, IfOk, OnOk, All};
 ghost use Rattle.std.specs.Option.{option_to_list};
-ghost use Rattle.settings_pair.specs.code.Changes.{AreOrderly};
+ghost use Rattle.audit_terms.specs.code.runs.Changes.{AreOrderly};
 ghost use Rattle.audit_rounds.specs.code.Streams.{IsRow, IsWork, RowLooks, RowsLook, lesser, row_shown, row_opened};
 ghost use Rattle.audit_rounds.specs.code.Streams.{rows_shown, rows_opened};
 

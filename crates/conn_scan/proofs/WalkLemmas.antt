@@ -3,7 +3,7 @@ use Rattle.conn_scan.proofs.Terms.{Block, items_in, IsBlock, ◌≡◌, ℕ, suc
 use Rattle.conn_scan.proofs.Terms.{length, None, refl, ap, arith, list_any, find, nat_tests, Frame, Change, Item}
 use Rattle.conn_scan.proofs.Terms.{IsOrderlyFrom, items_with, NeverFallFrom, numbers_from, changes_from, is_first}
 use Rattle.conn_scan.proofs.Terms.{first_change, walked, StartFrom, ChangesStartFrom}
-use Rattle.settings_pair.specs.code.Changes.{AreOrderlyFrom}
+use Rattle.audit_terms.specs.code.runs.Changes.{AreOrderlyFrom}
 
 -- ---- opening numbers
 

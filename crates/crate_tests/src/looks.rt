@@ -3,7 +3,7 @@
 ghost use Rattle.std.specs.Prelude.{◌≡◌, length, IfOk, IfSome};
 ghost use Rattle.std.specs.List.{range_with_len};
 ghost use Rattle.audit_terms.specs.code.runs.Orderly.{IsOrderly};
-ghost use Rattle.settings_pair.specs.code.Changes.{AreAcknowledged, AreOrderly};
+ghost use Rattle.audit_terms.specs.code.runs.Changes.{AreAcknowledged, AreOrderly};
 ghost use Rattle.stream_credit.specs.code.StreamPart.{IsStreamPart, frames_met};
 
 use crate::Answer;

@@ -2,9 +2,8 @@ ghost use Rattle.std.specs.Prelude.{◌≡◌, [], ◌∷◌, ◌++◌, pos, is_
 ghost use Rattle.std.specs.Option.{option_to_list};
 ghost use Rattle.audit_terms.specs.code.runs.Orderly.{IsInRange, IsOrderly};
 ghost use Rattle.audit_terms.specs.InForce.{InForce, in_force_after, change_of, change_taking, settings_said};
-ghost use Rattle.audit_terms.specs.code.runs.Changes.{changes_of, settings_run};
+ghost use Rattle.audit_terms.specs.code.runs.Changes.{AreAcknowledged, AreOrderly, changes_of, settings_run};
 ghost use Rattle.audit_terms.specs.Finding.{finding_at, say};
-ghost use Rattle.settings_pair.specs.code.Changes.{AreOrderly, AreAcknowledged};
 ghost use Rattle.settings_pair.specs.code.Waiting.{IsWaiting};
 
 use crate::waiting::Waiting;

@@ -5,7 +5,7 @@ use Rattle.split_merge.proofs.Terms.{take_more, drop_more, take_more_set, drop-s
 use Rattle.split_merge.proofs.Terms.{get_or_from_slice_get, slice_get_within, nat_tests, Frame, Change, promised_by}
 use Rattle.split_merge.proofs.Terms.{meets, IsInRange, frames_of, QuietStream, NotAmong, AreDistinct, with_next}
 use Rattle.split_merge.proofs.Terms.{AreAhead, IsAheadOf, IsHushedOf, ◌^◌, All-filter, is_ack, IsOrderly, IsOrderlyFrom}
-use Rattle.settings_pair.specs.code.Changes.{AreOrderly, AreAcknowledged}
+use Rattle.audit_terms.specs.code.runs.Changes.{AreOrderly, AreAcknowledged}
 use Rattle.std.proofs.lemmas.Slice.Zip.{all_zipped_more}
 use Rattle.stream_credit.specs.code.QuietStream.{IsAheadIfQuiet}
 use Rattle.split_merge.proofs.Visited.{among-apart, not_among-front, not_among-push}

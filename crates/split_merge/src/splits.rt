@@ -1,6 +1,6 @@
 ghost use Rattle.std.specs.Prelude.{◌≡◌, ℕ, ◌^◌, ◌<◌, ◌++◌, IfOk, List, length, set};
 ghost use Rattle.audit_terms.specs.code.runs.Orderly.{IsOrderly};
-ghost use Rattle.settings_pair.specs.code.Changes.{AreOrderly, AreAcknowledged};
+ghost use Rattle.audit_terms.specs.code.runs.Changes.{AreOrderly, AreAcknowledged};
 ghost use Rattle.split_merge.specs.code.Split.{IsRange, IsSplit, row_positions};
 ghost use Rattle.split_merge.specs.code.Loud.{CanPlace, IsLaid, IsPlacing, loud_of, opened_in};
 ghost use Rattle.split_merge.specs.code.Visits.{AreFilled, IsTableOf, laid_out, longer, noted, notes_from, streams_in};

@@ -5,7 +5,7 @@ ghost use Rattle.std.specs.Option.{ForSome};
 ghost use Rattle.audit_terms.specs.declared.frames.Frame.{Frame as FrameTerm};
 ghost use Rattle.audit_terms.specs.declared.items.Change.{Change as ChangeTerm};
 ghost use Rattle.audit_terms.specs.code.runs.Orderly.{IsOrderly};
-ghost use Rattle.settings_pair.specs.code.Changes.{AreOrderly, AreAcknowledged};
+ghost use Rattle.audit_terms.specs.code.runs.Changes.{AreOrderly, AreAcknowledged};
 ghost use Rattle.stream_credit.specs.code.QuietStream.{IsAheadIfQuiet};
 ghost use Rattle.split_merge.specs.code.Visits.{AreVisits, IsEmpty, IsIndex, IsTableOf, NotAmong, counted, noted};
 ghost use Rattle.split_merge.specs.code.Visits.{streams_in, with_stream};

@@ -30,7 +30,7 @@ pub use Rattle.audit_terms.specs.declared.sides.Side.{Side}
 pub use Rattle.audit_terms.specs.declared.sides.Side.TheVariants.{Client, Server}
 pub use Rattle.audit_terms.specs.declared.sides.Sides.{Sides}
 pub use Rattle.audit_terms.specs.declared.streams.Stream.{Stream}
-pub use Rattle.settings_pair.specs.code.Changes.{AreAcknowledged, AreOrderly, AreOrderlyFrom}
+pub use Rattle.audit_terms.specs.code.runs.Changes.{AreAcknowledged, AreOrderly, AreOrderlyFrom}
 pub use Rattle.std.proofs.Common.{Bool, List, None, Option, Some, arith, false, int_lt, length, nat_lt, rules, subst, ℕ}
 pub use Rattle.std.proofs.Common.{[], ap, pos, suc, sym, ℤ, ◌*◌, ◌+◌, ◌-◌, ◌<◌, ◌^◌, ◌∙◌, ◌∷◌, ◌≡◌, ◌≤◌, append_assoc}
 pub use Rattle.std.proofs.Common.{if◌then◌else◌, is_none, is_some, option_map, slice_get, slice_index_or, drop, inl}

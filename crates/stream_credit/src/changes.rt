@@ -3,7 +3,7 @@ ghost use Rattle.std.specs.Option.{ForSome};
 ghost use Rattle.audit_terms.specs.declared.items.Change.{Change};
 ghost use Rattle.audit_terms.specs.InForce.{initial_in_force};
 ghost use Rattle.audit_terms.specs.code.runs.Streams.{initial_after};
-ghost use Rattle.settings_pair.specs.code.Changes.{AreOrderly};
+ghost use Rattle.audit_terms.specs.code.runs.Changes.{AreOrderly};
 ghost use Rattle.stream_credit.specs.code.Changes.{AreFrom, ArePassed, IsBrought, IsDue, after_each, initial_at};
 ghost use Rattle.stream_credit.specs.code.Changes.{met_after};
 

@@ -8,7 +8,7 @@ ghost use Rattle.audit_terms.specs.declared.frames.Frame.{Frame as FrameTerm};
 ghost use Rattle.audit_terms.specs.declared.items.Change.{Change as ChangeTerm};
 ghost use Rattle.audit_terms.specs.declared.sides.Sides.{Sides as SidesTerm};
 ghost use Rattle.audit_terms.specs.code.runs.Orderly.{IsOrderly, IsInRange};
-ghost use Rattle.settings_pair.specs.code.Changes.{AreOrderly, AreAcknowledged};
+ghost use Rattle.audit_terms.specs.code.runs.Changes.{AreOrderly, AreAcknowledged};
 ghost use Rattle.stream_credit.specs.code.Looks.{is_live};
 ghost use Rattle.audit_terms.specs.code.Room.{HasRoom};
 ghost use Rattle.stream_credit.specs.code.Changes.{AreFrom};

@@ -6,7 +6,7 @@ ghost use Rattle.audit_terms.specs.Place.{place_number};
 ghost use Rattle.audit_terms.specs.Finding.{shown};
 ghost use Rattle.audit_terms.specs.code.runs.Look.{IsRun};
 ghost use Rattle.audit_terms.specs.code.runs.Streams.{stream_run, stream_at_end};
-ghost use Rattle.settings_pair.specs.code.Changes.{AreOrderly, AreAcknowledged};
+ghost use Rattle.audit_terms.specs.code.runs.Changes.{AreOrderly, AreAcknowledged};
 ghost use Rattle.stream_credit.specs.code.Looks.{step_numbers, opened_up_to};
 ghost use Rattle.stream_credit.specs.code.StreamPart.{IsStreamPart, frames_at, frames_met};
 ghost use Rattle.stream_credit.specs.code.Walk.{WholeRun, IsSound, HasEnded, HasStopped};

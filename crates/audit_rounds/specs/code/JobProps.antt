@@ -4,7 +4,7 @@ use Rattle.std.specs.Coded.{Unit-prop, le_prop}
 use Rattle.audit_terms.specs.declared.frames.Frame.{Frame}
 use Rattle.audit_terms.specs.declared.items.Change.{Change}
 use Rattle.audit_terms.specs.code.runs.Orderly.{IsInRange, IsOrderlyFrom}
-use Rattle.settings_pair.specs.code.Changes.{AreOrderlyFrom}
+use Rattle.audit_terms.specs.code.runs.Changes.{AreOrderlyFrom}
 
 in_range-prop : (frame : Frame) → IsProp (IsInRange frame)
 in_range-prop frame = λ x y i. record {

@@ -3,8 +3,7 @@ use Rattle.std.specs.Prelude.{◌≡◌, ◌++◌, Bool, List}
 use Rattle.audit_terms.specs.declared.findings.Finding.{Finding}
 use Rattle.audit_terms.specs.code.runs.Orderly.{IsOrderly}
 use Rattle.audit_terms.specs.code.runs.LocalFaults.{local_run}
-use Rattle.audit_terms.specs.code.runs.Changes.{changes_of, settings_run}
-use Rattle.settings_pair.specs.code.Changes.{AreOrderly, AreAcknowledged}
+use Rattle.audit_terms.specs.code.runs.Changes.{AreAcknowledged, AreOrderly, changes_of, settings_run}
 use Rattle.split_merge.specs.code.Split.{IsSplit}
 use Rattle.audit_rounds.specs.declared.prepared.Prepared.{Prepared}
 

@@ -4,7 +4,7 @@ use Rattle.std.specs.Prelude.{Option, Some}
 use Rattle.std.specs.Option.{option_map_or}
 use Rattle.std.specs.List.{between}
 use Rattle.audit_terms.specs.code.runs.Look.{Asked}
-use Rattle.settings_pair.specs.code.Changes.{AreOrderly}
+use Rattle.audit_terms.specs.code.runs.Changes.{AreOrderly}
 use Rattle.split_merge.specs.declared.splits.StreamRow.{StreamRow}
 use Rattle.split_merge.specs.code.Groups.{groups}
 use Rattle.stop_desk.specs.code.Board.{Job}

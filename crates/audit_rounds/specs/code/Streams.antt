@@ -7,11 +7,10 @@ use Rattle.audit_terms.specs.declared.frames.Frame.{Frame}
 use Rattle.audit_terms.specs.declared.findings.Finding.{Finding}
 use Rattle.audit_terms.specs.Finding.{shown}
 use Rattle.audit_terms.specs.code.runs.Orderly.{IsOrderly}
-use Rattle.audit_terms.specs.code.runs.Changes.{changes_of}
+use Rattle.audit_terms.specs.code.runs.Changes.{AreAcknowledged, changes_of}
 use Rattle.audit_terms.specs.code.runs.Look.{Asked, is_past}
 use Rattle.audit_terms.specs.Place.{place_number}
 use Rattle.audit_terms.specs.code.runs.Streams.{frames_of, stream_run, stream_at_end}
-use Rattle.settings_pair.specs.code.Changes.{AreAcknowledged}
 use Rattle.split_merge.specs.declared.splits.StreamRow.{StreamRow}
 use Rattle.split_merge.specs.code.Split.{IsRange, row_positions, frames_at}
 use Rattle.stop_desk.specs.code.Board.{IsCut}

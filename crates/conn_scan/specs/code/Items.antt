@@ -7,7 +7,7 @@ use Rattle.audit_terms.specs.declared.items.Item.{Item}
 use Rattle.audit_terms.specs.Frame.{is_headers}
 use Rattle.audit_terms.specs.code.runs.Orderly.{IsOrderly}
 pub use Rattle.audit_terms.specs.code.Watch.{NeverFallFrom}
-use Rattle.settings_pair.specs.code.Changes.{AreOrderly}
+use Rattle.audit_terms.specs.code.runs.Changes.{AreOrderly}
 use Rattle.conn_scan.specs.declared.block_items.Block.{Block}
 
 -- a HEADERS whose number is among these; other frames, as promises, are judged by their bodies (RFC 9113, 5.1.1)

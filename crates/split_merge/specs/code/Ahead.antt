@@ -6,7 +6,7 @@ use Rattle.audit_terms.specs.declared.frames.Frame.{Frame}
 use Rattle.audit_terms.specs.declared.items.Change.{Change}
 use Rattle.audit_terms.specs.code.runs.Orderly.{IsOrderly}
 use Rattle.audit_terms.specs.code.runs.Streams.{frames_of}
-use Rattle.settings_pair.specs.code.Changes.{AreOrderly, AreAcknowledged}
+use Rattle.audit_terms.specs.code.runs.Changes.{AreOrderly, AreAcknowledged}
 use Rattle.stream_credit.specs.declared.quiet_streams.QuietStream.{QuietStream}
 use Rattle.stream_credit.specs.code.QuietStream.{IsAheadIfQuiet, ShowsNothing}
 use Rattle.split_merge.specs.declared.visits.Visits.{Visits}

@@ -10,7 +10,7 @@ use Rattle.audit_terms.specs.Stream.{stream_said, stream_after}
 use Rattle.audit_terms.specs.code.runs.Orderly.{IsOrderly}
 use Rattle.audit_terms.specs.code.runs.Streams.{frame_step, stream_run, stream_run_from, stream_at_end}
 use Rattle.audit_terms.specs.code.runs.Streams.{stream_after_all}
-use Rattle.settings_pair.specs.code.Changes.{AreOrderly}
+use Rattle.audit_terms.specs.code.runs.Changes.{AreOrderly}
 use Rattle.stream_credit.specs.declared.quiet_streams.QuietStream.{QuietStream}
 use Rattle.stream_credit.specs.code.Changes.{AreFrom, initial_at}
 use Rattle.stream_credit.specs.code.Merged.{merged, Acknowledge}

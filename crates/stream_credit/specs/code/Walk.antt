@@ -18,7 +18,7 @@ use Rattle.audit_terms.specs.Stream.{idle_stream, stream_said, stream_after}
 use Rattle.audit_terms.specs.code.runs.Streams.{IsAcknowledged, initial_after, stream_run_from, stream_after_all}
 use Rattle.audit_terms.specs.code.Room.{WindowHasRoom}
 use Rattle.audit_terms.specs.code.Watch.{Watches, IsStopped, NeverFallFrom}
-use Rattle.settings_pair.specs.code.Changes.{AreOrderly}
+use Rattle.audit_terms.specs.code.runs.Changes.{AreOrderly}
 use Rattle.stream_credit.specs.declared.walks.Walk.{Walk}
 use Rattle.stream_credit.specs.code.Looks.{met_from, opened_up_to}
 use Rattle.stream_credit.specs.code.Changes.{AreFrom, initial_at}

@@ -1,8 +1,9 @@
--- What the acknowledgements of a connection bring into force, and which of them take nothing.
-use Rattle.std.specs.Prelude.{List, [], ◌∷◌, ◌++◌}
+-- What the acknowledgements of a connection bring into force (RFC 9113, 6.5.3), and which of them take nothing.
+use Rattle.std.specs.Prelude.{◌≡◌, ℕ, ◌+◌, ◌-◌, ◌^◌, ◌<◌, ◌≤◌, true, List, [], ◌∷◌, ◌++◌, All}
 use Rattle.std.specs.Option.{option_to_list}
 use Rattle.audit_terms.specs.declared.frames.Frame.{Frame}
 use Rattle.audit_terms.specs.declared.items.Change.{Change}
+use Rattle.audit_terms.specs.Frame.{is_ack}
 use Rattle.audit_terms.specs.declared.findings.Finding.{Finding}
 use Rattle.audit_terms.specs.InForce.{InForce, change_of, in_force_after, initial_in_force, settings_said}
 
@@ -24,3 +25,19 @@ settings_run_from now (frame ∷ frames) = settings_said now frame ++ settings_r
 -- the acknowledgements of a connection's frames that take nothing
 abbrev pub settings_run : List Frame → List Finding
 settings_run frames = settings_run_from initial_in_force frames
+
+-- each number below 2^28 - 1, the first `low` or above, each further one above the one before it
+abbrev pub AreOrderlyFrom : (low : ℕ) → List Change → Type 0
+AreOrderlyFrom low [] = Unit {0}
+AreOrderlyFrom low (change ∷ changes) =
+    (low ≤ change.number) × (change.number < 2 ^ 28 - 1) × AreOrderlyFrom (change.number + 1) changes
+
+-- numbers strictly rising, below 2^28 - 1
+abbrev pub AreOrderly : List Change → Type 0
+AreOrderly changes = AreOrderlyFrom 0 changes
+
+-- the frame of a change, where it is among the frames, is an acknowledgement
+abbrev pub AreAcknowledged : List Frame → List Change → Type 0
+AreAcknowledged frames changes =
+    All (λ (frame : Frame).
+    All (λ (change : Change). frame.number ≡ change.number → is_ack frame.body ≡ true) changes) frames
