@@ -28,17 +28,11 @@ impl ConnectionState {
         ensures { result ≡ connection_start }
     {
         ConnectionState {
-            credit: Sides {
-                client: i64::from(FIRST_WINDOW),
-                server: i64::from(FIRST_WINDOW),
-            },
+            credit: Sides::both(i64::from(FIRST_WINDOW)),
             opened: 0,
             promised: 0,
             push: 1,
-            limit: Sides {
-                client: FIRST_LIMIT,
-                server: FIRST_LIMIT,
-            },
+            limit: Sides::both(FIRST_LIMIT),
         }
     }
 }

@@ -1,8 +1,17 @@
 ghost use Rattle.std.specs.Prelude.{◌≡◌, ℕ, ◌+◌, ◌-◌, ◌*◌, ◌^◌, ◌<◌, ◌≤◌};
 ghost use Rattle.audit_terms.specs.Place.{place_of, place_number, place_stream};
-ghost use Rattle.audit_terms.specs.code.Places.{place_rank, no_place};
+ghost use Rattle.audit_terms.specs.code.Places.{place_rank, place_at, no_place};
 
 use std::marker::Model;
+
+/// How many ranks fit a place: 5 bits.
+const RANKS: u64 = 32;
+
+/// How many streams do: 31 bits (RFC 9113, 4.1).
+const STREAMS: u64 = 0x8000_0000;
+
+/// The first word past all places, whose frame numbers end at 2^28 - 2.
+const PAST_PLACES: u64 = 0x0fff_ffff * RANKS * STREAMS;
 
 /// Where a finding stands: frame number, rank and stream, which order it.
 ///
@@ -32,31 +41,38 @@ impl Place {
         ensures stream { place_stream result ≡ stream }
         ensures is_place { result < no_place }
     {
-        let high = u64::from(number) * 32 + u64::from(rank);
+        let high = u64::from(number) * RANKS + u64::from(rank);
         Place {
-            word: high * 0x8000_0000 + u64::from(stream),
+            word: high * STREAMS + u64::from(stream),
         }
+    }
+
+    /// The place that a word is, if it is one.
+    pub fn at_word(word: u64) -> Option<Self>
+        ensures { result ≡ place_at word }
+    {
+        (word < PAST_PLACES).then_some(Place { word })
     }
 
     /// The frame's number.
     pub fn number(self) -> u32
         ensures { result ≡ place_number self }
     {
-        (self.word >> 36) as u32
+        (self.word / STREAMS / RANKS) as u32
     }
 
     /// The rank, below 32.
     pub fn rank(self) -> u8
         ensures { result ≡ place_rank self }
     {
-        (self.word >> 31 & 31) as u8
+        (self.word / STREAMS % RANKS) as u8
     }
 
     /// The stream, below 2^31.
     pub fn stream(self) -> u32
         ensures { result ≡ place_stream self }
     {
-        (self.word & 0x7fff_ffff) as u32
+        (self.word % STREAMS) as u32
     }
 
     /// The place as one word, in the order of places.

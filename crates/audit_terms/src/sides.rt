@@ -48,6 +48,16 @@ pub struct Sides<T> {
 impl<T: Copy> Sides<T> {
     ghost use Rattle.audit_terms.specs.Sides.{side_of};
 
+    /// The same value for both endpoints.
+    pub fn both(value: T) -> Self
+        ensures { result ≡ record { client = value; server = value } }
+    {
+        Sides {
+            client: value,
+            server: value,
+        }
+    }
+
     /// The value of one endpoint.
     pub fn of(&self, side: Side) -> T
         ensures { result ≡ side_of side self.now }

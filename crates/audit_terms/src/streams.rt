@@ -20,10 +20,7 @@ impl Stream {
     {
         Stream {
             life: StreamLife::idle(),
-            window: Sides {
-                client: None,
-                server: None,
-            },
+            window: Sides::both(None),
         }
     }
 }

@@ -2,7 +2,6 @@ ghost use Rattle.std.specs.Prelude.{◌≡◌, length};
 ghost use Rattle.stop_desk.specs.code.Desk.{IsConnection, final_stop};
 
 use crate::passes::Pass;
-use crate::stops::stop_in;
 use audit_terms::Place;
 use std::alloc::Global;
 use std::marker::Model;
@@ -46,7 +45,7 @@ impl Closed {
         requires { IsConnection self.now.desk connection }
         ensures { result ≡ final_stop self.now connection }
     {
-        stop_in(self.table.word(connection + 1))
+        Place::at_word(self.table.word(connection + 1))
     }
 }
 

@@ -1,5 +1,6 @@
 ghost use Rattle.std.specs.Prelude.{◌≡◌, ◌<◌, [], ◌∷◌, map, drop, All, IfOk};
-ghost use Rattle.stop_desk.specs.code.Stop.{IsStop, place_at, stop_word};
+ghost use Rattle.audit_terms.specs.code.Places.{place_at};
+ghost use Rattle.stop_desk.specs.code.Stop.{IsStop, stop_word};
 ghost use Rattle.stop_desk.specs.code.Desk.{desk_of, pass_of, closed_of, all_draws, pass_draws};
 ghost use Rattle.stop_desk.specs.code.Settled.{Settled};
 

@@ -7,7 +7,6 @@ ghost use Rattle.stop_desk.specs.code.Plays.{kept_part, given_part};
 use crate::claims::Claim;
 use crate::desks::Desk;
 use crate::rule::{Amount, Divide, Draw, Knows, Learn, Look, Lower, Unite};
-use crate::stops::stop_in;
 use atomic_table::Seat;
 use audit_terms::Place;
 use std::marker::{Brand, Model};
@@ -113,7 +112,7 @@ impl Pass {
             .table
             .shared
             .load::<Look>(&mut self.seat, connection + 1);
-        stop_in(word)
+        Place::at_word(word)
     }
 
     /// Lowers the stop of a connection to a place, where it is not lower already.

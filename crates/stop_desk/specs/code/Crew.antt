@@ -1,6 +1,6 @@
 -- What a crew leaves on a desk.
 use Rattle.std.specs.Prelude.{◌≡◌, ℕ, ◌+◌, List, [], ◌∷◌, Option, map, drop, Contains}
-use Rattle.stop_desk.specs.code.Stop.{place_at}
+use Rattle.audit_terms.specs.code.Places.{place_at}
 use Rattle.stop_desk.specs.code.Desk.{DeskId, ClosedView, final_stop}
 use Rattle.stop_desk.specs.code.Board.{Job, IsSettled}
 use Rattle.stop_desk.specs.declared.parts.Part.{Part}

@@ -2,7 +2,7 @@
 use Rattle.std.specs.Prelude.{ℕ, ◌+◌, ◌*◌, ◌<◌, List, [], Option, length, slice_index}
 use Rattle.atomic_table.specs.Seated.{TableId}
 use Rattle.stop_desk.specs.code.Counts.{marks}
-use Rattle.stop_desk.specs.code.Stop.{place_at}
+use Rattle.audit_terms.specs.code.Places.{place_at}
 
 -- Which desk it is: no two desks share one table. `opened` are the words that it was opened with: 0, the first number
 -- to draw, and a stop for each connection.

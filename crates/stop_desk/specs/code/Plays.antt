@@ -3,7 +3,7 @@ use Rattle.std.specs.Prelude.{◌≡◌, ℕ, ◌+◌, ◌-◌, ◌^◌, ◌<◌
 use Rattle.atomic_table.specs.Table.{Me, Step}
 use Rattle.stop_desk.specs.declared.rule.Knows.{Knows}
 use Rattle.stop_desk.specs.code.Counts.{times, marks}
-use Rattle.stop_desk.specs.code.Stop.{past_places}
+use Rattle.audit_terms.specs.code.Places.{past_places}
 use Rattle.stop_desk.specs.code.Rule.{knows}
 
 abbrev pub PassState : Type 0

@@ -7,7 +7,7 @@ use Rattle.atomic_table.specs.Table.{State}
 use Rattle.stop_desk.specs.declared.rule.Knows.{Knows}
 use Rattle.stop_desk.specs.declared.rule.Opening.{Opening}
 use Rattle.stop_desk.specs.code.Counts.{weigh, times, once_below, marks}
-use Rattle.stop_desk.specs.code.Stop.{past_places}
+use Rattle.audit_terms.specs.code.Places.{past_places}
 
 abbrev pub knows : (opened : List ℕ) → (allowance : ℕ) → (drawn : List ℕ) → (seen lowered : List (ℕ × ℕ)) → Knows
 knows opened allowance drawn seen lowered =

@@ -18,5 +18,5 @@ returns-clause-desk c =
     rw (← c.self.view_is, c.load-word.ensures.0, (c.load-word.ensures.2 c.args.connection refl).added)
 
 pub returns-clause-seen : goal.returns-clause-seen
-returns-clause-seen c = rw (← c.self.view_is, c.stop_in.ensures, c.load-word.ensures.0)
+returns-clause-seen c = rw (← c.self.view_is, c.at_word.ensures, c.load-word.ensures.0)
     (looks _ _ c.args.connection _ _ _ (c.load-word.ensures.2 c.args.connection refl))
