@@ -1,12 +1,10 @@
-ghost use Rattle.std.specs.Prelude.{◌≡◌, ◌==◌, ◌++◌, ◌&&◌, pos, is_none, IfOk, OnOk};
-ghost use Rattle.std.specs.List.{find};
+ghost use Rattle.std.specs.Prelude.{◌≡◌, ◌++◌, ◌&&◌, pos, is_none, IfOk, OnOk};
 ghost use Rattle.audit_terms.specs.declared.kinds.Kind.TheVariants.{UnmatchedAck};
 ghost use Rattle.audit_terms.specs.Sides.{side_of};
 ghost use Rattle.audit_terms.specs.Frame.{is_ack};
-ghost use Rattle.audit_terms.specs.Finding.{finding_at, in_order, say};
+ghost use Rattle.audit_terms.specs.Finding.{finding_at, say};
 ghost use Rattle.audit_terms.specs.LocalFault.{local_said};
-ghost use Rattle.audit_terms.specs.code.runs.Orderly.{IsInRange};
-ghost use Rattle.audit_terms.specs.code.runs.Orderly.{IsOrderly};
+ghost use Rattle.audit_terms.specs.code.runs.Orderly.{IsInRange, IsOrderly};
 ghost use Rattle.audit_terms.specs.Pass.{pass};
 
 use crate::rows::{idle_rows, meet_all, opens};
@@ -25,19 +23,13 @@ pub fn one_pass(alloc: Global, frames: &[Frame]) -> Result<Vec<Finding>, AllocEr
     ensures { IfOk result (λ found. found.items ≡ pass frames.now) }
 {
     let mut found = Vec::new(alloc);
-    let mut previous = Sides {
-        client: None,
-        server: None,
-    };
+    let mut previous = Sides::both(None);
     let pairs = pair(alloc, frames)?;
-    let mut in_force = Sides {
-        client: FIRST_WINDOW,
-        server: FIRST_WINDOW,
-    };
+    let mut in_force = Sides::both(FIRST_WINDOW);
     let mut connection = ConnectionState::start();
     let mut rows = idle_rows(alloc, frames)?;
     for frame in frames {
-        let change = change_at(&pairs.changes, frame.number);
+        let change = pairs.change_at(frame.number);
         let mut said = Vec::new(alloc);
         say_alone(&mut said, &previous, frame, &change)?;
         let item = Item {
@@ -47,7 +39,8 @@ pub fn one_pass(alloc: Global, frames: &[Frame]) -> Result<Vec<Finding>, AllocEr
         };
         say_connection(&mut said, &mut connection, &item)?;
         meet_all(&mut rows, &mut said, &in_force, &item)?;
-        add_in_order(&mut found, &mut said)?;
+        put_in_order(&mut said)?;
+        found.append(&mut said)?;
         keep_last(&mut previous, frame);
         in_force = initial_after(&change, &in_force);
     }
@@ -72,21 +65,5 @@ fn say_alone(
     say_local(found, &previous.of(frame.side), frame)?;
     let kind = Kind::UnmatchedAck;
     let ack = Finding::at(kind, frame.number, frame.stream, frame.side, 0);
-    let is_unmatched = frame.body.is_ack() & change.is_none();
-    say_if(found, is_unmatched, ack)
-}
-
-/// Adds what a frame shows, in order.
-fn add_in_order(found: &mut Vec<Finding>, said: &mut Vec<Finding>) -> Result<(), AllocError>
-    ensures { OnOk result (found.new.items ≡ found.old.items ++ in_order said.old.items) }
-{
-    put_in_order(said)?;
-    found.append(said)
-}
-
-/// The change of this number.
-fn change_at(changes: &[Change], number: u32) -> Option<Change>
-    ensures { result ≡ find (λ change. change.number == number) changes.now }
-{
-    changes.iter().copied().find(|one| one.number == number)
+    say_if(found, frame.body.is_ack() & change.is_none(), ack)
 }

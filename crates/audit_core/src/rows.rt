@@ -1,10 +1,10 @@
 ghost use Rattle.std.specs.Prelude.{◌≡◌, ℕ, ◌+◌, ◌-◌, ◌^◌, ◌≤◌, ◌++◌, List, map, IfOk, OnOk};
 ghost use Rattle.std.specs.List.{flat_map, list_any, AllByRecursion};
 ghost use Rattle.audit_terms.specs.Pass.{first_of, streams_of};
-ghost use Rattle.audit_terms.specs.code.runs.Streams.{IsAcknowledged};
-ghost use Rattle.audit_core.specs.code.StreamRows.{idle_rows, row_opens, step_at, row_said, row_after, RowFits};
+ghost use Rattle.audit_terms.specs.code.runs.Streams.{IsAcknowledged, step_at};
+ghost use Rattle.audit_core.specs.code.StreamRows.{idle_rows, row_opens, row_said, row_after, RowFits};
 
-use audit_terms::{Finding, Frame, Item, Sides, Step, Stream};
+use audit_terms::{Finding, Frame, Item, Sides, Stream};
 use fault_rules::say_stream;
 use std::alloc::{AllocError, Global};
 
@@ -49,18 +49,6 @@ pub fn opens(rows: &[StreamRow], frame: &Frame) -> bool
         && row.entry.life.is_opening(row.stream, frame))
 }
 
-/// What a stream meets at an item.
-fn step_at(item: &Item, stream: u32) -> Step
-    ensures { result ≡ step_at item.now stream }
-{
-    let met = item.frame.meets(stream);
-    Step {
-        number: item.frame.number,
-        frame: if met { Some(item.frame) } else { None },
-        change: item.change,
-    }
-}
-
 /// Adds what each stream shows at an item, and brings it to its state after the item; `initial` are the initial windows
 /// in force before it.
 pub fn meet_all(
@@ -81,7 +69,7 @@ pub fn meet_all(
     let Some((row, others)) = rows.split_first_mut() else {
         return Ok(());
     };
-    let step = step_at(item, row.stream);
+    let step = item.step_at(row.stream);
     say_stream(found, &mut row.entry, row.stream, initial, &step)?;
     meet_all(others, found, initial, item)
 }

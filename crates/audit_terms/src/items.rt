@@ -34,6 +34,21 @@ pub struct Step {
     pub change: Option<Change>,
 }
 
+impl Item {
+    ghost use Rattle.audit_terms.specs.code.runs.Streams.{step_at};
+
+    /// What a stream meets at this item.
+    pub fn step_at(&self, stream: u32) -> Step
+        ensures { result ≡ step_at self.now stream }
+    {
+        Step {
+            number: self.frame.number,
+            frame: self.frame.meets(stream).then_some(self.frame),
+            change: self.change,
+        }
+    }
+}
+
 impl Step {
     ghost use Rattle.audit_terms.specs.Frame.{content_by, grant_to};
     ghost use Rattle.audit_terms.specs.Life.{is_last_of, ends_window};

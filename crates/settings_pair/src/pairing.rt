@@ -19,6 +19,21 @@ pub struct Pairs {
     pub findings: Vec<Finding>,
 }
 
+impl Pairs {
+    ghost use Rattle.std.specs.Prelude.{◌==◌};
+    ghost use Rattle.std.specs.List.{find};
+
+    /// The change that the frame of this number brings, where it is one of those that do.
+    pub fn change_at(&self, number: u32) -> Option<Change>
+        ensures { result ≡ find (λ change. change.number == number) self.now.changes.items }
+    {
+        self.changes
+            .iter()
+            .copied()
+            .find(|one| one.number == number)
+    }
+}
+
 /// The changes and the unmatched acknowledgements of a connection's frames.
 pub fn pair(alloc: Global, frames: &[Frame]) -> Result<Pairs, AllocError>
     requires { IsOrderly frames.now }

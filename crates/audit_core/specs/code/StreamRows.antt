@@ -1,15 +1,14 @@
 -- The streams that `one_pass` keeps, a row for each.
-use Rattle.std.specs.Prelude.{ℕ, ◌^◌, ◌<◌, ◌==◌, ◌&&◌, if◌then◌else◌, Bool, List, map, Some, None}
+use Rattle.std.specs.Prelude.{ℕ, ◌^◌, ◌<◌, ◌==◌, ◌&&◌, Bool, List, map}
 use Rattle.audit_terms.specs.declared.sides.Sides.{Sides}
 use Rattle.audit_terms.specs.declared.frames.Frame.{Frame}
 use Rattle.audit_terms.specs.declared.items.Item.{Item}
-use Rattle.audit_terms.specs.declared.items.Step.{Step}
 use Rattle.audit_terms.specs.declared.streams.Stream.{Stream}
 use Rattle.audit_terms.specs.declared.findings.Finding.{Finding}
-use Rattle.audit_terms.specs.Frame.{meets}
 use Rattle.audit_terms.specs.Life.{is_opening}
 use Rattle.audit_terms.specs.Stream.{idle_stream, stream_after, stream_said}
 use Rattle.audit_terms.specs.code.Room.{WindowHasRoom}
+use Rattle.audit_terms.specs.code.runs.Streams.{step_at}
 use Rattle.audit_core.specs.declared.rows.StreamRow.{StreamRow}
 
 -- the rows of these streams, each as it is among all streams
@@ -23,14 +22,6 @@ idle_rows streams = rows_in (λ _. idle_stream) streams
 -- is the frame on the stream of the row, and does it open that stream?
 abbrev pub row_opens : Frame → StreamRow → Bool
 row_opens frame row = (row.stream == frame.stream) && is_opening row.stream row.entry.life frame
-
--- what a stream meets at the frame of an item
-abbrev pub step_at : Item → (stream : ℕ) → Step
-step_at item stream = record {
-  number = item.frame.number;
-  frame = (if meets stream item.frame then Some item.frame else None);
-  change = item.change;
-}
 
 -- what a row shows at an item
 abbrev pub row_said : Sides ℕ → Item → StreamRow → List Finding

@@ -7,7 +7,13 @@ use Rattle.audit_core.proofs.passes.one_pass.Goals as goal
 
 pub loop-frame-init : goal.loop-frame-init
 loop-frame-init c =
-    rw (c.start-connection.ensures, c.in_ok-rows.ensures, c.new-found.ensures.items)
+    rw (
+      c.start-connection.ensures,
+      c.in_ok-rows.ensures,
+      c.new-found.ensures.items,
+      c.both-previous.ensures,
+      c.both-in_force.ensures,
+    )
     (pass-begins c.args.frames.now _ c.requires c.in_ok-pairs.ensures.changes)
 
 pub say_connection-requires : goal.say_connection-requires
@@ -18,11 +24,10 @@ say_connection-requires c =
 pub meet_all-requires : goal.meet_all-requires
 meet_all-requires c =
     let at = rw (drop-at c.args.frames.now _ _ c.frame-item.is c.loop-frame-test.true) at c.loop-frame.invariant in
-    let is = rw c.deref.ensures.value at c.change_at-change.ensures in
     let below = at.orderly.1.number in record {
       numbered = omega arith;
       acknowledged = λ stream change e. step_of-acknowledged at.state.in_force c.frame-item.result stream change
-          (sym (brings at is) ∙ e);
+          (sym (brings at c.change_at-change.ensures) ∙ e);
       fits = rw c.deref_mut.ensures.value (room at).rows;
     }
 
@@ -38,10 +43,11 @@ loop-frame-preserved c =
     let long : c.loop-frame.rows.len ≡ length c.meet_all.new.rows =
     omega (arith, c.meet_all.auto.rows, c.deref_mut.ensures.len) in
     rw (long, take-append_seam) (pass-next at c.opens.result c.change_at-change.result
-    (rw c.deref.ensures.value at c.change_at-change.ensures)
-    (rw c.deref-in-loop-frame.ensures.value at c.opens.ensures) own
+    c.change_at-change.ensures
+    (rw c.deref.ensures.value at c.opens.ensures) own
     (rw c.new-said.ensures.items at c.in_ok-say_alone.ensures) c.in_ok-say_connection.ensures.said
-    (rw rows at c.in_ok-meet_all.ensures.said) c.in_ok-add_in_order.ensures
+    (rw rows at c.in_ok-meet_all.ensures.said)
+    (rw c.in_ok-put_in_order.ensures.ok at c.in_ok-append.ensures.items)
     c.keep_last.ensures c.initial_after-in_force.ensures c.in_ok-say_connection.ensures.after
     (rw rows at c.in_ok-meet_all.ensures.after) c.say_connection.ensures.client c.say_connection.ensures.server
     (rw rows at c.in_ok-meet_all.ensures.fits))

@@ -6,6 +6,7 @@ use Rattle.std.specs.Option.{ForSome}
 use Rattle.audit_terms.specs.declared.sides.Sides.{Sides}
 use Rattle.audit_terms.specs.declared.frames.Frame.{Frame}
 use Rattle.audit_terms.specs.declared.items.Change.{Change}
+use Rattle.audit_terms.specs.declared.items.Item.{Item}
 use Rattle.audit_terms.specs.declared.items.Step.{Step}
 use Rattle.audit_terms.specs.declared.streams.Stream.{Stream}
 use Rattle.audit_terms.specs.declared.findings.Finding.{Finding}
@@ -41,6 +42,14 @@ stream_after_all stream initial entry (step ∷ steps) =
 -- the frames that one stream meets
 abbrev pub frames_of : (stream : ℕ) → List Frame → List Frame
 frames_of stream frames = filter (meets stream) frames
+
+-- what a stream meets at the frame of an item
+abbrev pub step_at : Item → (stream : ℕ) → Step
+step_at item stream = record {
+  number = item.frame.number;
+  frame = (if meets stream item.frame then Some item.frame else None);
+  change = item.change;
+}
 
 -- a frame alone
 abbrev pub frame_step : Frame → Step
