@@ -75,6 +75,7 @@ read-on old new number s ready number_is one offset_is to_come_is d frame frame_
     let low : 9 * number ≤ old.offset + 9 = rw number_is at ready.next in
     let size = size_of_taken s (bytes_of old.bytes) new.bytes one in
     let readable : IsReadable frame = rw frame_is (record {
+      number = omega arith;
       stream = one.stream_fits;
       promised = promised-fits s one.makes;
       length = one.length_fits;

@@ -1,9 +1,9 @@
 -- What single steps of the code leave. Public clauses cite these only through Walk.
-use Rattle.std.specs.Prelude.{ℕ, ◌<◌, ◌^◌, List, [], ◌∷◌, nat_lt, ◌&&◌, not, ◌==◌, if◌then◌else◌, Some, is_none}
+use Rattle.std.specs.Prelude.{ℕ, List, [], ◌∷◌, nat_lt, ◌&&◌, not, ◌==◌, if◌then◌else◌, Some, is_none}
 use Rattle.tcp_streams.specs.declared.streams.Arrival.{Arrival}
 use Rattle.audit_terms.specs.declared.frames.Frame.{Frame}
 use Rattle.audit_terms.specs.declared.settings.Settings.{Settings}
-use Rattle.audit_terms.specs.Frame.{promised_in}
+use Rattle.audit_terms.specs.code.runs.Orderly.{IsInRange}
 use Rattle.h2_frames.specs.declared.settings.Setting.{Setting}
 use Rattle.h2_frames.specs.Settings.{is_in_range}
 
@@ -22,8 +22,5 @@ arrivals_from offset [] = []
 arrivals_from offset (a ∷ later) = if nat_lt offset a.upto then a ∷ later else arrivals_from offset later
 
 -- a frame that is in range but for its number
-pub record IsReadable (frame : Frame) : Type 0 where
-  pub stream : frame.stream < 2 ^ 31
-  pub promised : promised_in frame.body < 2 ^ 31
-  pub length : frame.length < 2 ^ 24
-  pub nanos : frame.nanos < 2 ^ 63
+abbrev pub IsReadable : Frame → Type 0
+IsReadable frame = IsInRange (record frame { number = 0 })
