@@ -82,8 +82,8 @@ deb: $(PROGRAM) $(SPLIT)
 		tools/package/build_deb.sh "$$stage" "$(abspath $(PACKAGES))"
 
 # What tells in two minutes on four processors whether a change holds together, and proves nothing: layout, types of
-# Python, the front end on every crate but the few lines of h2audit_cli, the tests of calls, and the definitions to
-# believe. With CRATE=NAME it proves that crate.
+# Python, the front end on every crate but the few lines of h2audit_cli, the tests of calls, the definitions to believe,
+# and their storeys. With CRATE=NAME it proves that crate.
 check:
 ifdef CRATE
 	cd crates/$(CRATE) && rt check
@@ -103,8 +103,9 @@ check-split:
 check-sources check-believed check-storeys: check-%:
 	tools/tests/$*_test.py
 
-# The gate: proves every crate from nothing, tries the must-fail edits, runs the tests and the programs; and asks the
-# programs, as both compilers built them, for whole reports and for parts.
+# The gate: proves the crates, tries the must-fail edits, runs the tests and the programs; and asks the programs, as
+# both compilers built them, for whole reports and for parts. The first "rt ci" on a machine proves and tries all, a
+# later one what changed and what stands above it; "rt ci --anew" does all again.
 test:
 	RT_JOBS=$(RT_JOBS) rt ci
 	tests/command_test.py $(PROGRAM) $(PROGRAM).by-rattle
