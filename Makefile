@@ -24,7 +24,7 @@ run:
 	@echo 'A build without proof: about a minute on four idle cores.'
 	@captures=$$(mktemp -d) && trap 'rm -r "$$captures"' EXIT && cp $(FIRST) "$$captures" && \
 		cd crates/h2audit_cli && rt try --cases "$$captures" -- {}
-	@echo 'Nothing of this build was proved. "make build" proves the program and builds it (some 18 minutes on four cores),'
+	@echo 'Nothing of this build was proved. "make build" proves the program and builds it (some 20 minutes on four processors),'
 	@echo 'and "make install" puts it in place as h2audit.'
 
 # Proves all that the programs stand on, builds them, and leaves them as PROGRAM and SPLIT.
