@@ -41,7 +41,7 @@ impl Finding {
     }
 
     /// Is it shown, where credits are shown or are not?
-    pub fn is_shown(&self, credits_shown: bool) -> bool
+    pub(crate) fn is_shown(&self, credits_shown: bool) -> bool
         ensures { result ≡ is_shown credits_shown self.now }
     {
         credits_shown || !self.kind.is_credit()

@@ -48,7 +48,7 @@ impl Body {
         matches!(self, Body::Headers)
     }
 
-    pub fn is_reset(&self) -> bool
+    pub(crate) fn is_reset(&self) -> bool
         ensures { result ≡ is_reset self.now }
     {
         matches!(self, Body::RstStream)
@@ -76,7 +76,7 @@ impl Body {
         }
     }
 
-    pub fn is_promise(&self) -> bool
+    pub(crate) fn is_promise(&self) -> bool
         ensures { result ≡ is_promise self.now }
     {
         matches!(self, Body::PushPromise(_))
@@ -172,7 +172,7 @@ impl Frame {
     }
 
     /// Does a side reset the stream with this frame (6.4)?
-    pub fn sends_reset(&self, side: Side) -> bool
+    pub(crate) fn sends_reset(&self, side: Side) -> bool
         ensures { result ≡ sends_reset side self.now }
     {
         side == self.side && self.body.is_reset()
@@ -186,14 +186,14 @@ impl Frame {
     }
 
     /// Is it a HEADERS of the client (6.2)?
-    pub fn is_client_headers(&self) -> bool
+    pub(crate) fn is_client_headers(&self) -> bool
         ensures { result ≡ is_client_headers self.now }
     {
         Side::Client == self.side && self.body.is_headers()
     }
 
     /// Does the server promise this stream, an even one, by a frame on another stream (5.1.1, 6.6)?
-    pub fn promises(&self, stream: u32) -> bool
+    pub(crate) fn promises(&self, stream: u32) -> bool
         ensures { result ≡ promises stream self.now }
     {
         self.is_server_promise()
