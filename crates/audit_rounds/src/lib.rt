@@ -1,25 +1,19 @@
 //! The audit of connections, divided over workers: [`findings_of_each`] shows of each connection what one pass over its
-//! frames does (RFC 9113, 5.4.1), for every [`Division`] and every interleaving of the workers.
+//! frames does (RFC 9113, 5.4.1), for every [`Division`] and every interleaving of the workers. docs/ARCHITECTURE.md
+//! has the rounds in a table, and says which connections go through them, and when in halves ("How the work is
+//! divided").
 //!
-//! - The work is done in rounds, each over all connections of a batch, and each of jobs that workers draw. As a job
-//!   goes on, it looks where its connection stops by now, each time that a look is due, and goes no further than it has
-//!   to; where it finds a connection error, it lowers the stop.
-//! - In the round over streams, a job is a group of those of a connection, but for the quiet ones, of which nothing is
-//!   shown: those are told when the connection is split. With what the split tells of them, this tells which frames
-//!   open streams. A job goes through its streams one after the other, and makes the looks that are due of each. It
-//!   went up to the least of the places at which their runs stopped (`IsWork` of `specs/code/Streams.antt`).
-//! - What a connection shows by itself, up to its stop, is found in blocks of its frames. A second round sums them, and
-//!   the sums carry the connection's state from block to block. The third goes through the blocks that are not clear,
-//!   each from the state before it; where credits are shown, through all of them.
+//! - In the round over streams, a job is a group of those of a connection, but for the quiet ones, which are told when
+//!   the connection is split. A job goes through its streams one after the other, makes the looks that are due of each,
+//!   and goes up to the least of the places at which their runs stop (`IsWork` of `specs/code/Streams.antt`). With what
+//!   the split tells of quiet streams, it tells which frames open streams.
+//! - What a connection shows by itself, up to its stop, is found in blocks of its frames. Their sums carry its state
+//!   from block to block, so a block is gone through from the state before it: each that is not clear, or all where
+//!   credits are shown.
 //! - What its blocks show is merged with all that was found of a connection before, the faults of single frames and the
 //!   acknowledgements that answer nothing among it. That is cut at the first error, and so makes the pass.
-//! - A batch is consecutive connections that have not too many frames together: it bounds what the rounds need beside
-//!   the frames, and lets threads start once for many small connections. It has 2^28 frames at most, whatever the
-//!   connections, so each round has fewer than 2^32 jobs, and want of memory is answered only where a growth was
-//!   refused.
-//! - A connection without frames goes through no round. Of a long connection a front goes through the rounds first:
-//!   what an early error ends is then neither split nor gone through. Many short connections go in halves of as many
-//!   frames, side by side, each with half of the workers.
+//! - A batch of connections has 2^28 frames at most, whatever the connections, so each round has fewer than 2^32 jobs,
+//!   and want of memory is answered only where a growth was refused.
 //! - [`laws::rounds_make_the_pass`]: local faults, unmatched acknowledgements, what is shown of the streams and of the
 //!   blocks make what is shown of the pass, for every division of the frames into blocks. Credits that no line shows
 //!   are left out of each of these first, which changes nothing, since a credit never stops an audit.

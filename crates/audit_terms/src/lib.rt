@@ -13,13 +13,13 @@
 //!   shows of them, and makes of them, is said by the calls of `fault_rules`; a life goes on by itself.
 //! - [`Count`] is what a step does to the credit of a window, with the tests of it: stalls, an overrun, an overflow;
 //!   and what is left of a window that a grant overflows.
-//! - [`PackedSettings`], [`Word`] and [`Length`] need no alignment, so that a frame takes 40 bytes; contracts see the
-//!   settings and the numbers that they hold.
+//! - [`PackedSettings`], [`Word`] and [`Length`] need no alignment, so that a frame takes fewer bytes; contracts see
+//!   the settings and the numbers that they hold.
 //! - [`Place`], [`Kind`] and [`Finding`] say where a finding stands, what it says and whether it stops the audit;
 //!   [`put_in_order`], [`cut_at_stop`], [`keep_up_to`] and [`keep_shown`] order findings, end them and drop credits.
-//! - [`Look`] and [`Watch`]: a run asks where its connection stops before its first step, and again before the next one
-//!   after each 256 steps. The steps of a stream's run are its frames and the changes that find a live window of it;
-//!   those of a block's run are its frames. A look is handed what is shown of the steps before it.
+//! - [`Look`] and [`Watch`]: a run asks where its connection stops, and hands each look what is shown of the steps
+//!   before it. When a look is due, `specs/code/runs/Look.antt` says, and docs/ARCHITECTURE.md ("How the work is
+//!   divided").
 //! - [`laws`]: places stand in the order of frame number, rank and stream, and none is all ones.
 //! - Each contract gives exactly what its definition says. The order of findings goes on from the place to side, kind
 //!   and value, so it is total, and putting in order asks for no condition.

@@ -10,10 +10,11 @@
 //! - The part of a record hangs on the front of its packet, 82 bytes (`part_at`): on its endpoints, where those of an
 //!   IPv4 datagram of TCP stand there (`specs/Pair.antt`), else on the record's number, which spreads all other
 //!   traffic.
-//! - The contract of `split_capture` (`AreSplit` of `specs/Parts.antt`) says this of any reader and any writers: the
-//!   reader gave some bytes to its end, and each part grew by its own of these. A part that would reach 2^31 bytes is
-//!   full: it gets nothing more, names the endpoints of the record that it had no room for ([`Part::full`]), and its
-//!   size with that record is proved to be 2^31 or more. Of a file no contract can say what it gives or takes.
+//! - The contract of `split_capture` (`AreSplit` of `specs/Parts.antt`) says this of any reader and any writers that
+//!   tell their bytes: the reader gave some bytes to its end, and each part that is not full grew by its own of these.
+//!   A part that would reach 2^31 bytes is full: it gets nothing more, names the endpoints of the record that it had no
+//!   room for ([`Part::full`]), and its size with that record is proved to be 2^31 or more. Of a file no contract can
+//!   say what it gives or takes.
 //! - There is a part ([`part_count`]), and the buffer is long enough for a packet's front ([`make_buffer`]).
 //! - [`laws`]: a record goes to one part, whole; a packet in which `packet_heads` finds a segment names that segment's
 //!   endpoints in its front; either order of two endpoints goes to the same part; the records are those that the reader

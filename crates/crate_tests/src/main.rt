@@ -1,5 +1,5 @@
 //! Tests of calls, as a program that prints a line for each: its name, and `Ok(true)` where what it compares is the
-//! same. Each line is one that no contract gives.
+//! same. Most lines are of what no contract says; the others show in numbers, or on random frames, what one says.
 //!
 //! - What the calls answer is proved in their own crates, and worked out by proof in their `worked_examples`; no test
 //!   repeats an equation.

@@ -14,8 +14,8 @@
 //!   sum wraps; that bound is bookkeeping of code (`Room` of `audit_terms`).
 //! - [`local_faults`] answers exactly `local_run` of `audit_terms`, one walk over the frames that knows no shares. The
 //!   code divides the frames into a share for each worker, of 4,096 frames at least. All that a share needs of those
-//!   before it is the last frame of each side. That is carried from share to share first, by a look back from each
-//!   share's end as far as the frame sought, so that no frame is looked at more than once for each side. The shares'
+//!   before it is the last frame of each side. That is carried from share to share first, by going back from each
+//!   share's end as far as the frame sought, so that no frame is read more than once for each side. The shares'
 //!   findings are joined in order, whichever thread was done first.
 //! - Tested by whole reports: that the calls succeed where there is memory, once over several shares.
 //! - Trusted: the port of `rayon`, which starts the threads; that several work at once is not proved.

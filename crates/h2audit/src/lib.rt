@@ -18,12 +18,10 @@
 //!   what the words ask for and nothing else (`Ends` of `specs/Program.antt`).
 //! - [`parse`] says what the words of a command line ask for, by `clap`'s own definition of the command (`Asks` of
 //!   `specs/Asked.antt`): an audit with its [`Options`], help, the version or why the words are refused. [`Options`]
-//!   refuses numbers out of range. [`laws::known_words`] computes seven command lines. [`ending`] is status and line.
+//!   refuses numbers out of range. [`laws::known_words`] computes eight command lines. [`ending`] is status and line.
 //! - 2^31 bytes, at which reading stops, are refused as the whole is. Where the file header refuses a capture, it alone
 //!   is kept (`brief`), since what follows changes no answer (`pcap_records::laws::header_refuses`).
-//! - Packets are made, and connections found, while the capture is read. Round 0 has a job for each connection, which
-//!   makes both of its flows, and meets their frames where credits are not shown. What may show something goes through
-//!   the rounds of `audit_rounds`. docs/ARCHITECTURE.md follows the data all the way.
+//! - docs/ARCHITECTURE.md follows the data all the way through the crates, and says how workers divide the work.
 //! - Refused by the prover: an empty report, a verdict by errors alone, standard input read beside FILE, the path of
 //!   the capture left out.
 //! - Tested, in `crate_tests`: the texts of faults; in `tests/` at the root: what the program answers to words, the

@@ -13,14 +13,11 @@
 //! - Packet n is record n's, there are fewer than 2^32 of them, and times are below 2^63 nanoseconds.
 //! - Payloads lie in the capture in order and apart. Of one packet it is said only that it lies in its record, which is
 //!   bookkeeping (`specs/code/Standing.antt`); the order is proved from it.
-//! - A packet is held as a mark of 4 bytes, and a segment in 44 more ([`MadePackets`]): so records of a capture that
-//!   hold no segment take 4 bytes each. A mark counts through the eleven packets that are passed over, and then through
-//!   the segments (`specs/code/Marks.antt`). [`Packets`] reads both as the one list that contracts speak of, and a
-//!   segment where it lies.
-//! - Marks and segments are made in chunks of [`PACKET_CHUNK`], 8,192. The first chunk has its whole room at once,
-//!   where there is memory for it; nothing is copied from one chunk into another, and no record is kept beside its
-//!   packet. A record is read where it lies in the capture; only one in which chunks of the capture meet is gathered
-//!   first, and freed at once.
+//! - A packet is held as a mark, and a segment beside it where it is one ([`MadePackets`]). A mark counts through the
+//!   eleven packets that are passed over, and then through the segments (`specs/code/Marks.antt`). [`Packets`] reads
+//!   both as the one list that contracts speak of, and a segment where it lies.
+//! - Marks and segments are made in chunks of [`PACKET_CHUNK`]. The first chunk has its whole room at once, where there
+//!   is memory for it; nothing is copied from one chunk into another, and no record is kept beside its packet.
 //! - What a walk has made of a front stands whatever bytes come behind it, since it makes a packet only where all of
 //!   its record has come (`specs/code/Walk.antt`). So the packets are the same however the capture came.
 //! - Checksums have no effect, since a sender's own capture has them unfilled where the network card computes them.

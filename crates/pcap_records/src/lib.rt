@@ -23,7 +23,7 @@
 //!   cut records.
 //! - Refused by the prover: a walk that begins with the file header, or goes on in another order of bytes; a refusal
 //!   left out.
-//! - Tested, in `crate_tests`: that `records` succeeds where there is memory, and how faults print.
+//! - Tested, in `crate_tests`: how faults print; by whole reports: that a walk succeeds where there is memory.
 #![tactic(auto)]
 
 mod capture;

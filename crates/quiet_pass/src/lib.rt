@@ -9,15 +9,18 @@
 //! - SETTINGS are kept until the end: connections have few. A change that moves an initial window goes over all streams
 //!   (RFC 9113, 6.9.2); after 64 of these it gives up, so that frames cost a bounded time each. A change that moves
 //!   none costs nothing.
-//! - A stream that is opened has a row of 16 bytes: how each side stands is one number, since each live window has
-//!   credit. The client opens odd streams in rising order, and the server promises even ones so (5.1.1): a row is found
-//!   by a guess, and else by halving. A stream that does not open past all before it is a reason to give up, as is any
-//!   use of one that is not opened. PRIORITY and frames of unknown types do nothing to such a stream.
+//! - A stream that is opened has a row: how each side stands is one number, since each live window has credit. The
+//!   client opens odd streams in rising order, and the server promises even ones so (5.1.1): a row is found by a guess,
+//!   and else by halving. A stream that does not open past all before it is a reason to give up, as is any use of one
+//!   that is not opened. PRIORITY and frames of unknown types do nothing to such a stream.
 //! - A row answers each kind of frame on its stream by the same rule, ends and resets too.
 //! - Frames cost no memory, but for a new stream and SETTINGS. No sum wraps, and nothing is asked of the caller:
 //!   credits are kept in 32 bits, and each sum is made in 64.
-//! - Refused by the prover: content of a reset stream that the connection does not count (5.1). That it gives up only
-//!   where something may be shown, and succeeds where there is memory, no contract says.
+//! - Refused by the prover: content of a reset stream that the connection does not count (5.1).
+//! - Tested, in `threads_test.py`: that connections of which nothing is shown go through no round, so that it does not
+//!   give up there. By whole reports: that it succeeds where there is memory.
+//! - Neither proved nor tested: that it gives up only where something may be shown. Where it does, the rounds say what
+//!   is.
 #![tactic(auto)]
 
 mod connections;

@@ -1,45 +1,42 @@
 //! Jobs, the places at which connections stop, and the workers that draw the jobs. It deals numbered jobs to threads,
 //! where what one job finds can end others early. What the jobs are, it does not know; of the rounds of an audit it has
-//! the names ([`AuditRound`]).
+//! the names ([`AuditRound`]). docs/ARCHITECTURE.md draws the circle that a worker goes ("How the work is divided").
 //!
 //! - A [`Round`] says what its jobs are, as if nothing stopped them, and [`settle`] has a [`Team`] do them all: each
 //!   worker draws jobs, hands each a [`Look`](audit_terms::Look) at the stop of its connection, lowers the stop where a
-//!   finding ends the connection, and lays down a [`Part`]. There are no more workers than jobs.
-//! - [`crew`] works on a desk that is given, and leaves a settled board (`IsSettled` of `specs/code/Board.antt`), for
-//!   every number of workers and by whichever order they ran in: one part a job, each up to a place that was seen; each
-//!   error of a part was lowered; each stop is the least of its opening stop and what was lowered. So the stop is the
-//!   least error of its connection, and nothing is lost before it.
+//!   finding ends the connection, and lays down a [`Part`].
 //! - [`settle`] gives the parts in the order of jobs, with the stops read, and says of each part that it was not cut
 //!   below its connection's stop (`HasSettled` of `specs/code/Settling.antt`).
+//! - [`crew`] works on a desk that is given, and leaves a settled board (`IsSettled` of `specs/code/Board.antt`), for
+//!   every number of workers and by whichever order they ran in: one part a job, each up to a place that was seen; each
+//!   error of a part was lowered; each stop is the least of its opening stop and what was lowered.
 //! - Of an implementor's work a round asks that it keeps all findings up to a place, which is none or the answer of one
 //!   of its looks, and that it makes the looks that the round says are due (`IsCut`, `Heeds`). Work takes any look, and
 //!   so cannot know of desks. A worker's look owns the worker's pass while a job runs, and gives it back.
-//! - A worker's promise speaks of its own parts and its own pass, so the induction over workers has one step, a join of
-//!   two; closing the desk speaks of all. Each worker begins with one draw more than there are jobs, so it ends where
-//!   no job is left and never for want of draws. Want of memory is the one error; after it the desk is gone.
-//! - [`Gate`] holds workers back before they start a job, for tests. It has no say in the answer.
 //! - A [`Desk`] is shared by `&`, and each worker has a [`Pass`], made by [`Pass::split`] and given back by
 //!   [`Pass::join`]. [`Pass::claim`] draws the next number: each job goes to one worker, once. [`Pass::lower`] gives a
 //!   place for a connection; [`Pass::look`] answers a place that is at most each that this pass gave or saw there
 //!   before, and that the desk was opened with or some pass gave.
 //! - [`Desk::close`] takes the last pass, and the [`Closed`] desk tells how many numbers were drawn, each once, and the
 //!   least place of each connection (`Settled` of `specs/code/Settled.antt`).
-//! - The desk is one row of words: word 0 is the next number, and word c + 1 the stop of connection c, all ones where
-//!   there is none. No call waits or takes a lock, and none but [`Desk::make`] allocates. At run time a pass is its
-//!   allowance of draws; what it drew, saw and lowered is known to contracts alone. A pass that is dropped keeps what
-//!   it holds for ever, so after a failure nothing can be closed.
-//! - The steps of all threads stand in one order, and the desk's rule (`specs/code/Rule.antt`) holds between any two:
-//!   each number below word 0 was drawn once, word 0 and what may still be drawn add up, each stop is the least of its
-//!   opening word and what was lowered, and each place seen was given. Nothing is said of who draws what, nor that a
-//!   place is seen soon.
+//! - The desk is one row of words: word 0 is the next number, and each other word the stop of a connection. The steps
+//!   of all threads stand in one order, and the desk's rule (`specs/code/Rule.antt`) holds between any two: each number
+//!   below word 0 was drawn once, word 0 and what may still be drawn add up, each stop is the least of its opening word
+//!   and what was lowered, and each place seen was given. Nothing is said of who draws what, nor that a place is seen
+//!   soon.
+//! - No call waits or takes a lock, and none but [`Desk::make`] allocates. What a pass drew, saw and lowered is known
+//!   to contracts alone. A pass that is dropped keeps what it holds for ever, so after a failure nothing can be closed.
+//!   Want of memory is the one error; after it the desk is gone.
+//! - There are no more workers than jobs, and each begins with one draw more than there are jobs, so it ends where no
+//!   job is left and never for want of draws.
+//! - [`Gate`] holds workers back before they start a job, for tests. It has no say in the answer.
 //! - [`laws`] are about workers, and need no code. `specs/laws/Machine.antt` is a machine in which workers draw jobs,
 //!   look at stops, lower them and finish parts, an event each: a run is any list of allowed events, so any
 //!   interleaving. [`laws::run_settles`]: once every job is finished, the board is settled.
 //! - [`laws::board_merges`]: of each connection, the parts of a settled board give up to its stop what the whole jobs
-//!   would, and the stop is the least error of all. For each place seen is that of a real error, so none lies below the
-//!   least; each part has everything up to the place that it saw; so the least error is found, lowered and kept.
-//!   [`laws::cuts_join`], [`laws::rounds_join`]: parts of several streams make one, and rounds go one after the other.
-//!   [`worked_rounds`] shows two workers with a stop that one sees, and steps that no worker may take.
+//!   would, and the stop is the least error of all. [`laws::cuts_join`], [`laws::rounds_join`]: parts of several
+//!   streams make one, and rounds go one after the other. [`worked_rounds`] shows two workers with a stop that one
+//!   sees, and steps that no worker may take.
 //! - Refused by the prover: a claim that is always 0, a look that never loads or that invents a place, a lowering that
 //!   overwrites or that is dropped; parts dropped where two halves join, an overrun lowered, stops handed on as the
 //!   round found them.

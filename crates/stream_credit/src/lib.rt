@@ -7,16 +7,11 @@
 //! - The findings are the run of the stream as `audit_terms` defines it, in order, credits only where they are shown,
 //!   up to the place at which its [`audit_terms::Look`] has it end; with it the opening, if that does not lie past the
 //!   place.
-//! - The steps of a run are the stream's frames and the changes that find a live window of it. A change that finds
-//!   none, as before its opening and after its ends, costs it nothing: a search by halving passes over all of them.
-//! - The looks are made in time, so many and no other (`IsRun`): before the first step, and again before the next one
-//!   after each 256 steps. Each is handed what is shown of the steps before. A run that meets all its steps says that
-//!   it is whole, and keeps all. One that ends early keeps what lies up to its last answer; it cuts once, since a later
-//!   answer may be lower than what was found before it.
-//! - A stream's frames lie far from one another. They are gathered some at a time before they are met, since a look at
-//!   each would wait for the memory before the next one begins.
-//! - Where credits are not shown, frames and changes that only move windows, without a stall or an overflow, are
-//!   counted without a list of findings.
+//! - Which steps a run has, `step_numbers` of `specs/code/Looks.antt` says. A change that is none of them costs
+//!   nothing: a search by halving passes over all of these.
+//! - The looks are made when they are due, so many and no other (`IsRun` of `audit_terms`). A run that meets all its
+//!   steps says that it is whole, and keeps all. One that ends early keeps what lies up to its last answer; it cuts
+//!   once, since a later answer may be lower than what was found before it.
 //! - A [`QuietStream`] is what is known of a stream of which nothing is shown so far, where credits are not shown. It
 //!   meets the stream's frames one by one, beside all other streams. What is quiet after its last frame shows nothing,
 //!   and its opening is known: so it needs no run. How a side stands is one number there, and [`standings`] says what
@@ -32,8 +27,9 @@
 //!   its work, one that leaves out all once it is stopped, one that counts a side's last DATA as any other, a quiet
 //!   stream whose credit is used up, initial windows that another setting puts back.
 //! - Tested, in `crate_tests`: that `stream_run` succeeds where there is memory, and, in numbers, when it looks and
-//!   what it keeps; in `threads_test.py` ("quiet streams are in no group"): that a stream which shows nothing stays
-//!   quiet, which no contract says.
+//!   what it keeps.
+//! - Neither proved nor tested: that a stream which shows nothing stays quiet. One that does not has a run, which finds
+//!   nothing.
 #![tactic(auto)]
 
 mod changes;

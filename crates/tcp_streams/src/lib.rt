@@ -19,9 +19,8 @@
 //!   gives it; all flows together fit in the capture.
 //! - Segments that come in order are laid out as they come. For any others the code lays disjoint intervals over one
 //!   another: the first half of the segments is set apart, then the second, which gives only the offsets that the first
-//!   leaves free; so it takes n log n steps in whichever order segments come. Pairs are looked up by a hash whose key
-//!   no capture can foresee (`TableHash`); the contract of [`connections`] holds for every key, so no answer depends on
-//!   it.
+//!   leaves free; so it takes n log n steps in whichever order segments come. Pairs are looked up by a hash
+//!   (`TableHash` of `input_output`), and the contract of [`connections`] holds for every key of it.
 //! - Refused by the prover: the last retransmission wins, a SYN of any number repeats an opening.
 //! - [`worked_examples`] go from packets to a flow, and compute openings, strays and offsets that wrap.
 //! - Tested, in `crate_tests`: that keys are drawn; by whole reports: interleaved connections; by those of random
