@@ -24,6 +24,7 @@ Shapes that a peer might make on purpose, each with as much of one thing as of t
   promised     streams that the server promises
   colliding    strays of pairs whose two ends differ in the same bits
   live         open streams, then acknowledgements that move the window of each
+  live_early   the same, after a grant that brings the connection's window above the largest
 The same words always give the same bytes.
 """
 import struct
