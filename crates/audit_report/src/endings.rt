@@ -49,7 +49,7 @@ pub fn push_end_line(out: &mut String, findings: &[Finding]) -> Result<(), Alloc
     push_end_line_after(out, findings.last().copied())
 }
 
-// The same, by the last finding.
+/// The same, by the last finding.
 fn push_end_line_after(out: &mut String, last: Option<Finding>) -> Result<(), AllocError>
     ensures { OnOk result (string_bytes out.new ≡ string_bytes out.old ++ end_line_after last) }
 {

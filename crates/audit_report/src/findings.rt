@@ -59,8 +59,8 @@ fn push_finding_line(
     push_word(out, "\n")
 }
 
-// The frame of this number. Frames numbered from 1 without a gap have it at its own place: that is where it is looked
-// for first.
+/// The frame of this number. Frames numbered from 1 without a gap have it at its own place: that is where it is looked
+/// for first.
 fn frame_of(frames: &[Frame], number: u32) -> Option<Frame>
     requires { IsOrderly frames.now }
     ensures { result ≡ frame_numbered frames.now number }

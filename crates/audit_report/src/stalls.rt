@@ -48,7 +48,7 @@ pub fn stall_pairs(
     Ok(stalls)
 }
 
-// One step of the sweep from the back: `ends` has the first end of each window among the findings after this one.
+/// One step of the sweep from the back: `ends` has the first end of each window among the findings after this one.
 fn take_in(
     found: &Finding,
     frames: &[Frame],
@@ -69,7 +69,7 @@ fn take_in(
     Ok(())
 }
 
-// The stall that the finding begins.
+/// The stall that the finding begins.
 fn begun_stall(found: Finding, frames: &[Frame], ends: &Ends) -> Stall
     requires { IsOrderly frames.now }
     ensures { result ≡ stall_of frames.now found (end_in ends.now found.side (place_stream found.place)) }
@@ -99,7 +99,7 @@ fn stall_between(frames: &[Frame], begin: Finding, end: Option<Finding>) -> Stal
     }
 }
 
-// The time of a frame, which fits the signed type.
+/// The time of a frame, which fits the signed type.
 fn time_of(frames: &[Frame], number: u32) -> i64
     requires { IsOrderly frames.now }
     ensures { result ≡ pos (nanos_at frames.now number) }

@@ -27,7 +27,7 @@ impl Tally {
         refused: 0,
     };
 
-    /// Counts all packets in one pass.
+    /// Counts all packets.
     pub fn of(packets: &Packets<'_>) -> Tally
         ensures { IsTallyOf packets.now result }
     {

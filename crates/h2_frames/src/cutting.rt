@@ -11,19 +11,17 @@ ghost use Rattle.h2_frames.specs.Preface.{BeginsWithPreface};
 
 use crate::connections::Cut;
 use crate::walk::{Begun, FrameWalk, begin};
-use audit_terms::Frame;
 use std::alloc::{AllocError, Global};
 use tcp_streams::Flow;
 
-/// All frames of a walk that none was taken of, put in the memory of `room`, and the tails.
-fn all_of(walk: FrameWalk<'_>, room: Vec<Frame>) -> Result<Cut, AllocError>
+/// All frames of a walk that none was taken of, and the tails.
+fn all_of(alloc: Global, walk: FrameWalk<'_>) -> Result<Cut, AllocError>
     requires { IsReadyWalk walk }
     ensures is { (client server : Flow) → IsFreshWalk client server walk.entry → IfOk result (IsCut client server) }
     ensures orderly { (client server : Flow) → IsFreshWalk client server walk.entry → IfOk result HasOrderlyFrames }
 {
     let mut walk = walk;
-    let mut frames = room;
-    frames.clear();
+    let mut frames = Vec::new(alloc);
     while let Some(frame) = walk.take_next()? {
         frames.push(frame)?;
     }
@@ -37,14 +35,10 @@ fn all_of(walk: FrameWalk<'_>, room: Vec<Frame>) -> Result<Cut, AllocError>
 /// flows of one connection `tcp_streams::laws::sides_fit`, with `assemble`'s clause `within`, gives this. Where the
 /// server's flow is not started the answer is [`Cut::NoHandshake`]; else the client's bytes decide, by the connection
 /// preface (RFC 9113, 3.4): [`Cut::NoPreface`] where they end within it, [`Cut::NotHttp2`] where they do not begin with
-/// it. The frames of [`Cut::Http2`] are numbered from 1 in capture order. One pass over each flow; a frame is
-/// copied only where it lies in several pieces and its payload matters, into a buffer that the next one uses again.
-///
-/// The frames are put in the memory of `room`, whose elements are dropped. It may be empty, and then the list grows as
-/// it is filled, as it does where there are more frames than `room` has memory for. Where there are no frames it is
-/// dropped.
+/// it. The frames of [`Cut::Http2`] are numbered from 1 in capture order. Each flow is read once; a frame is copied
+/// only where it lies in several pieces and its payload matters, into a buffer that the next one uses again.
 #[tactic(auto, using(crate::proofs::Uniqueness::only_cuts))]
-pub fn cut(alloc: Global, client: &Flow, server: &Flow, room: Vec<Frame>) -> Result<Cut, AllocError>
+pub fn cut(alloc: Global, client: &Flow, server: &Flow) -> Result<Cut, AllocError>
     requires client { IsOrderly client.now }
     requires server { IsOrderly server.now }
     requires together { length (bytes_of client.now) + length (bytes_of server.now) < 2 ^ 31 }
@@ -64,6 +58,6 @@ pub fn cut(alloc: Global, client: &Flow, server: &Flow, room: Vec<Frame>) -> Res
         Begun::NoHandshake => Ok(Cut::NoHandshake),
         Begun::NoPreface => Ok(Cut::NoPreface),
         Begun::NotHttp2 => Ok(Cut::NotHttp2),
-        Begun::Http2(walk) => all_of(walk, room),
+        Begun::Http2(walk) => all_of(alloc, walk),
     }
 }

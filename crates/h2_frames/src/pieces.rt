@@ -114,7 +114,7 @@ impl<'a> Pieces<'a> {
         Ok(())
     }
 
-    /// Takes this many bytes out without a look at them.
+    /// Takes this many bytes out unread.
     #[tactic(auto, using(crate::proofs::Gathering::part_turns))]
     fn skip(&mut self, count: usize)
         requires counted { IsCounted self.old }

@@ -200,7 +200,7 @@ fn outcome_of<R: Threads>(
             return Ok(Outcome::Quiet(quiet));
         }
     }
-    let cut = cut(alloc, client, server, Vec::new(alloc))?;
+    let cut = cut(alloc, client, server)?;
     outcome_in(alloc, cut)
 }
 

@@ -23,7 +23,7 @@ fn is_pending(frames: &[Frame], found: &[Finding]) -> bool
     !frames.is_empty() && !has_stopped(found)
 }
 
-/// Those that are, of connections of each of which this was found.
+/// Of connections, with what was found of each, those that are still to be gone through.
 pub fn pending_of<'a>(
     alloc: Global,
     connections: &[&'a [Frame]],
@@ -41,8 +41,8 @@ pub fn pending_of<'a>(
     Ok(pending)
 }
 
-/// What was found of each connection, with the next of these lists in place of it for one that was still to be gone
-/// through.
+/// What was found of each connection; for each that was still to be gone through, the next of the later lists in place
+/// of it.
 pub fn put_back(
     connections: &[&[Frame]],
     found: Vec<Vec<Finding>>,

@@ -80,7 +80,7 @@ impl<'a> Changes<'a> {
         self.in_force[met as usize - 1]
     }
 
-    /// How many changes are met, once those before a number are, where so many were met before.
+    /// How many changes are met once all before a number are; so many were met before.
     pub(crate) fn passed(&self, met: u32, number: u32) -> u32
         requires orderly { AreOrderly self.now }
         requires met { met ≤ length self.now }

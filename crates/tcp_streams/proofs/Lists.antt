@@ -89,7 +89,7 @@ module _ (b : Bool) (xs : List Segment) (s : Segment) where
   pub list_any-with_if : (test : Segment → Bool) → list_any test xs ≡ true → list_any test (with_if b xs s) ≡ true
   list_any-with_if test h = grind (arith, list_any-append test xs (s ∷ []))
 
-  -- one that doesn't pass counts for nothing
+  -- one that does not pass counts for nothing
   pub list_any-other : (test : Segment → Bool) → test s ≡ false → list_any test (with_if b xs s) ≡ list_any test xs
   list_any-other test h = grind (arith, list_any-append test xs (s ∷ []))
 

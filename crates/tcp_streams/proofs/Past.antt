@@ -44,7 +44,7 @@ last_opening-below p n [] f = tt
 last_opening-below p n (s ∷ past) f =
     IsBelow-if (is_of p s && opens s past) n s (last_opening p past) f.0 (last_opening-below p s.rec past f.1)
 
--- what looks back to an earlier opening doesn't look back to this one
+-- what looks back to an earlier opening does not look back to this one
 is_opening-below : (o : Segment) (x : Option Segment) → IsBelow o.rec x → is_opening o x ≡ false
 is_opening-below o None h = refl
 is_opening-below o (Some t) h = ne_eqb t.rec o.rec (λ e. omega (arith, h))

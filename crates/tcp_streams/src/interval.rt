@@ -3,7 +3,7 @@ ghost use Rattle.std.specs.Prelude.{◌≡◌, ◌+◌, ◌-◌, ◌<◌, ◌≤
 use input_output::Capture;
 use std::alloc::AllocError;
 
-/// The first offset that doesn't count: a flow is shorter than this.
+/// The first offset that does not count: a flow is shorter than this.
 pub const END_OF_OFFSETS: u32 = 0x8000_0000;
 
 /// Offsets of a stream that follow each other and come from one segment, with the index of the first
@@ -36,7 +36,7 @@ impl Interval {
         capture.pieces(index, index + (self.upto - self.from) as usize, found)
     }
 
-    /// The part between two offsets of the interval.
+    /// The stretch of the interval between two offsets.
     pub fn part(&self, low: u32, high: u32) -> Interval
         requires interval { IsInterval self.now }
         requires low { self.now.from ≤ low }

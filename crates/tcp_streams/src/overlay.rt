@@ -5,8 +5,8 @@ ghost use Rattle.tcp_streams.specs.code.Interval.{lie_apart, overlay};
 use crate::interval::{END_OF_OFFSETS, Interval};
 use std::alloc::{AllocError, Global};
 
-/// Makes intervals that lie apart of pieces in order of record: where pieces share an offset, the first
-/// of them brings it.
+/// Makes intervals that do not overlap, of pieces in order of record: where pieces share an offset, the first of them
+/// brings it.
 pub fn set_apart(alloc: Global, pieces: Vec<Interval>) -> Result<Vec<Interval>, AllocError>
     requires { All IsInterval pieces.items }
     ensures { IfOk result (λ v. AreSetApart pieces.items v.items) }
@@ -47,7 +47,7 @@ fn set_apart_halves(alloc: Global, pieces: &[Interval]) -> Result<Vec<Interval>,
     overlay(alloc, &kept, &later)
 }
 
-/// Adds to the intervals that are kept the parts of later ones that they leave free.
+/// Adds to the intervals that are kept what they leave free of later ones.
 fn overlay(
     alloc: Global,
     kept: &[Interval],
@@ -68,8 +68,8 @@ fn overlay(
     Ok(out)
 }
 
-/// Adds the parts from an offset up to an interval that is kept, then the interval, and says with which interval to go
-/// on.
+/// Adds the stretches from an offset up to an interval that is kept, then the interval, and says with which interval to
+/// go on.
 fn add_kept(
     out: &mut Vec<Interval>,
     later: &[Interval],
@@ -91,7 +91,7 @@ fn add_kept(
     Ok(next)
 }
 
-/// Adds the parts between two offsets, and says with which interval to go on.
+/// Adds the stretches between two offsets, and says with which interval to go on.
 fn fill(
     out: &mut Vec<Interval>,
     later: &[Interval],
@@ -118,7 +118,7 @@ fn fill(
     Ok(index)
 }
 
-/// Adds the part between two offsets, if there is any.
+/// Adds the stretch between two offsets, if there is any.
 fn push_part(out: &mut Vec<Interval>, y: &Interval, low: u32, high: u32) -> Result<(), AllocError>
     requires { IsInterval y.now }
     ensures { OnOk result (out.new.items ≡ out.old.items ++ clipped low high (y.now ∷ [])) }

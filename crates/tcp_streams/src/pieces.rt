@@ -9,7 +9,7 @@ use audit_terms::Side;
 use packet_heads::{Packets, Segment};
 use std::alloc::{AllocError, Global};
 
-/// Sequence numbers come round at this number (RFC 9293, 3.4).
+/// Sequence numbers wrap at this number (RFC 9293, 3.4).
 const MODULUS: u64 = 0x1_0000_0000;
 
 /// The offsets that a side's segments cover, a piece for each that covers any, in order of record.

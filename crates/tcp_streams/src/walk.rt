@@ -21,7 +21,7 @@ use std::alloc::{AllocError, Global};
 
 /// The packets of a front of a capture and the connections that they show, behind which more bytes may come.
 ///
-/// Each time that the walk advances, the table takes in the packets that were just made, while they are hot.
+/// Each time that the walk advances, the table takes in the packets that were just made, while they are in the cache.
 #[derive(Drop)]
 pub struct ConnectionWalk {
     packets: PacketWalk,

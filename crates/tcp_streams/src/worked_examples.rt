@@ -8,7 +8,7 @@ ghost use Rattle.tcp_streams.specs.examples.Offsets.{BelowOffsetZero, FirstRecor
 ghost use Rattle.tcp_streams.specs.examples.Offsets.{WrappedArrivals, WrappedSources};
 ghost use Rattle.tcp_streams.specs.examples.Retransmission.{WrappedRetransmission};
 
-/// From packets to a flow: numbers that come round, a retransmission that comes last, bytes that were there before.
+/// From packets to a flow: numbers that wrap, a retransmission that comes last, bytes that were there before.
 pub fn wrapped_retransmission()
     ensures { WrappedRetransmission }
 {}

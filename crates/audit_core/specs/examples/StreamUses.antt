@@ -64,7 +64,7 @@ IdentifierOrder =
 abbrev pub UnmatchedAcknowledgement : Type 0
 UnmatchedAcknowledgement = audit_of (ack_frame 5 Server ∷ []) ≡ finding_at UnmatchedAck 5 0 Server (pos 0) ∷ []
 
--- two streams are opened round a PING
+-- two streams are opened around a PING
 abbrev pub TwoOpenings : Type 0
 TwoOpenings =
     audit_with_credits_of (headers_frame 5 Client 1 ∷ ping_frame 6 Client ∷ headers_frame 7 Client 3 ∷ [])
