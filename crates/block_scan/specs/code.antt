@@ -1,5 +1,3 @@
 pub mod Shown
-pub mod BothLaws
 pub mod List
 pub mod Summary
-pub mod Both

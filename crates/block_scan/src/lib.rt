@@ -6,13 +6,8 @@
 //!   their summaries joined, and to advance by none, by one item and twice is what the steps do. So what is carried
 //!   past blocks is what the plain fold has there. The laws are asked of states and items that fit, as the instance
 //!   says: credits of 64 bits add up only within bounds.
-//! - [`Both`] is two summaries of the same items as one; [`laws`] has its lawfulness as a contract.
-//! - Refused by the prover: an item of which only one of two summaries hears.
 #![tactic(auto)]
 
-mod both;
-pub mod laws;
 mod summaries;
 
-pub use both::Both;
 pub use summaries::Summary;
