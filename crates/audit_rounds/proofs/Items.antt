@@ -7,7 +7,7 @@ use Rattle.audit_rounds.proofs.Words.{AllByRecursion, next, items_from, is_marke
 use Rattle.audit_terms.specs.declared.settings.Settings.{Settings}
 use Rattle.audit_rounds.proofs.Lists.{differ, differ_back}
 use Rattle.audit_terms.specs.InForce.{change_taking}
-use Rattle.conn_scan.specs.code.Each.{all-append}
+use Rattle.audit_terms.proofs.FindingLists.{each-append}
 use Rattle.audit_terms.specs.code.runs.Changes.{changes_from}
 use Rattle.audit_terms.specs.code.runs.States.{items_of}
 use Rattle.audit_rounds.specs.laws.Items.{ItemsAreFound}
@@ -82,7 +82,7 @@ changes-found low earlier state (frame ∷ frames) h p =
     ap (λ c. c ∷ map (λ (item : Item). item.change) (items_from (next state frame) frames)) (sym here)
     ∙ ap (λ l. change_at (earlier ++ (own ++ rest)) frame ∷ l)
     (changes-found (frame.number + 1) (earlier ++ own) (next state frame) frames h.2
-    (all-append (λ (change : Change). change.number < frame.number + 1) earlier own
+    (each-append (λ (change : Change). change.number < frame.number + 1) earlier own
     (below-more frame.number (frame.number + 1) earlier (omega arith) before) (own-below state.in_force frame))
     ∙ ap (λ l. map (change_at l) frames) (append_assoc earlier own rest))
 

@@ -17,7 +17,7 @@ use Rattle.conn_scan.proofs.WalkLemmas.{numbers_from-rise, changes_from-orderly,
 use Rattle.conn_scan.specs.code.ConnSum.{conn_advance}
 use Rattle.conn_scan.specs.code.ConnSumLaws.{moved}
 use Rattle.conn_scan.specs.code.FitLaws.{first_fit, rest_fit}
-use Rattle.conn_scan.specs.code.Each.{all-append}
+use Rattle.audit_terms.proofs.FindingLists.{each-append}
 use Rattle.audit_rounds.specs.code.Blocks.{AreBlocksOf, laid_out, AreFit, IsReady, after_of, before_of}
 use Rattle.audit_rounds.specs.code.Plans.{AreReady, shown_from}
 use Rattle.audit_rounds.proofs.Lists.{some_of, differ_back}
@@ -276,7 +276,7 @@ little-joined : (connection : ℕ) (cut : List Block) (rest : List ConnectionBlo
 little-joined connection [] rest h = (tt, h)
 little-joined connection (block ∷ cut) rest h =
     let later = little-joined connection cut rest (All-tail Little _ _ h) in
-    (all-append MovesLittle (items_in block) _ (All-head Little _ _ h) later.0, later.1)
+    (each-append MovesLittle (items_in block) _ (All-head Little _ _ h) later.0, later.1)
 
 laid-walk : (c : Bool) (connection last : ℕ) (now : ConnectionState) (cuts : List (List Block))
     → IsNew connection last now

@@ -22,7 +22,6 @@ use Rattle.audit_terms.proofs.FindingLists.{each-append}
 use Rattle.audit_terms.proofs.SaidPlaces.{AreWithin, at-local, at-settings}
 use Rattle.audit_core.proofs.PassOrder.{streams-streams_of}
 use Rattle.split_merge.specs.code.Groups.{AreConsecutive}
-use Rattle.conn_scan.specs.code.Each.{all-append}
 use Rattle.split_merge.proofs.GroupRanges.{groups-consecutive, groups-joined}
 use Rattle.stop_desk.specs.code.Stop.{IsPlace}
 use Rattle.split_merge.specs.code.Split.{opening_of, row_positions}
@@ -64,7 +63,7 @@ module _ (count : ℕ) (some : 1 ≤ count) (all : List Streams) where
   planned-from at [] e = tt
   planned-from at (one ∷ rest) e =
       let number = length one.split.now.rows.items in
-      all-append (IsJobOf all) (map (job_at at) (groups number count)) _
+      each-append (IsJobOf all) (map (job_at at) (groups number count)) _
       (ranges-planned at one (e at 0 (omega arith)) 0 (groups number count) (groups-consecutive number count some)).1
       (planned-from (at + 1) rest (λ n k l. e n (suc k) (omega arith)))
 

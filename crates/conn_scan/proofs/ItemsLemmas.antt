@@ -1,5 +1,5 @@
 -- The items of a connection's frames are those of the pass, and those of consecutive blocks join.
-use Rattle.conn_scan.proofs.Terms.{◌≡◌, append_assoc, AllByRecursion, map-append, all-append, IsOrderlyFrom, items_with}
+use Rattle.conn_scan.proofs.Terms.{◌≡◌, append_assoc, AllByRecursion, map-append, each-append, IsOrderlyFrom, items_with}
 use Rattle.conn_scan.proofs.Terms.{ℕ, ◌+◌, ◌<◌, ◌≤◌, ◌==◌, List, [], ◌∷◌, ◌++◌, Some, None, refl, ◌∙◌, map, Frame, Item}
 use Rattle.conn_scan.proofs.Terms.{false, Option, arith, list_any, nat_tests, Change, is_marked, change_at, item_with}
 use Rattle.conn_scan.proofs.Terms.{each-weaker}
@@ -56,7 +56,7 @@ later-lack : (number low : ℕ) (now : InForce) (frames : List Frame) → number
     → LacksNumber number (changes_from now frames)
 later-lack number low now [] lt h = tt
 later-lack number low now (frame ∷ frames) lt h =
-    all-append (λ (change : Change). change.number ≡ number → ⊥) (option_to_list (change_of now frame)) _
+    each-append (λ (change : Change). change.number ≡ number → ⊥) (option_to_list (change_of now frame)) _
     (taking-each (λ n. n ≡ number → ⊥) frame (taken now frame) (λ e. absurd (omega (arith, h.0, e))))
     (later-lack number (frame.number + 1) (in_force_after now frame) frames (omega (arith, h.0)) h.2)
 
@@ -78,7 +78,7 @@ items-from state low opened before (frame ∷ frames) h below marked =
     let found = taking-found frame (taken state.in_force frame) rest
     (later-lack frame.number (frame.number + 1) (in_force_after state.in_force frame) frames (omega arith) h.2) in
     let later = items-from (next state frame) (frame.number + 1) opened (before ++ own) frames h.2
-    (all-append (λ (change : Change). change.number < frame.number + 1) before own
+    (each-append (λ (change : Change). change.number < frame.number + 1) before own
     (each-weaker _ _ (λ change lt. omega (arith, h.0, lt)) before below)
     (taking-each (λ n. n < frame.number + 1) frame (taken state.in_force frame) (omega arith))) marked.1 in
     let rest = rw append_assoc at later in

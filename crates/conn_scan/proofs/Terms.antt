@@ -37,7 +37,6 @@ pub use Rattle.conn_scan.specs.code.Credit.{AreSmall, ChangesFit, change_of, cre
 pub use Rattle.conn_scan.specs.code.Credit.{no_change, one_change}
 pub use Rattle.conn_scan.specs.code.CreditLaws.{IsRoomy, credit_shows, high-signed, low-signed, not_above, rest_fits}
 pub use Rattle.conn_scan.specs.code.CreditLaws.{roomy, summary_room}
-pub use Rattle.conn_scan.specs.code.Each.{all-append}
 pub use Rattle.conn_scan.specs.code.FitLaws.{first_fit, rest_fit, room-wider}
 pub use Rattle.conn_scan.specs.code.Items.{IsBlock, change_at, is_marked, item_with, items_in, items_with}
 pub use Rattle.conn_scan.specs.code.Latest.{is_zero, latest_of, least_limit, length_by, lesser, limit_in, longest_by}

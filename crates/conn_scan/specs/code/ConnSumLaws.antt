@@ -1,7 +1,9 @@
 -- The summary of a connection's items obeys the laws.
 use Rattle.std.proofs.Common.{◌≡◌, ℕ, ℤ, pos, ◌+ℤ◌, max, Bool, true, false, List, [], ◌∷◌, ◌++◌, map, Option, Some}
 use Rattle.std.proofs.Common.{None}
-use Rattle.std.proofs.Common.{refl, ap, subst, ◌∙◌, arith}
+use Rattle.std.proofs.Common.{refl, sym, ap, subst, ◌∙◌, arith}
+use Rattle.std.proofs.Math.IntN.{+ℤ_assoc, +ℤ_idr}
+use Rattle.std.proofs.Math.Nat.{max-zero}
 use Rattle.std.specs.Prelude.{if◌then◌else◌}
 use Rattle.std.proofs.lemmas.Int.{ints}
 use Rattle.std.proofs.lemmas.List.{map-append}
@@ -62,15 +64,6 @@ conn_sum_of-met a x = λ i. record {
   latest = latest_of-met a x i;
 }
 
-unmoved : (s : ℤ) → s +ℤ pos 0 ≡ s
-unmoved s = omega (arith, ints)
-
-moved-next : (s x rest : ℤ) → s +ℤ (x +ℤ rest) ≡ (s +ℤ x) +ℤ rest
-moved-next s x rest = omega (arith, ints)
-
-greatest-none : (s : ℕ) → max s 0 ≡ s
-greatest-none s = omega arith
-
 greatest-next : (b : Bool) (s x : ℕ) (rest : List (Option ℕ))
     → max s (greatest_of (present ((if b then Some x else None) ∷ rest)))
     ≡ max (if b then max s x else s) (greatest_of (present rest))
@@ -79,13 +72,13 @@ greatest-next false s x rest = refl
 
 pub moved : (s : ConnectionState) (a : List Item) → conn_advance s (conn_sum_of a) ≡ connection_after_all s a
 moved s [] = λ i. record s {
-  credit = each_side (λ d. unmoved (side_of d s.credit) i);
-  opened = greatest-none s.opened i;
-  promised = greatest-none s.promised i;
+  credit = each_side (λ d. +ℤ_idr (side_of d s.credit) i);
+  opened = max-zero s.opened i;
+  promised = max-zero s.promised i;
 }
 moved s (x ∷ a) =
     (λ i. record {
-      credit = each_side (λ d. moved-next (side_of d s.credit) (change_of d x) (total (map (change_of d) a)) i);
+      credit = each_side (λ d. sym (+ℤ_assoc (side_of d s.credit) (change_of d x) (total (map (change_of d) a))) i);
       opened = greatest-next (is_opened_by_headers x) s.opened x.frame.stream (map opened_in a) i;
       promised =
           greatest-next (is_even_promise x.frame) s.promised (promised_in x.frame.body) (map promised_by a) i;

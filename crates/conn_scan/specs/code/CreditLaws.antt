@@ -2,6 +2,7 @@
 use Rattle.std.proofs.Common.{◌≡◌, ℤ, pos, ◌*◌, ◌^◌, ◌+ℤ◌, ◌<ℤ◌, ◌≤ℤ◌, int_lt, ◌≤◌, List, [], ◌∷◌, ◌++◌, length, refl}
 use Rattle.std.proofs.Common.{sym, subst, ◌∙◌, arith}
 use Rattle.std.proofs.Common.{length-append}
+use Rattle.std.proofs.Math.IntN.{+ℤ_assoc, +ℤ_idr, +ℤ_idl}
 use Rattle.std.specs.Prelude.{true, false, if◌then◌else◌}
 use Rattle.std.specs.Int.{int_max, int_min}
 use Rattle.std.proofs.lemmas.Int.{ints, clamps, by_lt_z}
@@ -16,7 +17,7 @@ use Rattle.conn_scan.specs.code.Each.{all-front, all-back}
 use Rattle.conn_scan.specs.code.FitLaws.{room-wider}
 
 total-append : (a b : List ℤ) → total (a ++ b) ≡ total a +ℤ total b
-total-append [] b = omega (arith, ints)
+total-append [] b = sym (+ℤ_idl (total b))
 total-append (x ∷ a) b = let e = total-append a b in omega (arith, ints)
 
 pub high-signed : (a : List ℤ) → pos 0 ≤ℤ high a
@@ -76,9 +77,6 @@ credit_of-met a x =
     let low = low-met a x ∙ fallen (low a) (total a) x (within a).0 in
     λ i. record { sum = total-met a x i; high = high i; low = low i }
 
-sum-one : (x : ℤ) → x +ℤ pos 0 ≡ x
-sum-one x = omega (arith, ints)
-
 high-one : (x : ℤ) → int_max (pos 0) (x +ℤ pos 0) ≡ int_max x (pos 0)
 high-one x = omega (arith, ints, clamps)
 
@@ -86,12 +84,11 @@ low-one : (x : ℤ) → int_min (pos 0) (x +ℤ pos 0) ≡ int_min x (pos 0)
 low-one x = omega (arith, ints, clamps)
 
 one_of : (x : ℤ) → credit_of (x ∷ []) ≡ one_change x
-one_of x = λ i. record { sum = sum-one x i; high = high-one x i; low = low-one x i }
+one_of x = λ i. record { sum = +ℤ_idr x i; high = high-one x i; low = low-one x i }
 
 moved : (s : ℤ) (a : List ℤ) → s +ℤ total a ≡ state_after ◌+ℤ◌ s a
-moved s [] = omega (arith, ints)
-moved s (x ∷ a) = let turned : s +ℤ (x +ℤ total a) ≡ (s +ℤ x) +ℤ total a = omega (arith, ints) in turned
-    ∙ moved (s +ℤ x) a
+moved s [] = +ℤ_idr s
+moved s (x ∷ a) = sym (+ℤ_assoc s x (total a)) ∙ moved (s +ℤ x) a
 
 pub total-room : (a : List ℤ) → AreSmall a → HasRoom (2 ^ 32 * length a) (total a)
 total-room [] h = (omega (arith, ints), omega (arith, ints))

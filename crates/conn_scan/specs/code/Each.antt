@@ -3,10 +3,6 @@ use Rattle.std.specs.Prelude.{List, [], ◌∷◌, ◌++◌}
 use Rattle.std.specs.List.{AllByRecursion}
 
 module _ {X : Type 0} (P : X → Type 0) where
-  pub all-append : (a b : List X) → AllByRecursion P a → AllByRecursion P b → AllByRecursion P (a ++ b)
-  all-append [] b h k = k
-  all-append (x ∷ a) b h k = (h.0, all-append a b h.1 k)
-
   pub all-front : (a b : List X) → AllByRecursion P (a ++ b) → AllByRecursion P a
   all-front [] b h = tt
   all-front (x ∷ a) b h = (h.0, all-front a b h.1)

@@ -1,5 +1,5 @@
 use Rattle.conn_scan.proofs.Terms.{◌≡◌, ◌+◌, [], ◌∷◌, ◌++◌, append_assoc, append-nil, sym, ◌∙◌, items_in, numbers_from}
-use Rattle.conn_scan.proofs.Terms.{changes_from, MovesLittle, all-append, arith}
+use Rattle.conn_scan.proofs.Terms.{changes_from, MovesLittle, each-append, arith}
 use Rattle.conn_scan.specs.code.ConnSumLaws.{conn_sum_of-met}
 use Rattle.conn_scan.proofs.WalkLemmas.{block_walked, idle_at, walked-idle, walked-from}
 use Rattle.std.proofs.lemmas.List.{nil_from_length}
@@ -34,7 +34,7 @@ loop-frame-preserved-then-frame-due c =
       done = i.done ++ item ∷ [];
       split = rw append_assoc (rw (is, idle) at i.split);
       sum = rw (c.see_promise.ensures, c.count.ensures.counted, i.sum) (sym (conn_sum_of-met i.done item));
-      little = all-append MovesLittle i.done (item ∷ []) i.little (c.count.ensures.little, tt);
+      little = each-append MovesLittle i.done (item ∷ []) i.little (c.count.ensures.little, tt);
     }
 
 pub loop-frame-preserved : goal.loop-frame-preserved
@@ -62,7 +62,7 @@ loop-frame-preserved c =
         ← left,
       ) (rw is at i.split);
       sum = rw (c.meet.ensures.met, i.sum) (sym (conn_sum_of-met i.done item));
-      little = all-append MovesLittle i.done (item ∷ []) i.little (c.meet.ensures.little, tt);
+      little = each-append MovesLittle i.done (item ∷ []) i.little (c.meet.ensures.little, tt);
     }
 
 pub returns : goal.returns
