@@ -20,7 +20,7 @@ ghost use Rattle.audit_terms.specs.code.Room.{HasRoom};
 ghost use Rattle.audit_terms.specs.code.runs.Orderly.{IsInRange};
 
 use crate::frame_faults::say_fault;
-use crate::spots::{Spot, say_at, say_each, spot_of};
+use crate::spots::{Spot, say_at, say_each};
 use audit_terms::{
     ConnectionState, Count, Finding, Frame, Item, Kind, Side, Sides, limit_after, new_limit,
     new_push,
@@ -105,14 +105,13 @@ fn say_window(
 
 /// Adds an increment of 0 for the connection window of a spot's side: the other side grants it (RFC 9113, 6.9).
 fn say_zero_grant(found: &mut Vec<Finding>, frame: &Frame, spot: Spot) -> Result<(), AllocError>
-    requires numbered { spot.number ≤ 2 ^ 28 - 2 }
-    requires streamed { spot.stream < 2 ^ 31 }
     ensures { OnOk result (found.new.items ≡ found.old.items ++ say (grants_nothing spot.side 0 frame.now)
         (finding_at ZeroConnectionGrant spot.number spot.stream (other spot.side) (pos 0))) }
 {
     let granter = Spot {
         side: spot.side.other(),
-        ..spot
+        number: spot.number,
+        stream: spot.stream,
     };
     let is_zero = frame.grants_nothing(spot.side, 0);
     say_at(found, is_zero, Kind::ZeroConnectionGrant, granter, 0)
@@ -239,8 +238,9 @@ fn say_promise_order(
     let stream = frame.body.promised();
     let out_of_order = frame.is_server_promise() && (stream % 2 == 1 || stream <= promised);
     let spot = Spot {
+        side: frame.side,
+        number: frame.number,
         stream,
-        ..spot_of(frame)
     };
     say_at(found, out_of_order, Kind::IdNotGreater, spot, promised)
 }

@@ -2,6 +2,7 @@
 
 ghost use Rattle.std.specs.Prelude.{◌≡◌, ℕ, ◌-◌, ◌^◌, ◌<◌, ◌≤◌, ◌++◌, pos, OnOk};
 ghost use Rattle.audit_terms.specs.Finding.{finding_at, say};
+ghost use Rattle.audit_terms.specs.code.runs.Orderly.{IsInRange};
 ghost use Rattle.fault_rules.specs.code.Said.{said_by};
 
 use audit_terms::{Finding, Frame, Kind, Place, Side, say_if};
@@ -13,10 +14,14 @@ pub(crate) struct Spot {
     pub(crate) side: Side,
     pub(crate) number: u32,
     pub(crate) stream: u32,
+    // Within what a `Place` holds.
+    pub(crate) ghost numbered: { number ≤ 2 ^ 28 - 2 },
+    pub(crate) ghost streamed: { stream < 2 ^ 31 },
 }
 
 /// Where a fault of a frame's sender stands.
 pub(crate) fn spot_of(frame: &Frame) -> Spot
+    requires { IsInRange frame.now }
     ensures side { result.side ≡ frame.now.side }
     ensures number { result.number ≡ frame.now.number }
     ensures stream { result.stream ≡ frame.now.stream }
@@ -36,8 +41,6 @@ pub(crate) fn say_at(
     spot: Spot,
     value: u32,
 ) -> Result<(), AllocError>
-    requires numbered { spot.number ≤ 2 ^ 28 - 2 }
-    requires streamed { spot.stream < 2 ^ 31 }
     ensures { OnOk result (found.new.items
         ≡ found.old.items ++ say holds (finding_at kind spot.number spot.stream spot.side (pos value))) }
 {
@@ -52,8 +55,6 @@ pub(crate) fn say_each(
     spot: Spot,
     value: &i64,
 ) -> Result<(), AllocError>
-    requires numbered { spot.number ≤ 2 ^ 28 - 2 }
-    requires streamed { spot.stream < 2 ^ 31 }
     ensures { OnOk result (found.new.items
         ≡ found.old.items ++ said_by (λ kind. finding_at kind spot.number spot.stream spot.side value.now) tests.now) }
 {

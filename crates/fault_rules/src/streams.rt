@@ -36,7 +36,6 @@ pub fn say_stream(
 {
     let opening = opens(stream, entry, step);
     let life = life_at(stream, entry, step);
-    say_step(found, stream, entry, step)?;
     let client = WindowStep {
         side: Side::Client,
         stream,
@@ -45,8 +44,11 @@ pub fn say_stream(
     };
     let server = WindowStep {
         side: Side::Server,
-        ..client
+        stream,
+        initial,
+        step,
     };
+    say_step(found, entry, &client)?;
     say_window(found, &mut entry.window.client, opening, &client)?;
     say_window(found, &mut entry.window.server, opening, &server)?;
     entry.life = life;
@@ -76,22 +78,20 @@ fn life_at(stream: u32, entry: &Stream, step: &Step) -> StreamLife
 /// Adds what a step's frame shows of the stream: use before the opening, use after the sender's end, a grant of 0.
 fn say_frame(
     found: &mut Vec<Finding>,
-    stream: u32,
     entry: &Stream,
-    step: &Step,
+    met: &WindowStep<'_>,
     frame: &Frame,
 ) -> Result<(), AllocError>
-    requires numbered { step.now.number ≤ 2 ^ 28 - 2 }
-    requires streamed { stream < 2 ^ 31 }
-    ensures { OnOk result (found.new.items ≡ found.old.items ++ frame_said stream entry.now step.now frame.now) }
+    ensures { OnOk result (found.new.items
+        ≡ found.old.items ++ frame_said met.now.stream entry.now met.now.step.now frame.now) }
 {
     let spot = Spot {
         side: frame.side,
-        number: step.number,
-        stream,
+        number: met.step.number,
+        stream: met.stream,
     };
     let tests = [
-        (entry.life.is_not_opened(stream, frame), Kind::NotOpened),
+        (entry.life.is_not_opened(met.stream, frame), Kind::NotOpened),
         (entry.life.is_after_end(frame), Kind::AfterEnd),
     ];
     say_each(found, &tests, spot, &i64::from(frame.code))?;
@@ -99,20 +99,17 @@ fn say_frame(
     say_at(found, is_zero, Kind::ZeroStreamGrant, spot, 0)
 }
 
-/// The same of a step that may have no frame.
+/// The same of a step that may have no frame. Either window of the stream meets it: the side is of no account.
 fn say_step(
     found: &mut Vec<Finding>,
-    stream: u32,
     entry: &Stream,
-    step: &Step,
+    met: &WindowStep<'_>,
 ) -> Result<(), AllocError>
-    requires numbered { step.now.number ≤ 2 ^ 28 - 2 }
-    requires streamed { stream < 2 ^ 31 }
-    ensures { OnOk result (found.new.items
-        ≡ found.old.items ++ say_of (frame_said stream entry.now step.now) step.now.frame) }
+    ensures { OnOk result (found.new.items ≡ found.old.items
+        ++ say_of (frame_said met.now.stream entry.now met.now.step.now) met.now.step.now.frame) }
 {
-    match &step.frame {
-        Some(frame) => say_frame(found, stream, entry, step, frame),
+    match &met.step.frame {
+        Some(frame) => say_frame(found, entry, met, frame),
         None => Ok(()),
     }
 }

@@ -25,6 +25,9 @@ pub(crate) struct WindowStep<'a> {
     /// The initial windows in force before the step.
     pub(crate) initial: &'a Sides<u32>,
     pub(crate) step: &'a Step,
+    // Within what a `Place` holds.
+    pub(crate) ghost numbered: { step.now.number ≤ 2 ^ 28 - 2 },
+    pub(crate) ghost streamed: { stream < 2 ^ 31 },
 }
 
 impl WindowStep<'_> {
@@ -50,8 +53,6 @@ pub(crate) fn say_window(
     opens: bool,
     met: &WindowStep<'_>,
 ) -> Result<(), AllocError>
-    requires numbered { met.now.step.now.number ≤ 2 ^ 28 - 2 }
-    requires streamed { met.now.stream < 2 ^ 31 }
     requires acknowledged { IsAcknowledged met.now.step.now }
     requires room { WindowHasRoom (2 ^ 60) window.old }
     ensures said { OnOk result (found.new.items ≡ found.old.items
@@ -94,8 +95,6 @@ fn say_opened(
     window: &Option<i64>,
     met: &WindowStep<'_>,
 ) -> Result<(), AllocError>
-    requires numbered { met.now.step.now.number ≤ 2 ^ 28 - 2 }
-    requires streamed { met.now.stream < 2 ^ 31 }
     ensures { OnOk result (found.new.items
         ≡ found.old.items ++ say_of (opened_window_said met.now.side met.now.stream met.now.step.now) window.now) }
 {
@@ -122,8 +121,6 @@ fn say_live(
     before: &i64,
     met: &WindowStep<'_>,
 ) -> Result<Option<i64>, AllocError>
-    requires numbered { met.now.step.now.number ≤ 2 ^ 28 - 2 }
-    requires streamed { met.now.stream < 2 ^ 31 }
     requires acknowledged { IsAcknowledged met.now.step.now }
     requires room { HasRoom (2 ^ 60) before.now }
     ensures said { OnOk result (found.new.items
