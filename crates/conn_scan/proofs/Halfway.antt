@@ -4,7 +4,7 @@ use Rattle.conn_scan.proofs.Terms.{ℕ, length-append, AllByRecursion, Connectio
 use Rattle.conn_scan.proofs.Terms.{◌+◌, ◌-◌, ◌^◌, ◌≤◌, ◌∷◌, map, All, refl, sym, ap, ◌∙◌, Item}
 use Rattle.conn_scan.proofs.Terms.{[], block_run, IsStopped, append-nil, items_with, each-weaker, IsInRange, room-wider}
 use Rattle.conn_scan.proofs.Terms.{append_assoc, IsOrderlyFrom, NeverFallFrom, each-append, each-filter, each-in_order}
-use Rattle.conn_scan.proofs.Terms.{length, Finding, in_order, is_shown, Watches, items_in, IsBlock, HasRoom, BlockFits}
+use Rattle.conn_scan.proofs.Terms.{length, Finding, in_order, is_shown, HaveMovedLittle, Watches, items_in, IsBlock, BlockFits}
 use Rattle.audit_terms.specs.Place.{place_number}
 use Rattle.audit_terms.proofs.SaidPlaces.{IsBelow, before-front, IsFrom, at-connection, numbered-at}
 use Rattle.std.proofs.lemmas.List.Elements.{All-from_recursion, filter-append}
@@ -44,14 +44,13 @@ IsNumbered one = place_number one.place ≤ 2 ^ 28 - 2
 
 -- the items that are left fit the connection after the first of them
 pub fits_next : (now next : ConnectionState) (item : Item) (rest : List Item) → BlockFits now (item ∷ rest)
-    → ((n : ℕ) → HasRoom n now.credit.client → HasRoom (n + 2 ^ 32) next.credit.client)
-    → ((n : ℕ) → HasRoom n now.credit.server → HasRoom (n + 2 ^ 32) next.credit.server) → BlockFits next rest
-fits_next now next item rest fits client server =
+    → HaveMovedLittle now.credit next.credit → BlockFits next rest
+fits_next now next item rest fits little =
     let number = fits.number in
     record {
       number = omega arith;
-      client = room-wider _ _ next.credit.client (omega arith) (client _ fits.client);
-      server = room-wider _ _ next.credit.server (omega arith) (server _ fits.server);
+      client = room-wider _ _ next.credit.client (omega arith) (little.0 _ fits.client);
+      server = room-wider _ _ next.credit.server (omega arith) (little.1 _ fits.server);
     }
 
 abbrev pub numbers_of : List Frame → List ℕ

@@ -15,7 +15,7 @@ pub use Rattle.audit_terms.specs.Connection.{is_opened_by_headers}
 pub use Rattle.audit_terms.specs.Finding.{in_order, is_shown, shown}
 pub use Rattle.audit_terms.specs.Frame.{content_by, grants_nothing, is_server_promise, promised_in}
 pub use Rattle.audit_terms.specs.Window.{is_used_up, largest_window, overflows, overruns}
-pub use Rattle.audit_terms.specs.code.Room.{HasRoom}
+pub use Rattle.audit_terms.specs.code.Room.{HasRoom, HaveMovedLittle}
 pub use Rattle.audit_terms.specs.code.Watch.{IsStopped, NeverFallFrom, Watches}
 pub use Rattle.audit_terms.specs.code.runs.Blocks.{block_run, connection_after_all}
 pub use Rattle.audit_terms.specs.code.runs.Orderly.{IsInRange, IsOrderlyFrom}

@@ -8,7 +8,7 @@ ghost use Rattle.audit_terms.specs.code.runs.Orderly.{IsInRange};
 ghost use Rattle.audit_terms.specs.Connection.{connection_said, connection_after};
 ghost use Rattle.audit_terms.specs.code.runs.Blocks.{block_run};
 ghost use Rattle.audit_terms.specs.Finding.{in_order, shown};
-ghost use Rattle.audit_terms.specs.code.Room.{HasRoom};
+ghost use Rattle.audit_terms.specs.code.Room.{HaveRoom, HaveMovedLittle};
 ghost use Rattle.conn_scan.specs.code.Items.{items_in, IsBlock};
 ghost use Rattle.conn_scan.specs.code.Block.{BlockFits};
 
@@ -58,10 +58,9 @@ pub fn block_findings<L: Look>(
     for item in block.items() {
         if !goes_on(&mut watch, look, findings.as_slice(), &item) {
             keep_up_to(&mut findings, &watch.stop);
-            let upto = watch.stop;
             return Ok(BlockRun {
                 findings,
-                upto,
+                upto: watch.stop,
                 last_look: watch.stop,
                 looks: watch.looks,
             });
@@ -94,13 +93,11 @@ fn add_item(
     credits_shown: bool,
 ) -> Result<(), AllocError>
     requires frame { IsInRange item.now.frame }
-    requires client { HasRoom (2 ^ 60) state.old.credit.client }
-    requires server { HasRoom (2 ^ 60) state.old.credit.server }
+    requires room { HaveRoom (2 ^ 60) state.old.credit }
     ensures found { OnOk result (found.new.items
         ≡ found.old.items ++ shown credits_shown (in_order (connection_said state.old item.now))) }
     ensures after { OnOk result (state.new ≡ connection_after state.old item.now) }
-    ensures client { (n : ℕ) → HasRoom n state.old.credit.client → HasRoom (n + 2 ^ 32) state.new.credit.client }
-    ensures server { (n : ℕ) → HasRoom n state.old.credit.server → HasRoom (n + 2 ^ 32) state.new.credit.server }
+    ensures little { HaveMovedLittle state.old.credit state.new.credit }
 {
     said.clear();
     say_connection(said, state, item)?;

@@ -16,7 +16,7 @@ ghost use Rattle.audit_terms.specs.Connection.{connection_said, connection_after
 ghost use Rattle.audit_terms.specs.Connection.{connection_windows_said, credit_after, length_said, push_said};
 ghost use Rattle.audit_terms.specs.Connection.{opening_order_said, promise_order_said, is_opened_by_headers};
 ghost use Rattle.audit_terms.specs.Connection.{is_even_promise};
-ghost use Rattle.audit_terms.specs.code.Room.{HasRoom};
+ghost use Rattle.audit_terms.specs.code.Room.{HasRoom, HaveRoom, HaveMovedLittle};
 ghost use Rattle.audit_terms.specs.code.runs.Orderly.{IsInRange};
 
 use crate::frame_faults::say_fault;
@@ -36,13 +36,11 @@ pub fn say_connection(
     item: &Item,
 ) -> Result<(), AllocError>
     requires frame { IsInRange item.now.frame }
-    requires client { HasRoom (2 ^ 60) state.old.credit.client }
-    requires server { HasRoom (2 ^ 60) state.old.credit.server }
+    requires room { HaveRoom (2 ^ 60) state.old.credit }
     ensures said { OnOk result (found.new.items ≡ found.old.items ++ connection_said state.old item.now) }
     ensures after { OnOk result (state.new ≡ connection_after state.old item.now) }
     ensures err { OnErr result (state.new ≡ state.old) }
-    ensures client { (n : ℕ) → HasRoom n state.old.credit.client → HasRoom (n + 2 ^ 32) state.new.credit.client }
-    ensures server { (n : ℕ) → HasRoom n state.old.credit.server → HasRoom (n + 2 ^ 32) state.new.credit.server }
+    ensures little { HaveMovedLittle state.old.credit state.new.credit }
 {
     say_item(found, state, item)?;
     let opened = opened_after(state, item);
@@ -125,13 +123,11 @@ fn say_windows(
     frame: &Frame,
 ) -> Result<(), AllocError>
     requires frame { IsInRange frame.now }
-    requires client { HasRoom (2 ^ 60) credit.old.client }
-    requires server { HasRoom (2 ^ 60) credit.old.server }
+    requires room { HaveRoom (2 ^ 60) credit.old }
     ensures said { OnOk result (found.new.items ≡ found.old.items ++ connection_windows_said credit.old frame.now) }
     ensures counted { OnOk result (credit.new ≡ each_side (λ d. credit_after d (side_of d credit.old) frame.now)) }
     ensures err { OnErr result (credit.new ≡ credit.old) }
-    ensures client { (n : ℕ) → HasRoom n credit.old.client → HasRoom (n + 2 ^ 32) credit.new.client }
-    ensures server { (n : ℕ) → HasRoom n credit.old.server → HasRoom (n + 2 ^ 32) credit.new.server }
+    ensures little { HaveMovedLittle credit.old credit.new }
 {
     let client = say_window(found, &credit.client, Side::Client, frame)?;
     let server = say_window(found, &credit.server, Side::Server, frame)?;

@@ -19,7 +19,7 @@ loop-frame-init c =
 pub say_connection-requires : goal.say_connection-requires
 say_connection-requires c =
     let at = rw (drop-at c.args.frames.now _ _ c.frame-item.is c.loop-frame-test.true) at c.loop-frame.invariant in
-    record { frame = at.orderly.1; client = (room at).client; server = (room at).server }
+    record { frame = at.orderly.1; room = ((room at).client, (room at).server) }
 
 pub meet_all-requires : goal.meet_all-requires
 meet_all-requires c =
@@ -49,7 +49,7 @@ loop-frame-preserved c =
     (rw rows at c.in_ok-meet_all.ensures.said)
     (rw c.in_ok-put_in_order.ensures.ok at c.in_ok-append.ensures.items)
     c.keep_last.ensures c.initial_after-in_force.ensures c.in_ok-say_connection.ensures.after
-    (rw rows at c.in_ok-meet_all.ensures.after) c.say_connection.ensures.client c.say_connection.ensures.server
+    (rw rows at c.in_ok-meet_all.ensures.after) c.say_connection.ensures.little.0 c.say_connection.ensures.little.1
     (rw rows at c.in_ok-meet_all.ensures.fits))
 
 pub say_alone-requires : goal.say_alone-requires

@@ -26,17 +26,16 @@ returns-then-not-goes_on-clause-numbered g c =
     stops-numbered c.loop-item.invariant.halfway c.keep_up_to.new.found.items c.goes_on.new.watch.stop
     c.keep_up_to.ensures
 
-pub add_item-requires-clause-client : goal.add_item-requires-clause-client
-add_item-requires-clause-client g c = room-wider _ (2 ^ 60) _ (omega arith) c.loop-item.invariant.fits.client
-
-pub add_item-requires-clause-server : goal.add_item-requires-clause-server
-add_item-requires-clause-server g c = room-wider _ (2 ^ 60) _ (omega arith) c.loop-item.invariant.fits.server
+pub add_item-requires-clause-room : goal.add_item-requires-clause-room
+add_item-requires-clause-room g c =
+    let fits = c.loop-item.invariant.fits in
+    (room-wider _ (2 ^ 60) _ (omega arith) fits.client, room-wider _ (2 ^ 60) _ (omega arith) fits.server)
 
 pub loop-item-preserved : goal.loop-item-preserved
 loop-item-preserved g c =
     let meets = c.in_ok-add_item.ensures in
     record {
-      fits = fits_next _ _ _ _ (rw c.in-Some.ensures.steps at c.loop-item.invariant.fits) meets.client meets.server;
+      fits = fits_next _ _ _ _ (rw c.in-Some.ensures.steps at c.loop-item.invariant.fits) meets.little;
       halfway = goes (rw c.in-Some.ensures.steps at c.loop-item.invariant.halfway)
           c.goes_on.new.look c.add_item.new.state c.add_item.new.found.items c.goes_on.new.watch
           (rw c.as_slice.ensures.value at c.if-not-goes_on.ensures) meets.after meets.found;
