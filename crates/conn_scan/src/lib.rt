@@ -16,9 +16,9 @@
 //!   is exact for `is_clear` of `specs/code/Clear.antt`, both ways.
 //! - [`laws`] say too that the items of a connection are those of the pass and that those of consecutive blocks join,
 //!   and that each block fits where all blocks fit the first connection: `block_findings` asks for credits that its
-//!   items cannot bring beyond 2^60, and `block_sum` says that an item moves each by at most 2^32. Two laws are worked
-//!   examples: credit used up, granted and used again, in states and sums, and a stall in blocks of one, of two and at
-//!   once.
+//!   items cannot bring beyond 2^60, and `block_sum` says that an item moves each by at most 2^32.
+//! - [`worked_examples`]: credit used up, granted and used again, in states and sums, and a stall in blocks of one, of
+//!   two and at once.
 //! - Refused by the prover: a block that starts afresh, a sum of changes without those before them (an item's and a
 //!   join's is one call), clear by the total alone, a run that looks once.
 //! - Tested, in `crate_tests`: that the calls succeed where there is memory, within rounds over random frames; and, in
@@ -34,6 +34,7 @@ mod latest;
 pub mod laws;
 mod rising;
 mod sums;
+pub mod worked_examples;
 
 pub use block_items::{Block, changes_from, numbers_from};
 pub use blocks::{BlockRun, block_findings};
