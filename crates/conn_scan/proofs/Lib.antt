@@ -1,8 +1,8 @@
 mod Terms
-pub mod SumLemmas
+mod SumLemmas
 pub mod WalkLemmas
-pub mod ClearLemmas
-pub mod ItemsLemmas
+mod ClearLemmas
+mod ItemsLemmas
 pub mod ShownLemmas
-pub mod FitLemmas
-pub mod Halfway
+mod FitLemmas
+mod Halfway

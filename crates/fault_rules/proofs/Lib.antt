@@ -1,2 +1,2 @@
-pub mod ShareLemmas
+mod ShareLemmas
 mod Terms
