@@ -87,7 +87,8 @@ pub fn changes_from(changes: &[Change], low: u32) -> &[Change]
     rest
 }
 
-/// A number that no opening and no change stands below: a frame that does stands beside none.
+/// The least number of an opening or of a change, or the largest word where there is none: a frame with a lower number
+/// opens no stream and brings nothing into force.
 pub(crate) fn first_number(opened: &[u32], changes: &[Change]) -> u32
     ensures opened { StartFrom result opened.now }
     ensures changes { ChangesStartFrom result changes.now }

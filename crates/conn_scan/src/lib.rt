@@ -1,7 +1,7 @@
 //! What a block of frames does to a connection (RFC 9113, 4.2, 5.1.1, 6.9), in a form that can be joined.
 //!
 //! - [`Credit`] is what changes do to one window. The greatest and the least prefix sum stand beside the sum: by the
-//!   sum alone, a block that falls below 0 and rises again would look quiet.
+//!   sum alone, a block that falls below 0 and rises again would look clear.
 //! - [`Rising`] is what is known of the streams that items open, [`Latest`] are the settings that they bring and the
 //!   lengths of their frames.
 //! - [`Block`] is a range of frames with the numbers of those that open streams and the changes of settings: its items
@@ -19,8 +19,8 @@
 //!   items cannot bring beyond 2^60, and `block_sum` says that an item moves each by at most 2^32.
 //! - [`worked_examples`]: credit used up, granted and used again, in states and sums, and a stall in blocks of one, of
 //!   two and at once.
-//! - Refused by the prover: a block that starts afresh, a sum of changes without those before them (an item's and a
-//!   join's is one call), clear by the total alone, a run that looks once.
+//! - Refused by the prover: a block that forgets the streams opened before it, a sum of changes without those before
+//!   them, a block called clear by the sum of its changes alone, a run that looks only once.
 //! - Tested, in `crate_tests`: that the calls succeed where there is memory, within rounds over random frames; and, in
 //!   numbers, how often a run over 1,000 frames looks, and what it is handed and keeps.
 #![tactic(auto)]

@@ -1,5 +1,6 @@
 //! The calls that say each rule of an audit (RFC 9113, 3.4, 4.2, 4.3, 5.1, 6, 8.4): what a frame shows by itself, of
-//! its connection and of its streams. And all that frames show by themselves, by as many threads as are given work.
+//! its connection and of its streams. One call says at once what each frame of a connection shows by itself, on as many
+//! threads as it is given workers.
 //!
 //! - [`say_local`]: what a frame shows by itself and beside the frame of its side just before it; [`keep_last`] keeps
 //!   that frame.
