@@ -53,8 +53,7 @@ low-met (y ∷ a) x = let e = low-met a x in omega (arith, ints, clamps)
 -- the whole sum is one of those that are compared
 within : (a : List ℤ) → (low a ≤ℤ total a) × (total a ≤ℤ high a)
 within [] = (omega (arith, ints), omega (arith, ints))
-within (x ∷ a) =
-    let l = (within a).0 in let h = (within a).1 in (omega (arith, ints, clamps), omega (arith, ints, clamps))
+within (x ∷ a) = let w = within a in (omega (arith, ints, clamps, w.0), omega (arith, ints, clamps, w.1))
 
 pub above : (a b : ℤ) → a <ℤ b → int_lt a b ≡ true
 above a b h = grind (arith, ints)
@@ -63,12 +62,10 @@ pub not_above : (a b : ℤ) → b ≤ℤ a → int_lt a b ≡ false
 not_above a b h = grind (arith, ints)
 
 risen : (h t x : ℤ) → t ≤ℤ h → int_max h (t +ℤ x) ≡ (if int_lt (pos 0) x then int_max h (t +ℤ x) else h)
-risen h t x le = by_lt_z (pos 0) x (λ p. rw (above (pos 0) x p) refl)
-    (λ p. rw (not_above (pos 0) x p) (omega (arith, ints, clamps)))
+risen h t x le = grind (arith, ints, clamps)
 
 fallen : (l t x : ℤ) → l ≤ℤ t → int_min l (t +ℤ x) ≡ (if int_lt x (pos 0) then int_min l (t +ℤ x) else l)
-fallen l t x le = by_lt_z x (pos 0) (λ p. rw (above x (pos 0) p) refl)
-    (λ p. rw (not_above x (pos 0) p) (omega (arith, ints, clamps)))
+fallen l t x le = grind (arith, ints, clamps)
 
 -- the summary of one change more
 pub credit_of-met : (a : List ℤ) (x : ℤ) → credit_of (a ++ x ∷ []) ≡ credit_met (credit_of a) x
@@ -93,10 +90,7 @@ moved s (x ∷ a) = sym (+ℤ_assoc s x (total a)) ∙ moved (s +ℤ x) a
 pub total-room : (a : List ℤ) → AreSmall a → HasRoom (2 ^ 32 * length a) (total a)
 total-room [] h = (omega (arith, ints), omega (arith, ints))
 total-room (x ∷ a) h =
-    let r = total-room a h.1 in
-    let p = r.0 in let q = r.1 in
-    let l = h.0.0 in let u = h.0.1 in
-    (omega (arith, ints), omega (arith, ints))
+    let r = total-room a h.1 in (omega (arith, ints, r.0, h.0.0), omega (arith, ints, r.1, h.0.1))
 
 pub first_fit : (s : ℤ) (a b : List ℤ) → ChangesFit s (a ++ b) → ChangesFit s a
 first_fit s a b f =
@@ -135,14 +129,12 @@ credit_laws = lawful credit_shows
 high-room : (a : List ℤ) → AreSmall a → HasRoom (2 ^ 32 * length a) (high a)
 high-room [] h = (omega (arith, ints), omega (arith, ints))
 high-room (x ∷ a) h =
-    let r = high-room a h.1 in let p = r.0 in let q = r.1 in let l = h.0.0 in let u = h.0.1 in
-    (omega (arith, ints, clamps), omega (arith, ints, clamps))
+    let r = high-room a h.1 in (omega (arith, ints, clamps, r.0, h.0.0), omega (arith, ints, clamps, r.1, h.0.1))
 
 low-room : (a : List ℤ) → AreSmall a → HasRoom (2 ^ 32 * length a) (low a)
 low-room [] h = (omega (arith, ints), omega (arith, ints))
 low-room (x ∷ a) h =
-    let r = low-room a h.1 in let p = r.0 in let q = r.1 in let l = h.0.0 in let u = h.0.1 in
-    (omega (arith, ints, clamps), omega (arith, ints, clamps))
+    let r = low-room a h.1 in (omega (arith, ints, clamps, r.0, h.0.0), omega (arith, ints, clamps, r.1, h.0.1))
 
 -- What keeps the sums of two summaries within their machine words.
 pub record IsRoomy (credit : Credit) : Type 0 where
