@@ -1,11 +1,10 @@
 -- The summary of a connection's items obeys the laws.
-use Rattle.std.proofs.Common.{◌≡◌, ℕ, ℤ, pos, ◌+ℤ◌, max, Bool, true, false, List, [], ◌∷◌, ◌++◌, map, Option, Some}
+use Rattle.std.proofs.Common.{◌≡◌, ℕ, max, Bool, List, [], ◌∷◌, ◌++◌, map, Option, Some}
 use Rattle.std.proofs.Common.{None}
 use Rattle.std.proofs.Common.{refl, sym, ap, subst, ◌∙◌, arith}
 use Rattle.std.proofs.Math.IntN.{+ℤ_assoc, +ℤ_idr}
 use Rattle.std.proofs.Math.Nat.{max-zero}
 use Rattle.std.specs.Prelude.{if◌then◌else◌}
-use Rattle.std.proofs.lemmas.Int.{ints}
 use Rattle.std.proofs.lemmas.List.{map-append}
 use Rattle.audit_terms.specs.declared.sides.Side.{Side}
 use Rattle.audit_terms.specs.declared.connections.ConnectionState.{ConnectionState}
@@ -67,8 +66,7 @@ conn_sum_of-met a x = λ i. record {
 greatest-next : (b : Bool) (s x : ℕ) (rest : List (Option ℕ))
     → max s (greatest_of (present ((if b then Some x else None) ∷ rest)))
     ≡ max (if b then max s x else s) (greatest_of (present rest))
-greatest-next true s x rest = omega arith
-greatest-next false s x rest = refl
+greatest-next b s x rest = grind arith
 
 pub moved : (s : ConnectionState) (a : List Item) → conn_advance s (conn_sum_of a) ≡ connection_after_all s a
 moved s [] = λ i. record s {

@@ -1,11 +1,11 @@
 -- The summary of changes obeys the laws.
-use Rattle.std.proofs.Common.{◌≡◌, ℤ, pos, ◌*◌, ◌^◌, ◌+ℤ◌, ◌<ℤ◌, ◌≤ℤ◌, int_lt, ◌≤◌, List, [], ◌∷◌, ◌++◌, length, refl}
+use Rattle.std.proofs.Common.{◌≡◌, ℤ, pos, ◌*◌, ◌^◌, ◌+ℤ◌, ◌≤ℤ◌, int_lt, ◌≤◌, List, [], ◌∷◌, ◌++◌, length, refl}
 use Rattle.std.proofs.Common.{sym, subst, ◌∙◌, arith}
 use Rattle.std.proofs.Common.{length-append}
 use Rattle.std.proofs.Math.IntN.{+ℤ_assoc, +ℤ_idr, +ℤ_idl}
-use Rattle.std.specs.Prelude.{true, false, if◌then◌else◌}
+use Rattle.std.specs.Prelude.{false, if◌then◌else◌}
 use Rattle.std.specs.Int.{int_max, int_min}
-use Rattle.std.proofs.lemmas.Int.{ints, clamps, by_lt_z}
+use Rattle.std.proofs.lemmas.Int.{ints, clamps}
 use Rattle.audit_terms.specs.code.Room.{HasRoom}
 use Rattle.block_scan.specs.code.Summary.{SummaryLaws, summary_of}
 use Rattle.block_scan.specs.code.List.{state_after}
@@ -54,9 +54,6 @@ low-met (y ∷ a) x = let e = low-met a x in omega (arith, ints, clamps)
 within : (a : List ℤ) → (low a ≤ℤ total a) × (total a ≤ℤ high a)
 within [] = (omega (arith, ints), omega (arith, ints))
 within (x ∷ a) = let w = within a in (omega (arith, ints, clamps, w.0), omega (arith, ints, clamps, w.1))
-
-pub above : (a b : ℤ) → a <ℤ b → int_lt a b ≡ true
-above a b h = grind (arith, ints)
 
 pub not_above : (a b : ℤ) → b ≤ℤ a → int_lt a b ≡ false
 not_above a b h = grind (arith, ints)
