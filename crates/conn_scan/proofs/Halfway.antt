@@ -1,10 +1,10 @@
 -- A block's run between two items, and how it goes on.
 use Rattle.conn_scan.proofs.Terms.{◌≡◌, Bool, List, ◌++◌, Option, Some, None, subst, arith, Frame, Change, shown, Block}
 use Rattle.conn_scan.proofs.Terms.{ℕ, length-append, AllByRecursion, ConnectionState, connection_said, connection_after}
-use Rattle.conn_scan.proofs.Terms.{◌+◌, ◌-◌, ◌^◌, ◌≤◌, ◌∷◌, map, All, refl, sym, ap, ◌∙◌, Item}
+use Rattle.conn_scan.proofs.Terms.{◌+◌, ◌-◌, ◌^◌, ◌≤◌, ◌∷◌, map, All, refl, sym, ap, ◌∙◌, Item, IsBlock, BlockFits}
 use Rattle.conn_scan.proofs.Terms.{[], block_run, IsStopped, append-nil, items_with, each-weaker, IsInRange, room-wider}
 use Rattle.conn_scan.proofs.Terms.{append_assoc, IsOrderlyFrom, NeverFallFrom, each-append, each-filter, each-in_order}
-use Rattle.conn_scan.proofs.Terms.{length, Finding, in_order, is_shown, HaveMovedLittle, Watches, items_in, IsBlock, BlockFits}
+use Rattle.conn_scan.proofs.Terms.{length, Finding, in_order, is_shown, HaveMovedLittle, Watches, items_in}
 use Rattle.audit_terms.specs.Place.{place_number}
 use Rattle.audit_terms.proofs.SaidPlaces.{IsBelow, before-front, IsFrom, at-connection, numbered-at}
 use Rattle.std.proofs.lemmas.List.Elements.{All-from_recursion, filter-append}

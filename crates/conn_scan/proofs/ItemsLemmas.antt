@@ -1,8 +1,8 @@
 -- The items of a connection's frames are those of the pass, and those of consecutive blocks join.
-use Rattle.conn_scan.proofs.Terms.{◌≡◌, append_assoc, AllByRecursion, map-append, each-append, IsOrderlyFrom, items_with}
+use Rattle.conn_scan.proofs.Terms.{◌≡◌, append_assoc, AllByRecursion, map-append, IsOrderlyFrom, items_with}
 use Rattle.conn_scan.proofs.Terms.{ℕ, ◌+◌, ◌<◌, ◌≤◌, ◌==◌, List, [], ◌∷◌, ◌++◌, Some, None, refl, ◌∙◌, map, Frame, Item}
 use Rattle.conn_scan.proofs.Terms.{false, Option, arith, list_any, nat_tests, Change, is_marked, change_at, item_with}
-use Rattle.conn_scan.proofs.Terms.{each-weaker}
+use Rattle.conn_scan.proofs.Terms.{each-append, each-weaker}
 use Rattle.audit_terms.specs.code.runs.Changes.{changes_from}
 use Rattle.std.specs.Option.{option_to_list}
 use Rattle.std.proofs.Math.Bool.{or-false}
