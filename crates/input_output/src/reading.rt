@@ -1,9 +1,7 @@
-ghost use Rattle.std.specs.Prelude.{◌≡◌, ◌+◌, ◌^◌, ◌≤◌, length, IfErr, OnOk};
-ghost use Rattle.std.specs.Io.{StartsWith};
-ghost use Rattle.std.specs.Io.KnownBytes.{IsAtEnd};
+ghost use Rattle.std.specs.Prelude.{◌≡◌, ◌^◌, OnOk};
 ghost use Rattle.input_output.specs.code.Front.{Lasts};
 ghost use Rattle.input_output.specs.Account.{kept};
-ghost use Rattle.input_output.specs.code.Reading.{HasConsumed, HasPassed, IsReadingFault, IsSound};
+ghost use Rattle.input_output.specs.code.Reading.{HasConsumed, HasGrown, HasPassed, HaveEnded, IsOpenWithin, IsSound};
 
 use crate::capture_reader::{CaptureReader, LIMIT, ReadState};
 use crate::chunks_ahead::ChunksAhead;
@@ -23,18 +21,10 @@ pub fn keep_up_to<T: Threads, R: Read>(
     reader: &mut CaptureReader<R>,
     limit: usize,
 ) -> Result<(), ReadFault>
-    requires sound { IsSound reader.old }
-    requires room { (reader.old.bytes.room ≤ limit) × (limit ≤ 2 ^ 31) }
-    requires unpassed { reader.old.passed ≡ 0 }
-    requires state { reader.old.state ≡ ReadState.Open }
-    ensures sound { OnOk result (IsSound reader.new) }
-    ensures room { reader.new.bytes.room ≤ limit }
-    ensures unpassed { reader.new.passed ≡ 0 }
-    ensures front { StartsWith (kept reader.new) (kept reader.old) }
-    ensures whole { OnOk result (reader.new.state ≡ ReadState.Open → length (kept reader.new) ≡ limit) }
-    ensures end { OnOk result (reader.new.state ≡ ReadState.Ended → IsAtEnd (R.remaining reader.new.reader)) }
+    requires { IsOpenWithin limit reader.old }
+    ensures grown { HasGrown limit (kept reader.old) reader.new }
     ensures bytes { OnOk result (HasConsumed R.remaining reader.old reader.new) }
-    ensures err { IfErr result (λ e. IsReadingFault e reader.new) }
+    ensures ended { HaveEnded R.remaining limit reader.new result }
 {
     let mut read = Ok(());
     while reader.is_open_below(limit) {
@@ -53,19 +43,12 @@ pub fn keep_and_walk<T: Threads, R: Read, W: FrontWalk + Send>(
     reader: &mut CaptureReader<R>,
     walk: &mut W,
 ) -> Result<(), ReadFault>
-    requires sound { IsSound reader.old }
-    requires room { reader.old.bytes.room ≤ 2 ^ 31 }
-    requires unpassed { reader.old.passed ≡ 0 }
-    requires state { reader.old.state ≡ ReadState.Open }
+    requires reader { IsOpenWithin (2 ^ 31) reader.old }
     requires walk { Lasts W.stands (kept reader.old) walk.old }
-    ensures sound { OnOk result (IsSound reader.new) }
-    ensures unpassed { reader.new.passed ≡ 0 }
-    ensures front { StartsWith (kept reader.new) (kept reader.old) }
-    ensures whole { OnOk result (reader.new.state ≡ ReadState.Open → length (kept reader.new) ≡ 2 ^ 31) }
-    ensures end { OnOk result (reader.new.state ≡ ReadState.Ended → IsAtEnd (R.remaining reader.new.reader)) }
+    ensures grown { HasGrown (2 ^ 31) (kept reader.old) reader.new }
     ensures bytes { OnOk result (HasConsumed R.remaining reader.old reader.new) }
     ensures walk { OnOk result (Lasts W.stands (kept reader.new) walk.new) }
-    ensures err { IfErr result (λ e. IsReadingFault e reader.new) }
+    ensures ended { HaveEnded R.remaining (2 ^ 31) reader.new result }
 {
     let mut read = Ok(());
     while reader.is_open_below(LIMIT) {
@@ -80,11 +63,8 @@ pub fn pass_over<R: Read>(reader: &mut CaptureReader<R>) -> Result<(), ReadFault
     requires state { reader.old.state ≡ ReadState.Open }
     ensures sound { OnOk result (IsSound reader.new) }
     ensures kept { reader.new.bytes ≡ reader.old.bytes }
-    ensures whole { OnOk result (reader.new.state ≡ ReadState.Open
-        → length (kept reader.new) + reader.new.passed ≡ 2 ^ 31) }
-    ensures end { OnOk result (reader.new.state ≡ ReadState.Ended → IsAtEnd (R.remaining reader.new.reader)) }
     ensures bytes { OnOk result (HasPassed R.remaining reader.old reader.new) }
-    ensures err { IfErr result (λ e. IsReadingFault e reader.new) }
+    ensures ended { HaveEnded R.remaining (2 ^ 31) reader.new result }
 {
     let mut piece = [0; PASSED];
     while !reader.is_full() {

@@ -16,17 +16,20 @@ module _ {R : Type 0} where
     pub limit : length (kept reader) + reader.passed ≤ 2 ^ 31
     pub well : (reader.state ≡ Open) ⊎ (reader.state ≡ Ended)
 
-  -- a read can follow: the reads so far gave bytes, all of them kept, and fewer than the limit, to which the room goes
-  -- at most
-  pub record IsOpenBelow (limit : ℕ) (reader : CaptureReader R) : Type 0 where
+  -- the reads so far gave bytes, all of them kept, in room up to this limit
+  pub record IsOpenWithin (limit : ℕ) (reader : CaptureReader R) : Type 0 where
     pub sound : IsSound reader
     pub state : reader.state ≡ Open
     pub unpassed : reader.passed ≡ 0
-    pub below : length (kept reader) < limit
     pub room : reader.bytes.room ≤ limit
     pub most : limit ≤ 2 ^ 31
 
-  -- the same below 2^31 bytes, with these in front of what is kept: none yet, with room for a chunk at most
+  -- and a read can follow: they are fewer
+  pub record IsOpenBelow (limit : ℕ) (reader : CaptureReader R) : Type 0 where
+    pub within : IsOpenWithin limit reader
+    pub below : length (kept reader) < limit
+
+  -- a read can follow behind these bytes, fewer than 2^31: none is kept yet, and there is room for a chunk at most
   pub record IsOpenBehind (front : List ℕ) (reader : CaptureReader R) : Type 0 where
     pub state : reader.state ≡ Open
     pub unpassed : reader.passed ≡ 0
@@ -69,6 +72,14 @@ module _ {R : Type 0} where
       (answer : Result (Unit {0}) ReadFault) : Type 0 where
     pub grown : HasGrown limit front now
     pub read : OnOk answer (HasReadOn left before front now)
+    pub err : IfErr answer (λ e. IsReadingFault e now)
+
+  -- how reads up to a limit ended: one found the end, or they gave so many bytes; or why they failed
+  pub record HaveEnded (left : R → Option (List ℕ)) (limit : ℕ) (now : CaptureReader R)
+      (answer : Result (Unit {0}) ReadFault) : Type 0 where
+    pub sound : OnOk answer (IsSound now)
+    pub whole : OnOk answer (now.state ≡ Open → length (kept now) + now.passed ≡ limit)
+    pub end : OnOk answer (now.state ≡ Ended → IsAtEnd (left now.reader))
     pub err : IfErr answer (λ e. IsReadingFault e now)
 
   -- what is kept was taken out, for a walk over it beside the reads, or nothing was

@@ -1,9 +1,8 @@
-use Rattle.std.proofs.Common.{rules, ◌≡◌, ◌∙◌, ◌+◌, ◌^◌, ◌++◌, [], length, sym, ap, refl, arith}
+use Rattle.std.proofs.Common.{rules, ◌≡◌, ◌∙◌, ◌++◌, [], length, sym, ap, refl, arith}
 use Rattle.std.proofs.lemmas.Result.{IfOk-weaker}
 use Rattle.std.proofs.KnownBytes.{Consumes-more, Consumes-trans}
 use Rattle.pcap_records.specs.Refusal.{refusal}
 use Rattle.input_output.specs.Account.{kept}
-use Rattle.input_output.specs.declared.capture_reader.ReadState.TheVariants.{Open}
 use Rattle.input_output.proofs.Kept.{gave_front, gave_kept, read_to_end}
 use Rattle.h2audit.proofs.Kept.{header_answers, header_stays, whole_answers}
 use Rattle.h2audit.proofs.reading.read_in_chunks.Goals as goal
@@ -12,13 +11,14 @@ pub returns-then-has_ended-clause-read : goal.returns-then-has_ended-clause-read
 returns-then-has_ended-clause-read g c =
     let now = c.keep_up_to.new.reader in
     let read = c.in_ok-keep_up_to.ensures in
-    let none = c.keep_up_to.ensures.unpassed in
+    let none = c.keep_up_to.ensures.grown.unpassed in
     record {
       bytes = gave_front (g.R.Read.remaining c.args.reader.now.reader) (g.R.Read.remaining now.reader) now (kept now)
-          (gave_kept now none) (rw c.requires.kept at read.bytes) read.sound (λ unended. search rules) read.end;
+          (gave_kept now none) (rw c.requires.kept at read.bytes) read.ended.sound (λ unended. search rules)
+          read.ended.end;
       ok = search rules;
       answers = whole_answers now none;
-      brief = λ _. c.keep_up_to.ensures.room;
+      brief = λ _. c.keep_up_to.ensures.grown.room;
       header = c.header_by.ensures (kept now) (rw c.together.ensures at c.begin-begun.ensures.ok)
           (rw c.together.ensures at c.begin-begun.ensures.err);
     }
@@ -27,25 +27,25 @@ pub returns-in-Ok-clause-read : goal.returns-in-Ok-clause-read
 returns-in-Ok-clause-read g c = IfOk-weaker c.behind_read.result _ _ (λ given is.
     let header = c.keep_up_to.new.reader in
     let now = c.keep_and_walk-read.new.reader in
-    let none = c.keep_and_walk-read.ensures.unpassed in
-    let front = c.keep_and_walk-read.ensures.front in
+    let grown = c.keep_and_walk-read.ensures.grown in
+    let none = grown.unpassed in
+    let front = grown.front in
     let read = rw is.0 at c.keep_and_walk-read.ensures in
-    let whole : now.state ≡ Open → length (kept now) + now.passed ≡ 2 ^ 31 =
-    λ unended. omega (arith, read.whole unended, none) in
+    let ended = read.ended in
     let start = rw c.requires.kept at c.in_ok-keep_up_to.ensures.bytes in
     let same : c.together.result.now ≡ kept header = c.together.ensures in
     let filled : length (kept header) ≡ 24 = omega (
       arith,
       ap length same,
       c.in-Ok.ensures.whole,
-      c.in_ok-keep_up_to.ensures.sound.within,
-      c.keep_up_to.ensures.room,
+      c.in_ok-keep_up_to.ensures.ended.sound.within,
+      c.keep_up_to.ensures.grown.room,
     ) in
     rw is.1 (record {
       bytes = gave_front (g.R.Read.remaining c.args.reader.now.reader) (g.R.Read.remaining now.reader) now (kept now)
-          (gave_kept now none) (Consumes-more _ _ _ [] (kept header) (kept now) refl front start read.bytes) read.sound
-          whole read.end;
-      ok = read_to_end now read.sound whole;
+          (gave_kept now none) (Consumes-more _ _ _ [] (kept header) (kept now) refl front start read.bytes)
+          ended.sound ended.whole ended.end;
+      ok = read_to_end now ended.sound ended.whole;
       answers = whole_answers now none;
       brief = λ refused. absurd
           (refused (header_stays header now filled front (ap refusal (sym same) ∙ c.in-Ok.ensures.taken)));
@@ -57,6 +57,7 @@ returns-in-Err-clause-read g c = IfOk-weaker c.behind_read-in-Err.result _ _ (λ
     let header = c.keep_up_to.new.reader in
     let now = c.pass_over.new.reader in
     let read = rw is.0 at c.pass_over.ensures in
+    let ended = read.ended in
     let (passed, size, given) = read.bytes in
     let start = rw c.requires.kept at c.in_ok-keep_up_to.ensures.bytes in
     let same : kept now ≡ kept header = rw c.pass_over.ensures.kept refl in
@@ -65,10 +66,10 @@ returns-in-Err-clause-read g c = IfOk-weaker c.behind_read-in-Err.result _ _ (λ
     rw is.1 (record {
       bytes = gave_front (g.R.Read.remaining c.args.reader.now.reader) (g.R.Read.remaining now.reader) now
           (kept header ++ passed)
-          (passed, ap (λ front. front ++ passed) (sym same), omega (arith, size, c.keep_up_to.ensures.unpassed))
-          (Consumes-trans _ _ _ (kept header) passed start given) read.sound read.whole read.end;
-      ok = read_to_end now read.sound read.whole;
+          (passed, ap (λ front. front ++ passed) (sym same), omega (arith, size, c.keep_up_to.ensures.grown.unpassed))
+          (Consumes-trans _ _ _ (kept header) passed start given) ended.sound ended.whole ended.end;
+      ok = read_to_end now ended.sound ended.whole;
       answers = header_answers now c.in-Err.refusal (ap length same ∙ filled) refused;
-      brief = λ _. rw c.pass_over.ensures.kept c.keep_up_to.ensures.room;
+      brief = λ _. rw c.pass_over.ensures.kept c.keep_up_to.ensures.grown.room;
       header = search rules;
     })) c.behind_read-in-Err.ensures.ok

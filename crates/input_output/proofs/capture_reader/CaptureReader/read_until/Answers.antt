@@ -13,7 +13,7 @@ loop-self-preserved g c =
     let grown = c.read_once-read.ensures.grown in
     let read = went_well c.read_once-read.new.self c.read_once-read.result on.0 c.read_once-read.ensures.err
     c.read_once-read.ensures.read in record {
-      on = grind (arith, on, grown, read.sound, c.requires.most);
+      on = grind (arith, on, grown, read.sound, c.requires.within.most);
       grown = grown_more c.args.limit c.args.self.now c.loop-self.self c.read_once-read.new.self
           c.loop-self.invariant.grown grown;
       bytes = (read_more g.R.Read.remaining c.args.limit c.args.self.now c.loop-self.self c.read_once-read.new.self
