@@ -1,12 +1,11 @@
 -- What is kept of a capture, read by read.
 use Rattle.std.proofs.Common.{◌≡◌, ◌∙◌, ℕ, suc, ◌+◌, ◌^◌, ◌≤◌, List, [], ◌++◌, length, take, drop}
-use Rattle.std.proofs.Common.{length-append, take_at, Option, Some, None, IfSome, inl, inr, refl, sym, ap, subst}
+use Rattle.std.proofs.Common.{length-append, take_at, Option, Some, None, IfSome, inl, inr, sym, ap, subst}
 use Rattle.std.proofs.Common.{Result, Ok, Err, IfErr, OnOk, arith}
 use Rattle.std.specs.Io.{StartsWith}
 use Rattle.std.specs.Io.KnownBytes.{Consumes, IsAtEnd}
-use Rattle.std.proofs.KnownBytes.{Consumes-more, Consumes-nil, Consumes-trans, starts_with_rest}
-use Rattle.std.proofs.Math.Seq.{drop-length}
-use Rattle.std.proofs.Transfers.{drop-appended, starts_with_length, starts_with_of_eq, starts_with_trans}
+use Rattle.std.proofs.KnownBytes.{Consumes-more, Consumes-trans, starts_with_rest}
+use Rattle.std.proofs.Transfers.{drop-appended, starts_with_length, starts_with_trans}
 use Rattle.std.specs.Result.{result_and}
 use Rattle.std.proofs.lemmas.Result.{on_ok_weaker}
 use Rattle.std.proofs.lemmas.List.{append-nil, append_assoc, nil_from_length, take_all}
@@ -57,16 +56,6 @@ module _ {R : Type 0} where
     pub end : OnOk read (now.state ≡ Ended → IsAtEnd (left now.reader))
     pub bytes : OnOk read (HasConsumed left first now)
     pub err : IfErr read (λ e. IsReadingFault e now)
-
-  pub read_none : (left : R → Option (List ℕ)) (limit : ℕ) (first : CaptureReader R) → IsSound first
-      → first.bytes.room ≤ limit → first.passed ≡ 0 → first.state ≡ Open → IsReading left limit first first (Ok tt)
-  read_none left limit first sound room unpassed state = record {
-    grown = record { front = starts_with_of_eq (kept first) (kept first) refl; room = room; unpassed = unpassed };
-    sound = sound;
-    end = λ ended. cc;
-    bytes = rw drop-length (Consumes-nil (left first.reader));
-    err = tt;
-  }
 
   -- where a read can follow, the last one went well
   pub went_well : {P : Type 0} (reader : CaptureReader R) (read : Result (Unit {0}) ReadFault) → reader.state ≡ Open
@@ -137,10 +126,7 @@ module _ {R : Type 0} where
         };
       }
 
-  -- nothing was passed over, and then one read more
-  pub passed_none : (left : R → Option (List ℕ)) (first : CaptureReader R) → HasPassed left first first
-  passed_none left first = ([], omega arith, Consumes-nil (left first.reader))
-
+  -- what was passed over, and then one read more
   pub passed_more : (left : R → Option (List ℕ)) (first old new : CaptureReader R) (given : List ℕ) (n : ℕ)
       → HasPassed left first old → new.passed ≡ old.passed + n → HasRead (left old.reader) (left new.reader) given n
       → HasPassed left first new

@@ -1,3 +1,3 @@
-pub mod ChunkLemmas
+mod ChunkLemmas
 mod Bytes
 pub mod Kept

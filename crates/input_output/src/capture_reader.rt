@@ -28,18 +28,14 @@ pub enum ReadState {
     Ended,
     /// The last one failed.
     Failed,
-    /// Memory was wanting, for bytes or for the list of their chunks.
+    /// Memory was wanting, for bytes, for the list of their chunks, or for a walk over them.
     LackedMemory,
 }
 
 /// A reader of a capture, with an account of what its reads answered.
 ///
 /// A type of reader tells which bytes it will give, if any, and not whether a read failed; of a file or a pipe it tells
-/// nothing. The account does: `enter_read` enters what a read answered, for `read_once` and `pass_once`. `pass_once`
-/// calls `read` itself, `read_once` through `read_once` and `read_into` of `kept_bytes`, of which `read_into` calls it.
-/// `take_full` takes what is kept out of it for a walk that goes on over that, and `read_behind` puts it back in
-/// front of what was read meanwhile. `lack_memory` enters want of memory, also for `enter_memory`. Nothing else changes
-/// an account.
+/// nothing. The account does: the top of the crate names all that enters it.
 #[derive(Drop)]
 pub struct CaptureReader<R> {
     reader: R,
@@ -64,7 +60,8 @@ impl<R> CaptureReader<R> {
         }
     }
 
-    /// The bytes that are kept of those that the reads gave: all, or the file header that refuses them.
+    /// The bytes that are kept of those that the reads gave: all, or the file header that refuses them. An error is
+    /// want of memory for the list of their chunks.
     pub fn capture(&self, alloc: Global) -> Result<Capture<'_>, AllocError>
         ensures { IfOk result (λ capture. capture ≡ kept self.now) }
     {
@@ -115,7 +112,7 @@ impl<R> CaptureReader<R> {
         LIMIT <= self.bytes.len() + self.passed
     }
 
-    /// Enters that there was no memory, for bytes or for the list of the chunks.
+    /// Enters that there was no memory, for bytes, for the list of their chunks, or for a walk over them.
     pub fn lack_memory(&mut self)
         ensures { self.new ≡ record self.old { state = ReadState.LackedMemory } }
     {
@@ -177,7 +174,7 @@ impl<R: Read> CaptureReader<R> {
 
     /// Reads once or more, up to [`LIMIT`], while a walk goes on over what is kept.
     ///
-    /// With one worker the thread at hand reads once, and walks as soon as a piece is full. With several, where a chunk
+    /// With one worker the thread at hand reads once, and walks where the room is filled. With several, where a chunk
     /// begins, another thread walks over those before it, and the one at hand reads on until that walk is done.
     pub(crate) fn read_and_walk<T: Threads, W: FrontWalk + Send>(
         &mut self,
@@ -277,22 +274,22 @@ impl<R: Read> CaptureReader<R> {
         }
     }
 
-    /// Reads once into the piece, and keeps nothing of it. No read comes after one that failed or found the end.
-    pub(crate) fn pass_once(&mut self, piece: &mut [u8]) -> Result<usize, ReadFault>
-        requires room { 0 < length piece.old }
+    /// Reads once into the buffer, and keeps nothing of it. No read comes after one that failed or found the end.
+    pub(crate) fn pass_once(&mut self, buffer: &mut [u8]) -> Result<usize, ReadFault>
+        requires room { 0 < length buffer.old }
         requires limit { length (kept self.old) + self.old.passed < 2 ^ 31 }
         requires state { self.old.state ≡ ReadState.Open }
-        ensures piece { length piece.new ≡ length piece.old }
+        ensures length { length buffer.new ≡ length buffer.old }
         ensures kept { self.new.bytes ≡ self.old.bytes }
         ensures limit { length (kept self.new) + self.new.passed ≤ 2 ^ 31 }
         ensures count { IfOk result (λ n. self.new.passed ≡ self.old.passed + n) }
         ensures read { IfOk result (λ n. HasRead (R.remaining self.old.reader) (R.remaining self.new.reader)
-            (take n piece.new) n) }
+            (take n buffer.new) n) }
         ensures state { IfOk result (λ n. IsStateAfter n self.new.state) }
         ensures err { IfErr result (λ e. (e ≡ ReadFault.Failed) × (self.new.state ≡ ReadState.Failed)) }
     {
-        let most = piece.len().min(LIMIT - self.bytes.len() - self.passed);
-        let read = self.reader.read(&mut piece[..most]);
+        let most = buffer.len().min(LIMIT - self.bytes.len() - self.passed);
+        let read = self.reader.read(&mut buffer[..most]);
         let count = self.enter_read(read)?;
         self.passed += count;
         Ok(count)

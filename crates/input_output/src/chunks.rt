@@ -54,7 +54,7 @@ impl<'a, T, const N: usize> Chunks<'a, T, N> {
     }
 
     /// The elements from one index on and before another, as many as lie together.
-    fn piece(&self, at: usize, end: usize) -> &'a [T]
+    fn slice(&self, at: usize, end: usize) -> &'a [T]
         requires { (at < end) × (end ≤ length self.now) }
         ensures some { 0 < length result.now }
         ensures within { at + length result.now ≤ end }
@@ -77,28 +77,28 @@ impl<'a, T, const N: usize> Chunks<'a, T, N> {
         }
     }
 
-    /// Puts the elements from one index up to another behind those that were found: as they lie, in one piece or in
-    /// several.
-    pub fn pieces(
+    /// Puts the elements from one index up to another behind those that were found: as they lie, in one slice or in
+    /// several. Where memory is wanting, some of them may stand there.
+    pub fn slices(
         &self,
         start: usize,
         end: usize,
         found: &mut Vec<&'a [T]>,
     ) -> Result<(), AllocError>
         requires { (start ≤ end) × (end ≤ length self.now) }
-        ensures { OnOk result (joined (map (λ piece. piece.now) found.new.items)
-            ≡ joined (map (λ piece. piece.now) found.old.items) ++ slice_range self.now start end) }
+        ensures { OnOk result (joined (map (λ slice. slice.now) found.new.items)
+            ≡ joined (map (λ slice. slice.now) found.old.items) ++ slice_range self.now start end) }
     {
         let mut at = start;
         while at < end {
-            let piece = self.piece(at, end);
-            found.extend_from_slice(&[piece])?;
-            at += piece.len();
+            let slice = self.slice(at, end);
+            found.extend_from_slice(&[slice])?;
+            at += slice.len();
         }
         Ok(())
     }
 
-    /// The elements from one index up to another, copied so that they lie together.
+    /// The elements from one index up to another, copied so that they lie together. An error is want of memory.
     pub fn gathered(&self, alloc: Global, start: usize, end: usize) -> Result<Vec<T>, AllocError>
     where
         T: Copy,
@@ -108,14 +108,14 @@ impl<'a, T, const N: usize> Chunks<'a, T, N> {
         let mut together = Vec::with_capacity(alloc, end - start)?;
         let mut at = start;
         while at < end {
-            let piece = self.piece(at, end);
-            together.extend_from_slice(piece)?;
-            at += piece.len();
+            let slice = self.slice(at, end);
+            together.extend_from_slice(slice)?;
+            at += slice.len();
         }
         Ok(together)
     }
 
-    /// The list that these full chunks hold, and a last chunk behind them.
+    /// The list that these full chunks hold, and a last chunk behind them. An error is want of memory for their list.
     pub fn with_last(alloc: Global, full: &'a [Vec<T>], last: &'a [T]) -> Result<Self, AllocError>
         requires size { 0 < N }
         requires full { All (λ chunk. vec_len chunk ≡ N) full.now }
@@ -134,7 +134,7 @@ impl<'a, T, const N: usize> Chunks<'a, T, N> {
         })
     }
 
-    /// A list that lies together, in chunks. Nothing is copied.
+    /// A list that lies together, in chunks. Nothing is copied. An error is want of memory for their list.
     pub fn of_slice(alloc: Global, whole: &'a [T]) -> Result<Self, AllocError>
         requires { 0 < N }
         ensures { IfOk result (λ all. all ≡ whole.now) }

@@ -3,7 +3,7 @@
 pub enum ReadFault {
     /// A read failed.
     Failed,
-    /// Memory for the bytes ran out.
+    /// Memory ran out, for the bytes or for a walk over them.
     OutOfMemory,
 }
 

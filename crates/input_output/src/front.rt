@@ -14,7 +14,7 @@ pub type Capture<'a> = Chunks<'a, u8, CAPTURE_CHUNK>;
 
 /// A walk over the front of a capture, behind which more bytes may come.
 ///
-/// Who reads a capture lets the walk go on over each chunk that is full, and need not know what it is for.
+/// Who reads a capture lets the walk go on over what is there by then, and need not know what it is for.
 pub trait FrontWalk {
     /// The walk is right of a capture with these bytes.
     ghost stands: { List ℕ → Self → Type 0 };

@@ -15,9 +15,9 @@ use std::sync::atomic::{AtomicU64, Ordering};
 use std::thread::Threads;
 use std::{io, mem};
 
-/// The number of bytes for which room is made at a time in a chunk that was not made ahead. Its last piece alone may be
-/// used in vain, and what was read into a piece is still near the processor when a walk goes over it.
-const PIECE: usize = 262_144;
+/// The number of bytes for which room is made at a time in a chunk that was not made ahead. No more than that is made
+/// in vain, and what was read into it is still near the processor when a walk goes over it.
+const ROOM: usize = 262_144;
 
 /// Bytes in chunks of `CAPTURE_CHUNK`, with room for more in the last of them.
 #[derive(Drop)]
@@ -85,7 +85,7 @@ impl KeptBytes {
 
     /// Makes room for at least one byte more, and for no more than `limit` in all.
     ///
-    /// A chunk grows by pieces where it was not made ahead.
+    /// A chunk that was not made ahead grows by [`ROOM`].
     pub(crate) fn make_room<T: Threads>(
         &mut self,
         limit: usize,
@@ -223,7 +223,7 @@ impl FullChunks {
     }
 }
 
-/// Makes a chunk longer by a piece, up to `most` bytes. The first one may be moved, so that a short capture takes
+/// Makes a chunk longer by [`ROOM`], up to `most` bytes. The first one may be moved, so that a short capture takes
 /// little; while it grows, later ones are begun.
 fn grow_chunk<T: Threads>(
     chunk: &mut Vec<u8>,
@@ -236,8 +236,8 @@ fn grow_chunk<T: Threads>(
     ensures within { (vec_len chunk.new ≤ most) × (vec_len chunk.new ≤ 1048576) }
     ensures room { OnOk result (vec_len chunk.old < vec_len chunk.new) }
 {
-    ahead.begin(chunk.len() / PIECE);
-    let wanted = CAPTURE_CHUNK.min(chunk.len() + PIECE).min(most);
+    ahead.begin(chunk.len() / ROOM);
+    let wanted = CAPTURE_CHUNK.min(chunk.len() + ROOM).min(most);
     fill_up(chunk, wanted)
 }
 
@@ -260,7 +260,7 @@ fn begin_chunk<T: Threads>(
 }
 
 /// A chunk behind full ones, with room for one byte at least and `most` at most: whole where it was made ahead, and
-/// else with its first piece. It is not moved as it grows.
+/// else its first bytes. It is not moved as it grows.
 fn next_chunk<T: Threads>(
     ahead: &mut ChunksAhead<'_, T>,
     most: usize,
@@ -273,7 +273,7 @@ fn next_chunk<T: Threads>(
     let mut chunk = ahead.chunk();
     let whole = CAPTURE_CHUNK.min(most);
     let made = if chunk.is_empty() {
-        first_piece(&mut chunk, whole)
+        first_room(&mut chunk, whole)
     } else {
         chunk.resize(whole, 0)
     };
@@ -283,14 +283,14 @@ fn next_chunk<T: Threads>(
     }
 }
 
-/// Makes the first piece of a chunk that has no byte, up to `most`, in room for all of it.
-fn first_piece(chunk: &mut Vec<u8>, most: usize) -> Result<(), AllocError>
+/// Makes the first room in a chunk that has no byte, up to `most`, in memory for all of it.
+fn first_room(chunk: &mut Vec<u8>, most: usize) -> Result<(), AllocError>
     requires { vec_len chunk.old ≡ 0 }
     ensures within { vec_len chunk.new ≤ most }
-    ensures piece { OnOk result (vec_len chunk.new ≡ min 262144 most) }
+    ensures length { OnOk result (vec_len chunk.new ≡ min 262144 most) }
 {
     chunk.reserve(CAPTURE_CHUNK)?;
-    fill_up(chunk, PIECE.min(most))
+    fill_up(chunk, ROOM.min(most))
 }
 
 /// Reads once into a chunk, behind the bytes with which it is filled.

@@ -13,7 +13,7 @@ use std::thread::Threads;
 /// The number of bytes that are passed over at a time.
 const PASSED: usize = 65_536;
 
-/// Reads until so many bytes are kept, or to the end.
+/// Reads until so many bytes are kept, or to the end. An error is a read that failed, or want of memory for the bytes.
 ///
 /// Each turn reads at least one byte or ends the reading, so there are no more than 2^31 turns.
 pub fn keep_up_to<T: Threads, R: Read>(
@@ -35,9 +35,10 @@ pub fn keep_up_to<T: Threads, R: Read>(
 
 /// Reads to the end, or until there are 2^31 bytes, and keeps them, while a walk goes on over them.
 ///
-/// With one worker the thread that reads walks over each chunk as soon as it is full, while the bytes are near the
+/// With one worker the thread that reads walks over each 256 KiB as soon as these are there, while they are near the
 /// processor. With several, another thread walks over the full chunks while the one at hand reads on, and when it is
-/// done, over those that are full by then. What is read last is left to the end of the walk.
+/// done, over those that are full by then. What is read last is left to the end of the walk. An error is a read that
+/// failed, or want of memory for the bytes or for the walk.
 pub fn keep_and_walk<T: Threads, R: Read, W: FrontWalk + Send>(
     ahead: &mut ChunksAhead<'_, T>,
     reader: &mut CaptureReader<R>,
@@ -57,7 +58,8 @@ pub fn keep_and_walk<T: Threads, R: Read, W: FrontWalk + Send>(
     read
 }
 
-/// Reads to the end, or until there were 2^31 bytes, and keeps nothing of it. Its turns end likewise.
+/// Reads to the end, or until there were 2^31 bytes, and keeps nothing of it. Its turns end likewise. An error is a
+/// read that failed.
 pub fn pass_over<R: Read>(reader: &mut CaptureReader<R>) -> Result<(), ReadFault>
     requires sound { IsSound reader.old }
     requires state { reader.old.state ≡ ReadState.Open }
@@ -66,9 +68,9 @@ pub fn pass_over<R: Read>(reader: &mut CaptureReader<R>) -> Result<(), ReadFault
     ensures bytes { OnOk result (HasPassed R.remaining reader.old reader.new) }
     ensures ended { HaveEnded R.remaining (2 ^ 31) reader.new result }
 {
-    let mut piece = [0; PASSED];
+    let mut buffer = [0; PASSED];
     while !reader.is_full() {
-        if reader.pass_once(&mut piece)? == 0 {
+        if reader.pass_once(&mut buffer)? == 0 {
             return Ok(());
         }
     }

@@ -9,9 +9,8 @@ use std::io::Write;
 
 /// A writer of a report, with an account of what its writes and its flush answered.
 ///
-/// Of a pipe or a terminal no type of writer tells which bytes it took. The account does: `write_once`
-/// and `flush_once` make the crate's only calls of `write` and `flush` for a report, and enter what these
-/// answer.
+/// Of a pipe or a terminal no type of writer tells which bytes it took. The account does: the top of the crate names
+/// all that enters it.
 #[derive(Drop)]
 pub struct ReportWriter<W> {
     writer: W,

@@ -8,7 +8,7 @@ use std::io::Write;
 
 /// Writes the whole text and flushes once. Each write is offered all that is left.
 ///
-/// After a failure a prefix of the text was written, possibly all of it.
+/// An error is a write or the flush that failed. Then a prefix of the text was written, possibly all of it.
 pub fn write_report<W: Write>(writer: &mut ReportWriter<W>) -> Result<(), WriteFault>
     requires { IsUnwritten writer.old }
     ensures bytes { Appends (W.contents writer.old.writer) (W.contents writer.new.writer) (written writer.new) }

@@ -33,7 +33,7 @@ impl Interval {
             ++ slice_range capture.now self.now.index (self.now.index + width self.now)) }
     {
         let index = self.index as usize;
-        capture.pieces(index, index + (self.upto - self.from) as usize, found)
+        capture.slices(index, index + (self.upto - self.from) as usize, found)
     }
 
     /// The stretch of the interval between two offsets.

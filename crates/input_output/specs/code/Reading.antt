@@ -62,7 +62,7 @@ module _ {R : Type 0} where
   HasPassed left old new = (given : List ℕ) × (new.passed ≡ old.passed + length given)
       × Consumes (left old.reader) (left new.reader) given
 
-  -- the faults of reading, as the account then shows them: a read that failed, or want of memory for the bytes
+  -- the faults of reading, as the account then shows them: a read that failed, or want of memory
   abbrev pub IsReadingFault : ReadFault → CaptureReader R → Type 0
   IsReadingFault fault.Failed reader = HasReadFailed reader
   IsReadingFault fault.OutOfMemory reader = reader.state ≡ LackedMemory

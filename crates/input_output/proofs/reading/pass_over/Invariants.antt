@@ -4,14 +4,14 @@ use Rattle.input_output.specs.declared.capture_reader.ReadState.TheVariants.{Ope
 use Rattle.input_output.specs.code.Reading.{HasPassed, IsSound}
 use Rattle.input_output.proofs.reading.pass_over.Given as goal
 
-abbrev pub invariant-loop-piece : goal.invariant-loop-piece
-invariant-loop-piece g l = record {
+abbrev pub invariant-loop-buffer : goal.invariant-loop-buffer
+invariant-loop-buffer g l = record {
   sound : IsSound l.reader;
-  room : 0 < length l.piece;
+  room : 0 < length l.buffer;
   kept : l.reader.bytes ≡ l.initial.reader.bytes;
   state : l.reader.state ≡ Open;
   bytes : HasPassed g.R.Read.remaining l.initial.reader l.reader;
 }
 
-abbrev pub decreases-loop-piece : goal.decreases-loop-piece
-decreases-loop-piece g l = 2147483648 - (length (kept l.reader) + l.reader.passed)
+abbrev pub decreases-loop-buffer : goal.decreases-loop-buffer
+decreases-loop-buffer g l = 2147483648 - (length (kept l.reader) + l.reader.passed)

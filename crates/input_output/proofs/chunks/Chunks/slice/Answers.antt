@@ -1,7 +1,7 @@
 use Rattle.std.proofs.Common.{◌-◌, ◌%◌, length, arith}
 use Rattle.std.specs.Prelude.{min}
 use Rattle.input_output.proofs.ChunkLemmas.{range_more}
-use Rattle.input_output.proofs.chunks.Chunks.piece.Goals as goal
+use Rattle.input_output.proofs.chunks.Chunks.slice.Goals as goal
 
 pub returns-clause-goes_on : goal.returns-clause-goes_on
 returns-clause-goes_on g c start low =
