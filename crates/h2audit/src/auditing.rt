@@ -27,7 +27,8 @@ use tcp_streams::{Connection, ConnectionWalk, Connections, Stray};
 
 /// The report of a capture, and its verdict.
 ///
-/// Answers `Pcap` exactly where the capture is refused, and never `Read` or `Write`.
+/// Answers `Pcap` exactly where the capture is refused, else `OutOfMemory` where memory is wanting, and never `Read` or
+/// `Write`.
 pub fn audit(
     rt: &(impl Threads + Sync + RandomSource),
     alloc: Global,
@@ -42,7 +43,15 @@ pub fn audit(
     // A refusal takes no memory, so it comes before the chunks.
     match ConnectionWalk::begin(alloc, TableHash::drawn(rt), capture) {
         Ok(walk) => match Capture::of_slice(alloc, capture) {
-            Ok(chunks) => audit_chunks(rt, alloc, options, walk, &chunks, gate),
+            Ok(chunks) => {
+                let team = Team {
+                    rt,
+                    alloc,
+                    workers: options.workers(),
+                    gate,
+                };
+                audit_chunks(&team, options, walk, &chunks)
+            }
             Err(_) => Err(AuditFault::OutOfMemory),
         },
         Err(refusal) => Err(AuditFault::Pcap(refusal)),
@@ -50,13 +59,11 @@ pub fn audit(
 }
 
 /// The report of a capture that is held in chunks, and its verdict. The walk took in a front of the capture.
-pub(crate) fn audit_chunks(
-    rt: &(impl Threads + Sync),
-    alloc: Global,
+pub(crate) fn audit_chunks<R: Threads + Sync, G: Gate>(
+    team: &Team<'_, R, G>,
     options: &Options,
     walk: ConnectionWalk,
     capture: &Capture<'_>,
-    gate: &impl Gate,
 ) -> Result<(Vec<u8>, Verdict), AuditFault>
     requires { IsConnectionWalkIn capture.now walk }
     ensures report { IfOk result
@@ -64,15 +71,9 @@ pub(crate) fn audit_chunks(
     ensures refused { IfErr result (λ e. IsNoReport capture.now e) }
 {
     let hash = walk.hash();
-    let team = Team {
-        rt,
-        alloc,
-        workers: options.workers(),
-        gate,
-    };
-    match walk.finish(alloc, capture) {
+    match walk.finish(team.alloc, capture) {
         Ok((found, connections)) => {
-            match audit_records(&team, options, hash, found, connections, capture) {
+            match audit_records(team, options, hash, found, connections, capture) {
                 Ok(answer) => Ok(answer),
                 Err(_) => Err(AuditFault::OutOfMemory),
             }
@@ -100,8 +101,17 @@ fn audit_records<R: Threads + Sync, G: Gate>(
     requires members { All (λ c. AreMembers 0 (packets_in found) c.members.items) connections.opened.items }
     ensures { IfOk result (λ r. IsReport capture.now options.now.frames_shown r.0.items r.1) }
 {
+    // `--frames` asks for credit lines. From here on the word is what they are.
+    let credits_shown = options.frames_shown();
     let Connections { opened, strays } = connections;
-    let made = lines_and_flows(team, options, capture, &found, strays, opened.as_slice());
+    let made = lines_and_flows(
+        team,
+        credits_shown,
+        capture,
+        &found,
+        strays,
+        opened.as_slice(),
+    );
     // From here on there are no packets and strays, whose memory frames may take.
     drop(found);
     let (lines, parts) = made?;
@@ -113,14 +123,20 @@ fn audit_records<R: Threads + Sync, G: Gate>(
         block: options.block(),
         hash,
     };
-    let told = audit_each(team.rt, team.alloc, options, &division, parts, team.gate)?;
-    report_told(team, options, lines, headings.as_slice(), told.as_slice())
+    let told = audit_each(team, credits_shown, &division, parts)?;
+    report_told(
+        team,
+        credits_shown,
+        lines,
+        headings.as_slice(),
+        told.as_slice(),
+    )
 }
 
 /// The lines of a capture, and what the flows of its connections hold.
 fn lines_and_flows<R: Threads + Sync, G: Gate>(
     team: &Team<'_, R, G>,
-    options: &Options,
+    credits_shown: bool,
     capture: &Capture<'_>,
     found: &CapturePackets,
     strays: Vec<Stray>,
@@ -130,12 +146,15 @@ fn lines_and_flows<R: Threads + Sync, G: Gate>(
     requires sources { All (AreSources capture.now (packets_in found.now)) opened.now }
     ensures lines { IfOk result (λ r. AreLinesOf (packets_in found.now) found.now.cut strays.items
         (string_bytes r.0)) }
-    ensures flows { IfOk result (λ r. AreToldFlows options.now.frames_shown capture.now (packets_in found.now)
-        opened.now r.1.items) }
+    ensures flows { IfOk result (λ r. AreToldFlows credits_shown capture.now (packets_in found.now) opened.now
+        r.1.items) }
 {
     let packets = Packets::of(team.alloc, &found.packets)?;
     let lines = capture_lines(team.alloc, found.cut, &packets, strays)?;
-    with_flows(lines, flows_each(team, options, capture, &packets, opened))
+    with_flows(
+        lines,
+        flows_each(team, credits_shown, capture, &packets, opened),
+    )
 }
 
 /// The lines, and the flows where there are some.
@@ -154,20 +173,19 @@ fn with_flows(
 /// The report of connections of which this is told, behind the lines of the capture, and its verdict.
 fn report_told<R: Threads + Sync, G: Gate>(
     team: &Team<'_, R, G>,
-    options: &Options,
+    credits_shown: bool,
     lines: String,
     headings: &[Heading],
     told: &[Told],
 ) -> Result<(Vec<u8>, Verdict), AllocError>
     requires each { length told.now ≡ length headings.now }
     requires orderly { All (λ (one : ToldTerm). HasOrderlyOutcome one.outcome) told.now }
-    ensures { IfOk result (λ r. IsToldBehind options.now.frames_shown (string_bytes lines) headings.now told.now
-        r.0.items r.1) }
+    ensures { IfOk result (λ r. IsToldBehind credits_shown (string_bytes lines) headings.now told.now r.0.items r.1) }
 {
     let telling = Telling {
         alloc: team.alloc,
-        workers: options.workers(),
-        frames_shown: options.frames_shown(),
+        workers: team.workers,
+        frames_shown: credits_shown,
     };
     let text = report(team.rt, telling, lines, headings, told)?;
     Ok((text, verdict_on(told)))

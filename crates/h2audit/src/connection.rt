@@ -13,7 +13,6 @@ ghost use Rattle.h2audit.specs.Audited.{verdict_of};
 ghost use Rattle.h2audit.specs.code.Flows.{AreSources, AreToldFlows};
 ghost use Rattle.h2audit.specs.code.Found.{AreFound, all_with, found_in, has_fault_in, kept_in, left_after, with_next};
 
-use crate::command_line::Options;
 use crate::flow_round::FlowRound;
 use crate::verdict::Verdict;
 use audit_report::{Outcome, Told};
@@ -34,22 +33,21 @@ const WORTH_SHARING: usize = 4;
 /// What the flows of each connection hold, in order.
 pub(crate) fn flows_each<R: Threads + Sync, G: Gate>(
     team: &Team<'_, R, G>,
-    options: &Options,
+    credits_shown: bool,
     capture: &Capture<'_>,
     packets: &Packets<'_>,
     opened: &[Connection],
 ) -> Result<Vec<Part<Told>>, AllocError>
     requires few { length opened.now < 2 ^ 32 }
     requires sources { All (AreSources capture.now packets.now) opened.now }
-    ensures { IfOk result (λ parts. AreToldFlows options.now.frames_shown capture.now packets.now opened.now
-        parts.items) }
+    ensures { IfOk result (λ parts. AreToldFlows credits_shown capture.now packets.now opened.now parts.items) }
 {
     let mut stops: Vec<Option<Place>> = Vec::new(team.alloc);
     stops.resize(opened.len(), None)?;
     let round = FlowRound {
         rt: team.rt,
         threads: team.workers as usize / opened.len().max(1),
-        credits_shown: options.frames_shown(),
+        credits_shown,
         capture,
         packets,
         opened,
@@ -74,23 +72,27 @@ fn sharers(workers: u32, packets: usize, opened: usize) -> u32
 }
 
 /// What is told of each connection, in order: what its flows hold, with what is found in the frames that are kept.
-pub(crate) fn audit_each(
-    rt: &(impl Threads + Sync),
-    alloc: Global,
-    options: &Options,
+pub(crate) fn audit_each<R: Threads + Sync, G: Gate>(
+    team: &Team<'_, R, G>,
+    credits_shown: bool,
     division: &Division,
     parts: Vec<Part<Told>>,
-    gate: &impl Gate,
 ) -> Result<Vec<Told>, AllocError>
     requires { All (λ (part : Part Told). HasOrderlyOutcome part.made.outcome) parts.items }
-    ensures { IfOk result (λ told. AreFound options.now.frames_shown parts.items told.items) }
+    ensures { IfOk result (λ told. AreFound credits_shown parts.items told.items) }
 {
     let found = {
-        let kept = kept_in(alloc, parts.as_slice())?;
-        let credits_shown = options.frames_shown();
-        findings_of_each(rt, alloc, division, gate, credits_shown, kept.as_slice())?
+        let kept = kept_in(team.alloc, parts.as_slice())?;
+        findings_of_each(
+            team.rt,
+            team.alloc,
+            division,
+            team.gate,
+            credits_shown,
+            kept.as_slice(),
+        )?
     };
-    together(alloc, parts, found)
+    together(team.alloc, parts, found)
 }
 
 /// The frames that are kept, of each connection that has some.

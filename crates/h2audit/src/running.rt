@@ -16,7 +16,7 @@ use std::alloc::Global;
 use std::io::{Read, Write};
 use std::random::RandomSource;
 use std::thread::Threads;
-use stop_desk::Gate;
+use stop_desk::{Gate, Team};
 
 /// Reads a capture to its end, audits it, writes its report and flushes once.
 ///
@@ -43,7 +43,13 @@ pub fn run<R: Read, W: Write>(
     ensures taken { Appends (W.contents writer.old.writer) (W.contents writer.new.writer) (written writer.new) }
 {
     let header = read_capture(rt, alloc, options.workers(), reader)?;
-    let (text, verdict) = audit_kept(rt, alloc, options, reader, header, gate)?;
+    let team = Team {
+        rt,
+        alloc,
+        workers: options.workers(),
+        gate,
+    };
+    let (text, verdict) = audit_kept(&team, options, reader, header)?;
     write_out(text, verdict, writer)
 }
 
@@ -66,13 +72,11 @@ pub(crate) fn write_out<W: Write>(
 
 /// Audits what is kept of a capture, or answers the refusal that was read. Where there is no memory for the list of its
 /// chunks, the account has that.
-fn audit_kept<R: Read>(
-    rt: &(impl Threads + Sync + RandomSource),
-    alloc: Global,
+fn audit_kept<T: Threads + Sync, G: Gate, R: Read>(
+    team: &Team<'_, T, G>,
     options: &Options,
     reader: &mut CaptureReader<R>,
     header: FileHeader,
-    gate: &impl Gate,
 ) -> Result<(Vec<u8>, Verdict), AuditFault>
     requires { IsHeaderOf (kept reader.old) header }
     ensures same { OnOk result (reader.new ≡ reader.old) }
@@ -81,8 +85,8 @@ fn audit_kept<R: Read>(
 {
     match header {
         FileHeader::Taken(walk) => {
-            if let Ok(capture) = reader.capture(alloc) {
-                return audit_chunks(rt, alloc, options, walk, &capture, gate);
+            if let Ok(capture) = reader.capture(team.alloc) {
+                return audit_chunks(team, options, walk, &capture);
             }
             reader.lack_memory();
             Err(AuditFault::OutOfMemory)

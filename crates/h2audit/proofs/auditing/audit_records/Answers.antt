@@ -50,12 +50,12 @@ lines_and_flows-made-requires-clause-sources g c κs within = λ k d low. record
 
 pub audit_each-requires-after_bounds : goal.audit_each-requires-after_bounds
 audit_each-requires-after_bounds g c κs within =
-    told-orderly c.args.options.now.frames_shown c.args.capture.now (packets_in c.args.found) c.as_slice.result.now
+    told-orderly c.frames_shown-credits_shown.result c.args.capture.now (packets_in c.args.found) c.as_slice.result.now
     c.in_ok-lines.parts.items c.in_ok-lines.ensures.flows
 
 pub report_told-requires-clause-each : goal.report_told-requires-clause-each
 report_told-requires-clause-each g c κs within =
-    let credits = c.args.options.now.frames_shown in
+    let credits = c.frames_shown-credits_shown.result in
     let capture = c.args.capture.now in
     let packets = packets_in c.args.found in
     let lent = c.as_slice.result.now in
@@ -72,7 +72,7 @@ report_told-requires-clause-each g c κs within =
 
 pub report_told-requires-clause-orderly : goal.report_told-requires-clause-orderly
 report_told-requires-clause-orderly g c κs within =
-    let audits = found-audits c.args.options.now.frames_shown c.args.capture.now (packets_in c.args.found)
+    let audits = found-audits c.frames_shown-credits_shown.result c.args.capture.now (packets_in c.args.found)
     c.as_slice.result.now c.in_ok-lines.parts.items c.in_ok-told.told.items c.in_ok-lines.ensures.flows
     c.in_ok-told.ensures in
     subst (λ (l : List Told). All (λ (t : Told). HasOrderlyOutcome t.outcome) l) (sym c.as_slice-3.ensures.value)
@@ -80,7 +80,7 @@ report_told-requires-clause-orderly g c κs within =
 
 pub returns : goal.returns
 returns g c =
-    let credits = c.args.options.now.frames_shown in
+    let credits = c.frames_shown-credits_shown.result in
     let capture = c.args.capture.now in
     let found = c.requires.packets.records in
     let packets = packets_of capture found in
@@ -99,7 +99,7 @@ returns g c =
       count = sym (ap length given ∙ decisions-length found.link found.rows.items capture);
       cut_is = c.requires.packets.cut;
     } in
-    IfOk-weaker c.report_told.result _ _ (λ r is.
+    IfOk-weaker c.report_told.result _ _ (λ r is. rw (← c.frames_shown-credits_shown.ensures) (
     let text = is opened audited (c.as_slice-2.ensures.value ∙ c.in_ok-headings.ensures)
     (subst (λ (l : List Told). AreToldOf l audited) (sym c.as_slice-3.ensures.value) audits.stands) in
     record {
@@ -118,4 +118,4 @@ returns g c =
             (c.requires.strays ∙ ap strays_of given);
         judged = text.1;
       };
-    }) c.report_told.ensures
+    })) c.report_told.ensures

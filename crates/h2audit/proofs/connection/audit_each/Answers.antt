@@ -19,11 +19,9 @@ findings_of_each-requires-after_bounds g c κs within =
 
 pub returns : goal.returns
 returns g c =
-    let credits = c.args.options.now.frames_shown in
+    let credits = c.args.credits_shown in
     let kept = c.in_ok-kept.ensures ∙ ap kept_in c.as_slice.ensures.value in
     let are = c.in_ok-found.ensures
-    ∙ ap (λ b. map (λ (frames : Bor (List Frame)). shown b (pass frames.now)) c.as_slice-2.result.now)
-    c.frames_shown-credits_shown.ensures
     ∙ ap (map (λ (frames : Bor (List Frame)). shown credits (pass frames.now))) c.as_slice-2.ensures.value
     ∙ sym (map-map (λ frames. shown credits (pass frames)) (λ (frames : Bor (List Frame)). frames.now)
     c.in_ok-kept.kept.items)

@@ -1,5 +1,4 @@
-use Rattle.std.proofs.Common.{Bool, ◌∙◌, subst}
-use Rattle.h2audit.specs.code.Flows.{IsToldFlows}
+use Rattle.std.proofs.Common.{◌∙◌}
 use Rattle.h2audit.proofs.Flows.{are-told, flow_jobs-length, flow_jobs-within}
 use Rattle.h2audit.proofs.connection.flows_each.Goals as goal
 
@@ -10,8 +9,6 @@ settle-requires-clause-connections g c κs within =
 pub returns : goal.returns
 returns g c =
     let settled = c.in_ok-settled.ensures.settled in
-    are-told c.args.options.now.frames_shown c.args.capture.now c.args.packets.now c.args.opened.now
+    are-told c.args.credits_shown c.args.capture.now c.args.packets.now c.args.opened.now
     c.in_ok-settled.settled.parts.items (settled.count ∙ flow_jobs-length c.args.opened.now)
-    (λ n part connection is there. subst
-    (λ (b : Bool). IsToldFlows b c.args.capture.now c.args.packets.now connection part.made) c.frames_shown.ensures
-    ((settled.in_order n part is).1 connection there))
+    (λ n part connection is there. (settled.in_order n part is).1 connection there)
