@@ -6,4 +6,5 @@ pub mod Program
 pub mod Audited
 pub mod Report
 pub mod laws
+pub mod examples
 pub mod code

@@ -1,3 +1,2 @@
 pub mod OneReport
 pub mod Run
-pub mod KnownWords

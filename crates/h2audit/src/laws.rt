@@ -1,6 +1,5 @@
 //! Laws of the definitions. The functions do nothing; their contracts are the laws.
 
-ghost use Rattle.h2audit.specs.laws.KnownWords.{KnownWords};
 ghost use Rattle.h2audit.specs.laws.OneReport.{OneReport};
 ghost use Rattle.h2audit.specs.laws.Run.{FaultsAreSilent, RunsLeave};
 
@@ -18,10 +17,4 @@ pub fn runs_leave<R, W>()
 /// After a fault other than a failed write the writer holds what it held before the run.
 pub fn faults_are_silent<R, W>()
     ensures { FaultsAreSilent R W }
-{}
-
-/// What the words of some command lines ask for, by the definition: no words, every option, help, and words that are
-/// refused.
-pub fn known_words()
-    ensures { KnownWords }
 {}

@@ -18,7 +18,7 @@
 //!   what the words ask for and nothing else (`Ends` of `specs/Program.antt`).
 //! - [`parse`] says what the words of a command line ask for, by `clap`'s own definition of the command (`Asks` of
 //!   `specs/Asked.antt`): an audit with its [`Options`], help, the version or why the words are refused. [`Options`]
-//!   refuses numbers out of range. [`laws::known_words`] computes eight command lines. [`ending`] is status and line.
+//!   refuses numbers out of range. [`worked_examples`] compute eight command lines. [`ending`] is status and line.
 //! - 2^31 bytes, at which reading stops, are refused as the whole is. Where the file header refuses a capture, it alone
 //!   is kept (`brief`), since what follows changes no answer (`pcap_records::laws::header_refuses`).
 //! - docs/ARCHITECTURE.md follows the data all the way through the crates, and says how workers divide the work.
@@ -40,6 +40,7 @@ mod reading;
 mod running;
 mod status;
 mod verdict;
+pub mod worked_examples;
 
 pub use auditing::audit;
 pub use command_line::{Options, Parsed, parse};

@@ -1,7 +1,7 @@
 use Rattle.std.proofs.Common.{refl, ◌≡◌, true, false, codes, rules}
 use Rattle.clap.proofs.OnLiterals.{clap_on_literals}
 use Rattle.h2audit.proofs.OptionReads.{found_of-choices}
-use Rattle.h2audit.proofs.laws.known_words.Goals as goal
+use Rattle.h2audit.proofs.worked_examples.known_words.Goals as goal
 
 pub returns : goal.returns
 unfolding clap_on_literals
