@@ -29,7 +29,7 @@ use stop_desk::NoGate;
 /// The exit status for words that do not parse.
 const WORDS_REFUSED: u8 = 2;
 
-/// The words of the command line, without the program's name.
+/// The words of the command line, without the program's name. An error is a word that is not text, or want of memory.
 pub fn program_words(rt: &(impl Env + AllocGlobal)) -> io::Result<Vec<String>> {
     let words: Vec<String> = env::args(rt)?.skip(1).collect(rt.alloc())?;
     Ok(words)

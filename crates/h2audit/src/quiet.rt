@@ -50,7 +50,7 @@ pub(crate) fn quiet_connection<R: Threads>(
     }
 }
 
-/// The same of a walk that no frame was taken of: each frame is met as it is taken.
+/// What `quiet_connection` answers, from a walk that no frame was taken of: each frame is met as it is taken.
 fn quiet_in_turn(alloc: Global, walk: FrameWalk<'_>) -> Result<Option<QuietConnection>, AllocError>
     requires { IsReadyWalk walk }
     ensures { IsFoundQuiet walk.entry result }
@@ -65,7 +65,7 @@ fn quiet_in_turn(alloc: Global, walk: FrameWalk<'_>) -> Result<Option<QuietConne
     Ok(Some(quiet_by(&walk)))
 }
 
-/// The same, in batches: while one thread meets a batch, others take the next one.
+/// What `quiet_in_turn` answers, in batches: while one thread meets a batch, others take the next one.
 fn quiet_in_batches<R: Threads>(
     rt: &R,
     alloc: Global,
@@ -142,7 +142,7 @@ fn meet_batch(pass: &mut QuietPass, batch: &FrameBatch) -> Result<bool, AllocErr
     met
 }
 
-/// The same, of the frames one after the other.
+/// Meets the frames of a batch one after the other.
 fn meet_each(pass: &mut QuietPass, batch: &FrameBatch) -> Result<bool, AllocError>
     requires { IsNumbered batch.now }
     ensures { IfOk result (HasMet batch.now pass.old pass.new) }

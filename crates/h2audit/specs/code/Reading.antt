@@ -16,7 +16,7 @@ use Rattle.tcp_streams.specs.code.Walk.{IsConnectionWalkIn}
 abbrev pub AnswersFor : (kept given : List ℕ) → Type 0
 AnswersFor kept given = (refusal kept ≡ refusal given) × (refusal given ≡ None → kept ≡ given)
 
--- the faults of reading a capture, as the account then shows them: a read that failed, or want of memory for its bytes
+-- the faults of reading a capture, as the account then shows them: a read that failed, or want of memory
 abbrev pub IsReadingFault : {R : Type 0} → AuditFault → CaptureReader R → Type 0
 IsReadingFault fault.Read reader = HasReadFailed reader
 IsReadingFault fault.OutOfMemory reader = reader.state ≡ LackedMemory

@@ -26,7 +26,7 @@ pub enum Parsed {
 /// `[--workers N] [--groups N] [--block N] [--frames] [FILE]`.
 ///
 /// Without a word for them there are 4 workers, 16 groups and blocks of 4096 frames. A number out of its range is
-/// refused.
+/// refused. An error is want of memory.
 pub fn parse(alloc: Global, words: &[&str]) -> Result<Parsed, AllocError>
     ensures { IfOk result (Asks (map (λ w. w.now) words.now)) }
 {
