@@ -17,15 +17,15 @@ impl Options {
     ghost use Rattle.h2audit.specs.code.Choices.{choices};
 
     /// The greatest number of worker threads.
-    pub const MOST_WORKERS: u32 = 64;
+    pub(crate) const MOST_WORKERS: u32 = 64;
 
     /// The greatest number of groups that a connection's streams are dealt to.
-    pub const MOST_GROUPS: u32 = 1024;
+    pub(crate) const MOST_GROUPS: u32 = 1024;
 
     /// The greatest number of frames in a block.
-    pub const LONGEST_BLOCK: u32 = 1_048_576;
+    pub(crate) const LONGEST_BLOCK: u32 = 1_048_576;
 
-    /// The options with these values. `None` where a number is 0 or above its greatest value.
+    /// The options with these values. `None` where a number is 0, or above 64, 1,024 or 1,048,576.
     ///
     /// `frames_shown` asks for the credit lines, one for each change of a window's credit.
     pub fn of(workers: u32, groups: u32, block: u32, frames_shown: bool) -> Option<Options>
