@@ -1,4 +1,4 @@
 pub mod Fronts
 pub mod Sizes
 pub mod Unique
-pub mod Walking
+mod Walking

@@ -28,6 +28,7 @@ pub const RAW_IP: u16 = 101;
 pub struct Records {
     /// The link type: the low 16 bits of the header's network field, [`ETHERNET`] or [`RAW_IP`].
     pub link: u16,
+    /// Its whole records.
     pub rows: Vec<Record>,
     /// The number of the record that the end of the capture cuts, if there is one.
     pub cut: Option<u32>,

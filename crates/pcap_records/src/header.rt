@@ -7,13 +7,13 @@ use crate::capture::{ETHERNET, RAW_IP};
 use crate::faults::PcapFault;
 use crate::format::{Endian, Format, format_of_magic};
 use byteorder::{BigEndian, ByteOrder, LittleEndian};
-use input_output::Capture;
+use input_output::{Capture, LIMIT};
 
 /// The length of the file header in bytes.
 pub const FILE_HEADER: usize = 24;
 
 /// The most bytes that a capture may have.
-pub const MOST_BYTES: usize = 0x7fff_ffff;
+pub const MOST_BYTES: usize = LIMIT - 1;
 
 /// The link type that a header names.
 fn link_type<T: ByteOrder>(header: &[u8]) -> u16
@@ -43,7 +43,7 @@ fn is_version<T: ByteOrder>(header: &[u8]) -> bool
 }
 
 /// What refuses a capture of `size` bytes whose header is this one, with the order of bytes known.
-pub fn late_fault<T: ByteOrder>(header: &[u8], size: usize) -> Option<PcapFault>
+fn late_fault<T: ByteOrder>(header: &[u8], size: usize) -> Option<PcapFault>
     requires { 24 ≤ length header.now }
     ensures fault { result ≡ refusal_in T.number_of header.now size }
     ensures size { IfNone result (size < 2 ^ 31) }

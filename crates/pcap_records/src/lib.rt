@@ -12,6 +12,7 @@
 //!   header bytes and the captured ones and then the rest. They share no offset and no loop with the code.
 //! - A refusal is decided by the header and the length, before memory is taken, so it is answered whatever memory there
 //!   is. Any other fault is want of memory.
+//! - [`format_of_magic`], [`link_in`] and [`captured_length`] read fields of a header alone.
 //! - Records are fewer than 2^27 and rise without overlap inside the capture, their times are below 2^63, the link type
 //!   is one of the two that are read, and the capture has fewer than 2^31 bytes. So lengths and offsets fit 31 bits and
 //!   frame numbers 28, and a place is one word.
@@ -37,10 +38,11 @@ mod rows;
 mod walk;
 pub mod worked_examples;
 
-pub use capture::{RAW_IP, Record, Records};
+pub use capture::{ETHERNET, RAW_IP, Record, Records};
 pub use faults::PcapFault;
-pub use header::{FILE_HEADER, MOST_BYTES};
+pub use format::{Endian, Format, format_of_magic};
+pub use header::{FILE_HEADER, MOST_BYTES, link_in};
 pub use nanos::Nanos;
 pub use reading::{records, refusal, refusal_in_chunks};
-pub use rows::RECORD_HEADER;
+pub use rows::{RECORD_HEADER, captured_length};
 pub use walk::RecordWalk;

@@ -2,8 +2,8 @@ ghost use Rattle.std.specs.Prelude.{◌≡◌};
 
 use std::marker::Model;
 
-/// A time in nanoseconds, in two words: so it may stand where a word may, a record takes 20 bytes, and a packet 48. A
-/// contract sees the number.
+/// A time in nanoseconds, in two words of 32 bits: so it needs no more alignment than they do, and a record takes 20
+/// bytes. A contract sees the number.
 #[derive(Clone, Copy)]
 pub struct Nanos {
     high: u32,

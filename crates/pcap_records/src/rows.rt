@@ -16,6 +16,15 @@ pub const RECORD_HEADER: usize = 16;
 /// The nanoseconds in a second.
 const SECOND: u64 = 1_000_000_000;
 
+/// The captured length of the record whose header begins these bytes. `T` is the order of the bytes in numbers.
+#[inline]
+pub fn captured_length<T: ByteOrder>(front: &[u8]) -> u32
+    requires { 16 ≤ length front.now }
+    ensures { result ≡ captured_length T.number_of front.now }
+{
+    T::read_u32(&front[8..])
+}
+
 /// The record whose header begins these bytes, which stand at an offset of a capture of this size, if it is whole.
 fn record_behind<T: ByteOrder>(front: &[u8], at: usize, size: usize, unit: u64) -> Option<Record>
     requires header { 16 ≤ length front.now }
@@ -27,7 +36,7 @@ fn record_behind<T: ByteOrder>(front: &[u8], at: usize, size: usize, unit: u64) 
     ensures time { IfSome result (λ r. r.nanos < 2 ^ 63) }
     ensures none { IfNone result (size - at < 16 + captured_length T.number_of front.now) }
 {
-    let captured = T::read_u32(&front[8..]);
+    let captured = captured_length::<T>(front);
     if captured as usize > size - at - RECORD_HEADER {
         return None;
     }
@@ -44,7 +53,8 @@ fn record_behind<T: ByteOrder>(front: &[u8], at: usize, size: usize, unit: u64) 
 /// The record that begins at an offset of a capture of this format, if a whole one stands there. `T` is the format's
 /// order of bytes.
 ///
-/// Its header is read where it lies; one in which chunks of the capture meet is gathered first.
+/// Its header is read where it lies; one in which chunks of the capture meet is gathered first, and fails where memory
+/// runs out.
 pub fn next_record<T: ByteOrder>(
     alloc: Global,
     capture: &Capture<'_>,
