@@ -1,8 +1,9 @@
 //! Which bytes go to which part.
 
 ghost use Rattle.std.specs.Prelude.{◌≡◌, ◌+◌, ◌-◌, ◌<◌, ◌≤◌, ◌^◌, ℕ, List, [], ◌++◌, false, length, min, take, drop};
-ghost use Rattle.std.specs.Prelude.{IfOk, IfSome, OnOk, IsTrue};
+ghost use Rattle.std.specs.Prelude.{vec_len, IfOk, IfSome, OnOk, IsTrue};
 ghost use Rattle.std.specs.Bool.{Decides};
+ghost use Rattle.byteorder.specs.Endian.{big_bytes};
 ghost use Rattle.pcap_records.specs.FileHeader.{format_of, link_of, number_of};
 ghost use Rattle.pcap_records.specs.Record.{BeginsWithRecord, captured_length};
 ghost use Rattle.capture_parts.specs.Pair.{front_of};
@@ -23,9 +24,9 @@ use std::io::Write;
 /// ports.
 const FRONT: usize = 82;
 
-/// Deals the records of a capture to parts.
+/// What the dealer of a capture knows of the records that it has seen.
 #[derive(Drop)]
-pub struct Dealer {
+pub(crate) struct Dealer {
     is_little: bool,
     link: u16,
     /// How many records were begun.
@@ -38,7 +39,7 @@ pub struct Dealer {
 
 impl Dealer {
     /// A dealer that stands behind a file header.
-    pub fn behind(header: &[u8]) -> Dealer
+    fn behind(header: &[u8]) -> Dealer
         requires { 24 ≤ length header.now }
         ensures order { IfSome (format_of header.now) (λ format. order_of result.is_little ≡ number_of format.endian) }
         ensures link { IfSome (format_of header.now)
@@ -57,89 +58,6 @@ impl Dealer {
         }
     }
 
-    /// Whether the bytes that were dealt end with a whole record.
-    pub fn is_between(&self) -> bool
-        ensures { Decides result (self.now.left ≡ 0) }
-    {
-        self.left == 0
-    }
-
-    /// Deals these bytes, but for those at their end that are too few of a record.
-    pub(crate) fn deal<W: Write + Drop>(
-        &mut self,
-        unread: &[u8],
-        parts: &mut [Part<W>],
-    ) -> Result<usize, SplitFault>
-        requires part { self.old.part < length parts.old }
-        ensures part { self.new.part < length parts.new }
-        ensures within { IfOk result (λ n. n ≤ length unread.now) }
-        ensures few { IfOk result (λ n. length unread.now < n + 98) }
-        ensures rest { IfOk result (λ n. n < length unread.now → (self.new.left ≡ 0)
-            × ¬ BeginsWithRecord (order_of self.new.is_little) (drop n unread.now)) }
-        ensures dealt { IfOk result
-            (λ n. Deals W.contents self.old self.new parts.old parts.new (take n unread.now)) }
-    {
-        let mut at = 0;
-        while at < unread.len() {
-            if self.left == 0 && !self.begin(&unread[at..], parts)? {
-                break;
-            }
-            at += self.deal_more(&unread[at..], parts)?;
-        }
-        Ok(at)
-    }
-
-    /// Deals what is there of the record that was begun.
-    fn deal_more<W: Write + Drop>(
-        &mut self,
-        unread: &[u8],
-        parts: &mut [Part<W>],
-    ) -> Result<usize, SplitFault>
-        requires some { 0 < length unread.now }
-        requires begun { 0 < self.old.left }
-        requires part { self.old.part < length parts.old }
-        ensures part { self.new.part < length parts.new }
-        ensures count { IfOk result (λ n. n ≡ min self.old.left (length unread.now)) }
-        ensures some { IfOk result (λ n. 0 < n) }
-        ensures left { IfOk result (λ n. self.new ≡ record self.old { left = self.old.left - n }) }
-        ensures grows { IfOk result
-            (λ n. OneGrows W.contents parts.old parts.new self.old.part (take n unread.now) []) }
-    {
-        let count = self.left.min(unread.len() as u64) as usize;
-        give(parts, self.part, &unread[..count], self.pair)?;
-        self.left -= count as u64;
-        Ok(count)
-    }
-
-    /// Begins the record at the front of these bytes, if enough of it is there to tell its part.
-    fn begin<W: Write + Drop>(
-        &mut self,
-        unread: &[u8],
-        parts: &mut [Part<W>],
-    ) -> Result<bool, SplitFault>
-        requires in_range { self.old.part < length parts.old }
-        requires between { self.old.left ≡ 0 }
-        ensures few { IfOk result (λ begun. begun ≡ false → (self.new ≡ self.old) × (parts.new ≡ parts.old)
-            × (length unread.now < 98) × ¬ BeginsWithRecord (order_of self.old.is_little) unread.now) }
-        ensures begun { IfOk result (λ begun. IsTrue begun
-            → HasBegun W.contents self.old self.new parts.old parts.new unread.now) }
-        ensures left { IfOk result (λ begun. IsTrue begun
-            → self.new.left ≡ 16 + captured_length (order_of self.old.is_little) unread.now) }
-        ensures in_range { self.new.part < length parts.new }
-    {
-        if unread.len() < RECORD_HEADER {
-            return Ok(false);
-        }
-        let captured = self.captured_length(unread);
-        let front = captured.min(FRONT);
-        if unread.len() - RECORD_HEADER < front {
-            return Ok(false);
-        }
-        self.enter(&unread[RECORD_HEADER..RECORD_HEADER + front], parts)?;
-        self.left = (RECORD_HEADER + captured) as u64;
-        Ok(true)
-    }
-
     /// The captured length of the record whose header begins these bytes.
     fn captured_length(&self, unread: &[u8]) -> usize
         requires { 16 ≤ length unread.now }
@@ -152,58 +70,175 @@ impl Dealer {
             BigEndian::read_u32(&unread[8..]) as usize
         }
     }
+}
+
+/// A capture that is being dealt to parts.
+#[derive(Drop)]
+pub(crate) struct Dealing<W: Drop> {
+    pub(crate) dealer: Dealer,
+    pub(crate) parts: Vec<Part<W>>,
+    ghost in_range: { dealer.part < vec_len parts },
+}
+
+impl<W: Write + Drop> Dealing<W> {
+    /// Nothing is dealt yet of a capture that has this file header.
+    pub(crate) fn behind(header: &[u8], parts: Vec<Part<W>>) -> Dealing<W>
+        requires header { 24 ≤ length header.now }
+        requires some { 0 < vec_len parts }
+        ensures order { IfSome (format_of header.now)
+            (λ format. order_of result.dealer.is_little ≡ number_of format.endian) }
+        ensures link { IfSome (format_of header.now)
+            (λ format. result.dealer.link ≡ link_of (number_of format.endian) header.now) }
+        ensures number { result.dealer.number ≡ 0 }
+        ensures left { result.dealer.left ≡ 0 }
+        ensures parts { result.parts ≡ parts }
+    {
+        Dealing {
+            dealer: Dealer::behind(header),
+            parts,
+        }
+    }
+
+    /// Whether the bytes that were dealt end with a whole record.
+    pub(crate) fn is_between(&self) -> bool
+        ensures { Decides result (self.now.dealer.left ≡ 0) }
+    {
+        self.dealer.left == 0
+    }
+
+    /// Deals these bytes, but for those at their end that are too few of a record.
+    pub(crate) fn deal(&mut self, unread: &[u8]) -> Result<usize, SplitFault>
+        ensures within { IfOk result (λ n. n ≤ length unread.now) }
+        ensures few { IfOk result (λ n. length unread.now < n + 98) }
+        ensures rest { IfOk result (λ n. n < length unread.now → (self.new.dealer.left ≡ 0)
+            × ¬ BeginsWithRecord (order_of self.new.dealer.is_little) (drop n unread.now)) }
+        ensures dealt { IfOk result (λ n. Deals W.contents self.old.dealer self.new.dealer
+            self.old.parts.items self.new.parts.items (take n unread.now)) }
+    {
+        let mut at = 0;
+        while at < unread.len() {
+            if self.dealer.left == 0 && !self.begin(&unread[at..])? {
+                break;
+            }
+            at += self.deal_more(&unread[at..])?;
+        }
+        Ok(at)
+    }
+
+    /// Deals what is there of the record that was begun.
+    fn deal_more(&mut self, unread: &[u8]) -> Result<usize, SplitFault>
+        requires some { 0 < length unread.now }
+        requires begun { 0 < self.old.dealer.left }
+        ensures count { IfOk result (λ n. n ≡ min self.old.dealer.left (length unread.now)) }
+        ensures some { IfOk result (λ n. 0 < n) }
+        ensures left { IfOk result
+            (λ n. self.new.dealer ≡ record self.old.dealer { left = self.old.dealer.left - n }) }
+        ensures grows { IfOk result (λ n. OneGrows W.contents self.old.parts.items self.new.parts.items
+            self.old.dealer.part (take n unread.now) []) }
+    {
+        let count = self.dealer.left.min(unread.len() as u64) as usize;
+        self.give(&unread[..count])?;
+        self.dealer.left -= count as u64;
+        Ok(count)
+    }
+
+    /// Begins the record at the front of these bytes, if enough of it is there to tell its part.
+    fn begin(&mut self, unread: &[u8]) -> Result<bool, SplitFault>
+        requires { self.old.dealer.left ≡ 0 }
+        ensures few { IfOk result (λ begun. begun ≡ false → (self.new.dealer ≡ self.old.dealer)
+            × (self.new.parts.items ≡ self.old.parts.items) × (length unread.now < 98)
+            × ¬ BeginsWithRecord (order_of self.old.dealer.is_little) unread.now) }
+        ensures begun { IfOk result (λ begun. IsTrue begun → HasBegun W.contents self.old.dealer self.new.dealer
+            self.old.parts.items self.new.parts.items unread.now) }
+        ensures left { IfOk result (λ begun. IsTrue begun
+            → self.new.dealer.left ≡ 16 + captured_length (order_of self.old.dealer.is_little) unread.now) }
+    {
+        if unread.len() < RECORD_HEADER {
+            return Ok(false);
+        }
+        let captured = self.dealer.captured_length(unread);
+        let front = captured.min(FRONT);
+        if unread.len() - RECORD_HEADER < front {
+            return Ok(false);
+        }
+        self.enter(&unread[RECORD_HEADER..RECORD_HEADER + front])?;
+        self.dealer.left = (RECORD_HEADER + captured) as u64;
+        Ok(true)
+    }
 
     /// Numbers the record whose packet has this front, and finds its part.
-    fn enter<W: Write + Drop>(
-        &mut self,
-        front: &[u8],
-        parts: &mut [Part<W>],
-    ) -> Result<(), SplitFault>
-        requires { self.old.part < length parts.old }
-        ensures entered { OnOk result (HasEntered W.contents self.old self.new parts.old parts.new front.now) }
-        ensures in_range { self.new.part < length parts.new }
+    fn enter(&mut self, front: &[u8]) -> Result<(), SplitFault>
+        ensures { OnOk result (HasEntered W.contents self.old.dealer self.new.dealer
+            self.old.parts.items self.new.parts.items front.now) }
     {
-        if self.number == u64::MAX {
+        if self.dealer.number == u64::MAX {
             return Err(SplitFault::TooLong);
         }
-        self.number += 1;
-        self.pair = pair_of(self.link, front);
-        self.part = part_of(parts.len(), self.number, self.pair);
-        parts[self.part].take_number(self.number)
+        let number = self.dealer.number + 1;
+        let pair = pair_of(self.dealer.link, front);
+        let part = part_of(self.parts.len(), number, pair);
+        self.dealer.number = number;
+        self.dealer.pair = pair;
+        self.dealer.part = part;
+        give_number(self.parts.as_mut_slice(), part, number)
+    }
+
+    /// Gives bytes of the record that was entered last to its part.
+    fn give(&mut self, bytes: &[u8]) -> Result<(), SplitFault>
+        ensures dealer { self.new.dealer ≡ self.old.dealer }
+        ensures grows { OnOk result (OneGrows W.contents self.old.parts.items self.new.parts.items
+            self.old.dealer.part bytes.now []) }
+    {
+        give_bytes(
+            self.parts.as_mut_slice(),
+            self.dealer.part,
+            bytes,
+            self.dealer.pair,
+        )
     }
 
     /// Deals the bytes at the end of a capture, which hold no whole record.
-    pub(crate) fn finish<W: Write + Drop>(
-        &mut self,
-        rest: &[u8],
-        parts: &mut [Part<W>],
-    ) -> Result<(), SplitFault>
-        requires { self.old.part < length parts.old }
-        ensures part { self.new.part < length parts.new }
-        ensures split { OnOk result ((first : List (Part W)) (bytes : List ℕ)
-            → (0 < length rest.now → (self.old.left ≡ 0) × ¬ BeginsWithRecord (order_of self.old.is_little) rest.now)
-            → IsDealt W.contents self.old first parts.old bytes
-            → AreSplit W.contents (order_of self.old.is_little) self.old.link (bytes ++ rest.now) first parts.new) }
+    pub(crate) fn finish(&mut self, rest: &[u8]) -> Result<(), SplitFault>
+        ensures { OnOk result ((first : List (Part W)) (bytes : List ℕ)
+            → (0 < length rest.now → (self.old.dealer.left ≡ 0)
+            × ¬ BeginsWithRecord (order_of self.old.dealer.is_little) rest.now)
+            → IsDealt W.contents self.old.dealer first self.old.parts.items bytes
+            → AreSplit W.contents (order_of self.old.dealer.is_little) self.old.dealer.link (bytes ++ rest.now)
+            first self.new.parts.items) }
     {
         if rest.is_empty() {
             return Ok(());
         }
         let header = RECORD_HEADER.min(rest.len());
         let packet = &rest[header..];
-        self.enter(&packet[..FRONT.min(packet.len())], parts)?;
-        give(parts, self.part, rest, self.pair)
+        self.enter(&packet[..FRONT.min(packet.len())])?;
+        self.give(rest)
     }
 }
 
+/// Gives the number of a record to a part.
+fn give_number<W: Write + Drop>(
+    parts: &mut [Part<W>],
+    part: usize,
+    number: u64,
+) -> Result<(), SplitFault>
+    requires { part < length parts.old }
+    ensures count { length parts.new ≡ length parts.old }
+    ensures grows { OnOk result (OneGrows W.contents parts.old parts.new part [] (big_bytes 8 number)) }
+{
+    parts[part].take_number(number)
+}
+
 /// Gives bytes of a record with this pair to a part.
-fn give<W: Write + Drop>(
+fn give_bytes<W: Write + Drop>(
     parts: &mut [Part<W>],
     part: usize,
     bytes: &[u8],
     pair: Option<Pair>,
 ) -> Result<(), SplitFault>
     requires { part < length parts.old }
-    ensures { OnOk result (OneGrows W.contents parts.old parts.new part bytes.now []) }
+    ensures count { length parts.new ≡ length parts.old }
+    ensures grows { OnOk result (OneGrows W.contents parts.old parts.new part bytes.now []) }
 {
     parts[part].take_bytes(bytes, pair)
 }

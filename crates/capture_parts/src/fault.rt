@@ -7,6 +7,6 @@ pub enum SplitFault {
     Read,
     /// A write failed.
     Write,
-    /// More than 2^64 records, or as many reads.
+    /// More than 2^64 - 1 records, or a file that is not at its end after 2^64 - 1 reads.
     TooLong,
 }

@@ -2,8 +2,9 @@
 //!
 //! - The records of a classic pcap capture are dealt to parts by the unordered pair of endpoints that a packet names,
 //!   so a TCP connection lies in one part, in order. [`split_capture`] splits a capture from behind its file header on;
-//!   [`Dealer`], [`split_file`] and [`split_last`] do so with one that comes in several files. Bytes are read once,
-//!   into a buffer of at least 98, and are written as they come: nothing is kept of a record but where it goes.
+//!   [`split_file`] and [`split_last`] do so with one that comes in several files, by a [`Splitter`], which holds the
+//!   parts and the buffer. Bytes are read once, into a buffer of at least 98, and are written as they come: nothing is
+//!   kept of a record but where it goes.
 //! - What stands behind the file header is records, one after the other, and a rest that holds no whole one
 //!   (`AreRecords` of `specs/Dealt.antt`). Part i gets what `part_bytes` says: the bytes of its own records and of a
 //!   cut one, in their order; `part_numbers` are the numbers that its records have in the whole, each in 8 bytes.
@@ -32,9 +33,8 @@ mod pair;
 mod part;
 mod splitting;
 
-pub use dealer::Dealer;
 pub use fault::SplitFault;
 pub use header::link_type;
 pub use pair::Pair;
 pub use part::{FullPart, Part, part_count};
-pub use splitting::{make_buffer, read_header, split_capture, split_file, split_last};
+pub use splitting::{Splitter, make_buffer, read_header, split_capture, split_file, split_last};

@@ -38,7 +38,7 @@ pub struct Part<W: Drop> {
 impl<W: Write + Drop> Part<W> {
     ghost use Rattle.capture_parts.specs.Parts.{Grows};
 
-    /// A part that begins with this file header.
+    /// A part that begins with this file header. Fails where the write does.
     pub fn begin(mut packets: W, numbers: W, header: &[u8]) -> Result<Part<W>, SplitFault>
         requires { length header.now < 2 ^ 31 }
         ensures packets { IfOk result (λ part. Appends (W.contents packets) (W.contents part.packets) header.now) }
@@ -91,7 +91,7 @@ impl<W: Write + Drop> Part<W> {
         }
     }
 
-    /// Flushes both files.
+    /// Flushes both files. Fails where a flush does.
     pub fn flush(&mut self) -> Result<(), SplitFault>
         ensures packets { Keeps (W.contents self.old.packets) (W.contents self.new.packets) }
         ensures numbers { Keeps (W.contents self.old.numbers) (W.contents self.new.numbers) }

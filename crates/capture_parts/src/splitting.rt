@@ -9,7 +9,7 @@ ghost use Rattle.capture_parts.specs.Files.{IsDealt, order_of};
 ghost use Rattle.capture_parts.specs.code.Dealing.{Deals, HasTurned};
 ghost use Rattle.capture_parts.specs.declared.part.Part.{Part};
 
-use crate::dealer::Dealer;
+use crate::dealer::Dealing;
 use crate::fault::SplitFault;
 use crate::part::Part;
 use std::alloc::{AllocError, Global};
@@ -18,14 +18,14 @@ use std::io::{Read, Write};
 /// The bytes that are read at a time.
 const BUFFER: usize = 262_144;
 
-/// A buffer for reads, which is long enough for a packet's front.
+/// A buffer for reads, which is long enough for a packet's front. Fails where memory runs out.
 pub fn make_buffer(alloc: Global) -> Result<Vec<u8>, AllocError>
     ensures { IfOk result (λ buffer. vec_len buffer ≡ 262144) }
 {
     vec![in alloc; 0; BUFFER]
 }
 
-/// Reads the header of a file, and answers how many bytes of it there are.
+/// Reads the header of a file, and answers how many bytes of it there are. Fails where a read does.
 pub fn read_header<R: Read>(reader: &mut R, header: &mut [u8]) -> Result<usize, SplitFault>
     ensures within { IfOk result (λ n. n ≤ length header.new) }
     ensures bytes { IfOk result (λ n. Consumes (R.remaining reader.old) (R.remaining reader.new) (take n header.new)) }
@@ -45,68 +45,106 @@ pub fn read_header<R: Read>(reader: &mut R, header: &mut [u8]) -> Result<usize, 
 /// Splits a capture that has this file header, which refuses nothing, from behind it on.
 ///
 /// Where the reader tells its bytes, these are the capture's. Each part that is not full then holds exactly its own
-/// records, in order, and their numbers; a full one would have reached 2^31 bytes.
+/// records, in order, and their numbers; a full one would have reached 2^31 bytes. Fails where a read or a write
+/// does, and where either is too many ([`SplitFault::TooLong`]).
 pub fn split_capture<R: Read, W: Write + Drop>(
     header: &[u8],
     reader: &mut R,
-    buffer: &mut [u8],
-    parts: &mut [Part<W>],
-) -> Result<(), SplitFault>
+    buffer: Vec<u8>,
+    parts: Vec<Part<W>>,
+) -> Result<Vec<Part<W>>, SplitFault>
     requires header { 24 ≤ length header.now }
-    requires some { 0 < length parts.old }
-    requires buffer { 98 ≤ length buffer.old }
-    ensures { OnOk result ((given : List ℕ)
+    requires buffer { 98 ≤ vec_len buffer }
+    requires some { 0 < vec_len parts }
+    ensures { IfOk result (λ split. (given : List ℕ)
         × Consumes (R.remaining reader.old) (R.remaining reader.new) given
         × IsAtEnd (R.remaining reader.new)
         × IfSome (format_of header.now) (λ format. AreSplit W.contents (number_of format.endian)
-        (link_of (number_of format.endian) header.now) given parts.old parts.new)) }
+        (link_of (number_of format.endian) header.now) given parts.items split.items)) }
 {
-    let mut dealer = Dealer::behind(header);
-    split_last(&mut dealer, reader, buffer, parts)
+    let mut splitter = Splitter::behind(header, buffer, parts);
+    split_last(&mut splitter, reader)?;
+    Ok(splitter.into_parts())
 }
 
-/// Deals the last file of a capture, from behind its header on.
+/// A capture that is being split, file by file.
+#[derive(Drop)]
+pub struct Splitter<W: Drop> {
+    dealing: Dealing<W>,
+    /// What was read and is not dealt yet stands at its front.
+    buffer: Vec<u8>,
+    ghost room: { 98 ≤ vec_len buffer },
+}
+
+impl<W: Write + Drop> Splitter<W> {
+    /// Nothing is read yet of a capture behind this file header.
+    pub fn behind(header: &[u8], buffer: Vec<u8>, parts: Vec<Part<W>>) -> Splitter<W>
+        requires header { 24 ≤ length header.now }
+        requires buffer { 98 ≤ vec_len buffer }
+        requires some { 0 < vec_len parts }
+        ensures order { IfSome (format_of header.now)
+            (λ format. order_of result.dealing.dealer.is_little ≡ number_of format.endian) }
+        ensures link { IfSome (format_of header.now)
+            (λ format. result.dealing.dealer.link ≡ link_of (number_of format.endian) header.now) }
+        ensures number { result.dealing.dealer.number ≡ 0 }
+        ensures left { result.dealing.dealer.left ≡ 0 }
+        ensures parts { result.dealing.parts ≡ parts }
+    {
+        Splitter {
+            dealing: Dealing::behind(header, parts),
+            buffer,
+        }
+    }
+
+    /// The parts, with what they got.
+    pub fn into_parts(self) -> Vec<Part<W>>
+        ensures { result ≡ self.dealing.parts }
+    {
+        self.dealing.parts
+    }
+}
+
+/// Deals the last file of a capture, from behind its header on. Fails as [`split_capture`] does.
 pub fn split_last<R: Read, W: Write + Drop>(
-    dealer: &mut Dealer,
+    splitter: &mut Splitter<W>,
     reader: &mut R,
-    buffer: &mut [u8],
-    parts: &mut [Part<W>],
 ) -> Result<(), SplitFault>
-    requires part { dealer.old.part < length parts.old }
-    requires buffer { 98 ≤ length buffer.old }
-    ensures part { dealer.new.part < length parts.new }
-    ensures split { OnOk result ((given : List ℕ)
+    ensures { OnOk result ((given : List ℕ)
         × Consumes (R.remaining reader.old) (R.remaining reader.new) given
         × IsAtEnd (R.remaining reader.new)
         × ((first : List (Part W)) (bytes : List ℕ)
-        → IsDealt W.contents dealer.old first parts.old bytes
-        → AreSplit W.contents (order_of dealer.old.is_little) dealer.old.link (bytes ++ given) first parts.new)) }
+        → IsDealt W.contents splitter.old.dealing.dealer first splitter.old.dealing.parts.items bytes
+        → AreSplit W.contents (order_of splitter.old.dealing.dealer.is_little) splitter.old.dealing.dealer.link
+        (bytes ++ given) first splitter.new.dealing.parts.items)) }
 {
-    let filled = deal_file(dealer, reader, buffer, parts)?;
-    dealer.finish(&buffer[..filled], parts)
+    let filled = deal_file(
+        &mut splitter.dealing,
+        reader,
+        splitter.buffer.as_mut_slice(),
+    )?;
+    splitter.dealing.finish(&splitter.buffer[..filled])
 }
 
 /// Deals a file of a capture behind which another one comes, from behind its header on. It has to end with a whole
-/// record.
+/// record, else the fault is [`SplitFault::CutRecord`]; others are those of [`split_capture`].
 pub fn split_file<R: Read, W: Write + Drop>(
-    dealer: &mut Dealer,
+    splitter: &mut Splitter<W>,
     reader: &mut R,
-    buffer: &mut [u8],
-    parts: &mut [Part<W>],
 ) -> Result<(), SplitFault>
-    requires part { dealer.old.part < length parts.old }
-    requires buffer { 98 ≤ length buffer.old }
-    ensures part { dealer.new.part < length parts.new }
-    ensures whole { OnOk result (dealer.new.left ≡ 0) }
+    ensures whole { OnOk result (splitter.new.dealing.dealer.left ≡ 0) }
     ensures dealt { OnOk result ((given : List ℕ)
         × Consumes (R.remaining reader.old) (R.remaining reader.new) given
         × IsAtEnd (R.remaining reader.new)
         × ((first : List (Part W)) (bytes : List ℕ)
-        → IsDealt W.contents dealer.old first parts.old bytes
-        → IsDealt W.contents dealer.new first parts.new (bytes ++ given))) }
+        → IsDealt W.contents splitter.old.dealing.dealer first splitter.old.dealing.parts.items bytes
+        → IsDealt W.contents splitter.new.dealing.dealer first splitter.new.dealing.parts.items (bytes ++ given))) }
 {
-    let filled = deal_file(dealer, reader, buffer, parts)?;
-    if filled == 0 && dealer.is_between() {
+    let filled = deal_file(
+        &mut splitter.dealing,
+        reader,
+        splitter.buffer.as_mut_slice(),
+    )?;
+    if filled == 0 && splitter.dealing.is_between() {
         Ok(())
     } else {
         Err(SplitFault::CutRecord)
@@ -115,49 +153,43 @@ pub fn split_file<R: Read, W: Write + Drop>(
 
 /// Deals a file to its end, and answers how many bytes of it are left in the buffer: too few of a record.
 fn deal_file<R: Read, W: Write + Drop>(
-    dealer: &mut Dealer,
+    dealing: &mut Dealing<W>,
     reader: &mut R,
     buffer: &mut [u8],
-    parts: &mut [Part<W>],
 ) -> Result<usize, SplitFault>
-    requires part { dealer.old.part < length parts.old }
-    requires buffer { 98 ≤ length buffer.old }
-    ensures part { dealer.new.part < length parts.new }
+    requires { 98 ≤ length buffer.old }
     ensures left { IfOk result (λ n. n ≤ length buffer.new) }
-    ensures turned { IfOk result (λ n. HasTurned W.contents R.remaining dealer.old dealer.new parts.old parts.new
-        reader.old reader.new (take n buffer.new)) }
+    ensures turned { IfOk result (λ n. HasTurned W.contents R.remaining dealing.old.dealer dealing.new.dealer
+        dealing.old.parts.items dealing.new.parts.items reader.old reader.new (take n buffer.new)) }
     ensures end { OnOk result (IsAtEnd (R.remaining reader.new)) }
 {
     let mut filled = 0;
     for _ in 0..u64::MAX {
         match reader.read(&mut buffer[filled..]) {
             Ok(0) => return Ok(filled),
-            Ok(count) => filled = deal_buffer(dealer, buffer, filled + count, parts)?,
+            Ok(count) => filled = deal_buffer(dealing, buffer, filled + count)?,
             Err(_) => return Err(SplitFault::Read),
         }
     }
     Err(SplitFault::TooLong)
 }
 
-/// Deals the first so many bytes of the buffer, moves those to its front that are too few of a record, and answers how
+/// Deals the first so many bytes of a buffer, moves those to its front that are too few of a record, and answers how
 /// many these are.
 fn deal_buffer<W: Write + Drop>(
-    dealer: &mut Dealer,
+    dealing: &mut Dealing<W>,
     buffer: &mut [u8],
     filled: usize,
-    parts: &mut [Part<W>],
 ) -> Result<usize, SplitFault>
-    requires part { dealer.old.part < length parts.old }
-    requires filled { filled ≤ length buffer.old }
-    ensures part { dealer.new.part < length parts.new }
+    requires { filled ≤ length buffer.old }
     ensures left { IfOk result (λ n. (n < 98) × (n ≤ filled)) }
     ensures moved { IfOk result (λ n. take filled buffer.old ≡ take (filled - n) buffer.old ++ take n buffer.new) }
-    ensures rest { IfOk result (λ n. 0 < n → (dealer.new.left ≡ 0)
-        × ¬ BeginsWithRecord (order_of dealer.new.is_little) (take n buffer.new)) }
-    ensures dealt { IfOk result
-        (λ n. Deals W.contents dealer.old dealer.new parts.old parts.new (take (filled - n) buffer.old)) }
+    ensures rest { IfOk result (λ n. 0 < n → (dealing.new.dealer.left ≡ 0)
+        × ¬ BeginsWithRecord (order_of dealing.new.dealer.is_little) (take n buffer.new)) }
+    ensures dealt { IfOk result (λ n. Deals W.contents dealing.old.dealer dealing.new.dealer
+        dealing.old.parts.items dealing.new.parts.items (take (filled - n) buffer.old)) }
 {
-    let dealt = dealer.deal(&buffer[..filled], parts)?;
+    let dealt = dealing.deal(&buffer[..filled])?;
     buffer.copy_within(dealt..filled, 0);
     Ok(filled - dealt)
 }

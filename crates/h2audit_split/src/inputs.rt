@@ -1,9 +1,7 @@
 //! The files that the program reads.
 
-ghost use Rattle.std.specs.Prelude.{◌<◌, ◌≤◌, length};
-
 use crate::failure::Failure;
-use capture_parts::{Dealer, Part, SplitFault, link_type, read_header, split_file, split_last};
+use capture_parts::{SplitFault, Splitter, link_type, read_header, split_file, split_last};
 use pcap_records::{FILE_HEADER, refusal};
 use std::alloc::Global;
 use std::fs::File;
@@ -42,16 +40,10 @@ pub fn split_later<R: Files + AllocGlobal, W: Write + Drop>(
     rt: &R,
     later: CaptureFile<'_>,
     header: &Header,
-    dealer: &mut Dealer,
-    buffer: &mut [u8],
-    parts: &mut [Part<W>],
-) -> Result<(), Failure>
-    requires part { dealer.old.part < length parts.old }
-    requires buffer { 98 ≤ length buffer.old }
-    ensures { dealer.new.part < length parts.new }
-{
+    splitter: &mut Splitter<W>,
+) -> Result<(), Failure> {
     let mut file = open_later(rt, later.path, header)?;
-    split_named(rt.alloc(), later, &mut file, dealer, buffer, parts)
+    split_named(rt.alloc(), later, &mut file, splitter)
 }
 
 /// Opens a later file, and reads its header.
@@ -98,18 +90,12 @@ pub fn split_named<F: Read, W: Write + Drop>(
     alloc: Global,
     named: CaptureFile<'_>,
     file: &mut F,
-    dealer: &mut Dealer,
-    buffer: &mut [u8],
-    parts: &mut [Part<W>],
-) -> Result<(), Failure>
-    requires part { dealer.old.part < length parts.old }
-    requires buffer { 98 ≤ length buffer.old }
-    ensures { dealer.new.part < length parts.new }
-{
+    splitter: &mut Splitter<W>,
+) -> Result<(), Failure> {
     let split = if named.is_last {
-        split_last(dealer, file, buffer, parts)
+        split_last(splitter, file)
     } else {
-        split_file(dealer, file, buffer, parts)
+        split_file(splitter, file)
     };
     in_file(alloc, named.path, split)
 }

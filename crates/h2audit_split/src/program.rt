@@ -1,12 +1,12 @@
 //! What the program does.
 
-ghost use Rattle.std.specs.Prelude.{◌<◌, ◌≤◌, length};
+ghost use Rattle.std.specs.Prelude.{◌<◌, ◌≤◌, vec_len};
 
 use crate::command::{Asked, Words, parse_words};
 use crate::failure::{Ending, Failure};
 use crate::inputs::{CaptureFile, Header, begin, open, split_later, split_named};
 use crate::outputs::{create_parts, finish_parts};
-use capture_parts::{Dealer, Part, make_buffer, split_capture};
+use capture_parts::{Part, Splitter, make_buffer, split_capture};
 use std::alloc::{AllocError, Global};
 use std::env;
 use std::io::{Read, Write};
@@ -69,9 +69,9 @@ fn split_from<R: Files + AllocGlobal + Eprint, I: Read>(
     words: &Words,
     reader: &mut I,
 ) -> Result<Ending, Failure> {
-    let mut buffer = make_buffer(rt.alloc())?;
+    let buffer = make_buffer(rt.alloc())?;
     let header = begin(reader)?;
-    split_behind(rt, words, reader, &header, buffer.as_mut_slice())
+    split_behind(rt, words, reader, &header, buffer)
 }
 
 /// Splits it from behind its header on, into parts that it makes.
@@ -80,14 +80,13 @@ fn split_behind<R: Files + AllocGlobal + Eprint, I: Read>(
     words: &Words,
     reader: &mut I,
     header: &Header,
-    buffer: &mut [u8],
+    buffer: Vec<u8>,
 ) -> Result<Ending, Failure>
-    requires { 98 ≤ length buffer.old }
+    requires { 98 ≤ vec_len buffer }
 {
-    let mut parts = create_parts(rt, words.folder.as_str(), words.parts, header)?;
-    let parts = parts.as_mut_slice();
-    split_files(rt, words.files.as_slice(), reader, header, buffer, parts)?;
-    finish_parts(rt, words.folder.as_str(), parts)
+    let parts = create_parts(rt, words.folder.as_str(), words.parts, header)?;
+    let mut parts = split_files(rt, words.files.as_slice(), reader, header, buffer, parts)?;
+    finish_parts(rt, words.folder.as_str(), parts.as_mut_slice())
 }
 
 /// Splits standard input or files, which make one capture in their order. The reader stands behind the header of the
@@ -97,22 +96,23 @@ fn split_files<R: Files + AllocGlobal, I: Read, W: Write + Drop>(
     files: &[String],
     reader: &mut I,
     header: &Header,
-    buffer: &mut [u8],
-    parts: &mut [Part<W>],
-) -> Result<(), Failure>
-    requires some { 0 < length parts.old }
-    requires buffer { 98 ≤ length buffer.old }
+    buffer: Vec<u8>,
+    parts: Vec<Part<W>>,
+) -> Result<Vec<Part<W>>, Failure>
+    requires buffer { 98 ≤ vec_len buffer }
+    requires some { 0 < vec_len parts }
 {
     if files.is_empty() {
         return Ok(split_capture(header, reader, buffer, parts)?);
     }
-    let mut dealer = Dealer::behind(header);
+    let mut splitter = Splitter::behind(header, buffer, parts);
     let first = CaptureFile {
         path: files[0].as_str(),
         is_last: files.len() == 1,
     };
-    split_named(rt.alloc(), first, reader, &mut dealer, buffer, parts)?;
-    split_others(rt, &files[1..], header, &mut dealer, buffer, parts)
+    split_named(rt.alloc(), first, reader, &mut splitter)?;
+    split_others(rt, &files[1..], header, &mut splitter)?;
+    Ok(splitter.into_parts())
 }
 
 /// Splits the files behind the first one.
@@ -120,20 +120,15 @@ fn split_others<R: Files + AllocGlobal, W: Write + Drop>(
     rt: &R,
     later: &[String],
     header: &Header,
-    dealer: &mut Dealer,
-    buffer: &mut [u8],
-    parts: &mut [Part<W>],
-) -> Result<(), Failure>
-    requires part { dealer.old.part < length parts.old }
-    requires buffer { 98 ≤ length buffer.old }
-{
+    splitter: &mut Splitter<W>,
+) -> Result<(), Failure> {
     let count = later.len();
     for (index, path) in later.iter().enumerate() {
         let named = CaptureFile {
             path: path.as_str(),
             is_last: index + 1 == count,
         };
-        split_later(rt, named, header, dealer, buffer, parts)?;
+        split_later(rt, named, header, splitter)?;
     }
     Ok(())
 }

@@ -1,4 +1,4 @@
-use Rattle.capture_parts.proofs.Terms.{AreSplit, IfSome, List, None, Option, Some, [], on_ok_weaker, ℕ, ◌≡◌}
+use Rattle.capture_parts.proofs.Terms.{AreSplit, IfSome, List, None, Option, Some, [], ℕ, ◌≡◌}
 use Rattle.pcap_records.specs.FileHeader.{ByteOrder, link_of, number_of}
 use Rattle.pcap_records.specs.declared.format.Format.{Format}
 use Rattle.capture_parts.proofs.Standing.{none_dealt}
@@ -14,13 +14,15 @@ by_header P order link header (Some format) orders links holds = rw (← links, 
 
 pub returns : goal.returns
 returns g c =
-    let behind = c.behind-dealer.ensures in
-    let parts = c.args.parts.now in
-    let none = none_dealt g.W.Write.contents c.behind-dealer.result parts behind.number behind.left in
-    on_ok_weaker c.split_last.result (λ (given, consumed, end, split). (
+    let behind = c.behind-splitter.ensures in
+    let parts = c.args.parts.items in
+    let none = none_dealt g.W.Write.contents c.behind-splitter.result.dealing.dealer parts behind.number behind.left in
+    let (given, consumed, end, split) = c.in_ok-split_last.ensures in
+    let got = c.split_last.new.splitter.dealing.parts.items in
+    rw c.into_parts.ensures (
       given,
       consumed,
       end,
-      by_header (λ number link. AreSplit g.W.Write.contents number link given parts c.split_last.new.parts)
-          _ _ c.args.header.now _ behind.order behind.link (split parts [] none),
-    )) c.split_last.ensures.split
+      by_header (λ number link. AreSplit g.W.Write.contents number link given parts got)
+          _ _ c.args.header.now _ behind.order behind.link (split parts [] (rw behind.parts none)),
+    )

@@ -1,15 +1,19 @@
-use Rattle.capture_parts.proofs.Terms.{List, append_assoc, on_ok_weaker, take, ℕ, ◌++◌}
+use Rattle.capture_parts.proofs.Terms.{List, append_assoc, arith, length, on_ok_weaker, take, take-append_seam}
+use Rattle.capture_parts.proofs.Terms.{vec_len, ℕ, ◌++◌, ◌≡◌}
 use Rattle.capture_parts.proofs.splitting.split_last.Goals as goal
 
-pub returns-clause-split : goal.returns-clause-split
-returns-clause-split g c =
+pub returns : goal.returns
+returns g c =
     let filed = c.in_ok-filled.ensures in
-    let turned = filed.turned in
-    let rest : List ℕ = take c.in_ok-filled.filled c.deal_file.new.buffer in
+    let size : vec_len c.args.splitter.now.buffer ≡ length c.deal_file.new.buffer =
+    omega (arith, c.as_mut_slice.ensures.len, c.deal_file.auto.buffer) in
+    let same = rw (size, take-append_seam) at c.deref.ensures.value in
+    let rest : List ℕ = take c.in_ok-filled.filled c.deref.result.now in
+    let turned = rw (← same) at filed.turned in
     on_ok_weaker c.finish.result (λ split. (
       turned.given ++ rest,
       turned.consumed,
       filed.end,
       λ first bytes was. rw (← turned.dealt.link, ← turned.dealt.is_little, ← append_assoc bytes turned.given rest)
           (split first (bytes ++ turned.given) turned.none_whole (turned.dealt.behind first bytes was)),
-    )) c.finish.ensures.split
+    )) c.finish.ensures

@@ -1,14 +1,13 @@
 use Rattle.capture_parts.proofs.Terms.{arith, drop-take, min, rules, ℕ, ◌+◌, ◌-◌, ◌≡◌}
-use Rattle.std.proofs.lemmas.Grind.{common_steps}
 use Rattle.capture_parts.proofs.Given.{take-min}
-use Rattle.capture_parts.proofs.dealer.Dealer.begin.Goals as goal
+use Rattle.capture_parts.proofs.dealer.Dealing.begin.Goals as goal
 
 pub returns-clause-begun : goal.returns-clause-begun
 returns-clause-begun g c = λ _.
     let captured : ℕ = c.captured_length-captured.result in
     let front : 16 + c.min-front.result - 16 ≡ min 82 captured = omega (arith, c.min-front.ensures) in
     let length = c.captured_length-captured.ensures.length in
-    let entered = c.in_ok-enter.ensures.entered in
+    let entered = c.in_ok-enter.ensures in
     record {
       entered = record {
         link = entered.link;
@@ -19,9 +18,3 @@ returns-clause-begun g c = λ _.
       };
       front = search rules;
     }
-
-pub returns-then-unread-front-clause-left : goal.returns-then-unread-front-clause-left
-returns-then-unread-front-clause-left g c = grind (arith, common_steps)
-
-pub returns-then-unread-lt-RECORD_HEADER-clause-left : goal.returns-then-unread-lt-RECORD_HEADER-clause-left
-returns-then-unread-lt-RECORD_HEADER-clause-left g c = grind (arith, common_steps)
