@@ -1,8 +1,8 @@
 mod Terms
-pub mod Buffer
-pub mod Given
-pub mod Growth
-pub mod Rows
-pub mod Segments
-pub mod Standing
-pub mod Turns
+mod Buffer
+mod Given
+mod Growth
+mod Rows
+mod Segments
+mod Standing
+mod Turns

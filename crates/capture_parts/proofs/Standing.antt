@@ -6,7 +6,7 @@ use Rattle.capture_parts.proofs.Terms.{concat, drop, false, front_of, if◌then�
 use Rattle.capture_parts.proofs.Terms.{length-take-le, little_from-append, min, order_of, part_at, part_bytes}
 use Rattle.capture_parts.proofs.Terms.{part_numbers, refl, subst, sym, take, take-append-drop, take_min, true, ℕ, ◌++◌}
 use Rattle.capture_parts.proofs.Terms.{HasBegun, ◌+◌, ◌-◌, ◌<◌, ◌==◌, ◌∙◌, ◌∷◌, ◌≡◌, ◌≤◌}
-use Rattle.std.proofs.lemmas.List.Elements.{All-from_recursion, All-push, recursion_from_All}
+use Rattle.std.proofs.SliceLists.{all_by_recursion_push}
 use Rattle.std.proofs.lemmas.List.Folds.{concat-append}
 use Rattle.pcap_records.proofs.Fronts.{ReadsFirst, in_front}
 use Rattle.capture_parts.proofs.Given.{given-more, given-some, given_from-empty, given_from-more}
@@ -23,11 +23,6 @@ pub captured-more : (little : Bool) (front more : List ℕ) → 16 ≤ length fr
     → captured_length (order_of little) (front ++ more) ≡ captured_length (order_of little) front
 captured-more little front more long = in_front (order_of little) (reads_first little) 8 front more
     (omega (arith, long))
-
--- one record more
-all-snoc : {X : Type 0} (P : X → Type 0) (xs : List X) (x : X) → AllByRecursion P xs → P x
-    → AllByRecursion P (xs ++ x ∷ [])
-all-snoc P xs x all one = recursion_from_All P (xs ++ x ∷ []) (All-push P xs x (All-from_recursion P xs all) one)
 
 -- of a record its bytes are taken, or its number
 abbrev bytes_taken : ℕ → List ℕ → List ℕ
@@ -78,7 +73,7 @@ module _ {W : Type 0} (contents : W → Option (List ℕ)) where
       front = [];
       are = rw (append-nil (concat (records ++ x ∷ [])), concat-append records (x ∷ []), append-nil x) are;
       stands = record {
-        whole = all-snoc (IsRecord (order_of d.is_little)) records x whole
+        whole = all_by_recursion_push (IsRecord (order_of d.is_little)) records x whole
             ((header, omega (arith, left, done)), omega (arith, left, done));
         between = λ _. (refl, number ∙ sym (length-append records (x ∷ [])));
         within = λ some. absurd (omega (arith, some, done));

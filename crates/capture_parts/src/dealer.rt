@@ -14,15 +14,20 @@ ghost use Rattle.capture_parts.specs.declared.part.Part.{Part};
 
 use crate::fault::SplitFault;
 use crate::header::{is_little, link_type};
-use crate::pair::{Pair, pair_of, part_of};
+use crate::pair::{PORTS, Pair, pair_of, part_of};
 use crate::part::Part;
-use byteorder::{BigEndian, ByteOrder, LittleEndian};
-use pcap_records::RECORD_HEADER;
+use byteorder::{BigEndian, LittleEndian};
+use packet_heads::ethernet::TAGGED_HEADER;
+use packet_heads::ipv4::LONGEST_HEADER;
+use pcap_records::{RECORD_HEADER, captured_length};
 use std::io::Write;
 
 /// So many bytes of a packet name its endpoints: an Ethernet header with a VLAN tag, the longest IPv4 header and two
 /// ports.
-const FRONT: usize = 82;
+const FRONT: usize = TAGGED_HEADER + LONGEST_HEADER + PORTS;
+
+// Contracts write the length of a record's header and such a front as a number.
+const _: () = prove!(RECORD_HEADER + FRONT == 98);
 
 /// What the dealer of a capture knows of the records that it has seen.
 #[derive(Drop)]
@@ -65,9 +70,9 @@ impl Dealer {
         ensures small { result < 2 ^ 32 }
     {
         if self.is_little {
-            LittleEndian::read_u32(&unread[8..]) as usize
+            captured_length::<LittleEndian>(unread) as usize
         } else {
-            BigEndian::read_u32(&unread[8..]) as usize
+            captured_length::<BigEndian>(unread) as usize
         }
     }
 }

@@ -4,31 +4,27 @@ ghost use Rattle.std.specs.Prelude.{◌≡◌, ◌≤◌, IfSome, length};
 ghost use Rattle.pcap_records.specs.FileHeader.{format_of, link_of, number_of};
 ghost use Rattle.capture_parts.specs.Files.{order_of};
 
-use byteorder::{BigEndian, ByteOrder, LittleEndian};
+use pcap_records::{Endian, format_of_magic, link_in};
 
-/// The magics of files with little-endian numbers, of microseconds and of nanoseconds.
-const LITTLE_MICROSECONDS: u32 = 0xd4c3_b2a1;
-
-const LITTLE_NANOSECONDS: u32 = 0x4d3c_b2a1;
+/// The order of the bytes in the numbers of a file with this header.
+fn endian(header: &[u8]) -> Endian
+    requires { 4 ≤ length header.now }
+    ensures { IfSome (format_of header.now) (λ format. result ≡ format.endian) }
+{
+    match format_of_magic(header) {
+        Some(format) => format.endian,
+        None => Endian::Big,
+    }
+}
 
 /// Are the numbers of a file with this header little-endian?
 pub fn is_little(header: &[u8]) -> bool
     requires { 4 ≤ length header.now }
     ensures { IfSome (format_of header.now) (λ format. order_of result ≡ number_of format.endian) }
 {
-    let magic = BigEndian::read_u32(header);
-    magic == LITTLE_MICROSECONDS || magic == LITTLE_NANOSECONDS
-}
-
-/// The link type in a header whose numbers are in this order.
-fn link_in(is_little: bool, header: &[u8]) -> u16
-    requires { 24 ≤ length header.now }
-    ensures { result ≡ link_of (order_of is_little) header.now }
-{
-    if is_little {
-        (LittleEndian::read_u32(&header[20..]) & 0xffff) as u16
-    } else {
-        (BigEndian::read_u32(&header[20..]) & 0xffff) as u16
+    match endian(header) {
+        Endian::Big => false,
+        Endian::Little => true,
     }
 }
 
@@ -37,5 +33,5 @@ pub fn link_type(header: &[u8]) -> u16
     requires { 24 ≤ length header.now }
     ensures { IfSome (format_of header.now) (λ format. result ≡ link_of (number_of format.endian) header.now) }
 {
-    link_in(is_little(header), header)
+    link_in(endian(header), header)
 }

@@ -6,24 +6,23 @@ ghost use Rattle.packet_heads.specs.Link.{datagram_start};
 ghost use Rattle.packet_heads.specs.Tcp as tcp_words;
 ghost use Rattle.capture_parts.specs.Pair as words;
 
-use byteorder::{BigEndian, ByteOrder};
-use packet_heads::{ETHERNET_HEADER, Endpoint, IPV4_HEADER, TAGGED_HEADER, TCP_PROTOCOL, VLAN_TAG};
+use packet_heads::ipv4::{IPV4_HEADER, TCP_PROTOCOL, VERSION_4};
+use packet_heads::{Endpoint, ethernet, ipv4, tcp};
 use pcap_records::RAW_IP;
 
 /// The endpoints of a packet.
 #[derive(Clone, Copy)]
 pub struct Pair {
+    /// Its sender.
     pub from: Endpoint,
+    /// Its receiver.
     pub to: Endpoint,
 }
 
-const VERSION_4: u8 = 4;
-
 /// The length of the two ports.
-const PORTS: usize = 4;
+pub(crate) const PORTS: usize = 4;
 
 /// Where the datagram begins in a packet of which so much is there.
-#[tactic(auto, unfolding(packet_heads::specs::Ethernet::is_tagged, packet_heads::specs::Ethernet::header_length))]
 fn datagram_start(link: u16, front: &[u8]) -> usize
     requires { 14 ≤ length front.now }
     ensures start { result ≡ datagram_start link front.now }
@@ -31,40 +30,11 @@ fn datagram_start(link: u16, front: &[u8]) -> usize
 {
     if link == RAW_IP {
         0
-    } else if BigEndian::read_u16(&front[12..]) == VLAN_TAG {
-        TAGGED_HEADER
     } else {
-        ETHERNET_HEADER
+        ethernet::header_length(front)
     }
 }
 
-#[tactic(auto, unfolding(packet_heads::specs::Ipv4::version))]
-fn version(datagram: &[u8]) -> u8
-    requires { 20 ≤ length datagram.now }
-    ensures { result ≡ ipv4_words.version datagram.now }
-{
-    datagram[0] >> 4
-}
-
-#[tactic(auto, unfolding(packet_heads::specs::Ipv4::protocol))]
-fn protocol(datagram: &[u8]) -> u8
-    requires { 20 ≤ length datagram.now }
-    ensures { result ≡ ipv4_words.protocol datagram.now }
-{
-    datagram[9]
-}
-
-/// The length of the IPv4 header.
-#[tactic(auto, unfolding(packet_heads::specs::Ipv4::header_words))]
-fn header_length(datagram: &[u8]) -> usize
-    requires { 20 ≤ length datagram.now }
-    ensures length { result ≡ ipv4_words.header_length datagram.now }
-    ensures small { result < 64 }
-{
-    4 * (datagram[0] & 0x0f) as usize
-}
-
-#[tactic(auto, unfolding(packet_heads::specs::Ipv4::source_address, packet_heads::specs::Tcp::source_port))]
 fn sender(datagram: &[u8], segment: &[u8]) -> Endpoint
     requires datagram { 20 ≤ length datagram.now }
     requires segment { 4 ≤ length segment.now }
@@ -74,12 +44,11 @@ fn sender(datagram: &[u8], segment: &[u8]) -> Endpoint
     } }
 {
     Endpoint {
-        address: BigEndian::read_u32(&datagram[12..]),
-        port: BigEndian::read_u16(segment),
+        address: ipv4::source_address(datagram),
+        port: tcp::source_port(segment),
     }
 }
 
-#[tactic(auto, unfolding(packet_heads::specs::Ipv4::destination_address, packet_heads::specs::Tcp::destination_port))]
 fn receiver(datagram: &[u8], segment: &[u8]) -> Endpoint
     requires datagram { 20 ≤ length datagram.now }
     requires segment { 4 ≤ length segment.now }
@@ -89,8 +58,8 @@ fn receiver(datagram: &[u8], segment: &[u8]) -> Endpoint
     } }
 {
     Endpoint {
-        address: BigEndian::read_u32(&datagram[16..]),
-        port: BigEndian::read_u16(&segment[2..]),
+        address: ipv4::destination_address(datagram),
+        port: tcp::destination_port(segment),
     }
 }
 
@@ -99,12 +68,12 @@ fn pair_in(datagram: &[u8]) -> Option<Pair>
     ensures { result ≡ (if words.names_endpoints datagram.now then Some (words.pair_in datagram.now) else None) }
 {
     if datagram.len() < IPV4_HEADER
-        || version(datagram) != VERSION_4
-        || protocol(datagram) != TCP_PROTOCOL
+        || ipv4::version(datagram) != VERSION_4
+        || ipv4::protocol(datagram) != TCP_PROTOCOL
     {
         return None;
     }
-    let header = header_length(datagram);
+    let header = ipv4::header_length(datagram);
     if datagram.len() < header + PORTS {
         return None;
     }

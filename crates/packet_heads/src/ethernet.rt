@@ -10,13 +10,13 @@ use crate::packets::{Packet, Refusal, Skip};
 use byteorder::{BigEndian, ByteOrder};
 
 /// The length of a header without a tag.
-pub const ETHERNET_HEADER: usize = 14;
+const ETHERNET_HEADER: usize = 14;
 
 /// The length of a header with a tag.
 pub const TAGGED_HEADER: usize = 18;
 
 /// The type that says that a VLAN tag follows.
-pub const VLAN_TAG: u16 = 0x8100;
+const VLAN_TAG: u16 = 0x8100;
 
 /// The type of an IPv4 datagram.
 const IPV4: u16 = 0x0800;
@@ -35,6 +35,7 @@ pub fn header_length(frame: &[u8]) -> usize
     requires { 14 ≤ length frame.now }
     ensures length { result ≡ header_length frame.now }
     ensures least { 14 ≤ result }
+    ensures most { result ≤ 18 }
 {
     if is_tagged(frame) {
         TAGGED_HEADER
@@ -56,7 +57,7 @@ fn ether_type(frame: &[u8], header: usize) -> u16
 
 /// What the header says of a frame that carries no whole IPv4 datagram.
 #[tactic(auto, using(crate::proofs::Headers::least))]
-pub fn answer(frame: &[u8]) -> Option<Packet>
+pub(crate) fn answer(frame: &[u8]) -> Option<Packet>
     ensures answer { result ≡ first_answer (ethernet_lines frame.now) }
     ensures passed_over { IfSome result IsPassedOver }
     ensures whole { IfNone result (header_length frame.now ≤ length frame.now) }

@@ -13,14 +13,21 @@ use byteorder::{BigEndian, ByteOrder};
 /// The length of the shortest header, in bytes.
 pub const IPV4_HEADER: usize = 20;
 
+/// The length of the longest header, in bytes.
+pub const LONGEST_HEADER: usize = 60;
+
+/// The version of IPv4.
+pub const VERSION_4: u8 = 4;
+
 /// The protocol number of TCP.
 pub const TCP_PROTOCOL: u8 = 6;
 
 /// More Fragments and Fragment Offset, in the 16 bits of flags and offset.
 const FRAGMENT: u16 = 0x3fff;
 
+/// The version of IP.
 #[tactic(auto, unfolding(crate::specs::Ipv4::version))]
-fn version(datagram: &[u8]) -> u8
+pub fn version(datagram: &[u8]) -> u8
     requires { 20 ≤ length datagram.now }
     ensures { result ≡ version datagram.now }
 {
@@ -36,7 +43,7 @@ fn header_words(datagram: &[u8]) -> u8
     datagram[0] & 0x0f
 }
 
-/// The length of the header, options included.
+/// The length of the header in bytes, options included.
 pub fn header_length(datagram: &[u8]) -> usize
     requires { 20 ≤ length datagram.now }
     ensures length { result ≡ header_length datagram.now }
@@ -62,14 +69,16 @@ fn is_fragment(datagram: &[u8]) -> bool
     BigEndian::read_u16(&datagram[6..]) & FRAGMENT != 0
 }
 
+/// The number of the protocol that the datagram carries.
 #[tactic(auto, unfolding(crate::specs::Ipv4::protocol))]
-fn protocol(datagram: &[u8]) -> u8
+pub fn protocol(datagram: &[u8]) -> u8
     requires { 20 ≤ length datagram.now }
     ensures { result ≡ protocol datagram.now }
 {
     datagram[9]
 }
 
+/// The address of the sender.
 #[tactic(auto, unfolding(crate::specs::Ipv4::source_address))]
 pub fn source_address(datagram: &[u8]) -> u32
     requires { 20 ≤ length datagram.now }
@@ -78,6 +87,7 @@ pub fn source_address(datagram: &[u8]) -> u32
     BigEndian::read_u32(&datagram[12..])
 }
 
+/// The address of the receiver.
 #[tactic(auto, unfolding(crate::specs::Ipv4::destination_address))]
 pub fn destination_address(datagram: &[u8]) -> u32
     requires { 20 ≤ length datagram.now }
@@ -87,7 +97,7 @@ pub fn destination_address(datagram: &[u8]) -> u32
 }
 
 /// Where the datagram's captured bytes end.
-pub fn end(datagram: &[u8]) -> usize
+pub(crate) fn end(datagram: &[u8]) -> usize
     requires { 20 ≤ length datagram.now }
     ensures end { result ≡ datagram_end datagram.now }
     ensures within { result ≤ length datagram.now }
@@ -101,7 +111,7 @@ pub fn end(datagram: &[u8]) -> usize
 }
 
 /// The captured bytes behind the header.
-pub fn segment(datagram: &[u8]) -> &[u8]
+pub(crate) fn segment(datagram: &[u8]) -> &[u8]
     requires { HasHeader datagram.now }
     ensures { result.now ≡ segment_bytes datagram.now }
 {
@@ -109,7 +119,7 @@ pub fn segment(datagram: &[u8]) -> &[u8]
 }
 
 /// Was less captured than the datagram holds? `partial` says so of the whole packet.
-pub fn is_snapped(partial: bool, datagram: &[u8]) -> bool
+pub(crate) fn is_snapped(partial: bool, datagram: &[u8]) -> bool
     requires { 20 ≤ length datagram.now }
     ensures { result ≡ is_snapped partial datagram.now }
 {
@@ -118,7 +128,7 @@ pub fn is_snapped(partial: bool, datagram: &[u8]) -> bool
 }
 
 /// What the header says of a datagram that carries no TCP segment as a whole.
-pub fn answer(partial: bool, datagram: &[u8]) -> Option<Packet>
+pub(crate) fn answer(partial: bool, datagram: &[u8]) -> Option<Packet>
     ensures answer { result ≡ first_answer (ipv4_lines partial datagram.now) }
     ensures passed_over { IfSome result IsPassedOver }
     ensures whole { IfNone result (HasHeader datagram.now) }
@@ -126,7 +136,7 @@ pub fn answer(partial: bool, datagram: &[u8]) -> Option<Packet>
     if datagram.len() < IPV4_HEADER {
         return Some(Packet::Refused(Refusal::ShortIpv4));
     }
-    if version(datagram) != 4 {
+    if version(datagram) != VERSION_4 {
         return Some(Packet::Refused(Refusal::BadVersion));
     }
     let header = header_length(datagram);

@@ -10,6 +10,8 @@
 //!   (RFC 791, 3.1) and `specs/Tcp.antt` (RFC 9293, 3.1) have the fields of which they speak.
 //! - The contract says that each answer is exactly this decision, field by field; [`worked_examples`] computes it for
 //!   headers at each bound, one less and one more, and has the names of the refusals byte for byte.
+//! - [`ethernet`], [`ipv4`] and [`tcp`] read those fields of a header that name endpoints, for who looks at a packet's
+//!   front alone.
 //! - Packet n is record n's, there are fewer than 2^32 of them, and times are below 2^63 nanoseconds.
 //! - Payloads lie in the capture in order and apart. Of one packet it is said only that it lies in its record, which is
 //!   bookkeeping (`specs/code/Standing.antt`); the order is proved from it.
@@ -30,19 +32,17 @@
 #![tactic(auto)]
 
 mod decoding;
-mod ethernet;
+pub mod ethernet;
 mod growing;
-mod ipv4;
+pub mod ipv4;
 mod link;
 mod made;
 mod marks;
 mod packets;
-mod tcp;
+pub mod tcp;
 mod walk;
 pub mod worked_examples;
 
-pub use ethernet::{ETHERNET_HEADER, TAGGED_HEADER, VLAN_TAG};
-pub use ipv4::{IPV4_HEADER, TCP_PROTOCOL};
 pub use made::MadePackets;
 pub use packets::{Endpoint, PACKET_CHUNK, Packet, Packets, Refusal, Segment, Skip};
 pub use walk::{CapturePackets, PacketWalk};

@@ -27,7 +27,7 @@ impl MadePackets {
         }
     }
 
-    /// These packets, from a list.
+    /// These packets, from a list. Fails where memory runs out.
     pub fn of(alloc: Global, packets: &[Packet]) -> Result<MadePackets, AllocError>
         requires { length packets.now < 2 ^ 31 }
         ensures { IfOk result (λ made. packets_of made.marks made.segments ≡ packets.now) }

@@ -8,6 +8,7 @@ use std::marker::Model;
 /// An IPv4 address and a TCP port.
 #[derive(Clone, Copy, Debug, PartialEq, Eq, PartialOrd, Ord)]
 pub struct Endpoint {
+    /// Its four bytes as a number, the first one highest.
     pub address: u32,
     pub port: u16,
 }
@@ -21,7 +22,9 @@ pub struct Segment {
     pub nanos: Nanos,
     pub from: Endpoint,
     pub to: Endpoint,
+    /// The offset in the capture at which its payload begins, in bytes.
     pub lo: u32,
+    /// The offset at which it ends.
     pub hi: u32,
     /// The number of its record, from 1.
     pub rec: u32,
@@ -121,7 +124,7 @@ impl<'a> Packets<'a> {
     ghost use Rattle.packet_heads.specs.code.Marks.{packets_of};
     ghost use Rattle.packet_heads.specs.code.Standing.{IsPassedOver};
 
-    /// The packets that were made, to be read.
+    /// The packets that were made, to be read. Fails where memory runs out.
     pub fn of(alloc: Global, made: &'a MadePackets) -> Result<Packets<'a>, AllocError>
         ensures { IfOk result (λ all. all ≡ packets_of made.now.marks made.now.segments) }
     {

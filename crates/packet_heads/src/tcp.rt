@@ -17,24 +17,26 @@ const SYN: u8 = 2;
 
 const ACK: u8 = 16;
 
+/// The port of the sender.
 #[tactic(auto, unfolding(crate::specs::Tcp::source_port))]
 pub fn source_port(segment: &[u8]) -> u16
-    requires { 20 ≤ length segment.now }
+    requires { 2 ≤ length segment.now }
     ensures { result ≡ source_port segment.now }
 {
     BigEndian::read_u16(segment)
 }
 
+/// The port of the receiver.
 #[tactic(auto, unfolding(crate::specs::Tcp::destination_port))]
 pub fn destination_port(segment: &[u8]) -> u16
-    requires { 20 ≤ length segment.now }
+    requires { 4 ≤ length segment.now }
     ensures { result ≡ destination_port segment.now }
 {
     BigEndian::read_u16(&segment[2..])
 }
 
 #[tactic(auto, unfolding(crate::specs::Tcp::sequence_number))]
-pub fn sequence_number(segment: &[u8]) -> u32
+pub(crate) fn sequence_number(segment: &[u8]) -> u32
     requires { 20 ≤ length segment.now }
     ensures { result ≡ sequence_number segment.now }
 {
@@ -51,7 +53,7 @@ fn data_offset(segment: &[u8]) -> u8
 }
 
 /// The length of the header, options included.
-pub fn header_length(segment: &[u8]) -> usize
+pub(crate) fn header_length(segment: &[u8]) -> usize
     requires { 20 ≤ length segment.now }
     ensures length { result ≡ header_length segment.now }
     ensures small { result < 64 }
@@ -60,7 +62,7 @@ pub fn header_length(segment: &[u8]) -> usize
 }
 
 #[tactic(auto, using(crate::proofs::Bits::bit_1_by_mask), unfolding(crate::specs::Tcp::syn))]
-pub fn syn(segment: &[u8]) -> bool
+pub(crate) fn syn(segment: &[u8]) -> bool
     requires { 20 ≤ length segment.now }
     ensures { result ≡ syn segment.now }
 {
@@ -68,7 +70,7 @@ pub fn syn(segment: &[u8]) -> bool
 }
 
 #[tactic(auto, using(crate::proofs::Bits::bit_4_by_mask), unfolding(crate::specs::Tcp::ack))]
-pub fn ack(segment: &[u8]) -> bool
+pub(crate) fn ack(segment: &[u8]) -> bool
     requires { 20 ≤ length segment.now }
     ensures { result ≡ ack segment.now }
 {
@@ -76,7 +78,7 @@ pub fn ack(segment: &[u8]) -> bool
 }
 
 /// What the header says of a segment that is not there as a whole.
-pub fn answer(segment: &[u8]) -> Option<Packet>
+pub(crate) fn answer(segment: &[u8]) -> Option<Packet>
     ensures answer { result ≡ first_answer (tcp_lines segment.now) }
     ensures passed_over { IfSome result IsPassedOver }
     ensures whole { IfNone result (HasHeader segment.now) }

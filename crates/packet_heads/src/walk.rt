@@ -61,7 +61,7 @@ impl PacketWalk {
         self.packets.marks.len() as usize
     }
 
-    /// The packets that were made so far, to be read.
+    /// The packets that were made so far, to be read. Fails where memory runs out.
     pub fn made(&self, alloc: Global) -> Result<Packets<'_>, AllocError>
         ensures { IfOk result (λ all. all ≡ made_by self.now) }
     {
@@ -82,7 +82,8 @@ impl PacketWalk {
         self.go_on(alloc, capture)
     }
 
-    /// The same, where it is not asked what stands whatever bytes come behind the capture.
+    /// Makes the packet of each record that the capture has by now. The contract speaks of this capture alone, and not
+    /// of one that goes on behind its bytes.
     fn go_on(&mut self, alloc: Global, capture: &Capture<'_>) -> Result<(), AllocError>
         requires walk { HasMade capture.now self.old }
         requires short { length capture.now ≤ 2 ^ 31 }
