@@ -1,12 +1,11 @@
 -- Lists whose elements are the same, each list's by a reading of its own; lists that go side by side; lists to which
 -- loops add.
-use Rattle.audit_rounds.proofs.Words.{◌≡◌, ℕ, zero, suc, ◌+◌, ◌<◌, ◌==◌, if◌then◌else◌, false, List, [], ◌∷◌, ◌++◌, All}
+use Rattle.audit_rounds.proofs.Words.{◌≡◌, ℕ, zero, suc, ◌+◌, ◌<◌, ◌==◌, if◌then◌else◌, List, [], ◌∷◌, ◌++◌, All}
 use Rattle.audit_rounds.proofs.Words.{AllZip, Bor, Vec, Global, Some, get_or, slice_get, length, map, take, drop, set}
 use Rattle.audit_rounds.proofs.Words.{sum_by, refl, sym, ap, ◌∙◌, subst, arith, nat_tests, append_assoc, append-nil}
 use Rattle.audit_rounds.proofs.Words.{length-map, length-append, get_or-map, map-append, nil_from_length, take_more}
 use Rattle.audit_rounds.proofs.Words.{get_or-append_seam, All-map, All-nil, All-head, All-tail, Finding, Frame}
-use Rattle.audit_rounds.proofs.Words.{flat_map, slice_get-get_or, get_or_from_slice_get, NeverFallFrom, Result, Ok, Err}
-use Rattle.audit_rounds.proofs.Words.{IfOk}
+use Rattle.audit_rounds.proofs.Words.{flat_map, slice_get-get_or, get_or_from_slice_get, NeverFallFrom}
 use Rattle.std.specs.Ordering.{nat_cmp}
 use Rattle.std.specs.List.Sorted.{IsSorted}
 use Rattle.std.specs.List.{sum}
@@ -43,11 +42,6 @@ module _ {X Y Z : Type 0} (f : X → Z) (g : Y → Z) where
   pub sums-alike : (h : Z → ℕ) (xs : List X) (ys : List Y) → map f xs ≡ map g ys →
       sum_by (λ x. h (f x)) xs ≡ sum_by (λ y. h (g y)) ys
   sums-alike h xs ys e = sym (sum-map (λ x. h (f x)) xs) ∙ ap sum (maps-alike h xs ys e) ∙ sum-map (λ y. h (g y)) ys
-
-  -- of what was taken so far
-  pub known-more : (taken : List Y) (y : Y) (made new : List X) (x : X) → new ≡ made ++ x ∷ [] → f x ≡ g y
-      → map f made ≡ map g taken → map f new ≡ map g (taken ++ y ∷ [])
-  known-more taken y made new x e one is = rw e (simp (map-append, one, is))
 
   -- both halves
   pub halves-whole : (all front back : List Y) (found more : List X) → front ++ back ≡ all
@@ -98,14 +92,6 @@ zip-more R xs n d ys after y l h r e =
 pub some_of : {X : Type 0} (xs : List X) (n : ℕ) → n < length xs → X
 some_of [] n l = absurd (omega arith)
 some_of (x ∷ xs) n l = x
-
--- ---- unlike numbers
-
-pub differ : (m n : ℕ) → m < n → (m == n) ≡ false
-differ m n h = grind (arith, nat_tests)
-
-pub differ_back : (m n : ℕ) → m < n → (n == m) ≡ false
-differ_back m n h = grind (arith, nat_tests)
 
 -- ---- what holds of each element by its place
 
@@ -182,10 +168,3 @@ taken-holds P taken x rest left all e whole h =
 -- nothing is left
 pub taken-all : {X : Type 0} (taken left all : List X) → length left ≡ 0 → taken ++ left ≡ all → taken ≡ all
 taken-all taken left all e whole = rw (nil_from_length left e, append-nil) at whole
-
--- ---- results
-
--- what follows for the value, where there is one
-pub if_ok-then : {X E : Type 0} (r : Result X E) (P Q : X → Type 0) → IfOk r P → ((x : X) → P x → Q x) → IfOk r Q
-if_ok-then (Ok x) P Q h f = f x h
-if_ok-then (Err e) P Q h f = tt

@@ -20,7 +20,7 @@ use Rattle.conn_scan.specs.code.FitLaws.{first_fit, rest_fit}
 use Rattle.audit_terms.proofs.FindingLists.{each-append}
 use Rattle.audit_rounds.specs.code.Blocks.{AreBlocksOf, laid_out, AreFit, IsReady, after_of, before_of}
 use Rattle.audit_rounds.specs.code.Plans.{AreReady, shown_from}
-use Rattle.audit_rounds.proofs.Lists.{some_of, differ_back}
+use Rattle.audit_rounds.proofs.Lists.{some_of}
 use Rattle.audit_core.proofs.PartsLemmas.{block_run-append}
 use Rattle.audit_rounds.proofs.Parts.{orderly-take, orderly-drop}
 
@@ -260,7 +260,7 @@ module _ (c : Bool) (connection : ℕ) (rest : List ConnectionBlock) (later : �
       let after = connection_after_all before items in
       let here = eq-eqb connection connection refl in
       let next = own-walk connection after after cut (rw here refl) (rest_fit before items others fits)
-      (λ m l. rw (differ_back connection m (omega arith)) refl) in
+      (λ m l. rw (ne_eqb m connection (λ e. absurd (omega arith))) refl) in
       record {
         fits = rw e ((first_fit before items others fits).0, next.fits);
         shown = λ n. rw (e, next.shown n, block_run-append before items others) (
@@ -308,7 +308,7 @@ shown-below : (c : Bool) (connection : ℕ) (wholes : List (List Item)) (n : ℕ
     → shown_at c connection wholes n ≡ []
 shown-below c connection [] n l = refl
 shown-below c connection (items ∷ wholes) n l =
-    rw (differ_back n connection l) (shown-below c (connection + 1) wholes n (omega arith))
+    rw (ne_eqb connection n (λ e. absurd (omega arith))) (shown-below c (connection + 1) wholes n (omega arith))
 
 pub shown-at : (c : Bool) (connection : ℕ) (wholes : List (List Item)) (k : ℕ) (d : List Item) → k < length wholes
     → shown_at c connection wholes (connection + k) ≡ whole_shown c (get_or wholes k d)

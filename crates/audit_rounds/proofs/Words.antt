@@ -16,11 +16,11 @@ pub use Rattle.std.proofs.lemmas.List.Folds.{list_any-append}
 pub use Rattle.std.proofs.lemmas.List.Sorted.{list_any-IsPermutation}
 pub use Rattle.std.proofs.lemmas.List.Sums.{sum_by-cons, sum_by_more}
 pub use Rattle.std.proofs.lemmas.Option.{slice_get_within, get_or_from_slice_get, slice_get-get_or}
-pub use Rattle.std.proofs.lemmas.Result.{IfOk-at_ok}
+pub use Rattle.std.proofs.lemmas.Result.{IfOk-at_ok, IfOk-weaker}
 pub use Rattle.std.proofs.lemmas.Slice.Zip.{get_or-zip, length-zip, AllZip-long}
 pub use Rattle.std.specs.List.{list_any, sum_by, zip, AllByRecursion, AllZip}
 pub use Rattle.std.specs.List.Sorted.{IsPermutation}
-pub use Rattle.std.specs.Option.{option_map_or, option_to_list}
+pub use Rattle.std.specs.Option.{option_to_list}
 pub use Rattle.std.specs.Prelude.{Result, Ok, Err, IfOk}
 pub use Rattle.std.specs.Vec.Iter.{into_iter_items}
 pub use Rattle.audit_core.proofs.OrderlyRest.{length-orderly, drop-at}
@@ -32,7 +32,7 @@ pub use Rattle.audit_rounds.specs.code.Blocks.{IsSum, AreSums, wholes, IsShort, 
 pub use Rattle.audit_rounds.specs.code.Blocks.{AddsBlocks}
 pub use Rattle.audit_rounds.specs.code.Connections.{AreRests, IsRest}
 pub use Rattle.audit_rounds.specs.code.EarlyStops.{front_of, IsEarly}
-pub use Rattle.audit_rounds.specs.code.Few.{AreFew, RowsAreFew}
+pub use Rattle.audit_rounds.specs.code.Few.{RowsAreFew}
 pub use Rattle.audit_rounds.specs.code.MadeReady.{AreMadeReady}
 pub use Rattle.audit_rounds.specs.code.Opened.{numbers_told, IsInOrder}
 pub use Rattle.audit_rounds.specs.code.Openings.{openings_of}
@@ -62,7 +62,7 @@ pub use Rattle.audit_terms.specs.Place.{place_number}
 pub use Rattle.audit_terms.specs.Sides.{side_of}
 pub use Rattle.audit_terms.specs.Stream.{idle_stream, stream_said, stream_after}
 pub use Rattle.audit_terms.specs.code.runs.Blocks.{block_run, connection_after_all}
-pub use Rattle.audit_terms.specs.code.runs.Changes.{AreAcknowledged, AreOrderly, changes_of, settings_run, settings_run_from}
+pub use Rattle.audit_terms.specs.code.runs.Changes.{AreAcknowledged, changes_of, settings_run, settings_run_from}
 pub use Rattle.audit_terms.specs.code.runs.LocalFaults.{local_run, local_run_from}
 pub use Rattle.audit_terms.specs.code.runs.Look.{is_past, Asked, IsRun}
 pub use Rattle.audit_terms.specs.code.runs.Orderly.{IsOrderly, IsOrderlyFrom}
@@ -76,7 +76,6 @@ pub use Rattle.block_scan.specs.code.List.{items_of}
 pub use Rattle.conn_scan.specs.code.Block.{BlockFits}
 pub use Rattle.conn_scan.specs.code.ConnSum.{conn_sum_of}
 pub use Rattle.conn_scan.specs.code.Items.{items_in, IsBlock, NeverFallFrom, is_marked, item_with, items_with}
-pub use Rattle.conn_scan.specs.code.Items.{change_at}
 pub use Rattle.conn_scan.specs.declared.{block_items.Block.Block, sums.ConnSum.ConnSum}
 pub use Rattle.stop_desk.proofs.RoundCuts.{whole_is_cut_lem}
 pub use Rattle.stop_desk.proofs.RoundMembers.{contains-none}
@@ -92,4 +91,4 @@ pub use Rattle.split_merge.specs.code.Split.{IsSplit, frames_at}
 pub use Rattle.split_merge.specs.declared.{splits.SplitFrames.SplitFrames, splits.StreamRow.StreamRow}
 pub use Rattle.stop_desk.specs.code.Stop.{IsStop}
 pub use Rattle.stream_credit.specs.code.Looks.{opened_up_to}
-pub use borrow.Author.Tests.{eqb-true, eq-eqb, ltb-true}
+pub use borrow.Author.Tests.{eqb-true, ltb-true}

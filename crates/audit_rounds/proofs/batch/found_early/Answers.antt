@@ -1,5 +1,4 @@
-use Rattle.audit_rounds.proofs.Words.{◌∙◌, sym, ap, length, length-map}
-use Rattle.audit_rounds.proofs.Lists.{if_ok-then}
+use Rattle.audit_rounds.proofs.Words.{ap, length, length-map, IfOk-weaker}
 use Rattle.audit_rounds.proofs.Batches.{early-none, early-fronts, fronts-batch}
 use Rattle.audit_rounds.proofs.batch.found_early.Goals as goal
 
@@ -14,10 +13,10 @@ found_after-requires-clause-batch g c κs within =
 
 pub returns : goal.returns
 returns g c =
-    if_ok-then c.found_after.result _ _ c.found_after.ensures (λ all is.
+    IfOk-weaker c.found_after.result _ _ (λ all is.
     early-fronts c.args.crew.now.setup.credits_shown c.args.connections.now c.in_ok-fronts.fronts.items
     c.in_ok-none.none.items all.items c.in_ok-none.ensures.number c.in_ok-none.ensures.each c.in_ok-fronts.ensures
-    (rw c.as_slice.ensures.value at is))
+    (rw c.as_slice.ensures.value at is)) c.found_after.ensures
 
 pub found_after-requires-clause-number : goal.found_after-requires-clause-number
 found_after-requires-clause-number g c κs within =

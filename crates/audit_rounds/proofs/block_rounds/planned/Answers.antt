@@ -1,6 +1,5 @@
-use Rattle.audit_rounds.proofs.Words.{length, refl, sym, wholes}
+use Rattle.audit_rounds.proofs.Words.{length, refl, sym, wholes, IfOk-weaker}
 use Rattle.audit_rounds.proofs.Plans.{cut-within, little-each, cut-walk, plan-as}
-use Rattle.audit_rounds.proofs.Lists.{if_ok-then}
 use Rattle.audit_rounds.proofs.block_rounds.planned.Goals as goal
 
 pub sums_of-requires-clause-within : goal.sums_of-requires-clause-within
@@ -25,6 +24,6 @@ returns-clause-plan g c =
     let little = little-each c.as_slice-blocks.result.now c.in_ok-sums.sums.items c.in_ok-sums.ensures in
     let walk = cut-walk shows (wholes connections) blocks of c.requires.fits (rw same at little) in
     let within = cut-within connections blocks (length connections) refl of in
-    if_ok-then c.plan_of.result _ _ c.plan_of.ensures.plan (λ plan is.
+    IfOk-weaker c.plan_of.result _ _ (λ plan is.
     plan-as shows (length connections) _ _ plan.items (rw same at (is (length connections) (rw same within)))
-    walk.shown)
+    walk.shown) c.plan_of.ensures.plan

@@ -1,5 +1,4 @@
-use Rattle.audit_rounds.proofs.Words.{◌<◌, length, map, sym, ◌∙◌, arith, block_job}
-use Rattle.audit_rounds.proofs.Lists.{if_ok-then}
+use Rattle.audit_rounds.proofs.Words.{◌<◌, length, map, sym, ◌∙◌, arith, block_job, IfOk-weaker}
 use Rattle.audit_rounds.proofs.Settles.{each-block, each-fits, each-place, gone-through, jobs-inside, parts-within}
 use Rattle.audit_rounds.proofs.block_rounds.rounds_over_blocks.Goals as goal
 
@@ -34,9 +33,9 @@ returns g c =
     let own = c.in_ok-own.ensures in
     let rest = c.requires.remaining in
     let number = own.number in
-    if_ok-then c.merged_each.result _ _ c.merged_each.ensures (λ last is.
+    IfOk-weaker c.merged_each.result _ _ (λ last is.
     gone-through _ _ _ rest c.args.crew.now.setup.credits_shown c.as_slice.result.now c.in_ok-settled.settled
     c.in_ok-own.own.items last.items (rw c.as_slice.ensures.value c.in_ok-plan.ensures.plan)
     c.in_ok-settled.ensures.settled (number ∙ none.number ∙ rest.founds) (λ n list l.
     let inside : n < length c.in_ok-none.none.items = omega (arith, number, l) in
-    rw (none.each n list inside) at (own.each n list list inside)) is)
+    rw (none.each n list inside) at (own.each n list list inside)) is) c.merged_each.ensures

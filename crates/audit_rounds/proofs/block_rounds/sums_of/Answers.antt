@@ -1,6 +1,5 @@
-use Rattle.audit_rounds.proofs.Words.{◌<◌, length, Job, sum_job, All-map}
+use Rattle.audit_rounds.proofs.Words.{◌<◌, length, Job, sum_job, All-map, IfOk-weaker}
 use Rattle.audit_rounds.proofs.Settles.{sums-settled}
-use Rattle.audit_rounds.proofs.Lists.{if_ok-then}
 use Rattle.audit_rounds.proofs.block_rounds.sums_of.Goals as goal
 
 pub settle-requires-clause-connections : goal.settle-requires-clause-connections
@@ -10,6 +9,6 @@ settle-requires-clause-connections g c κs inside =
 
 pub returns : goal.returns
 returns g c =
-    if_ok-then c.sums_in.result _ _ c.sums_in.ensures (λ made is.
+    IfOk-weaker c.sums_in.result _ _ (λ made is.
     rw is (rw c.as_slice.ensures.value (sums-settled c.args.blocks.now c.args.stops.now c.in_ok-settled.settled
-    c.in_ok-settled.ensures.settled)))
+    c.in_ok-settled.ensures.settled))) c.sums_in.ensures

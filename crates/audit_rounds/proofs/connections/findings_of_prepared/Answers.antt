@@ -1,6 +1,6 @@
+use Rattle.audit_rounds.proofs.Words.{IfOk-weaker}
 use Rattle.audit_rounds.proofs.Batches.{few-rests}
 use Rattle.audit_rounds.proofs.Settling.{all-remain, all-settle}
-use Rattle.audit_rounds.proofs.Lists.{if_ok-then}
 use Rattle.audit_rounds.proofs.connections.findings_of_prepared.Goals as goal
 
 pub rounds_over_blocks-requires-clause-remaining : goal.rounds_over_blocks-requires-clause-remaining
@@ -16,7 +16,7 @@ rounds_over_blocks-requires-clause-few g c κs within =
 
 pub returns : goal.returns
 returns g c =
-    if_ok-then c.rounds_over_blocks.result _ _ c.rounds_over_blocks.ensures (λ last gone.
+    IfOk-weaker c.rounds_over_blocks.result _ _ (λ last gone.
     all-settle c.args.crew.now.setup.credits_shown c.args.connections.now _ _ _ _ c.requires.prepared
     (rw (c.as_slice-stops.ensures.value, c.as_slice.ensures.value) c.in_ok-after.ensures) c.in_ok-rests.ensures
-    last.items (rw c.as_slice-2.ensures.value at gone))
+    last.items (rw c.as_slice-2.ensures.value at gone)) c.rounds_over_blocks.ensures

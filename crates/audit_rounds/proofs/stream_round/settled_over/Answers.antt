@@ -1,7 +1,7 @@
-use Rattle.audit_rounds.proofs.Words.{sym, ◌∙◌, AllZip-long, found_before}
+use Rattle.audit_rounds.proofs.Words.{sym, ◌∙◌, AllZip-long, found_before, IfOk-weaker}
 use Rattle.audit_rounds.proofs.Batches.{few-rows}
 use Rattle.audit_rounds.proofs.StreamRounds.{ready-each, stops-are-places}
-use Rattle.audit_rounds.proofs.Lists.{items_in, as-many, if_ok-then}
+use Rattle.audit_rounds.proofs.Lists.{items_in, as-many}
 use Rattle.audit_rounds.proofs.stream_round.settled_over.Goals as goal
 
 pub settled_streams-requires-clause-ready : goal.settled_streams-requires-clause-ready
@@ -27,10 +27,10 @@ settled_streams-requires-clause-places g c κs within =
     c.args.found.now c.in_ok-stops.stops.items c.requires.prepared c.requires.before c.in_ok-stops.ensures)
 
 pub returns : goal.returns
-returns g c = if_ok-then c.settled_streams.result _ _ c.settled_streams.ensures (λ settled done. record {
+returns g c = IfOk-weaker c.settled_streams.result _ _ (λ settled done. record {
   streams = c.as_slice.result.now;
   opening = c.as_slice-2.result.now;
   of = rw c.as_slice.ensures.value c.in_ok-streams.ensures;
   first = rw c.as_slice-2.ensures.value c.in_ok-stops.ensures;
   done = done;
-})
+}) c.settled_streams.ensures

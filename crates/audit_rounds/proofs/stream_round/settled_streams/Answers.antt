@@ -1,9 +1,8 @@
 use Rattle.audit_rounds.proofs.Words.{◌≡◌, ◌∙◌, ◌<◌, arith, length, All-map, Job, job_of, plan_from}
 use Rattle.audit_rounds.proofs.Words.{Bool, ℕ, List, map, Option, Vec, Global, Streams, StreamJob}
-use Rattle.audit_rounds.proofs.Words.{Settled, HasSettled, HaveSettled}
+use Rattle.audit_rounds.proofs.Words.{Settled, HasSettled, HaveSettled, IfOk-weaker}
 use Rattle.audit_rounds.specs.code.StreamJobs.{Makes}
 use Rattle.audit_rounds.proofs.StreamRounds.{planned}
-use Rattle.audit_rounds.proofs.Lists.{if_ok-then}
 use Rattle.audit_rounds.proofs.stream_round.settled_streams.Goals as goal
 
 pub invariant_of-round-clause-planned : goal.invariant_of-round-clause-planned
@@ -31,5 +30,5 @@ settled-as : (credits_shown : Bool) (groups : ℕ) (streams : List Streams) (pla
 settled-as credits_shown groups streams plan opening settled e h = rw e at h
 
 pub returns : goal.returns
-returns g c = if_ok-then c.settle.result _ _ c.settle.ensures.settled (λ settled done.
-    settled-as _ _ _ _ _ settled (c.as_slice.ensures.value ∙ c.in_ok-plan.ensures.plan) done)
+returns g c = IfOk-weaker c.settle.result _ _ (λ settled done.
+    settled-as _ _ _ _ _ settled (c.as_slice.ensures.value ∙ c.in_ok-plan.ensures.plan) done) c.settle.ensures.settled
