@@ -1,10 +1,11 @@
 //! The rounds in which blocks are summed, and gone through.
 
 ghost use Rattle.std.specs.Prelude.{◌≡◌, ◌-◌, ◌<◌, ◌^◌, [], length, map, slice_index_or, ⊤};
+ghost use Rattle.std.proofs.Props.{props};
 ghost use Rattle.audit_rounds.specs.declared.blocks.ConnectionBlock.{ConnectionBlock as BlockTerm};
 ghost use Rattle.audit_rounds.specs.code.Blocks.{AreShort, IsSum};
 ghost use Rattle.audit_rounds.specs.code.Plans.{block_job, sum_job, AreReady, BlockLooks};
-ghost use Rattle.audit_rounds.specs.code.Props.{ready-props, short-props};
+ghost use Rattle.audit_rounds.specs.code.Props.{frames-prop, changes-prop, numbers-prop};
 
 use crate::block_plans::ReadyBlock;
 use crate::blocks::ConnectionBlock;
@@ -18,7 +19,7 @@ use stop_desk::{Round, Work};
 pub(crate) struct SumRound<'a> {
     pub(crate) blocks: &'a [ConnectionBlock<'a>],
     ghost few: { length blocks.now < 2 ^ 32 },
-    ghost short: { AreShort blocks.now } by { short-props blocks.now },
+    ghost short: { AreShort blocks.now } by { Prim.hlevel (props, frames-prop, changes-prop, numbers-prop) },
 }
 
 impl Round for SumRound<'_> {
@@ -59,7 +60,7 @@ pub(crate) struct BlockRound<'a> {
     pub(crate) plan: &'a [ReadyBlock<'a>],
     pub(crate) credits_shown: bool,
     ghost few: { length plan.now < 2 ^ 32 },
-    ghost ready: { AreReady plan.now } by { ready-props plan.now },
+    ghost ready: { AreReady plan.now } by { Prim.hlevel (props, frames-prop, changes-prop, numbers-prop) },
 }
 
 impl Round for BlockRound<'_> {

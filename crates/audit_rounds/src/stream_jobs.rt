@@ -5,7 +5,7 @@ ghost use Rattle.std.proofs.Props.{props};
 ghost use Rattle.split_merge.specs.code.Groups.{groups};
 ghost use Rattle.audit_rounds.specs.code.Few.{RowsAreFew};
 ghost use Rattle.audit_rounds.specs.code.StreamJobs.{IsReady, IsJobOf, JobLooks, Makes, job_at, job_of, plan_from};
-ghost use Rattle.audit_rounds.specs.code.JobProps.{frames-prop, changes-prop};
+ghost use Rattle.audit_rounds.specs.code.Props.{frames-prop, changes-prop};
 
 use crate::streams::{Streams, run_of_rows};
 use audit_terms::Look;
