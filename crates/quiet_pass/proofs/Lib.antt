@@ -1,5 +1,5 @@
-pub mod StreamFrames
-pub mod RowLists
-pub mod ConnectionLemmas
-pub mod StreamLemmas
-pub mod PassLemmas
+mod StreamFrames
+mod RowLists
+mod ConnectionLemmas
+mod StreamLemmas
+mod PassLemmas

@@ -9,7 +9,6 @@ use Rattle.stream_credit.proofs.Words.{stream_after, counted, frame_step, has_cr
 use Rattle.stream_credit.proofs.Words.{ForSome, same_Some, opened_window_said, stream_window_said, opened_of}
 use Rattle.audit_terms.specs.Frame.{is_content, is_headers, is_update, needs_opening, is_server_promise, promises}
 use Rattle.audit_terms.specs.Life.{idle_life, is_opening}
-use Rattle.stream_credit.proofs.QuietLemmas.{same-if}
 use Rattle.stream_credit.proofs.QuietStreams.{window-some, ended-none, some-left}
 use Rattle.stream_credit.proofs.SilentLemmas.{both, unsaid, frame-unshown, IsCalm, calm-some, calm-ended, calm-same}
 use Rattle.stream_credit.proofs.SilentLemmas.{stream-unshown, stream-moved}
@@ -164,7 +163,8 @@ module _ (frame : Frame) (content : is_content frame.body ≡ false) (headers : 
 
   calm : (d : Side) → IsCalm d frame.stream initial (frame_step frame) (side_of d entry.window) (side_of d entry.window)
   calm d =
-      calm-same d frame.stream initial frame (simp (no-increment frame.body update, same-if))
+      let none = no-increment frame.body update in
+      calm-same d frame.stream initial frame (grind arith)
       (simp (content, and-false)) (goes_on d) (side_of d entry.window)
 
   said : AreUnshown (stream_said frame.stream initial entry (frame_step frame))

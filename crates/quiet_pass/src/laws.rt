@@ -1,5 +1,5 @@
-//! What a quiet pass over a connection's frames says of the pass that the audit is. The function does nothing; its
-//! contract is the law.
+//! What a quiet pass over a connection's frames says of the pass that defines what they show. The function does
+//! nothing; its contract is the law.
 
 ghost use Rattle.quiet_pass.specs.laws.QuietFrames.{QuietFramesShowNothing};
 

@@ -18,7 +18,8 @@ use stream_credit::standings::{has_ended, moved};
 pub(crate) struct Row {
     /// Its identifier.
     pub(crate) stream: u32,
-    /// The number of the frame that opened it, which is not 0.
+    /// The number of the frame that opened it. It is never 0, but the row does not say so: 0 is taken for a stream that
+    /// is not opened.
     pub(crate) opened: u32,
     /// How the client stands.
     pub(crate) client: u32,
@@ -169,7 +170,7 @@ pub(crate) fn meet(rows: &mut Vec<Row>, at: usize, frame: &Frame) -> bool
 }
 
 /// Is a stream past those of all rows?
-pub(crate) fn is_past(rows: &[Row], stream: u32) -> bool
+fn is_past(rows: &[Row], stream: u32) -> bool
     ensures { OnTrue result (AreRising rows.now → IsPast rows.now stream) }
 {
     match rows.last() {
