@@ -1,11 +1,11 @@
 mod Words
-pub mod Weights
-pub mod Steps
-pub mod PassViews
+mod Weights
+mod Steps
+mod PassViews
 pub mod RoundMembers
 pub mod RoundSteps
 pub mod RoundMerge
-pub mod RoundExamples
+mod RoundExamples
 pub mod RoundCuts
-pub mod Working
-pub mod CrewDone
+mod Working
+mod CrewDone
