@@ -1,6 +1,7 @@
 -- The items of the pass, by what the streams by themselves tell of openings.
 use Rattle.audit_rounds.proofs.Words.{◌≡◌, ℕ, ◌==◌, ◌&&◌, List, [], ◌∷◌, map, ap, ◌∙◌, list_any-IsPermutation, Frame}
-use Rattle.audit_rounds.proofs.Words.{Item, is_headers, PassState, pass_start, AllByRecursion, next, items_from, is_marked}
+use Rattle.audit_rounds.proofs.Words.{Item, is_headers, PassState, pass_start, AllByRecursion, next, items_from}
+use Rattle.audit_rounds.proofs.Words.{is_marked}
 use Rattle.conn_scan.proofs.ItemsLemmas.{items_are_the_pass}
 use Rattle.audit_rounds.specs.laws.Items.{ItemsAreFound}
 use Rattle.audit_rounds.proofs.Openings.{openings_are_found_lem}
