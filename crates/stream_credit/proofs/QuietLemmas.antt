@@ -1,16 +1,10 @@
 -- A frame that moves one window of a stream and shows nothing where credits are not shown.
-use Rattle.stream_credit.proofs.Words.{◌≡◌, ℕ, ℤ, ◌+◌, ◌*◌, ◌^◌, Bool, true, false, [], Option, Some, None, is_some}
+use Rattle.stream_credit.proofs.Words.{◌≡◌, ℕ, ℤ, ◌+◌, ◌*◌, ◌^◌, false, [], Option, Some, None, is_some}
 use Rattle.stream_credit.proofs.Words.{refl, sym, ap, ◌∙◌, arith, ints, append-nil, same_Some, Side, Client, Server}
 use Rattle.stream_credit.proofs.Words.{Sides, Frame, Change, Step, StreamLife, Stream, other, side_of, is_used_up}
 use Rattle.stream_credit.proofs.Words.{in_order, shown, stream_said, stream_after, HasRoom, WindowHasRoom, Move, Walk}
-use Rattle.stream_credit.proofs.Words.{frame_with, if◌then◌else◌, IsMove, IsQuiet, IsCounted, HasRoomAt}
+use Rattle.stream_credit.proofs.Words.{frame_with, IsMove, IsQuiet, IsCounted, HasRoomAt}
 use Rattle.stream_credit.proofs.SilentLemmas.{frame-unshown, IsCalm, calm-same, calm-some, stream-shown, stream-moved}
-
--- ---- the frames that move one window
-
-pub same-if : (b : Bool) → ◌≡◌ {A = ℕ} (if b then 0 else 0) 0
-same-if true = refl
-same-if false = refl
 
 -- ---- what such a frame shows
 
