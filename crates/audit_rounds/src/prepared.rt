@@ -1,13 +1,13 @@
 //! Connections made ready for the rounds.
 
-ghost use Rattle.std.specs.Prelude.{◌≡◌, ◌<◌, ◌^◌, Bool, [], ◌∷◌, ◌++◌, IfOk, OnOk, length, map};
+ghost use Rattle.std.specs.Prelude.{◌≡◌, ◌<◌, Bool, [], ◌∷◌, ◌++◌, IfOk, OnOk, length, map};
 ghost use Rattle.std.specs.Thread.{IsSync};
 ghost use Rattle.audit_terms.specs.code.runs.Orderly.{IsOrderly};
 ghost use Rattle.audit_terms.specs.code.runs.LocalFaults.{local_run};
-ghost use Rattle.audit_terms.specs.code.runs.Changes.{AreOrderly, AreAcknowledged};
 ghost use Rattle.split_merge.specs.code.Split.{IsSplit};
 ghost use Rattle.audit_rounds.specs.code.Batch.{AreJoined, IsBatch};
 ghost use Rattle.audit_rounds.specs.code.MadeReady.{AddsReady, AreMadeReady};
+ghost use Rattle.audit_rounds.specs.code.Prepared.{AreForSplit};
 
 use crate::crew::{Crew, LONG};
 use crate::halves::in_halves;
@@ -57,10 +57,7 @@ fn faults_and_split<R: Threads + Sync, G: Gate>(
     Result<Vec<Finding>, AllocError>,
     Result<SplitFrames, AllocError>,
 )
-    requires frames { IsOrderly frames.now }
-    requires length { length frames.now < 2 ^ 28 }
-    requires changes { AreOrderly changes.now }
-    requires acknowledged { AreAcknowledged frames.now changes.now }
+    requires frames { AreForSplit frames.now changes.now }
     ensures faults { IfOk result.0 (λ found. found.items ≡ local_run frames.now) }
     ensures split { IfOk result.1 (IsSplit crew.now.setup.credits_shown changes.now frames.now) }
 {
@@ -80,8 +77,7 @@ fn faults_and_split<R: Threads + Sync, G: Gate>(
             ensures { IfOk result (λ found. found.items ≡ local_run frames.entry.now) }
         { local_faults(rt, alloc, others, frames) },
         || -> Result<SplitFrames, AllocError>
-            requires { (length frames.now < 2 ^ 28) × IsOrderly frames.now × AreOrderly changes.now
-                × AreAcknowledged frames.now changes.now }
+            requires { AreForSplit frames.now changes.now }
             ensures { IfOk result (IsSplit credits_shown changes.entry.now frames.entry.now) }
         { split(alloc, hash, credits_shown, changes, frames) },
     )
@@ -110,7 +106,7 @@ fn add<'a>(
     Ok(())
 }
 
-/// Makes one connection more ready, by so many workers at most.
+/// Makes one connection more ready.
 fn prepare<'a, R: Threads + Sync, G: Gate>(
     crew: &Crew<'_, R, G>,
     made: &mut MadeReady<'a>,

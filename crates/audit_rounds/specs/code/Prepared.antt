@@ -1,11 +1,20 @@
 -- A connection made ready for the rounds.
-use Rattle.std.specs.Prelude.{◌≡◌, ◌++◌, Bool, List}
+use Rattle.std.specs.Prelude.{◌≡◌, ◌<◌, ◌^◌, ◌++◌, Bool, List, length}
 use Rattle.audit_terms.specs.declared.findings.Finding.{Finding}
+use Rattle.audit_terms.specs.declared.frames.Frame.{Frame}
+use Rattle.audit_terms.specs.declared.items.Change.{Change}
 use Rattle.audit_terms.specs.code.runs.Orderly.{IsOrderly}
 use Rattle.audit_terms.specs.code.runs.LocalFaults.{local_run}
 use Rattle.audit_terms.specs.code.runs.Changes.{AreAcknowledged, AreOrderly, changes_of, settings_run}
 use Rattle.split_merge.specs.code.Split.{IsSplit}
 use Rattle.audit_rounds.specs.declared.prepared.Prepared.{Prepared}
+
+-- the frames of a connection, with changes by which they are split
+pub record AreForSplit (frames : List Frame) (changes : List Change) : Type 0 where
+  pub orderly : IsOrderly frames
+  pub few : length frames < 2 ^ 28
+  pub changes_orderly : AreOrderly changes
+  pub acknowledged : AreAcknowledged frames changes
 
 -- the frames of a connection, the changes that they bring, and their split
 pub record IsPrepared (credits_shown : Bool) (prepared : Prepared) : Type 0 where

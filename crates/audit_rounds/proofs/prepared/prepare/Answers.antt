@@ -3,9 +3,16 @@ use Rattle.std.proofs.lemmas.Result.{on_ok_weaker}
 use Rattle.audit_rounds.proofs.Batches.{made-more}
 use Rattle.audit_rounds.proofs.prepared.prepare.Goals as goal
 
-pub faults_and_split-found-requires-clause-length : goal.faults_and_split-found-requires-clause-length
-faults_and_split-found-requires-clause-length g c =
-    let l = length-orderly 0 c.args.frames.now (omega arith) c.requires in omega arith
+pub faults_and_split-found-requires-clause-frames : goal.faults_and_split-found-requires-clause-frames
+faults_and_split-found-requires-clause-frames g c κs within =
+    let l = length-orderly 0 c.args.frames.now (omega arith) c.requires in
+    let pairs = c.in_ok-pairs.ensures in
+    rw c.as_slice.ensures.value (record {
+      orderly = c.requires;
+      few = omega arith;
+      changes_orderly = pairs.orderly;
+      acknowledged = pairs.acknowledged;
+    })
 
 pub returns : goal.returns
 returns g c =
