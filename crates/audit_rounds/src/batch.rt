@@ -20,7 +20,7 @@ use std::alloc::{AllocError, Global};
 use std::thread::{Threads, join};
 use stop_desk::Gate;
 
-/// How many times shorter than its connection a front is, and so what it may cost where it shows no error.
+/// A front has one of so many frames of its connection. Where it shows no error, so small a part is gone through twice.
 const FRONTS: usize = 32;
 
 /// The frames of a connection that are gone through first: none, if there are not many.
@@ -45,7 +45,8 @@ fn fronts_of<'a>(alloc: Global, connections: &[&'a [Frame]]) -> Result<Vec<&'a [
     Ok(fronts)
 }
 
-/// What is shown of each connection of which this was found: all of it, where it is still to be gone through.
+/// What is shown of each connection, of which this was found so far. Where nothing of that ends it, it is gone through,
+/// if it has frames; of any other connection this is all.
 fn found_after<R: Threads + Sync, G: Gate>(
     crew: &Crew<'_, R, G>,
     connections: &[&[Frame]],

@@ -31,7 +31,7 @@ pub(crate) fn streams_each<'a>(
     Ok(all)
 }
 
-/// Where the first error stands among some findings, with one finding more.
+/// The stop so far, or the place of one finding more, if that is an error of the connection and stands before it.
 fn stop_with(stop: Option<Place>, one: &Finding) -> Option<Place>
     ensures { result ≡ (if stops one.now then lesser stop (Some one.now.place) else stop) }
 {

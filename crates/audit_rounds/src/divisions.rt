@@ -28,8 +28,8 @@ pub struct Division {
     pub ghost some_block: { 0 < block },
 }
 
-/// How many frames, and how many connections, are in a batch of more than one connection. What the rounds need beside
-/// the frames is there for one batch at a time, and so many frames are enough to keep all workers at work.
+/// How many frames, and how many connections, a batch of more than one connection has at most. What the rounds need
+/// beside the frames is there for one batch at a time, and so many frames are enough to keep all workers at work.
 const BATCH: usize = 1 << 22;
 
 /// The next batch: the first of these connections.

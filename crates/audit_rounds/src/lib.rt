@@ -7,9 +7,9 @@
 //!   the connection is split. A job goes through its streams one after the other, makes the looks that are due of each,
 //!   and goes up to the least of the places at which their runs stop (`IsWork` of `specs/code/Streams.antt`). With what
 //!   the split tells of quiet streams, it tells which frames open streams.
-//! - What a connection shows by itself, up to its stop, is found in blocks of its frames. Their sums carry its state
-//!   from block to block, so a block is gone through from the state before it: each that is not clear, or all where
-//!   credits are shown.
+//! - What a connection shows by itself, up to its stop, is found in blocks of its frames. The round `Sums` sums them,
+//!   and the sums carry the connection's state from block to block. The round `Blocks` goes through the blocks that are
+//!   not clear, each from the state before it; where credits are shown, through all of them.
 //! - What its blocks show is merged with all that was found of a connection before, the faults of single frames and the
 //!   acknowledgements that answer nothing among it. That is cut at the first error, and so makes the pass.
 //! - A batch of connections has 2^28 frames at most, whatever the connections, so each round has fewer than 2^32 jobs,
