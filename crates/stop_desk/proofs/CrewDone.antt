@@ -11,7 +11,7 @@ use Rattle.stop_desk.proofs.Words.{IsPermutation-map, IsPermutation-sym, IsStop,
 use Rattle.stop_desk.proofs.Words.{Some, [], ap, arith, board_with, cases_lt, closed_of, cond_both, count_by, drop}
 use Rattle.stop_desk.proofs.Words.{eqb-true, final_stop, get_or, get_or_from_slice_get, if◌then◌else◌, inl, inr, length}
 use Rattle.stop_desk.proofs.Words.{ltb-true, map, marks, nat_tests, opening_stop, part_of, past_places, place_at}
-use Rattle.stop_desk.proofs.Words.{range_with_len, refl, slice_get, slice_get_within, stops, subst, suc}
+use Rattle.stop_desk.proofs.Words.{range_with_len, refl, slice_get, slice_get_within, stops, subst, suc, AuditRound}
 use Rattle.stop_desk.proofs.Words.{sum_by-IsPermutation, sym, zero, ℕ, ⊎_elim, ◌+◌, ◌<◌, ◌==◌, ◌∙◌, ◌∷◌, ◌≡◌, ◌≤◌, ◌⊎◌}
 use Rattle.stop_desk.specs.code.{Board.Board, Crew.IsDone, Crew.last_stops, Crew.last_stops_from, Crew.opening_stops}
 use Rattle.stop_desk.specs.code.Board.{IsGiven, IsLeast, IsPartOf, IsSettled, Job, Part as BoardPart, Round, parts_of}
@@ -68,9 +68,9 @@ last_stops-places closed = rw (last_from-is closed 0 (drop 1 closed.desk.opened)
 at_most : (q : ℕ) (stop : Option ℕ) (place : ℕ) → stop ≡ Some place → IsAtMost q stop → q ≤ place
 at_most q stop place e k = rw e at k
 
-module _ {M : Type 0} (makes : ℕ → Option ℕ → M → Type 0) (jobs : List Job) (round whole : ℕ) (desk : DeskId)
-    (all : All (λ (job : Job). IsConnection desk job.connection) jobs) (parts : List (Part M)) (last : PassView)
-    (words : List ℕ) (h : IsAllWorked makes jobs desk round whole parts last)
+module _ {M : Type 0} (makes : ℕ → Option ℕ → M → Type 0) (jobs : List Job) (round : AuditRound) (whole : ℕ)
+    (desk : DeskId) (all : All (λ (job : Job). IsConnection desk job.connection) jobs) (parts : List (Part M))
+    (last : PassView) (words : List ℕ) (h : IsAllWorked makes jobs desk round whole parts last)
     (s : IsDeskSettled (closed_of desk words last.drawn last.seen last.lowered)) where
   abbrev closed : ClosedView
   closed = closed_of desk words last.drawn last.seen last.lowered
@@ -185,8 +185,9 @@ settled-moves round board parts moved s = record {
   stops_least = s.stops_least;
 }
 
-module _ {M : Type 0} (makes : ℕ → Option ℕ → M → Type 0) (jobs : List Job) (desk : DeskId) (round : ℕ)
-    (parts : List (Part M)) (closed : ClosedView) (done : IsDone makes jobs desk round parts closed) where
+module _ {M : Type 0} (makes : ℕ → Option ℕ → M → Type 0) (jobs : List Job) (desk : DeskId)
+    (round : AuditRound) (parts : List (Part M)) (closed : ClosedView)
+    (done : IsDone makes jobs desk round parts closed) where
   made-in : (sorted : List (Part M)) → IsPermutation parts sorted → (part : Part M) → Contains sorted part →
       (part.round ≡ round) × makes part.job part.upto part.made
   made-in sorted same part k =

@@ -25,7 +25,8 @@ pub use Rattle.stop_desk.specs.code.Settled.{IsLeast as IsLeastOnDesk, Settled, 
 pub use Rattle.audit_terms.specs.code.Places.{past_places, place_at}
 pub use Rattle.stop_desk.specs.code.Stop.{IsStop, stop_word}
 pub use Rattle.stop_desk.specs.code.Worked.{DoesJob, DrewJobs, IsAllWorked, IsLaid, IsWorked, stops_on}
-pub use Rattle.stop_desk.specs.declared.{parts.Part.Part, rule.Knows.Knows, rule.Opening.Opening}
+pub use Rattle.stop_desk.specs.declared.{audit_round.AuditRound.AuditRound, parts.Part.Part, rule.Knows.Knows}
+pub use Rattle.stop_desk.specs.declared.rule.Opening.{Opening}
 pub use Rattle.stop_desk.specs.laws.Rounds.{BoardMerges, HasConnections, Merges, RunSettles}
 pub use lib.ListN.{get_elem?}
 pub use mathlib.Core.Option.{none, some, some-injective, some-ne-none}

@@ -11,7 +11,7 @@ use Rattle.stop_desk.proofs.Words.{IsWorked, List, Looked, None, Option, Part, P
 use Rattle.stop_desk.proofs.Words.{append_assoc, arith, filter, flat_map, get_or, if◌then◌else◌, inl, inr, is_number}
 use Rattle.stop_desk.proofs.Words.{joined, length, length-append, map, nat_tests, not, part_of, pass_draws, pass_of}
 use Rattle.stop_desk.proofs.Words.{refl, slice_get, slice_get-get_or, stops, stops_on, subst, suc, sum_by-append, sym}
-use Rattle.stop_desk.proofs.Words.{times, zero, ℕ, ⊎_elim, ◌++◌, ◌+◌, ◌<◌, ◌==◌, ◌∙◌, ◌∷◌, ◌≡◌, ◌≤◌}
+use Rattle.stop_desk.proofs.Words.{times, zero, ℕ, ⊎_elim, ◌++◌, ◌+◌, ◌<◌, ◌==◌, ◌∙◌, ◌∷◌, ◌≡◌, ◌≤◌, AuditRound}
 use Rattle.stop_desk.specs.code.Board.{IsCut, Job, Part as BoardPart, StopsAt, parts_of}
 use Rattle.stop_desk.specs.declared.claims.Claim.{Claim, TheVariants.Done, TheVariants.Job as Drawn, TheVariants.Spent}
 use Rattle.stop_desk.specs.declared.desk_looks.DeskLook.{DeskLook}
@@ -83,7 +83,7 @@ pub job-there : (desk : DeskId) (jobs : List Job) (n connection : ℕ) → n < l
     IsConnection desk connection
 job-there desk jobs n connection lt all e = subst (IsConnection desk) (sym e) (all n no_job lt)
 
-module _ {M : Type 0} (makes : ℕ → Option ℕ → M → Type 0) (jobs : List Job) (round : ℕ) (part : Part M)
+module _ {M : Type 0} (makes : ℕ → Option ℕ → M → Type 0) (jobs : List Job) (round : AuditRound) (part : Part M)
     (lt : part.job < length jobs) (before : PassView)
     (all : All (λ (job : Job). IsConnection before.desk job.connection) jobs)
     (connection_is : part.connection ≡ (job_at jobs part.job).connection)
@@ -154,7 +154,7 @@ few-distinct (suc n) xs none once =
     (λ x. grind (arith, nat_tests, without n x xs, once x)) in
     omega (arith, once n, length-without n xs)
 
-module _ {M : Type 0} (makes : ℕ → Option ℕ → M → Type 0) (jobs : List Job) (round : ℕ) where
+module _ {M : Type 0} (makes : ℕ → Option ℕ → M → Type 0) (jobs : List Job) (round : AuditRound) where
   -- a part stays one where more was seen and lowered
   laid-grows : {seen lowered seen' lowered' : List (ℕ × ℕ)} {part : Part M} →
       ((c p : ℕ) → Contains seen (c, p) → Contains seen' (c, p)) →

@@ -7,6 +7,7 @@ ghost use Rattle.stop_desk.specs.code.Board.{Job};
 ghost use Rattle.stop_desk.specs.code.Crew.{IsDone};
 ghost use Rattle.stop_desk.specs.code.Worked.{AreAllWorked};
 
+use crate::audit_round::AuditRound;
 use crate::closing::Closed;
 use crate::desks::Desk;
 use crate::gate::Gate;
@@ -99,7 +100,7 @@ pub fn crew<R: Threads + Sync, G: Gate, P: Round>(
     team: &Team<'_, R, G>,
     desk: Desk,
     pass: Pass,
-    round: u8,
+    round: AuditRound,
     plan: &P,
 ) -> Result<(Vec<Part<P::Made>>, Closed), AllocError>
     requires workers { desk.workers ≡ team.now.workers }

@@ -1,6 +1,5 @@
 ghost use Rattle.std.specs.Prelude.{◌≡◌, ◌+◌, ◌<◌, All, Contains, IfOk, length};
 ghost use Rattle.std.specs.List.Sorted.{IsPermutation, IsNonDecreasingBy};
-ghost use Rattle.stop_desk.specs.code.AuditRound.{number_of};
 ghost use Rattle.stop_desk.specs.code.Stop.{IsStop};
 ghost use Rattle.stop_desk.specs.code.Board.{Job};
 ghost use Rattle.stop_desk.specs.declared.parts.Part.{Part as PartTerm};
@@ -63,7 +62,7 @@ pub fn settle<R: Threads + Sync, G: Gate, P: Round>(
     requires connections { All (λ (job : Job). job.connection < length stops.now) (P.jobs plan.now) }
     ensures settled { IfOk result (λ settled. HasSettled (P.makes plan.now) (P.jobs plan.now) stops.now settled) }
     ensures round { IfOk result (λ settled. (part : PartTerm P.Made) → Contains settled.parts.items part
-        → part.round ≡ number_of round) }
+        → part.round ≡ round) }
 {
     let jobs = plan.count();
     let workers = team.workers.min(jobs).max(1);
@@ -74,7 +73,7 @@ pub fn settle<R: Threads + Sync, G: Gate, P: Round>(
         workers,
         gate: team.gate,
     };
-    let (mut parts, closed) = crew(&team, desk, pass, round.number(), plan)?;
+    let (mut parts, closed) = crew(&team, desk, pass, round, plan)?;
     put_in_order(&mut parts);
     let stops = stops_of(team.alloc, &closed, stops)?;
     Ok(Settled { parts, stops })

@@ -7,6 +7,7 @@ ghost use Rattle.stop_desk.specs.code.Desk.{pass_of, IsConnection};
 ghost use Rattle.stop_desk.specs.code.Board.{Job};
 ghost use Rattle.stop_desk.specs.code.Worked.{stops_on, DoesJob, IsWorked, IsAllWorked};
 
+use crate::audit_round::AuditRound;
 use crate::claims::Claim;
 use crate::desk_looks::DeskLook;
 use crate::desks::Desk;
@@ -22,7 +23,7 @@ use std::alloc::{AllocError, Global};
 pub(crate) struct Shift<'a, G: Gate, P: Round> {
     pub desk: &'a Desk,
     pub gate: &'a G,
-    pub round: u8,
+    pub round: AuditRound,
     pub plan: &'a P,
     /// For how many parts each worker makes room before it draws.
     pub share: usize,
@@ -90,7 +91,7 @@ pub(crate) fn work<G: Gate, P: Round>(
     let mut pass = mine;
     let mut parts = Vec::with_capacity(alloc, shift.share)?;
     while let Claim::Job(job) = pass.claim(shift.desk) {
-        shift.gate.enter(shift.round, job);
+        shift.gate.enter(shift.round.number(), job);
         let (part, rest) = do_job(alloc, shift, job, pass)?;
         pass = rest;
         parts.push(part)?;

@@ -6,6 +6,7 @@ use Rattle.audit_terms.specs.Finding.{stops}
 use Rattle.stop_desk.specs.code.Counts.{times}
 use Rattle.stop_desk.specs.code.Desk.{DeskId, DeskView, PassView, pass_of, pass_draws, IsConnection}
 use Rattle.stop_desk.specs.code.Board.{Job, StopsAt, IsPartOf, parts_of}
+use Rattle.stop_desk.specs.declared.audit_round.AuditRound.{AuditRound}
 use Rattle.stop_desk.specs.declared.parts.Part.{Part}
 use Rattle.stop_desk.specs.code.Laid.{part_of}
 
@@ -14,7 +15,7 @@ abbrev pub stops_on : (connection : ℕ) → List Finding → List (ℕ × ℕ)
 stops_on connection findings = map (λ (found : Finding). (connection, found.place)) (filter stops findings)
 
 -- the part is one of a job: as it was made, kept up to a place that was seen, its stops lowered
-pub record IsLaid {M : Type 0} (makes : ℕ → Option ℕ → M → Type 0) (jobs : List Job) (round : ℕ)
+pub record IsLaid {M : Type 0} (makes : ℕ → Option ℕ → M → Type 0) (jobs : List Job) (round : AuditRound)
     (seen lowered : List (ℕ × ℕ)) (part : Part M) : Type 0 where
   pub in_round : part.round ≡ round
   pub made : makes part.job part.upto part.made
@@ -36,14 +37,14 @@ pub record Goes (jobs : List Job) (desk : DeskId) (before after : PassView) : Ty
   pub lowered_real : (c p : ℕ) → Contains after.lowered (c, p) → Contains before.lowered (c, p) ⊎ IsReal jobs c p
 
 -- a job is done, and its part laid down
-abbrev pub DoesJob : {M : Type 0} → (makes : ℕ → Option ℕ → M → Type 0) → (jobs : List Job) → (round number : ℕ)
-    → PassView → Part M → PassView → Type 0
+abbrev pub DoesJob : {M : Type 0} → (makes : ℕ → Option ℕ → M → Type 0) → (jobs : List Job) → (round : AuditRound)
+    → (number : ℕ) → PassView → Part M → PassView → Type 0
 DoesJob makes jobs round number before part after =
     (part.job ≡ number) × Goes jobs before.desk before after × IsLaid makes jobs round after.seen after.lowered part
 
 -- the parts are of jobs, and the pass saw and lowered what they need, and only what is real
 pub record IsWorked {M : Type 0} (makes : ℕ → Option ℕ → M → Type 0) (jobs : List Job) (desk : DeskId)
-    (round whole : ℕ) (parts : List (Part M)) (pass : PassView) : Type 0 where
+    (round : AuditRound) (whole : ℕ) (parts : List (Part M)) (pass : PassView) : Type 0 where
   pub desk_is : pass.desk ≡ desk
   pub whole_is : pass_draws pass ≡ whole
   pub drawn : (job : ℕ) → job < length jobs → times job pass.drawn ≡ parts_of job (map part_of parts)
@@ -57,13 +58,13 @@ DrewPast jobs pass = (n : ℕ) × (length jobs ≤ n) × (0 < times n pass.drawn
 
 -- and no job is left
 abbrev pub IsAllWorked : {M : Type 0} → (makes : ℕ → Option ℕ → M → Type 0) → (jobs : List Job) → (desk : DeskId)
-    → (round whole : ℕ) → List (Part M) → PassView → Type 0
+    → (round : AuditRound) → (whole : ℕ) → List (Part M) → PassView → Type 0
 IsAllWorked makes jobs desk round whole parts pass =
     IsWorked makes jobs desk round whole parts pass × DrewPast jobs pass
 
 -- the same of so many workers of a desk, with all draws of their unused pass
 abbrev pub AreAllWorked : {M : Type 0} → (makes : ℕ → Option ℕ → M → Type 0) → (jobs : List Job) → (desk : DeskView)
-    → (round workers : ℕ) → List (Part M) → PassView → Type 0
+    → (round : AuditRound) → (workers : ℕ) → List (Part M) → PassView → Type 0
 AreAllWorked makes jobs desk round workers parts pass =
     IsAllWorked makes jobs desk.id round (workers * (desk.jobs + 1)) parts pass
 
