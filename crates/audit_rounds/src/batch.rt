@@ -54,9 +54,9 @@ fn found_after<R: Threads + Sync, G: Gate>(
 ) -> Result<Vec<Vec<Finding>>, AllocError>
     requires batch { IsBatch connections.now }
     requires number { length found.items ≡ length connections.now }
-    ensures { IfOk result (λ all. AreShownAfter crew.now.setup.credits_shown connections.now found.items all.items) }
+    ensures { IfOk result (λ all. AreShownAfter crew.now.credits_shown connections.now found.items all.items) }
 {
-    let pending = pending_of(crew.setup.alloc, connections, found.as_slice())?;
+    let pending = pending_of(crew.alloc, connections, found.as_slice())?;
     let made = prepare_each(crew, pending.as_slice())?;
     let MadeReady {
         prepared,
@@ -72,13 +72,13 @@ fn found_early<R: Threads + Sync, G: Gate>(
     connections: &[&[Frame]],
 ) -> Result<Vec<Vec<Finding>>, AllocError>
     requires { IsBatch connections.now }
-    ensures { IfOk result (λ early. AllZip (IsEarly crew.now.setup.credits_shown) connections.now early.items) }
+    ensures { IfOk result (λ early. AllZip (IsEarly crew.now.credits_shown) connections.now early.items) }
 {
-    let none = none_of_each(crew.setup.alloc, connections.len())?;
+    let none = none_of_each(crew.alloc, connections.len())?;
     if connections.iter().all(|frames| frames.len() < LONG) {
         return Ok(none);
     }
-    let fronts = fronts_of(crew.setup.alloc, connections)?;
+    let fronts = fronts_of(crew.alloc, connections)?;
     found_after(crew, fronts.as_slice(), none)
 }
 
@@ -112,27 +112,27 @@ pub(crate) fn by_halves<R: Threads + Sync, G: Gate>(
     connections: &[&[Frame]],
 ) -> Result<Vec<Vec<Finding>>, AllocError>
     requires { IsBatch connections.now }
-    ensures { IfOk result (λ found. AreShown crew.now.setup.credits_shown connections.now found.items) }
+    ensures { IfOk result (λ found. AreShown crew.now.credits_shown connections.now found.items) }
 {
-    let workers = crew.workers;
+    let workers = crew.division.workers;
     if workers == 1 || connections.len() < MANY || !are_short(workers, connections) {
         let early = found_early(crew, connections)?;
         return found_after(crew, connections, early);
     }
     let (front, back) = in_halves(connections);
-    let (rt, gate, setup) = (crew.rt, crew.gate, crew.setup);
-    let few = workers / 2;
-    let others = workers - few;
+    let (rt, gate, alloc, credits_shown) = (crew.rt, crew.gate, crew.alloc, crew.credits_shown);
+    let few = crew.division.with_workers(workers / 2);
+    let others = crew.division.with_workers(workers - workers / 2);
     let (one, other) = join(
         rt,
         || -> Result<Vec<Vec<Finding>>, AllocError>
-            requires { IsSync R.row × IsSync G.row × (0 < few) × IsBatch front.now }
-            ensures { IfOk result (λ found. AreShown setup.credits_shown front.entry.now found.items) }
-        { by_halves(&Crew::of(rt, gate, setup, few), front) },
+            requires { IsSync R.row × IsSync G.row × IsBatch front.now }
+            ensures { IfOk result (λ found. AreShown credits_shown front.entry.now found.items) }
+        { by_halves(&Crew::of(rt, gate, alloc, few, credits_shown), front) },
         || -> Result<Vec<Vec<Finding>>, AllocError>
-            requires { IsSync R.row × IsSync G.row × (0 < others) × IsBatch back.now }
-            ensures { IfOk result (λ found. AreShown setup.credits_shown back.entry.now found.items) }
-        { by_halves(&Crew::of(rt, gate, setup, others), back) },
+            requires { IsSync R.row × IsSync G.row × IsBatch back.now }
+            ensures { IfOk result (λ found. AreShown credits_shown back.entry.now found.items) }
+        { by_halves(&Crew::of(rt, gate, alloc, others, credits_shown), back) },
     );
     both_shown(one, other)
 }

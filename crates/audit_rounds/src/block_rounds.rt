@@ -48,7 +48,7 @@ fn sums_of<R: Threads + Sync, G: Gate>(
 {
     let round = SumRound { blocks };
     let settled = settle(&crew.team(), AuditRound::Sums, stops, &round)?;
-    sums_in(crew.setup.alloc, settled.parts.as_slice())
+    sums_in(crew.alloc, settled.parts.as_slice())
 }
 
 /// The blocks of all connections of which anything may be shown, each with the connection before it.
@@ -62,15 +62,14 @@ fn planned<'a, R: Threads + Sync, G: Gate>(
     requires whole { All IsBlock connections.now }
     requires fits { All (BlockFits connection_start) (wholes connections.now) }
     requires few { RestsAreFew connections.now }
-    ensures plan { IfOk result (λ plan. IsPlan crew.now.setup.credits_shown (length connections.now)
-        (shown_at crew.now.setup.credits_shown 0 (wholes connections.now)) plan.items) }
+    ensures plan { IfOk result (λ plan. IsPlan crew.now.credits_shown (length connections.now)
+        (shown_at crew.now.credits_shown 0 (wholes connections.now)) plan.items) }
     ensures few { IfOk result (λ plan. length plan.items < 2 ^ 32) }
 {
-    let setup = &crew.setup;
-    let blocks = in_blocks(setup.alloc, setup.block as usize, connections)?;
+    let blocks = in_blocks(crew.alloc, crew.division.block as usize, connections)?;
     let blocks = blocks.as_slice();
     let sums = sums_of(crew, stops, blocks)?;
-    plan_of(setup.alloc, setup.credits_shown, blocks, sums.as_slice())
+    plan_of(crew.alloc, crew.credits_shown, blocks, sums.as_slice())
 }
 
 /// What was found of each connection, and what its blocks show, up to where it is known to stop.
@@ -82,15 +81,15 @@ pub(crate) fn rounds_over_blocks<R: Threads + Sync, G: Gate>(
 ) -> Result<Vec<Vec<Finding>>, AllocError>
     requires few { RestsAreFew connections.now }
     requires remaining { AreRemaining connections.now stops.now found.items }
-    ensures { IfOk result (λ last. AreGoneThrough crew.now.setup.credits_shown connections.now found.items last.items) }
+    ensures { IfOk result (λ last. AreGoneThrough crew.now.credits_shown connections.now found.items last.items) }
 {
     let plan = planned(crew, stops, connections)?;
     let round = BlockRound {
         plan: plan.as_slice(),
-        credits_shown: crew.setup.credits_shown,
+        credits_shown: crew.credits_shown,
     };
     let settled = settle(&crew.team(), AuditRound::Blocks, stops, &round)?;
-    let none = none_of_each(crew.setup.alloc, connections.len())?;
+    let none = none_of_each(crew.alloc, connections.len())?;
     let own = gathered(none, settled.parts)?;
-    merged_each(crew.setup.alloc, found, own)
+    merged_each(crew.alloc, found, own)
 }

@@ -5,7 +5,7 @@ ghost use Rattle.audit_terms.specs.Pass.{pass};
 ghost use Rattle.audit_rounds.specs.code.Batch.{IsBatch};
 
 use crate::batch::by_halves;
-use crate::crew::{Crew, Setup};
+use crate::crew::Crew;
 use audit_terms::{Finding, Frame};
 use input_output::TableHash;
 use std::alloc::{AllocError, Global};
@@ -26,6 +26,21 @@ pub struct Division {
     pub ghost some_workers: { 0 < workers },
     pub ghost some_groups: { 0 < groups },
     pub ghost some_block: { 0 < block },
+}
+
+impl Division {
+    /// The same with so many workers.
+    pub(crate) fn with_workers(self, workers: u32) -> Division
+        requires { 0 < workers }
+        ensures { result.workers ≡ workers }
+    {
+        Division {
+            workers,
+            groups: self.groups,
+            block: self.block,
+            hash: self.hash,
+        }
+    }
 }
 
 /// How many frames, and how many connections, a batch of more than one connection has at most. What the rounds need
@@ -66,14 +81,7 @@ pub fn findings_of_each<R: Threads + Sync, G: Gate>(
     ensures { IfOk result (λ found. map (λ one. one.items) found.items
         ≡ map (λ frames. shown credits_shown (pass frames.now)) connections.now) }
 {
-    let setup = Setup {
-        alloc,
-        groups: division.groups,
-        block: division.block,
-        hash: division.hash,
-        credits_shown,
-    };
-    let crew = Crew::of(rt, gate, setup, division.workers);
+    let crew = Crew::of(rt, gate, alloc, *division, credits_shown);
     let mut all = Vec::with_capacity(alloc, connections.len())?;
     let mut done = 0;
     while done < connections.len() {

@@ -59,17 +59,21 @@ fn faults_and_split<R: Threads + Sync, G: Gate>(
 )
     requires frames { AreForSplit frames.now changes.now }
     ensures faults { IfOk result.0 (λ found. found.items ≡ local_run frames.now) }
-    ensures split { IfOk result.1 (IsSplit crew.now.setup.credits_shown changes.now frames.now) }
+    ensures split { IfOk result.1 (IsSplit crew.now.credits_shown changes.now frames.now) }
 {
-    let (rt, alloc, hash) = (crew.rt, crew.setup.alloc, crew.setup.hash);
-    let credits_shown = crew.setup.credits_shown;
-    if crew.workers == 1 || frames.len() < LONG {
+    let (rt, alloc, hash, credits_shown) = (
+        crew.rt,
+        crew.alloc,
+        crew.division.hash,
+        crew.credits_shown,
+    );
+    if crew.division.workers == 1 || frames.len() < LONG {
         return (
             local_faults(rt, alloc, 1, frames),
             split(alloc, hash, credits_shown, changes, frames),
         );
     }
-    let others = crew.workers as usize - 1;
+    let others = crew.division.workers as usize - 1;
     join(
         rt,
         || -> Result<Vec<Finding>, AllocError>
@@ -113,9 +117,9 @@ fn prepare<'a, R: Threads + Sync, G: Gate>(
     frames: &'a [Frame],
 ) -> Result<(), AllocError>
     requires { IsOrderly frames.now }
-    ensures { OnOk result (AddsReady crew.now.setup.credits_shown frames.entry made.old made.new) }
+    ensures { OnOk result (AddsReady crew.now.credits_shown frames.entry made.old made.new) }
 {
-    let pairs = pair(crew.setup.alloc, frames)?;
+    let pairs = pair(crew.alloc, frames)?;
     let (found, split) = faults_and_split(crew, pairs.changes.as_slice(), frames);
     let found = found?;
     let split = split?;
@@ -142,9 +146,9 @@ fn prepare_in_turn<'a, R: Threads + Sync, G: Gate>(
     connections: &[&'a [Frame]],
 ) -> Result<MadeReady<'a>, AllocError>
     requires { IsBatch connections.now }
-    ensures { IfOk result (AreMadeReady crew.now.setup.credits_shown connections.now) }
+    ensures { IfOk result (AreMadeReady crew.now.credits_shown connections.now) }
 {
-    let mut made = MadeReady::with_capacity(crew.setup.alloc, connections.len())?;
+    let mut made = MadeReady::with_capacity(crew.alloc, connections.len())?;
     for frames in connections {
         prepare(crew, &mut made, *frames)?;
     }
@@ -158,25 +162,26 @@ pub(crate) fn prepare_each<'a, R: Threads + Sync, G: Gate>(
     connections: &[&'a [Frame]],
 ) -> Result<MadeReady<'a>, AllocError>
     requires { IsBatch connections.now }
-    ensures { IfOk result (AreMadeReady crew.now.setup.credits_shown connections.now) }
+    ensures { IfOk result (AreMadeReady crew.now.credits_shown connections.now) }
 {
-    if crew.workers == 1 || connections.len() < 2 {
+    let workers = crew.division.workers;
+    if workers == 1 || connections.len() < 2 {
         return prepare_in_turn(crew, connections);
     }
     let (front, back) = in_halves(connections);
-    let (rt, gate, setup) = (crew.rt, crew.gate, crew.setup);
-    let few = crew.workers / 2;
-    let others = crew.workers - few;
+    let (rt, gate, alloc, credits_shown) = (crew.rt, crew.gate, crew.alloc, crew.credits_shown);
+    let few = crew.division.with_workers(workers / 2);
+    let others = crew.division.with_workers(workers - workers / 2);
     let (one, other) = join(
         rt,
         || -> Result<MadeReady<'_>, AllocError>
-            requires { IsSync R.row × IsSync G.row × (0 < few) × IsBatch front.now }
-            ensures { IfOk result (AreMadeReady setup.credits_shown front.entry.now) }
-        { prepare_each(&Crew::of(rt, gate, setup, few), front) },
+            requires { IsSync R.row × IsSync G.row × IsBatch front.now }
+            ensures { IfOk result (AreMadeReady credits_shown front.entry.now) }
+        { prepare_each(&Crew::of(rt, gate, alloc, few, credits_shown), front) },
         || -> Result<MadeReady<'_>, AllocError>
-            requires { IsSync R.row × IsSync G.row × (0 < others) × IsBatch back.now }
-            ensures { IfOk result (AreMadeReady setup.credits_shown back.entry.now) }
-        { prepare_each(&Crew::of(rt, gate, setup, others), back) },
+            requires { IsSync R.row × IsSync G.row × IsBatch back.now }
+            ensures { IfOk result (AreMadeReady credits_shown back.entry.now) }
+        { prepare_each(&Crew::of(rt, gate, alloc, others, credits_shown), back) },
     );
     both_ready(one, other)
 }

@@ -39,13 +39,13 @@ fn settled_streams<R: Threads + Sync, G: Gate>(
     requires few { RowsAreFew streams.now }
     requires number { length stops.now ≡ length streams.now }
     requires places { All IsStop stops.now }
-    ensures { IfOk result (HaveSettled crew.now.setup.credits_shown crew.now.setup.groups streams.now stops.now) }
+    ensures { IfOk result (HaveSettled crew.now.credits_shown crew.now.division.groups streams.now stops.now) }
 {
-    let plan = stream_plan(crew.setup.alloc, crew.setup.groups as usize, streams)?;
+    let plan = stream_plan(crew.alloc, crew.division.groups as usize, streams)?;
     let round = StreamsRound {
         connections: streams,
         plan: plan.as_slice(),
-        credits_shown: crew.setup.credits_shown,
+        credits_shown: crew.credits_shown,
     };
     settle(&crew.team(), AuditRound::Streams, stops, &round)
 }
@@ -56,12 +56,12 @@ fn settled_over<R: Threads + Sync, G: Gate>(
     connections: &[Prepared<'_>],
     found: &[Vec<Finding>],
 ) -> Result<Settled<Vec<u32>>, AllocError>
-    requires { AreReady crew.now.setup.credits_shown connections.now found.now }
-    ensures { IfOk result (λ settled. HaveSettledOver crew.now.setup.credits_shown crew.now.setup.groups connections.now
+    requires { AreReady crew.now.credits_shown connections.now found.now }
+    ensures { IfOk result (λ settled. HaveSettledOver crew.now.credits_shown crew.now.division.groups connections.now
         found.now settled) }
 {
-    let stops = opening_stops(crew.setup.alloc, found)?;
-    let streams = streams_each(crew.setup.alloc, connections)?;
+    let stops = opening_stops(crew.alloc, found)?;
+    let streams = streams_each(crew.alloc, connections)?;
     settled_streams(crew, streams.as_slice(), stops.as_slice())
 }
 
@@ -71,12 +71,12 @@ pub(crate) fn round_over_streams<R: Threads + Sync, G: Gate>(
     connections: &[Prepared<'_>],
     found: Vec<Vec<Finding>>,
 ) -> Result<AfterStreams, AllocError>
-    requires { AreReady crew.now.setup.credits_shown connections.now found.items }
-    ensures { IfOk result (λ after. AreAfterStreams crew.now.setup.credits_shown connections.now after.found.items
+    requires { AreReady crew.now.credits_shown connections.now found.items }
+    ensures { IfOk result (λ after. AreAfterStreams crew.now.credits_shown connections.now after.found.items
         after.stops.items after.opened.items) }
 {
     let settled = settled_over(crew, connections, found.as_slice())?;
-    let opened = opened_each(crew.setup.alloc, connections, settled.parts.as_slice())?;
+    let opened = opened_each(crew.alloc, connections, settled.parts.as_slice())?;
     let found = gathered(found, settled.parts)?;
     Ok(AfterStreams {
         found,

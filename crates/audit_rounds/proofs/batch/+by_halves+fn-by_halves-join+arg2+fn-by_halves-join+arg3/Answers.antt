@@ -8,12 +8,12 @@ found_after-requires-clause-number g t c κs within = AllZip-long _ _ _ c.in_ok-
 
 pub returns-then-workers-eq1 : goal.returns-then-workers-eq1
 returns-then-workers-eq1 g t c = IfOk-weaker c.found_after.result _ _ (λ all is.
-    early-shown c.args.crew.now.setup.credits_shown c.args.connections.now c.in_ok-early.early.items all.items
+    early-shown c.args.crew.now.credits_shown c.args.connections.now c.in_ok-early.early.items all.items
     c.in_ok-early.ensures is) c.found_after.ensures
 
 pub returns : goal.returns
 returns g t c =
-    let shows = c.args.crew.now.setup.credits_shown in
+    let shows = c.args.crew.now.credits_shown in
     let front = c.in_halves.result.0.now in
     let back = c.in_halves.result.1.now in
     subst (λ all. IfOk c.both_shown.result (λ found. AreShown shows all found.items)) c.in_halves.ensures.whole

@@ -9,14 +9,14 @@ prepare_each-requires-after_bounds g c κs within =
 
 pub findings_of_prepared-requires-after_bounds : goal.findings_of_prepared-requires-after_bounds
 findings_of_prepared-requires-after_bounds g c κs within =
-    rw c.as_slice-3.ensures.value (batch-ready c.args.crew.now.setup.credits_shown c.as_slice-2.result.now
+    rw c.as_slice-3.ensures.value (batch-ready c.args.crew.now.credits_shown c.as_slice-2.result.now
     c.in_ok-made.made
     (rw (c.as_slice-2.ensures.value, c.in_ok-pending.ensures) (pending-batch c.args.connections.now _ c.requires.batch))
     c.in_ok-made.ensures)
 
 pub returns : goal.returns
 returns g c =
-    let shows = c.args.crew.now.setup.credits_shown in
+    let shows = c.args.crew.now.credits_shown in
     let passed = λ (frames : List Frame). shown shows (pass frames) in
     let one_frames = λ (one : Prepared). one.frames.now in
     let ready = rw (c.as_slice-2.ensures.value, c.in_ok-pending.ensures, c.as_slice.ensures.value) at

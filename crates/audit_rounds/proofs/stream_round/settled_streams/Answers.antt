@@ -7,19 +7,19 @@ use Rattle.audit_rounds.proofs.stream_round.settled_streams.Goals as goal
 
 pub invariant_of-round-clause-planned : goal.invariant_of-round-clause-planned
 invariant_of-round-clause-planned g c =
-    let setup = c.args.crew.now.setup in
+    let division = c.args.crew.now.division in
     rw (c.as_slice.ensures.value, c.in_ok-plan.ensures.plan)
-    (planned setup.groups setup.some_groups c.args.streams.now)
+    (planned division.groups division.some_groups c.args.streams.now)
 
 pub settle-requires-clause-connections : goal.settle-requires-clause-connections
 settle-requires-clause-connections g c κs within =
-    let setup = c.args.crew.now.setup in
+    let division = c.args.crew.now.division in
     let streams = c.args.streams.now in
     let number = c.requires.number in
     rw (c.as_slice.ensures.value, c.in_ok-plan.ensures.plan)
-    (All-map (λ (job : Job). job.connection < length c.args.stops.now) (job_of setup.credits_shown streams)
-    (plan_from setup.groups 0 streams) (λ n d l.
-    let own = (planned setup.groups setup.some_groups streams n d l).connection in omega arith))
+    (All-map (λ (job : Job). job.connection < length c.args.stops.now) (job_of _ streams)
+    (plan_from division.groups 0 streams) (λ n d l.
+    let own = (planned division.groups division.some_groups streams n d l).connection in omega arith))
 
 -- its jobs are those of the plan
 settled-as : (credits_shown : Bool) (groups : ℕ) (streams : List Streams) (plan : List StreamJob)
