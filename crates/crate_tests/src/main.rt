@@ -5,8 +5,9 @@
 //!   repeats an equation.
 //! - From frames to findings: that a look answers what another pass of the desk lowered; that a later job sees the stop
 //!   which an earlier one lowered; and that `findings_of_each` and `one_pass` have an answer, where there is memory,
-//!   and the same one, of random frames. How often runs over 1,000 frames look, and what they are handed and keep,
-//!   stands in their contracts; here it stands in numbers that a reader can check.
+//!   and the same one, of random frames, and that the quiet pass gives up only where that is not empty. How often runs
+//!   over 1,000 frames look, and what they are handed and keep, stands in their contracts; here it stands in numbers
+//!   that a reader can check.
 //! - The text, and runs: the words of refused packets, and how faults print; readers and writers that go in steps or
 //!   fail; random keys; that two workers are in one round of an audit at once, and how many jobs each round has. What
 //!   the program answers to words and to whole captures is asked of the program, in `tests/` at the root, and of random

@@ -1,4 +1,4 @@
-//! Random frames, by the rounds and by the plain pass.
+//! Random frames, by the rounds, by the plain pass and by the quiet pass.
 
 ghost use Rattle.std.specs.Prelude.{◌≤◌, ◌<◌};
 
@@ -12,6 +12,7 @@ use audit_rounds::{Division, findings_of_each};
 use audit_terms::frame_types::END_STREAM_FLAG;
 use audit_terms::{Frame, Side, keep_shown};
 use input_output::TableHash;
+use quiet_pass::QuietPass;
 use rand_core::Rng;
 use rand_pcg::Pcg32;
 use std::alloc::{AllocError, Global};
@@ -94,7 +95,19 @@ fn divided(workers: u32, groups: u32, block: u32) -> Division
     }
 }
 
-/// Whether each division shows of the frames what the plain pass does, with credits and without.
+/// Whether the quiet pass knows that nothing is shown of the frames without credits.
+fn is_quiet(alloc: Global, frames: &[Frame]) -> Answer {
+    let mut pass = QuietPass::begin(alloc);
+    for frame in frames {
+        if !pass.meet(frame)? {
+            return Ok(false);
+        }
+    }
+    Ok(true)
+}
+
+/// Whether each division shows of the frames what the plain pass does, with credits and without, and the quiet pass
+/// knows whether that is nothing.
 fn shows_the_pass(rt: &(impl Sync + Threads), alloc: Global, frames: &[Frame]) -> Answer {
     if !are_orderly(frames) {
         return Ok(false);
@@ -110,7 +123,7 @@ fn shows_the_pass(rt: &(impl Sync + Threads), alloc: Global, frames: &[Frame]) -
             }
         }
     }
-    Ok(true)
+    Ok(is_quiet(alloc, frames)? == want.is_empty())
 }
 
 pub fn random_frames(rt: &(impl Sync + Threads), alloc: Global) -> Answer {
