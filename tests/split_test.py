@@ -9,6 +9,7 @@ records that are cut, damaged or longer than the splitter's buffer.
 import pathlib
 import random
 import shutil
+import signal
 import struct
 import subprocess
 import sys
@@ -274,11 +275,30 @@ def damages_of(parts: pathlib.Path) -> list[tuple[str, bytes | None, str]]:
     ]
 
 
+def merge_endings(audit: pathlib.Path, program: pathlib.Path) -> list[str]:
+    """How h2audit-merge ends where its standard output is closed, and by Ctrl-C in the middle of its work."""
+    capture = (TOP / "examples" / "negative_window.pcap").read_bytes()
+    with tempfile.TemporaryDirectory() as made:
+        parts = split(program, pathlib.Path(made), 1, capture, [])
+        merged(audit, parts, 1, [])
+        report = parts / "part-001.report"
+        head, connection = report.read_bytes().split(b"\n", 1)
+        report.write_bytes(head + b"\n" + connection * 2000)  # more than a pipe holds
+        closed = run("sh", "-c", '"$0" "$1" >&-', MERGE, parts)
+        with subprocess.Popen([MERGE, parts], stdout=subprocess.PIPE, stderr=subprocess.PIPE) as child:
+            assert child.stdout and child.stderr
+            child.stdout.read(1)
+            child.send_signal(signal.SIGINT)
+            interrupted = child.wait(120), child.stderr.read()
+    wanted = (4, b"", b"h2audit-merge: Bad file descriptor: standard output\n"), (-signal.SIGINT, b"")
+    return [] if (closed, interrupted) == wanted else [f"merge ends so: {closed}, {interrupted}"]
+
+
 def main(audit: pathlib.Path, programs: list[pathlib.Path]) -> int:
     wrong: list[str] = []
     count = 0
     for program in programs:
-        wrong += refusals(program) + merge_refusals(audit, program)
+        wrong += refusals(program) + merge_refusals(audit, program) + merge_endings(audit, program)
         for turn, (name, capture) in enumerate(captures()):
             wrong += check_capture(audit, program, name, capture, turn)
             count += 1

@@ -17,12 +17,12 @@ from fleet.progress import Progress
 from fleet.walk import Found, NotThere, Walk, found_in
 from fleet.words import MEGABYTE, Asked, read_words
 from report.command import IO_FAILED, MISSING, OK, REFUSED, failed, io_reason
+from report.interrupts import SIGNALS
 
 NAME = "h2audit-fleet"
 FAULTS = 1
 SIGNALLED = 128
 GOES_ON = "--resume goes on with the database"
-SIGNALS = (signal.SIGINT, signal.SIGTERM, signal.SIGHUP)
 
 
 class Ended(Exception):
@@ -133,7 +133,7 @@ def run(asked: Asked, client: Any, database: Database, walk: Walk, captures: lis
     course = Course(client, order, limits, enter)
     is_whole = course.run(captures, tick)
     progress.clear()
-    print(progress.summary(len(walk.captures) - len(captures), walk.others))
+    print(progress.summary(len(walk.captures) - len(captures), walk.others), flush=True)
     if not is_whole:
         return interruption.ended(GOES_ON)
     return status_of(database, walk)
@@ -189,7 +189,7 @@ def collected(asked: Asked, interruption: Interruption) -> int:
             progress.count(database.enter(*job), 0)
             progress.show()
         progress.clear()
-        print(progress.summary(0, 0) + f"; {unfinished} did not come to their end" * bool(unfinished))
+        print(progress.summary(0, 0) + f"; {unfinished} did not come to their end" * bool(unfinished), flush=True)
         return REFUSED if unfinished else status_of(database, walk)
     finally:
         database.close()

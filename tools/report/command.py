@@ -4,15 +4,20 @@ from __future__ import annotations
 
 import argparse
 import contextlib
+import io
 import os
 import re
 import sys
 from collections.abc import Callable, Iterator
 from typing import BinaryIO, NoReturn
 
+from report.interrupts import Waiting
+
 OK, WRONG_WORDS, REFUSED, IO_FAILED, MISSING = 0, 2, 3, 4, 5
 # No number of a command line has more digits.
 DIGITS = r"\d{1,20}"
+# So many bytes are read at a time.
+BUFFER = 2**18
 
 
 class Words(argparse.ArgumentParser):
@@ -50,14 +55,34 @@ def io_reason(why: OSError) -> str:
 @contextlib.contextmanager
 def opened(path: str) -> Iterator[BinaryIO]:
     """The file of this name, or standard input for -."""
-    if path == "-":
-        yield sys.stdin.buffer
-        return
-    with open(path, "rb") as file:
+    with io.BufferedReader(Waiting(0, closefd=False) if path == "-" else Waiting(path), BUFFER) as file:
         yield file
 
 
-def quiet_exit(status: int) -> NoReturn:
+def hold_standard_files() -> None:
+    """Puts something in the place of standard files that are closed, so that no other file gets their number. It does
+    not let them be used: reading or writing fails, but for messages, which are lost.
+    """
+    for number, flags in enumerate((os.O_WRONLY, os.O_RDONLY, os.O_WRONLY)):
+        try:
+            os.fstat(number)
+        except OSError:
+            os.open(os.devnull, flags)
+    sys.stdout = sys.stdout or open(1, "w", closefd=False)
+    sys.stderr = sys.stderr or open(2, "w", closefd=False)
+
+
+def run(main: Callable[[list[str]], int]) -> NoReturn:
+    """Runs a program by its words."""
+    hold_standard_files()
+    leave(main(sys.argv[1:]))
+
+
+def leave(status: int) -> NoReturn:
     """Ends without a second complaint where standard output is a closed pipe."""
-    sys.stdout = open(os.devnull, "w") if status == IO_FAILED else sys.stdout
+    try:
+        sys.stdout.flush()
+    except OSError:
+        os.dup2(os.open(os.devnull, os.O_WRONLY), 1)
+        status = IO_FAILED
     sys.exit(status)

@@ -1,6 +1,5 @@
 """The command line of h2audit-merge, its lines on standard error and its statuses."""
 import argparse
-import os
 import resource
 import sys
 from pathlib import Path
@@ -45,7 +44,6 @@ def main(words: list[str]) -> int:
         print(f"h2audit-merge: {refusal}", file=sys.stderr)
         return STATUS_REFUSED
     except BrokenPipeError:
-        os.dup2(os.open(os.devnull, os.O_WRONLY), sys.stdout.fileno())
         print("h2audit-merge: write failed", file=sys.stderr)
         return STATUS_FAILED
     except OSError as error:

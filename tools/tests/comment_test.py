@@ -43,6 +43,7 @@ from pcapng_blocks import (
     section,
     simple_packet,
 )
+from signals import SIGNALS, hidden_in, signalled
 
 # What a packet is: all that tshark shows of its place, time, interface and bytes.
 FIELDS = [
@@ -419,7 +420,7 @@ class BadInput(InFolder):
     def refuses(self, why: str, capture: pathlib.Path = CAPTURE, report: pathlib.Path = CAPTURE_REPORT) -> None:
         done = run(capture, report, "-o", self.out)
         self.assertEqual((done.returncode, done.stderr.decode()), (3, f"h2audit-comment: {why}\n"))
-        self.assertFalse(list(self.folder.glob("*.pcapng")) + list(self.folder.glob(".h2audit-*")))
+        self.assertFalse(list(self.folder.glob("*.pcapng")) + hidden_in(self.folder))
 
     def data(self, data: bytes) -> pathlib.Path:
         return self.write("in", data)
@@ -541,6 +542,25 @@ class BadInput(InFolder):
                     status = main([*words, "-o", str(self.out)])
                 self.assertIn(status, (0, 3))
                 self.assertLessEqual(said.getvalue().count("\n"), 1)
+
+    def test_signals(self) -> None:
+        """One in the middle of the work leaves no file and says nothing, also where others follow."""
+        words = [PROGRAM, "-", CAPTURE_REPORT, "-o", self.out]
+        for numbers in (*([one] for one in SIGNALS), sorted(SIGNALS)):
+            with self.subTest(numbers):
+                begin = self.CAPTURE.read_bytes()[:1000]
+                status, said = signalled(words, begin, numbers, lambda: hidden_in(self.folder))
+                self.assertIn(-status, numbers)
+                self.assertEqual((said, os.listdir(self.folder)), (b"", []))
+
+    def test_closed_files(self) -> None:
+        for words in (("-", CAPTURE_REPORT, "-o", self.out), (self.CAPTURE, CAPTURE_REPORT, "-o", "-")):
+            closed = ["bash", "-c", '"$0" "$@" <&- >&-', str(PROGRAM), *map(str, words)]
+            done = subprocess.run(closed, capture_output=True)
+            self.assertEqual(
+                (done.returncode, done.stderr), (4, b"h2audit-comment: input or output: Bad file descriptor\n")
+            )
+        self.assertEqual(os.listdir(self.folder), [])
 
     def test_closed_pipe(self) -> None:
         words = [PROGRAM, self.CAPTURE, CAPTURE_REPORT]

@@ -27,7 +27,7 @@ from collections.abc import Callable, Iterable, Iterator
 import import_tools as tools
 from pcapng_blocks import block, interface, packet, section
 
-sys.path.insert(0, str(tools.TOP / "tools" / "import"))
+sys.path[:0] = [str(tools.TOP / "tools" / "import"), str(tools.TOP / "tools")]
 
 from h2audit_import.flows import Flow  # noqa: E402
 from h2audit_import.key_log import Keys  # noqa: E402

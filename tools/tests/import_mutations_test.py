@@ -23,7 +23,7 @@ from collections.abc import Iterator
 
 import import_tools as tools
 
-sys.path.insert(0, str(tools.TOP / "tools" / "import"))
+sys.path[:0] = [str(tools.TOP / "tools" / "import"), str(tools.TOP / "tools")]
 
 from h2audit_import import command, programs  # noqa: E402
 

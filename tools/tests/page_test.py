@@ -8,6 +8,7 @@ import html.parser
 import io
 import json
 import math
+import os
 import pathlib
 import random
 import re
@@ -30,6 +31,7 @@ from page import chart_data, document, tables
 from page.library import Missing, library
 from page.model import Audit, read_audit
 from page.series import Series, series_of, thinned
+from signals import SIGNALS, signalled
 
 FINDING = re.compile(
     r"^frame (\d+) record (\d+) time (\d+) (client|server) ([a-z-]+) stream (\d+) value (-?\d+)$", re.M
@@ -319,6 +321,20 @@ class Refusals(unittest.TestCase):
             self.assertEqual(
                 (done.returncode, done.stderr), (4, "h2audit-page: /nowhere/at all: No such file or directory\n")
             )
+
+    def test_signals(self) -> None:
+        """One while it reads ends it without a word."""
+        begin = large(1, 4000, 50).encode()
+        with tempfile.TemporaryDirectory() as folder:
+            for one in SIGNALS:
+                done = signalled([PROGRAM, "-", "-o", f"{folder}/page.html"], begin, [one])
+                self.assertEqual((done, os.listdir(folder)), ((-one, b""), []))
+
+    def test_closed_files(self) -> None:
+        for words in (["-", "-o", "/dev/null"], [str(examples()[0]), "-o", "-"]):
+            done = subprocess.run(["bash", "-c", '"$0" "$@" <&- >&-', PROGRAM, *words], capture_output=True)
+            said = b"h2audit-page: input or output: Bad file descriptor\n"
+            self.assertEqual((done.returncode, done.stderr), (4, said))
 
     def test_no_library(self) -> None:
         with self.assertRaisesRegex(

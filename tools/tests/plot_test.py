@@ -7,6 +7,7 @@
 
 import contextlib
 import io
+import os
 import pathlib
 import re
 import subprocess
@@ -21,6 +22,7 @@ sys.dont_write_bytecode = True
 
 from plot import program  # noqa: E402
 from plot.windows import chosen, connections_of, windows_of  # noqa: E402
+from signals import SIGNALS, hidden_in, signalled  # noqa: E402
 
 PROGRAM = TOP / "tools" / "h2audit-plot"
 EXAMPLES = TOP / "examples"
@@ -187,6 +189,24 @@ class BadInput(unittest.TestCase):
                       ["--panels", "65"], ["--panels", "9" * 5000]):
             status, said = answer(*words)
             self.assertEqual((status, said.count("\n"), said.startswith("h2audit-plot: ")), (2, 1, True), words)
+
+    def test_signals(self) -> None:
+        """One while it reads, or while it draws, leaves no file and says nothing."""
+        report = EXAMPLES / "stream_stalls_nghttpd.frames.report"
+        begin = report.read_bytes().split(b"frame ", 1)[0] + b"".join(
+            b"frame %d record 1 time 1 server connection-credit stream 0 value 1\n" % frame for frame in range(1, 5000))
+        with tempfile.TemporaryDirectory() as folder:
+            words = ["-o", f"{folder}/picture.svg"]
+            for one in SIGNALS:
+                reads = signalled([PROGRAM, *words], begin, [one])
+                draws = signalled([PROGRAM, report, *words], b"", [one], lambda: hidden_in(pathlib.Path(folder)))
+                self.assertEqual((reads, draws, os.listdir(folder)), ((-one, b""), (-one, b""), []))
+
+    def test_closed_files(self) -> None:
+        for words in (["-"], [str(EXAMPLES / "stream_overrun_go.frames.report")]):
+            run = subprocess.run(["bash", "-c", '"$0" "$@" <&- >&-', str(PROGRAM), *words], capture_output=True)
+            said = b"h2audit-plot: input or output: Bad file descriptor\n"
+            self.assertEqual((run.returncode, run.stderr), (4, said))
 
     def test_closed_pipe(self) -> None:
         report = EXAMPLES / "stream_stalls_nghttpd.frames.report"

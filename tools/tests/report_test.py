@@ -1,10 +1,13 @@
 #!/usr/bin/python3
-"""Tests of what the programs beside h2audit share: the lines of a report, and who is to blame, as the documents say."""
+"""Tests of what the programs beside h2audit share: the lines of a report, who is to blame, as the documents say, and
+files that are there only once they are whole.
+"""
 
 import io
 import pathlib
 import re
 import sys
+import tempfile
 import unittest
 
 TOP = pathlib.Path(__file__).resolve().parents[2]
@@ -13,6 +16,7 @@ sys.dont_write_bytecode = True
 
 from report import blame, lines
 from report.notes import Pairing, sentence
+from signals import SIGNALS, hidden_in, signalled
 
 DOCS = TOP / "docs"
 RANKED = re.compile(r"^\| \d+ \| `([a-z-]+)` \| [^|]* \| [^|]* \| ([^|]*) \|$", re.M)
@@ -189,6 +193,38 @@ class Lines(unittest.TestCase):
         self.refuses(good.split(b"\n")[0] + b"\nflow client bytes 1 gap none tail 0\n", "line 2 is no line")
         self.refuses(good + good, "line 10 is no line of a report")
         self.refuses(good + b"x" * 10**6, "line 10 is no line of a report")
+
+
+# Writes a part of a file, and reads on.
+HALF = f"""
+import sys
+sys.path.insert(0, {str(TOP / "tools")!r})
+sys.dont_write_bytecode = True
+from report.command import opened
+from report.output import written
+with opened("-") as file, written(sys.argv[1]) as out:
+    out.write(file.read(3))
+    out.flush()
+    file.read(3)
+"""
+
+
+class Output(unittest.TestCase):
+    def test_signals(self) -> None:
+        """A file that a signal ends in the middle goes, and the one whose place it would take stays as it was."""
+        with tempfile.TemporaryDirectory() as name:
+            folder, file = pathlib.Path(name), pathlib.Path(name, "file")
+
+            def is_half() -> bool:
+                return [(folder / half).read_bytes() for half in hidden_in(folder)] == [b"abc"]
+
+            for before in (None, b"before"):
+                if before:
+                    file.write_bytes(before)
+                for one in SIGNALS:
+                    done = signalled([sys.executable, "-c", HALF, file], b"abc", [one], is_half)
+                    left = [(path.name, path.read_bytes()) for path in folder.iterdir()]
+                    self.assertEqual((done, left), ((-one, b""), [("file", before)] if before else []))
 
 
 if __name__ == "__main__":

@@ -7,12 +7,14 @@ import sys
 from argparse import Namespace
 from typing import Iterable, Iterator, NoReturn
 
+from report.interrupts import Waiting
+from report.output import BUFFER
+
 from .audit import Audit, Report, audit_by, program_named
 from .command import imported
-from .interrupts import Waiting
 from .outcomes import Refusal
 from .parts import MOST_PARTS, REPORTED, audit_in_parts
-from .private_files import BUFFER, nameless
+from .private_files import nameless
 from .programs import NOTHING_READ, number, run, say, words_of
 from .read_map import read_map
 from .report import Original, brought_back

@@ -6,11 +6,13 @@ from argparse import Namespace
 from contextlib import contextmanager
 from typing import Iterator, NoReturn, TextIO
 
+from report.output import is_special
+
 from .errors import Refused
 from .importing import Counts, Importer, scan_for_secrets
 from .key_log import Keys, read_key_log
 from .map_file import Map
-from .private_files import is_special, written
+from .private_files import written
 from .programs import NOTHING_READ, Progress, run, say, words_of
 from .sources import STANDARD_INPUT, can_be_read_twice
 from .stages import OneProcess, Output, Stage

@@ -7,7 +7,3 @@ class Refused(Exception):
 
 class Stopped(Exception):
     """What ends the reading of one side of a TLS connection, or of the whole connection, with its name."""
-
-
-class Interrupted(BaseException):
-    """A signal that ends the program. It passes every handler of errors, so that temporary files go."""

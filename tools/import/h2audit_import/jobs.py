@@ -19,10 +19,11 @@ from operator import itemgetter
 from queue import SimpleQueue
 from typing import Any, TypeAlias
 
+from report.interrupts import SIGNALS
+
 from .connections import Context, swapped
 from .flows import Arrival
 from .internet import Segment
-from .interrupts import SIGNALS
 from .key_log import Keys
 from .outcomes import Outcome, Unopened
 from .programs import NO_MEMORY

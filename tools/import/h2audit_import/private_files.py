@@ -1,24 +1,12 @@
 """Files that hold plaintext: their owner alone may read them, and none is left behind half-written."""
 
 import os
-import signal
-import stat
 import sys
 import tempfile
-from contextlib import contextmanager, suppress
+from contextlib import contextmanager
 from typing import IO, Iterator
 
-from .interrupts import SIGNALS
-
-BUFFER = 1 << 20
-
-
-def is_special(path: str) -> bool:
-    """Whether a path names something that is there and is no file, as a pipe or a device."""
-    try:
-        return not stat.S_ISREG(os.stat(path).st_mode)
-    except FileNotFoundError:
-        return False
+from report.output import BUFFER, HIDDEN, is_special, replaced
 
 
 @contextmanager
@@ -32,8 +20,7 @@ def named(path: str) -> Iterator[None]:
 
 
 def temporary_beside(path: str) -> str:
-    folder, name = os.path.split(os.path.realpath(path))
-    return os.path.join(folder, f".{name}.")
+    return os.path.join(os.path.dirname(os.path.realpath(path)), HIDDEN)
 
 
 @contextmanager
@@ -49,26 +36,6 @@ def written(path: str) -> Iterator[IO[bytes]]:
         else:
             with replaced(path) as file:
                 yield file
-
-
-@contextmanager
-def replaced(path: str) -> Iterator[IO[bytes]]:
-    """A file beside the one of this name, in whose place it comes at the end."""
-    target = os.path.realpath(path)
-    before = signal.pthread_sigmask(signal.SIG_BLOCK, SIGNALS)
-    try:
-        number, temporary = tempfile.mkstemp(prefix=f".{os.path.basename(target)}.", dir=os.path.dirname(target))
-        try:
-            signal.pthread_sigmask(signal.SIG_SETMASK, before)  # from here on a signal finds the file to remove
-            with open(number, "wb", buffering=BUFFER) as file:
-                yield file
-            os.replace(temporary, target)
-        except BaseException:
-            with suppress(FileNotFoundError):
-                os.unlink(temporary)
-            raise
-    finally:
-        signal.pthread_sigmask(signal.SIG_SETMASK, before)
 
 
 @contextmanager

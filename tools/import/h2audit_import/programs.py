@@ -2,15 +2,15 @@
 
 import argparse
 import gc
-import os
-import signal
 import sys
 import time
 from typing import Callable, NoReturn
 
+from report.command import hold_standard_files, leave
+from report.interrupts import Interrupted, end_by, signals_raise
+
 from . import VERSION
-from .errors import Interrupted, Refused
-from .interrupts import signals_raise
+from .errors import Refused
 
 USAGE, CAPTURE_REFUSED, IO_FAILED, NO_MEMORY, NOTHING_READ = 2, 3, 4, 5, 6
 MOST_JOBS = 64
@@ -81,19 +81,6 @@ def say(program: str, message: str) -> None:
     print(f"{program}: {message}", file=sys.stderr)
 
 
-def hold_standard_files() -> None:
-    """Puts something in the place of standard files that are closed, so that no other file gets their number. It does
-    not let them be used: reading or writing fails, but for messages, which are lost.
-    """
-    for number, flags in enumerate((os.O_WRONLY, os.O_RDONLY, os.O_WRONLY)):
-        try:
-            os.fstat(number)
-        except OSError:
-            os.open(os.devnull, flags)
-    sys.stdout = sys.stdout or open(1, "w", closefd=False)
-    sys.stderr = sys.stderr or open(2, "w", closefd=False)
-
-
 def run(program: str, work: Callable[[], int]) -> NoReturn:
     """Does the work, and ends with its status, or with that of what went wrong and one line that says it.
 
@@ -119,16 +106,5 @@ def run(program: str, work: Callable[[], int]) -> NoReturn:
     except Interrupted as why:
         stopped = why.args[0]
     if stopped:  # by now the exception is gone, and with it every file that a frame of its traceback still held
-        signal.signal(stopped, signal.SIG_DFL)
-        os.kill(os.getpid(), stopped)
+        end_by(stopped)
     leave(status)
-
-
-def leave(status: int) -> NoReturn:
-    """Ends without a second complaint where standard output is a closed pipe."""
-    try:
-        sys.stdout.flush()
-    except OSError:
-        os.dup2(os.open(os.devnull, os.O_WRONLY), 1)
-        status = IO_FAILED
-    sys.exit(status)

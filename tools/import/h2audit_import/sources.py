@@ -10,8 +10,9 @@ from typing import BinaryIO, Iterator, cast
 
 import zstandard
 
+from report.interrupts import Waiting
+
 from .errors import Refused
-from .interrupts import Waiting
 
 STANDARD_INPUT = "-"
 CHUNK = 1 << 20

@@ -9,20 +9,27 @@ import os
 import select
 import signal
 from contextlib import contextmanager
-from typing import Any, Iterator, NoReturn
-
-from .errors import Interrupted
+from typing import Any, Iterator
 
 SIGNALS = (signal.SIGINT, signal.SIGTERM, signal.SIGHUP)
 wakes: list[int] = []  # the end to read of that pipe, while signals raise
 
 
-def interrupt(number: int, _frame: object) -> NoReturn:
-    raise Interrupted(number)
+class Interrupted(BaseException):
+    """A signal that ends the program. It passes every handler of errors, so that temporary files go."""
 
 
 @contextmanager
 def signals_raise() -> Iterator[None]:
+    """The first signal raises; another one that comes while things are cleaned up changes nothing."""
+    is_ending = False
+
+    def interrupt(number: int, _frame: object) -> None:
+        nonlocal is_ending
+        if not is_ending:
+            is_ending = True
+            raise Interrupted(number)
+
     reading, writing = os.pipe()
     os.set_blocking(reading, False)
     os.set_blocking(writing, False)
@@ -38,6 +45,12 @@ def signals_raise() -> Iterator[None]:
             signal.signal(one, handler)
         os.close(reading)
         os.close(writing)
+
+
+def end_by(number: int) -> None:
+    """Ends the program by a signal, so that a shell sees the status that it expects."""
+    signal.signal(number, signal.SIG_DFL)
+    os.kill(os.getpid(), number)
 
 
 class Waiting(io.FileIO):
