@@ -2,8 +2,8 @@
 """Refuses each growth, thread, read and write of a program in turn: tools/tests/refusals_test.py PROGRAM
 
 refuse.c is loaded before the C library and makes one call fail. A run whose call is refused either says so, with the
-status and the line that README.md names and nothing on standard output, or gives the same answer as a run that meets
-no refusal. Only after a failed write is there more on standard output: a beginning of the report. A thread that
+status and the line that docs/STATUS.md names and nothing on standard output, or gives the same answer as a run that
+meets no refusal. Only after a failed write is there more on standard output: a beginning of the report. A thread that
 cannot be had changes nothing, and neither does a read or a write of a single byte.
 """
 
