@@ -1,7 +1,6 @@
 mod Words
 pub mod PassOrder
 pub mod PassRows
-pub mod OrderlyRest
 pub mod Meetings
 pub mod CreditLemmas
 pub mod LiveWindows

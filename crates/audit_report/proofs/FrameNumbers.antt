@@ -5,22 +5,9 @@ use Rattle.std.{proofs.lemmas.Bool.cases_lt, specs.List.Sorted.IsNonDecreasingBy
 use Rattle.std.{proofs.lemmas.Grind.common_steps, specs.Ordering.nat_cmp, specs.Ordering.ordering_index}
 use Rattle.std.specs.declared.cmp.Ordering.TheVariants.{Less, Equal, Greater}
 use Rattle.audit_terms.specs.{declared.frames.Frame.Frame, code.runs.Orderly.IsInRange, code.runs.Orderly.IsOrderlyFrom}
+use Rattle.audit_terms.proofs.FindingOrder.{nat_level}
+use Rattle.audit_terms.proofs.OrderlyFrames.{number_at_least, numbers_rise, ranks_rise}
 use Rattle.audit_report.specs.FrameLookup.{frame_numbered}
-
--- each frame's number is at least the bound
-pub number_at_least : (low : ℕ) (frames : List Frame) → IsOrderlyFrom low frames → (i : ℕ) (d : Frame)
-    → i < length frames → low ≤ (get_or frames i d).number
-number_at_least low [] h i d l = omega arith
-number_at_least low (x ∷ xs) h zero d l = h.0
-number_at_least low (x ∷ xs) h (suc i) d l =
-    omega (arith, number_at_least (x.number + 1) xs h.2 i d (omega arith), h.0)
-
--- each frame is in range
-pub in_range_at : (low : ℕ) (frames : List Frame) → IsOrderlyFrom low frames → (i : ℕ) (d : Frame) → i < length frames
-    → IsInRange (get_or frames i d)
-in_range_at low [] h i d l = absurd (omega arith)
-in_range_at low (x ∷ xs) h zero d l = h.1
-in_range_at low (x ∷ xs) h (suc i) d l = in_range_at (x.number + 1) xs h.2 i d (omega arith)
 
 -- the frame at an index is the one of its number
 pub frame_numbered_at : (low : ℕ) (frames : List Frame) → IsOrderlyFrom low frames → (i : ℕ) (d : Frame)
@@ -41,34 +28,17 @@ frame_numbered_none (x ∷ xs) n h =
     let apart : nat_eq x.number n ≡ false = grind (arith, common_steps) in
     rw apart (frame_numbered_none xs n (λ i d l. h (suc i) d (omega arith)))
 
--- numbers rise with the index
-numbers_rise : (low : ℕ) (frames : List Frame) → IsOrderlyFrom low frames → (i j : ℕ) (d : Frame) → i ≤ j
-    → j < length frames → (get_or frames i d).number ≤ (get_or frames j d).number
-numbers_rise low [] h i j d le l = absurd (omega arith)
-numbers_rise low (x ∷ xs) h zero zero d le l = omega arith
-numbers_rise low (x ∷ xs) h zero (suc j) d le l =
-    omega (arith, number_at_least (x.number + 1) xs h.2 j d (omega arith))
-numbers_rise low (x ∷ xs) h (suc i) zero d le l = absurd (omega arith)
-numbers_rise low (x ∷ xs) h (suc i) (suc j) d le l = numbers_rise (x.number + 1) xs h.2 i j d (omega arith)
-    (omega arith)
-
-equal_numbers : (a n : ℕ) → nat_cmp a n ≡ Equal → a ≡ n
-equal_numbers a n e = grind (arith, common_steps)
-
 less_apart : (a n : ℕ) → nat_cmp a n ≡ Less → a ≢ n
 less_apart a n e same = grind (arith, common_steps)
 
 greater_apart : (a n : ℕ) → nat_cmp a n ≡ Greater → a ≢ n
 greater_apart a n e same = grind (arith, common_steps)
 
-ranks_rise : (a b n : ℕ) → a ≤ b → ordering_index (nat_cmp a n) ≤ ordering_index (nat_cmp b n)
-ranks_rise a b n le = grind (arith, common_steps)
-
 -- what a search by halving answers, where it finds the number
 pub frame_numbered_found : (frames : List Frame) (n i : ℕ) (d : Frame) → IsOrderlyFrom 0 frames → i < length frames
     → ((e : Frame) → nat_cmp (get_or frames i e).number n ≡ Equal) → Some (get_or frames i d) ≡ frame_numbered frames n
 frame_numbered_found frames n i d h l at =
-    let same : (get_or frames i d).number ≡ n = equal_numbers _ _ (at d) in
+    let same : (get_or frames i d).number ≡ n = nat_level _ _ (at d) in
     sym (subst (λ (k : ℕ). frame_numbered frames k ≡ Some (get_or frames i d)) same
     (frame_numbered_at 0 frames h i d l))
 

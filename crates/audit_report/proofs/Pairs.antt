@@ -6,11 +6,6 @@ use Rattle.audit_report.specs.code.Contents.{contents_in, opening_text}
 use Rattle.audit_report.specs.code.Reported.{AreHeaded, HasOrderlyOutcome, extents_in, outcome_text, told_text}
 use Rattle.audit_report.specs.declared.{told.Told.Told, headings.Heading.Heading}
 
--- a list from the index of an element
-from_here : {X : Type 0} (xs : List X) (i : ℕ) (x : X) → i < length xs → x ≡ get_or xs i x
-    → drop i xs ≡ x ∷ drop (i + 1) xs
-from_here xs i x l here = drop_more xs i x l ∙ ap (λ y. y ∷ drop (i + 1) xs) (sym here)
-
 -- the lines from the index of a connection, of which the next one has this number
 pub sections_from_here : (shown : Bool) (k next i : ℕ) (headings : List Heading) (told : List Told)
     (other : Heading) (t : Told)
@@ -20,7 +15,7 @@ pub sections_from_here : (shown : Bool) (k next i : ℕ) (headings : List Headin
     ++ outcome_text shown t.outcome)
     ++ told_text shown next (drop (i + 1) headings) (drop (i + 1) told)
 sections_from_here shown k next i headings told other t on lc la there =
-    rw (← on, drop_more headings i other lc, from_here told i t la there) refl
+    rw (← on, drop_more headings i other lc, drop_more told i t la, ← there) refl
 
 -- one piece more of a text of which the rest is to come
 pub written_more : (o o' piece rest all whole : List ℕ) → o' ≡ o ++ piece → all ≡ piece ++ rest → o ++ all ≡ whole

@@ -1,6 +1,6 @@
 -- Fronts and rests of orderly frames.
 use Rattle.audit_rounds.proofs.Words.{zero, suc, take, drop, ℕ, ◌+◌, List, [], ◌∷◌, arith, Frame, IsOrderlyFrom}
-use Rattle.split_merge.proofs.Ahead.{orderly-earlier}
+use Rattle.audit_terms.proofs.OrderlyFrames.{orderly-earlier}
 
 pub orderly-take : (low n : ℕ) (frames : List Frame) → IsOrderlyFrom low frames → IsOrderlyFrom low (take n frames)
 orderly-take low zero frames h = tt

@@ -26,7 +26,7 @@ use Rattle.audit_rounds.specs.laws.Settling.{blocks_within, RoundsSettle}
 use Rattle.audit_rounds.proofs.Jobs.{run-ordered}
 use Rattle.audit_rounds.proofs.Items.{items_are_found_lem}
 use Rattle.audit_terms.proofs.Watching.{past-higher}
-use Rattle.split_merge.proofs.Ahead.{orderly-filter}
+use Rattle.audit_terms.proofs.OrderlyFrames.{numbers_rise, orderly-filter}
 use Rattle.audit_rounds.proofs.Rounds.{rounds_make_pass_lem}
 use Rattle.audit_rounds.proofs.Lists.{some_of}
 
@@ -158,26 +158,10 @@ rounds_settle_lem c frames found last stop opened h after e = e ∙ settles c fr
 
 -- ---- the frames up to a number
 
-number-above : (low k : ℕ) (frames : List Frame) (d : Frame) → IsOrderlyFrom low frames → k < length frames
-    → low ≤ (get_or frames k d).number
-number-above low k [] d h l = absurd (omega arith)
-number-above low zero (frame ∷ frames) d h l = h.0
-number-above low (suc k) (frame ∷ frames) d h l =
-    let above = number-above (frame.number + 1) k frames d h.2 (omega arith) in omega (arith, h.0, above)
-
-numbers-rise : (low i j : ℕ) (frames : List Frame) (d : Frame) → IsOrderlyFrom low frames → i ≤ j → j < length frames
-    → (get_or frames i d).number ≤ (get_or frames j d).number
-numbers-rise low i j [] d h order l = absurd (omega arith)
-numbers-rise low zero j (frame ∷ frames) d h order l =
-    number-above frame.number j (frame ∷ frames) d (omega arith, h.1, h.2) l
-numbers-rise low (suc i) zero (frame ∷ frames) d h order l = absurd (omega arith)
-numbers-rise low (suc i) (suc j) (frame ∷ frames) d h order l =
-    numbers-rise (frame.number + 1) i j frames d h.2 (omega arith) (omega arith)
-
 pub frames-parted : (last : ℕ) (frames : List Frame) → IsOrderly frames
     → IsPartitionedBy (λ (frame : Frame). leb frame.number last) frames
 frames-parted last frames h = IsPartitionedBy-leb (λ (frame : Frame). frame.number) frames last
-    (λ i j d order l. numbers-rise 0 i j frames d h order l)
+    (numbers_rise 0 frames h)
 
 -- the elements before the point
 take-point : (test : Frame → Bool) (i : ℕ) (frames : List Frame) → i ≤ length frames

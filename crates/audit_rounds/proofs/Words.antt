@@ -23,7 +23,7 @@ pub use Rattle.std.specs.List.Sorted.{IsPermutation}
 pub use Rattle.std.specs.Option.{option_to_list}
 pub use Rattle.std.specs.Prelude.{Result, Ok, Err, IfOk}
 pub use Rattle.std.specs.Vec.Iter.{into_iter_items}
-pub use Rattle.audit_core.proofs.OrderlyRest.{length-orderly, drop-at}
+pub use Rattle.audit_terms.proofs.OrderlyFrames.{length-orderly, drop-at}
 pub use Rattle.audit_core.proofs.StreamsMet.{streams_met_lem}
 pub use Rattle.audit_core.specs.laws.Parts.{joined}
 pub use Rattle.audit_rounds.specs.code.AfterStreams.{AreAfterStreams, HaveSettled}

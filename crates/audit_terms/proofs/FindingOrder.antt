@@ -18,7 +18,7 @@ finding_total =
     (then_total (on_total (λ (found : Finding). rank_of found.kind) nat_cmp_total)
     (on_total (λ (found : Finding). found.value) int_cmp_total)))
 
-nat_level : (x y : ℕ) → nat_cmp x y ≡ Equal → x ≡ y
+pub nat_level : (x y : ℕ) → nat_cmp x y ≡ Equal → x ≡ y
 nat_level x y e = ranked x y Equal (sym e)
 
 int_level : (x y : ℤ) → int_cmp x y ≡ Equal → x ≡ y

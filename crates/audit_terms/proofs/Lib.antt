@@ -6,3 +6,4 @@ pub mod Watching
 pub mod FindingLists
 pub mod SaidPlaces
 pub mod Packing
+pub mod OrderlyFrames

@@ -10,27 +10,9 @@ use Rattle.std.proofs.lemmas.Slice.Zip.{all_zipped_more}
 use Rattle.stream_credit.specs.code.QuietStream.{IsAheadIfQuiet}
 use Rattle.split_merge.proofs.Visited.{among-apart, not_among-front, not_among-push}
 use Rattle.split_merge.proofs.Positions.{promised-is}
+use Rattle.audit_terms.proofs.OrderlyFrames.{orderly-filter}
 
 -- ---- the frames of one stream
-
--- orderly from an earlier number on
-pub orderly-earlier : (low high : ℕ) (frames : List Frame) → low ≤ high → IsOrderlyFrom high frames
-    → IsOrderlyFrom low frames
-orderly-earlier low high [] l h = tt
-orderly-earlier low high (frame ∷ frames) l h = (omega (arith, h.0), h.1, h.2)
-
-pub orderly-filter : (test : Frame → Bool) (low : ℕ) (frames : List Frame) → IsOrderlyFrom low frames
-    → IsOrderlyFrom low (filter test frames)
-orderly-filter test low [] h = tt
-orderly-filter test low (frame ∷ frames) h =
-    grind (arith, orderly-earlier low (frame.number + 1), orderly-filter test (frame.number + 1) frames h.2)
-
--- each of the frames of a connection is in range
-pub in_range_at : (low : ℕ) (frames : List Frame) → IsOrderlyFrom low frames → (i : ℕ) (d : Frame) → i < length frames
-    → IsInRange (get_or frames i d)
-in_range_at low [] h i d l = absurd (omega arith)
-in_range_at low (x ∷ xs) h zero d l = h.1
-in_range_at low (x ∷ xs) h (suc i) d l = in_range_at (x.number + 1) xs h.2 i d (omega arith)
 
 pub orderly-of : (stream : ℕ) (frames : List Frame) → IsOrderly frames → IsOrderly (frames_of stream frames)
 orderly-of stream frames h = orderly-filter (meets stream) 0 frames h

@@ -32,11 +32,6 @@ merge-in_order xs ys =
     merge-all comes_after comes_after_is (in_order xs) (in_order ys) (in_order-ordered comes_after comes_after_is xs)
     ∙ sym (ordered-append comes_after comes_after_is (in_order xs) ys) ∙ in_order-append_left xs ys
 
--- where the second is empty the first is all
-pub merge-nil : {X : Type 0} (first : X → X → Bool) (xs : List X) → merge_by first xs [] ≡ xs
-merge-nil first [] = refl
-merge-nil first (x ∷ xs) = refl
-
 -- ---- one list more, merged with those before it
 
 pub more_in_order : (before list all : List Finding) → all ≡ in_order (before ++ list) → in_order all ≡ all

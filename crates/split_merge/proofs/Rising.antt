@@ -13,11 +13,9 @@ use Rattle.std.specs.declared.cmp.Ordering.TheVariants.{Less, Equal, Greater}
 use Rattle.indexmap.specs.IndexSet.{insert_key}
 use Rattle.split_merge.proofs.Visited.{absent-by_index, distinct-push, found-passes, length-streams_in, none-from_test}
 use Rattle.split_merge.proofs.Visited.{not_among-at, not_among-push, stream-at}
+use Rattle.audit_terms.proofs.OrderlyFrames.{ranks_rise}
 
 -- ---- at the front
-
-ranks_rise : (a b n : ℕ) → a ≤ b → ordering_index (nat_cmp a n) ≤ ordering_index (nat_cmp b n)
-ranks_rise a b n le = grind (arith, common_steps)
 
 module _ (rows : List Visited) (many : ℕ) (m : many ≤ length rows) where
   front-stream : (i : ℕ) (d : Visited) → i < many

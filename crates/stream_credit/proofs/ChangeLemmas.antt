@@ -7,6 +7,7 @@ use Rattle.stream_credit.proofs.Words.{slice_index_or, AllByRecursion, AreOrderl
 use Rattle.stream_credit.proofs.Words.{IsPartitionPoint, IsPartitionedBy-ltb, All-from_recursion, get_or_from_slice_get}
 use Rattle.stream_credit.proofs.Words.{IsPartitionedBy, slice_get_within, slice_get_cases, initial_in_force, AreOrderly}
 use Rattle.stream_credit.proofs.Words.{get_or-drop, length-drop, initial_after, after_changes, after_each, initial_at}
+use Rattle.audit_terms.proofs.OrderlyFrames.{changes_rise}
 
 -- ---- the change at an index
 
@@ -55,28 +56,12 @@ initial-is met changes windows now d some h w e =
 
 -- ---- the order of changes
 
-orderly-above : (low k : ℕ) (changes : List Change) (d : Change) → AreOrderlyFrom low changes → k < length changes
-    → low ≤ (slice_index_or changes k d).number
-orderly-above low k [] d h within = absurd (omega arith)
-orderly-above low zero (change ∷ changes) d h within = h.0
-orderly-above low (suc k) (change ∷ changes) d h within =
-    let above = orderly-above (change.number + 1) k changes d h.2 (omega arith) in omega (arith, h.0, above)
-
-rising : (low i j : ℕ) (changes : List Change) (d : Change) → AreOrderlyFrom low changes → i ≤ j → j < length changes
-    → (slice_index_or changes i d).number ≤ (slice_index_or changes j d).number
-rising low i j [] d h order within = absurd (omega arith)
-rising low zero j (change ∷ changes) d h order within =
-    orderly-above change.number j (change ∷ changes) d (omega arith, h.1, h.2) within
-rising low (suc i) zero (change ∷ changes) d h order within = absurd (omega arith)
-rising low (suc i) (suc j) (change ∷ changes) d h order within =
-    rising (change.number + 1) i j changes d h.2 (omega arith) (omega arith)
-
 pub orderly-parted : (number met : ℕ) (changes : List Change) → AreOrderly changes
     → IsPartitionedBy (λ (change : Change). nat_lt change.number number) (drop met changes)
 orderly-parted number met changes h =
     IsPartitionedBy-ltb (λ (change : Change). change.number) (drop met changes) number
     (λ i j d order within. rw (get_or-drop met changes i d, get_or-drop met changes j d)
-    (rising 0 (met + i) (met + j) changes d h (omega arith) (omega (arith, within, length-drop met changes))))
+    (changes_rise 0 changes h (met + i) (met + j) d (omega arith) (omega (arith, within, length-drop met changes))))
 
 few : (low : ℕ) (changes : List Change) → low ≤ 2 ^ 28 - 1 → AreOrderlyFrom low changes
     → low + length changes ≤ 2 ^ 28 - 1

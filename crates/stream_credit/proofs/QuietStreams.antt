@@ -8,6 +8,7 @@ use Rattle.stream_credit.proofs.Words.{false, arith, Sides, Change, Stream, merg
 use Rattle.stream_credit.proofs.Words.{length, filter-append, stream_after, IsOrderlyFrom, initial_after, each-in_order}
 use Rattle.stream_credit.proofs.Words.{slice_get, nat_tests, frame_step, AreOrderly, has_credit, initial_at, is_used_up}
 use Rattle.stream_credit.proofs.Words.{slice_get_within, StreamLife, stream_run_from, stream_after_all, AreAcknowledged}
+use Rattle.audit_terms.proofs.OrderlyFrames.{orderly-earlier}
 use Rattle.stream_credit.proofs.ChangeLemmas.{drop-next, initial-next, passed-each, none-left}
 use Rattle.stream_credit.proofs.MergedLemmas.{steps_of-merged, acknowledge-all, merged-first, merged-change}
 use Rattle.stream_credit.proofs.QuietLemmas.{quiet-unshown, quiet-after}
@@ -32,11 +33,6 @@ outcome-next stream initial entry step steps h =
     rw (filter-append (is_shown false) (in_order (stream_said stream initial entry step)), h) refl
 
 -- ---- from one step to the next
-
-frames-lower : (low least : ℕ) (frames : List Frame) → least ≤ low → IsOrderlyFrom low frames
-    → IsOrderlyFrom least frames
-frames-lower low least [] h o = tt
-frames-lower low least (frame ∷ frames) h o = (omega (arith, h, o.0), o.1, o.2)
 
 -- a stream that no frame has met
 pub ahead-idle : (idle : QuietStream) → stream_of idle ≡ idle_stream → idle.met ≡ 0 → (stream : ℕ)
@@ -132,7 +128,7 @@ pub ahead-frame : {stream : ℕ} {changes : List Change} {all rest : List Frame}
     → IsNext stream (initial_at old.met changes) frame old new → IsAhead stream changes all rest new
 ahead-frame {stream} {changes} {all} {rest} {frame} {old} {new} h f n =
     let left = drop old.met changes in
-    ahead-by h (rw n.met h.met) (frames-lower (frame.number + 1) 0 rest (omega arith) h.orderly.2) h.acknowledged.1
+    ahead-by h (rw n.met h.met) (orderly-earlier 0 (frame.number + 1) rest (omega arith) h.orderly.2) h.acknowledged.1
     (rw (n.met, n.after, merged-first frame rest left f)
     (outcome-next stream (initial_at old.met changes) (stream_of old) (frame_step frame) (merged rest left) n.shown))
 

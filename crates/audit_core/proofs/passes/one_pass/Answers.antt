@@ -1,6 +1,6 @@
 use Rattle.std.proofs.{Math.Seq.take-append_seam, lemmas.List.Folds.list_any_at, lemmas.List.drop_all}
 use Rattle.std.proofs.Common.{ap, append-nil, arith, length, refl, subst, sym, true, ◌∙◌, ◌≡◌}
-use Rattle.audit_core.proofs.OrderlyRest.{drop-at}
+use Rattle.audit_terms.proofs.OrderlyFrames.{drop-at}
 use Rattle.audit_core.proofs.Words.{Frame, eq-eqb, list_any, meets, upto_stop}
 use Rattle.audit_core.proofs.PassRows.{brings, pass-begins, pass-next, room, step_of-acknowledged}
 use Rattle.audit_core.proofs.passes.one_pass.Goals as goal

@@ -1,7 +1,8 @@
 use Rattle.std.proofs.Common.{◌<◌, ◌^◌, Some, sym, ap, subst, ◌∙◌, rules}
 use Rattle.std.proofs.lemmas.List.Sorted.{answers_always}
 use Rattle.audit_terms.specs.declared.frames.Frame.{Frame}
-use Rattle.audit_report.proofs.FrameNumbers.{frame_numbered_found, frame_numbered_missed, in_range_at}
+use Rattle.audit_report.proofs.FrameNumbers.{frame_numbered_found, frame_numbered_missed}
+use Rattle.audit_terms.proofs.OrderlyFrames.{in_range_at}
 use Rattle.audit_report.proofs.lookup.frame_at.Goals as goal
 
 -- the closure gives a frame's number

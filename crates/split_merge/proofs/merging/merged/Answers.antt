@@ -1,7 +1,8 @@
 use Rattle.std.proofs.Common.{eqb-true}
 use Rattle.std.proofs.lemmas.List.{nil_from_length}
 use Rattle.split_merge.proofs.Terms.{◌≡◌, [], sym, ◌∙◌}
-use Rattle.split_merge.proofs.MergedRuns.{merge-in_order, merge-nil}
+use Rattle.itertools.proofs.ListLemmas.{merge_by-nil}
+use Rattle.split_merge.proofs.MergedRuns.{merge-in_order}
 use Rattle.split_merge.proofs.merging.merged.Goals as goal
 
 pub returns-then-is_empty : goal.returns-then-is_empty
@@ -9,7 +10,7 @@ returns-then-is_empty c =
     let none : c.in_ok-more.more.items ≡ [] =
     nil_from_length _ (sym c.in_ok-more.more.ok.0 ∙ eqb-true _ _ (sym c.if-is_empty.ensures)) in
     let first = c.in_ok-found.ensures in
-    rw (← merge-in_order c.args.found.items c.args.more.items, ← c.in_ok-more.ensures, none, merge-nil)
+    rw (← merge-in_order c.args.found.items c.args.more.items, ← c.in_ok-more.ensures, none, merge_by-nil)
     first
 
 pub returns-then-is_empty-2 : goal.returns-then-is_empty-2

@@ -3,7 +3,8 @@ use Rattle.split_merge.proofs.Terms.{promised_by, first_of, streams_of, IsInRang
 use Rattle.split_merge.proofs.Terms.{with_next, at_drop_all, noted, notes_from}
 use Rattle.split_merge.proofs.Visited.{named-more, named-first}
 use Rattle.split_merge.proofs.Positions.{came-fits, came-more, notes-next}
-use Rattle.split_merge.proofs.Ahead.{ahead-none, ahead-frame, ahead-alike, promised-small, in_range_at}
+use Rattle.split_merge.proofs.Ahead.{ahead-none, ahead-frame, ahead-alike, promised-small}
+use Rattle.audit_terms.proofs.OrderlyFrames.{in_range_at}
 use Rattle.split_merge.proofs.visits.Visits.note_all.Goals as goal
 
 pub loop-frame-init : goal.loop-frame-init
