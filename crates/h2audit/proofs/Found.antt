@@ -14,7 +14,7 @@ use Rattle.audit_report.specs.declared.told.Told.{Told}
 use Rattle.audit_terms.specs.Finding.{shown}
 use Rattle.audit_terms.specs.Kind.{is_fault}
 use Rattle.audit_terms.specs.Pass.{pass}
-use Rattle.audit_terms.specs.code.runs.Orderly.{IsOrderlyFrom}
+use Rattle.audit_terms.proofs.OrderlyFrames.{length-orderly}
 use Rattle.audit_terms.specs.declared.findings.Finding.{Finding}
 use Rattle.audit_terms.specs.declared.frames.Frame.{Frame}
 use Rattle.audit_terms.specs.declared.sides.Side.TheVariants.{Client, Server}
@@ -30,16 +30,6 @@ use Rattle.stop_desk.specs.declared.parts.Part.{Part}
 use Rattle.packet_heads.specs.declared.packets.Packet.{Packet}
 use Rattle.tcp_streams.specs.declared.members.Connection.{Connection}
 use Rattle.tcp_streams.specs.declared.streams.Flow.{Flow}
-
--- orderly frames are few enough for a list in memory
-orderly-few : (low : ℕ) (frames : List Frame) → IsOrderlyFrom low frames → low < 2 ^ 28
-    → low + length frames ≤ 2 ^ 28
-orderly-few low [] orderly below = omega arith
-orderly-few low (f ∷ frames) orderly below =
-    let from = orderly.0 in
-    let range = orderly.1.number in
-    let rest = orderly-few (f.number + 1) frames orderly.2 (omega arith) in
-    omega arith
 
 -- a list in memory of these items, in the place of another one
 abbrev list-of : {X Y : Type 0} → Vec X Global → (items : List Y) → length items < 2 ^ 63 → Vec Y Global
@@ -97,7 +87,7 @@ module _ (credits : Bool) (capture : List ℕ) (packets : List Packet) (c : Conn
       → Step credits capture packets c (record { reach = reach; outcome = o }) found rest
   step-of (Quiet quiet) held found same =
       let is = held.1 in
-      let fit = orderly-few 0 is.frames is.orderly (omega arith) in
+      let fit = length-orderly 0 is.frames (omega arith) is.orderly in
       let frames = list-of c.members is.frames (omega arith) in
       unkept (Quiet quiet) (cut.Http2 frames quiet.tails) (list-of c.members [] (omega arith)) refl
       (is.started, is.http2)
