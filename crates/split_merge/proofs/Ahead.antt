@@ -1,16 +1,15 @@
 -- What is known of quiet streams as rows are added, as streams meet frames, and after the last one.
-use Rattle.split_merge.proofs.Terms.{◌≡◌, ◌≢◌, ℕ, zero, suc, ◌+◌, ◌<◌, ◌≤◌, Bool, true, List, [], ◌∷◌, ◌++◌, length}
-use Rattle.split_merge.proofs.Terms.{get_or, slice_get, set, take, drop, filter, Some, refl, sym, ◌∙◌, arith, All}
-use Rattle.split_merge.proofs.Terms.{take_more, drop_more, take_more_set, drop-set-lt, length-set, AllZip}
-use Rattle.split_merge.proofs.Terms.{get_or_from_slice_get, slice_get_within, nat_tests, Frame, Change, promised_by}
-use Rattle.split_merge.proofs.Terms.{meets, IsInRange, frames_of, QuietStream, NotAmong, AreDistinct, with_next}
-use Rattle.split_merge.proofs.Terms.{AreAhead, IsAheadOf, IsHushedOf, ◌^◌, All-filter, is_ack, IsOrderly, IsOrderlyFrom}
-use Rattle.audit_terms.specs.code.runs.Changes.{AreOrderly, AreAcknowledged}
+use Rattle.audit_terms.proofs.OrderlyFrames.{orderly-filter}
+use Rattle.audit_terms.specs.code.runs.Changes.{AreAcknowledged, AreOrderly}
+use Rattle.split_merge.proofs.Terms.{All, List, Some, drop, refl, set, suc, sym, take, true, zero, ◌++◌, ◌+◌, ◌<◌, ◌^◌}
+use Rattle.split_merge.proofs.Terms.{All-filter, IsAheadOf, IsHushedOf, IsInRange, drop-set-lt, length-set, promised_by}
+use Rattle.split_merge.proofs.Terms.{AllZip, AreAhead, Bool, Change, NotAmong, [], arith, get_or, is_ack, length, meets}
+use Rattle.split_merge.proofs.Terms.{AreDistinct, QuietStream, get_or_from_slice_get, slice_get_within, take_more_set}
+use Rattle.split_merge.proofs.Terms.{Frame, IsOrderly, drop_more, frames_of, nat_tests, slice_get, take_more, with_next}
+use Rattle.split_merge.proofs.Visited.{among-apart, not_among-front, not_among-push}
+use Rattle.split_merge.proofs.{Positions.promised-is, Terms.ℕ, Terms.◌∙◌, Terms.◌∷◌, Terms.◌≡◌, Terms.◌≢◌}
 use Rattle.std.proofs.lemmas.Slice.Zip.{all_zipped_more}
 use Rattle.stream_credit.specs.code.QuietStream.{IsAheadIfQuiet}
-use Rattle.split_merge.proofs.Visited.{among-apart, not_among-front, not_among-push}
-use Rattle.split_merge.proofs.Positions.{promised-is}
-use Rattle.audit_terms.proofs.OrderlyFrames.{orderly-filter}
 
 -- ---- the frames of one stream
 
@@ -134,8 +133,7 @@ module _ {changes : List Change} {all : List Frame} where
           let next = with_next stream frame rest in
           rw (← here) (zip-at (IsAheadOf changes all next) streams quiets row stream d h.ahead at)
 
-      pub ahead-met : (quiet : QuietStream)
-          → IsAheadIfQuiet stream changes (frames_of stream all) (rest stream) quiet
+      pub ahead-met : (quiet : QuietStream) → IsAheadIfQuiet stream changes (frames_of stream all) (rest stream) quiet
           → AreAhead changes all rest streams (set quiets row quiet)
       ahead-met quiet after = record {
         orderly = h.orderly;

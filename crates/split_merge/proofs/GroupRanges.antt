@@ -1,11 +1,9 @@
 -- Groups are consecutive, so what they hold, joined, is all there is.
-use Rattle.split_merge.proofs.Terms.{mul-div_cancel, ◌≡◌, ℕ, zero, suc, ◌+◌, ◌*◌, ◌<◌, ◌≤◌, List, [], ◌∷◌, ◌++◌, length}
-use Rattle.split_merge.proofs.Terms.{drop, refl, sym, ap, ◌∙◌, subst, arith, between, flat_map, drop_all, ◌/◌, min, map}
-use Rattle.split_merge.proofs.Terms.{range_with_len}
-use Rattle.std.proofs.lemmas.List.Folds.{drop_split}
-use Rattle.std.proofs.lemmas.Nat.{div-add-mod', le-div}
-use Rattle.std.proofs.Math.Nat.{mul_comm}
-use Rattle.split_merge.specs.code.Groups.{group_at, groups, AreConsecutive}
+use Rattle.split_merge.proofs.Terms.{List, [], ap, arith, between, drop, drop_all, flat_map, length, map, min}
+use Rattle.split_merge.proofs.Terms.{mul-div_cancel, range_with_len, refl, subst, suc, sym, zero, ℕ, ◌*◌, ◌+◌}
+use Rattle.split_merge.proofs.Terms.{◌/◌, ◌<◌, ◌∙◌, ◌∷◌, ◌≡◌, ◌≤◌}
+use Rattle.split_merge.specs.code.Groups.{AreConsecutive, group_at, groups}
+use Rattle.std.proofs.{Math.Nat.mul_comm, lemmas.List.Folds.drop_split, lemmas.Nat.div-add-mod', lemmas.Nat.le-div}
 
 whole : (count k : ℕ) → 0 < k → k * count / k ≡ count
 whole count k h = rw (mul_comm k count) (mul-div_cancel count h)
@@ -42,8 +40,7 @@ pub ranges-joined : {X : Type 0} (xs : List X) (from : ℕ) (ranges : List (ℕ 
     flat_map (λ (range : ℕ × ℕ). between range.0 range.1 xs) ranges ≡ drop from xs
 ranges-joined xs from [] h = sym (drop_all from xs (omega (arith, h)))
 ranges-joined xs from (range ∷ ranges) h =
-    ap (λ l. between range.0 range.1 xs ++ l) (ranges-joined xs range.1 ranges h.2)
-    ∙ sym (drop_split xs range.0 range.1 h.1) ∙ ap (λ n. drop n xs) h.0
+    grind (arith, ranges-joined xs range.1 ranges h.2, drop_split xs range.0 range.1 h.1, h.2, h.1, h.0)
 
 -- the parts of a list, group by group, are all its parts
 pub groups-joined : {X : Type 0} (xs : List X) (n : ℕ) → 1 ≤ n →

@@ -1,22 +1,20 @@
 -- The ranges of rows, one after the other, what they hold as the positions of frames come in, and that they are the
 -- split.
-use Rattle.split_merge.proofs.Terms.{◌≡◌, ◌≢◌, ℕ, zero, suc, ◌+◌, ◌-◌, ◌<◌, ◌≤◌, ◌^◌, List, [], ◌∷◌, ◌++◌, length}
-use Rattle.split_merge.proofs.Terms.{get_or, slice_get, set, drop, map, Option, Some, refl, sym, ap, ◌∙◌, arith}
-use Rattle.split_merge.proofs.Terms.{append_assoc, length-append, length-set, length-drop, length_push, drop-set-lt}
-use Rattle.split_merge.proofs.Terms.{drop-set-add, take-set-le, take_more_set, StreamRow, Visited, streams_in, noted}
-use Rattle.split_merge.proofs.Terms.{noted_positions, rows_of, total_of, laid_out, longer, NotAmong, AreDistinct}
-use Rattle.split_merge.proofs.Terms.{IsFilled, AreFilled, IsTableOf, IsPlacing, CanPlace, loud_of, places_from, IsKept}
-use Rattle.split_merge.proofs.Terms.{Bool, true, option_to_list, drop-drop, AllByRecursion, All-from_recursion, Frame}
-use Rattle.split_merge.proofs.Terms.{Change, shown, streams_of, frames_of, QuietStream, SplitFrames, notes_from}
-use Rattle.split_merge.proofs.Terms.{opened_in, quiet_in, stream_run, IsRange, ArePositionsOf, IsSplit, row_positions}
-use Rattle.split_merge.proofs.Terms.{opening_of, AreHushed, IsHushedOf, IsLaid}
-use Rattle.split_merge.specs.declared.visits.Visits.{Visits}
-use Rattle.split_merge.proofs.Visited.{among-apart, length-streams_in, positions-own, positions-other}
-use Rattle.split_merge.proofs.Visited.{noted_positions-append}
-use Rattle.split_merge.proofs.LoudStreams.{loud-map, loud-streams, loud-distinct, loud-total, are-places}
-use Rattle.split_merge.proofs.LoudStreams.{loud-not_among, loud-filter, opened-filter, each-quiet}
-use Rattle.split_merge.proofs.Positions.{noted-positions, frames_at-positions, positions-within}
 use Rattle.split_merge.proofs.Ahead.{zip-apart}
+use Rattle.split_merge.proofs.LoudStreams.{are-places, each-quiet, loud-map, loud-total}
+use Rattle.split_merge.proofs.LoudStreams.{loud-distinct, loud-filter, loud-not_among, loud-streams, opened-filter}
+use Rattle.split_merge.proofs.Positions.{frames_at-positions, noted-positions, positions-within}
+use Rattle.split_merge.proofs.Terms.{All-from_recursion, AllByRecursion, ArePositionsOf, length-append, noted_positions}
+use Rattle.split_merge.proofs.Terms.{AreDistinct, Bool, QuietStream, SplitFrames, drop-set-lt, length-drop, length_push}
+use Rattle.split_merge.proofs.Terms.{AreFilled, AreHushed, IsPlacing, IsTableOf, [], stream_run, streams_in, streams_of}
+use Rattle.split_merge.proofs.Terms.{CanPlace, append_assoc, drop-set-add, option_to_list, row_positions, take_more_set}
+use Rattle.split_merge.proofs.Terms.{Change, IsKept, IsLaid, IsSplit, Visited, ap, loud_of, quiet_in, rows_of, total_of}
+use Rattle.split_merge.proofs.Terms.{Frame, List, Option, Some, arith, drop, get_or, length, longer, noted, refl, shown}
+use Rattle.split_merge.proofs.Terms.{IsFilled, IsHushedOf, length-set, notes_from, opening_of, places_from, take-set-le}
+use Rattle.split_merge.proofs.Terms.{IsRange, NotAmong, StreamRow, drop-drop, frames_of, laid_out, opened_in, slice_get}
+use Rattle.split_merge.proofs.Terms.{map, set, suc, sym, true, zero, ◌++◌, ◌+◌, ◌-◌, ◌<◌, ◌^◌, ◌∙◌, ◌∷◌, ◌≡◌, ◌≢◌, ◌≤◌}
+use Rattle.split_merge.proofs.Visited.{length-streams_in, noted_positions-append, positions-other, positions-own}
+use Rattle.split_merge.{proofs.Terms.ℕ, proofs.Visited.among-apart, specs.declared.visits.Visits.Visits}
 use Rattle.std.proofs.lemmas.Slice.Zip.{AllZip-long}
 use Rattle.stream_credit.specs.code.QuietStream.{opened_of}
 
@@ -178,8 +176,7 @@ module _ {loud : List ℕ} {came : List (ℕ × ℕ)} {places : List (Option ℕ
     put-within = (placed.0, omega (arith, placed.2))
 
     pub placing-some : {after : Visits} {rows' : List StreamRow} {positions' : List ℕ} → IsKept before after
-        → rows' ≡ set rows row (longer (get_or rows row d))
-        → positions' ≡ set positions (get_or rows row d).to position
+        → rows' ≡ set rows row (longer (get_or rows row d)) → positions' ≡ set positions (get_or rows row d).to position
         → IsPlacing loud (came ++ noted stream position) left places after rows' positions'
     placing-some kept e f =
         let place : (get_or rows row d).to - 0 ≡ (get_or rows row d).to = omega arith in

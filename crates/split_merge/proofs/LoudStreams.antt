@@ -1,12 +1,11 @@
 -- The loud streams among all: which they are, where they stand, what they count, and what is noted of them.
-use Rattle.split_merge.proofs.Terms.{◌≡◌, ℕ, zero, suc, ◌+◌, ◌-◌, ◌≤◌, ◌==◌, not, Bool, true, map, if◌then◌else◌, List}
-use Rattle.split_merge.proofs.Terms.{[], ◌∷◌, length, get_or, slice_get, filter, flat_map, Option, Some, MatchOption}
-use Rattle.split_merge.proofs.Terms.{option_to_list, refl, ◌∙◌, arith, nat_tests, get_or_from_slice_get}
-use Rattle.split_merge.proofs.Terms.{slice_get_within, QuietStream, Visited, streams_in, total_of, NotAmong}
-use Rattle.split_merge.proofs.Terms.{AreDistinct, loud_of, places_from, opened_in, quiet_in, ArePlaces, AllByRecursion}
-use Rattle.split_merge.proofs.Terms.{AllZip, eq-eqb, ne_eqb}
+use Rattle.split_merge.proofs.Terms.{AllByRecursion, AllZip, AreDistinct, ArePlaces, Bool, List, MatchOption, NotAmong}
+use Rattle.split_merge.proofs.Terms.{Option, QuietStream, Some, Visited, [], arith, eq-eqb, filter, flat_map, get_or}
+use Rattle.split_merge.proofs.Terms.{get_or_from_slice_get, if◌then◌else◌, length, loud_of, map, nat_tests, ne_eqb, not}
+use Rattle.split_merge.proofs.Terms.{opened_in, option_to_list, places_from, quiet_in, refl, slice_get}
+use Rattle.split_merge.proofs.Terms.{slice_get_within, streams_in, suc, total_of, true, zero, ℕ, ◌+◌, ◌-◌, ◌==◌, ◌∙◌}
+use Rattle.split_merge.proofs.{Terms.◌∷◌, Terms.◌≡◌, Terms.◌≤◌, Visited.not_among-at}
 use Rattle.stream_credit.specs.code.QuietStream.{opened_of}
-use Rattle.split_merge.proofs.Visited.{not_among-at}
 
 -- ---- what holds of all holds of the loud ones
 
@@ -57,8 +56,7 @@ opened-filter f (x ∷ xs) (quiet ∷ quiets) h told =
 opened-filter f xs quiets h told = absurd told
 
 each-past : (P : ℕ → Type 0) (other : ℕ) (b : Bool) (h : ℕ → Bool) (xs : List ℕ) → NotAmong other xs
-    → AllByRecursion (λ s. h s ≡ true → P s) xs
-    → AllByRecursion (λ s. (if other == s then b else h s) ≡ true → P s) xs
+    → AllByRecursion (λ s. h s ≡ true → P s) xs → AllByRecursion (λ s. (if other == s then b else h s) ≡ true → P s) xs
 each-past P other b h [] n all = tt
 each-past P other b h (x ∷ xs) n all = (rw (ne_eqb other x n.0) all.0, each-past P other b h xs n.1 all.1)
 
@@ -89,11 +87,7 @@ places-at (x ∷ xs) (quiet ∷ quiets) n h at zero s d is = grind (arith, loud-
 places-at (x ∷ xs) (quiet ∷ quiets) n h at (suc r) s d is =
     let apart = not_among-at x xs r h.0 (slice_get_within xs r s is) in
     let e = get_or_from_slice_get xs r s 0 is in
-    grind (
-      arith,
-      places-at xs quiets (omega (arith, n)) h.1 at r s d is,
-      places-at xs quiets (omega (arith, n)) h.1 (at + 1) r s d is,
-    )
+    let rest = places-at xs quiets (omega (arith, n)) h.1 in grind (arith, rest at r s d is, rest (at + 1) r s d is)
 
 pub are-places : (xs : List ℕ) (quiets : List QuietStream) → length quiets ≡ length xs → AreDistinct xs
     → NotAmong 0 xs → ArePlaces xs (places_from 0 quiets) (loud_of xs quiets)

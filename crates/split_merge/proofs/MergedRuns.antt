@@ -1,11 +1,10 @@
 -- Two runs in order, merged, are all their elements in order.
-use Rattle.split_merge.proofs.Terms.{◌≡◌, Bool, not, List, [], ◌∷◌, ◌++◌, refl, sym, ap, ◌∙◌, arith, append_assoc}
-use Rattle.split_merge.proofs.Terms.{comes_after, in_order}
-use Rattle.itertools.specs.List.{merge_by}
-use Rattle.audit_terms.specs.declared.findings.Finding.{Finding}
-use Rattle.audit_terms.specs.Order.{put_by}
 use Rattle.audit_terms.proofs.FindingOrder.{comes_after_is, in_order-append_left, in_order-in_order}
-use Rattle.audit_terms.proofs.OrderedLists.{IsAfter, NoneBefore, IsInOrder, ordered-append, put_all, in_order-ordered}
+use Rattle.audit_terms.proofs.OrderedLists.{IsAfter, IsInOrder, NoneBefore, in_order-ordered, ordered-append, put_all}
+use Rattle.audit_terms.specs.{Order.put_by, declared.findings.Finding.Finding}
+use Rattle.itertools.specs.List.{merge_by}
+use Rattle.split_merge.proofs.Terms.{Bool, List, [], ap, append_assoc, arith, comes_after, in_order, not, refl, sym}
+use Rattle.split_merge.proofs.Terms.{◌++◌, ◌∙◌, ◌∷◌, ◌≡◌}
 
 module _ {X : Type 0} (after : X → X → Bool) (o : IsAfter after) where
   -- does x go first of the two?

@@ -1,10 +1,9 @@
 -- What is noted frame by frame is where the frames stand that each stream meets.
-use Rattle.split_merge.proofs.Terms.{◌≡◌, ◌≢◌, ℕ, ◌+◌, ◌<◌, ◌≤◌, ◌==◌, if◌then◌else◌, List, [], ◌∷◌, ◌++◌, length, refl}
-use Rattle.split_merge.proofs.Terms.{ap, arith, All, nat_tests, append_assoc, length_push, Frame, promised_by}
-use Rattle.split_merge.proofs.Terms.{frames_of, positions_of, noted, notes_from, noted_positions, AllByRecursion}
-use Rattle.split_merge.proofs.Terms.{All-from_recursion, promises, positions_from, frames_at, ◌^◌, ◌*◌, get_or, drop}
-use Rattle.split_merge.proofs.Terms.{drop_more, length-append}
-use Rattle.split_merge.proofs.Visited.{slice_get-last, noted_positions-append}
+use Rattle.split_merge.proofs.Terms.{All, List, drop, noted, refl, ◌*◌, ◌++◌, ◌+◌, ◌<◌, ◌==◌, ◌^◌, ◌∷◌, ◌≡◌, ◌≢◌, ◌≤◌}
+use Rattle.split_merge.proofs.Terms.{All-from_recursion, AllByRecursion, if◌then◌else◌, noted_positions, positions_from}
+use Rattle.split_merge.proofs.Terms.{Frame, arith, drop_more, frames_at, frames_of, get_or, length, nat_tests, promises}
+use Rattle.split_merge.proofs.Terms.{append_assoc, length-append, length_push, notes_from, positions_of, promised_by, ℕ}
+use Rattle.split_merge.proofs.{Terms.[], Terms.ap, Visited.noted_positions-append, Visited.slice_get-last}
 
 -- ---- a stream other than 0
 
@@ -20,14 +19,7 @@ module _ (stream : ℕ) (above : stream ≢ 0) where
       noted_positions stream (notes_from position frames) ≡ positions_from position stream frames
   noted-positions position [] = refl
   noted-positions position (frame ∷ frames) =
-      rw (
-        noted_positions-append stream (noted frame.stream position) _,
-        noted_positions-append stream (noted (promised_by frame) position) _,
-        noted-is frame.stream position,
-        noted-is (promised_by frame) position,
-        promised-is frame,
-        noted-positions (position + 1) frames,
-      ) (grind arith)
+      grind (arith, nat_tests, noted_positions-append, noted-is, promised-is, noted-positions (position + 1) frames)
 
 -- ---- the frames at the positions
 
@@ -58,10 +50,9 @@ positions-within stream frames = All-from_recursion (λ position. position < len
 
 -- ---- what is noted of the next frame
 
-pub notes-next : (i at p : ℕ) (frames : List Frame) (frame : Frame) → i < length frames
-    → frame ≡ get_or frames i frame → at ≡ i → p ≡ promised_by frame
-    → notes_from i (drop i frames)
-    ≡ noted frame.stream at ++ (noted p at ++ notes_from (i + 1) (drop (i + 1) frames))
+pub notes-next : (i at p : ℕ) (frames : List Frame) (frame : Frame) → i < length frames → frame ≡ get_or frames i frame
+    → at ≡ i → p ≡ promised_by frame
+    → notes_from i (drop i frames) ≡ noted frame.stream at ++ (noted p at ++ notes_from (i + 1) (drop (i + 1) frames))
 notes-next i at p frames frame within is e f = rw (drop_more frames i frame within, ← is, e, f) refl
 
 noted-few : (stream position : ℕ) → length (noted stream position) ≤ 1
@@ -70,9 +61,7 @@ noted-few stream position = grind arith
 notes-few : (position : ℕ) (frames : List Frame) → length (notes_from position frames) ≤ 2 * length frames
 notes-few position [] = omega arith
 notes-few position (frame ∷ frames) =
-    let own = noted-few frame.stream position in
-    let promised = noted-few (promised_by frame) position in
-    rw (length-append, length-append) (omega (arith, notes-few (position + 1) frames, own, promised))
+    grind (arith, nat_tests, noted-few, length-append, notes-few (position + 1) frames)
 
 pub notes-fit : (frames : List Frame) → length frames < 2 ^ 28 → length (notes_from 0 frames) < 2 ^ 30
 notes-fit frames few = omega (arith, notes-few 0 frames, few)

@@ -1,9 +1,8 @@
 -- Lists of findings that are put back to the connections that they are of.
-use Rattle.split_merge.proofs.Terms.{◌≡◌, ℕ, zero, suc, ◌++◌, List, [], ◌∷◌, map, take, drop, length, refl, ap, arith}
-use Rattle.split_merge.proofs.Terms.{Frame}
-use Rattle.std.proofs.Common.{Bor, Vec, Global}
 use Rattle.audit_terms.specs.declared.findings.Finding.{Finding}
-use Rattle.split_merge.specs.code.Pending.{put_back}
+use Rattle.split_merge.proofs.Terms.{Frame, List, [], arith, drop, length, map, refl, suc, take, zero, ℕ, ◌++◌, ◌∷◌}
+use Rattle.split_merge.{proofs.Terms.◌≡◌, specs.code.Pending.put_back}
+use Rattle.std.proofs.Common.{Bor, Global, Vec}
 
 abbrev pub items_in : Vec Finding Global → List Finding
 items_in list = list.items
@@ -17,5 +16,4 @@ back-all [] [] (suc n) rest l e = absurd (omega arith)
 back-all [] (y ∷ found) n rest l e = absurd (omega arith)
 back-all (x ∷ all) [] n rest l e = absurd (omega arith)
 back-all (x ∷ all) (y ∷ found) zero rest l e = absurd (omega arith)
-back-all (x ∷ all) (y ∷ found) (suc n) rest l e =
-    ap (λ l. y.items ∷ l) (back-all all found n rest (omega arith) (omega arith))
+back-all (x ∷ all) (y ∷ found) (suc n) rest l e = grind (arith, back-all all found n rest (omega arith) (omega arith))

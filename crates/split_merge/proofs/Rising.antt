@@ -1,25 +1,22 @@
 -- Where a stream stands among rows: at the front, where streams rise, or behind it, in a table.
-use Rattle.split_merge.proofs.Terms.{◌≡◌, ◌≢◌, ℕ, ◌+◌, ◌-◌, ◌<◌, ◌≤◌, ◌==◌, not, Bool, true, false, List, [], ◌∷◌, ◌++◌}
-use Rattle.split_merge.proofs.Terms.{length, get_or, slice_get, take, drop, Some, refl, sym, ap, ◌∙◌, arith, cases_lt}
-use Rattle.split_merge.proofs.Terms.{nat_tests, common_steps, length-take-le, length-append, drop_all}
-use Rattle.split_merge.proofs.Terms.{get_or_append_left, get_or_at, slice_get-get_or, get_or_from_slice_get}
-use Rattle.split_merge.proofs.Terms.{slice_get_within, find, RowIndex, Visited, NotAmong, is_among, streams_in}
-use Rattle.split_merge.proofs.Terms.{get_or-take, get_or-drop, length-drop, drop-append-le, position_or_len, AreBelow}
-use Rattle.split_merge.proofs.Terms.{IsIndex, IsRowOf, NotBefore}
-use Rattle.std.proofs.lemmas.List.Sums.{position_or_len_is}
-use Rattle.std.specs.List.Sorted.{IsNonDecreasingBy, IsPartitionPoint}
-use Rattle.std.specs.Ordering.{nat_cmp, ordering_index}
-use Rattle.std.specs.declared.cmp.Ordering.TheVariants.{Less, Equal, Greater}
-use Rattle.indexmap.specs.IndexSet.{insert_key}
-use Rattle.split_merge.proofs.Visited.{absent-by_index, distinct-push, found-passes, length-streams_in, none-from_test}
-use Rattle.split_merge.proofs.Visited.{not_among-at, not_among-push, stream-at}
 use Rattle.audit_terms.proofs.OrderlyFrames.{ranks_rise}
+use Rattle.indexmap.specs.IndexSet.{insert_key}
+use Rattle.split_merge.proofs.Terms.{AreBelow, IsIndex, NotAmong, RowIndex, [], cases_lt, drop_all, is_among, slice_get}
+use Rattle.split_merge.proofs.Terms.{Bool, common_steps, drop-append-le, length-append, length-take-le, position_or_len}
+use Rattle.split_merge.proofs.Terms.{IsRowOf, List, Some, Visited, arith, drop, false, find, get_or, length, refl, take}
+use Rattle.split_merge.proofs.Terms.{NotBefore, get_or-drop, get_or-take, get_or_at, length-drop, nat_tests, streams_in}
+use Rattle.split_merge.proofs.Terms.{ap, sym, true, ℕ, ◌++◌, ◌+◌, ◌-◌, ◌<◌, ◌==◌, ◌∙◌, ◌∷◌, ◌≡◌, ◌≢◌, ◌≤◌}
+use Rattle.split_merge.proofs.Terms.{get_or_append_left, get_or_from_slice_get, not, slice_get-get_or, slice_get_within}
+use Rattle.split_merge.proofs.Visited.{absent-by_index, found-passes, length-streams_in, none-from_test, not_among-push}
+use Rattle.split_merge.proofs.Visited.{distinct-push, not_among-at, stream-at}
+use Rattle.std.specs.declared.cmp.Ordering.TheVariants.{Equal, Greater, Less}
+use Rattle.std.specs.{List.Sorted.IsPartitionPoint, Ordering.nat_cmp, Ordering.ordering_index}
+use Rattle.std.{proofs.lemmas.List.Sums.position_or_len_is, specs.List.Sorted.IsNonDecreasingBy}
 
 -- ---- at the front
 
 module _ (rows : List Visited) (many : ℕ) (m : many ≤ length rows) where
-  front-stream : (i : ℕ) (d : Visited) → i < many
-      → (get_or (take many rows) i d).stream ≡ get_or (streams_in rows) i 0
+  front-stream : (i : ℕ) (d : Visited) → i < many → (get_or (take many rows) i d).stream ≡ get_or (streams_in rows) i 0
   front-stream i d l = grind (arith, get_or-take, stream-at)
 
   -- what a search by halving answers, where it finds the stream
@@ -37,8 +34,7 @@ module _ (rows : List Visited) (many : ℕ) (m : many ≤ length rows) where
   module _ (rises : (i j : ℕ) → i < j → j < many → get_or (streams_in rows) i 0 < get_or (streams_in rows) j 0) where
     streams-rise : (i j : ℕ) (d : Visited) → i ≤ j → j < many
         → (get_or (take many rows) i d).stream ≤ (get_or (take many rows) j d).stream
-    streams-rise i j d le l =
-        grind (arith, rises i j, cases_lt i j, front-stream j d l, front-stream i d (omega (arith, le, l)))
+    streams-rise i j d le l = grind (arith, nat_tests, common_steps, cases_lt, front-stream)
 
     -- and where it does not
     pub none-from_front : (stream i : ℕ)
@@ -79,10 +75,7 @@ module _ (streams : List ℕ) (index : RowIndex) (is : IsIndex streams index) wh
   -- a stream that the table finds among its keys
   pub row-from_table : (stream place key : ℕ) → Some key ≡ find (λ other. stream == other) index.others.keys →
       slice_get index.others.keys place ≡ Some key → slice_get streams (index.rising + place) ≡ Some stream
-  row-from_table stream place key found at =
-      let same = found-passes (λ other. stream == other) index.others.keys key (sym found) in
-      let is : key ≡ stream = grind (arith, nat_tests) in
-      behind-front place stream (at ∙ ap Some is)
+  row-from_table stream place key found at = grind (arith, nat_tests, common_steps, found-passes, behind-front)
 
   -- a stream that is neither at the front nor in the table
   pub absent-from_both : (stream : ℕ) → NotBefore index.rising stream streams → NotAmong stream index.others.keys
@@ -133,9 +126,8 @@ module _ (streams : List ℕ) (before after : RowIndex) (is : IsIndex streams be
   pub row-in_table : (place : ℕ) → NotBefore before.rising stream streams → after.rising ≡ before.rising
       → after.others.keys ≡ insert_key (λ a b. a == b) before.others.keys stream
       → place ≡ position_or_len (λ other. stream == other) before.others.keys
-      → (key : ℕ) × (slice_get after.others.keys place ≡ Some key) × ((stream == key) ≡ true)
-      → (added : Bool) → added ≡ not (is_among stream before.others.keys)
-      → IsRowOf added stream (before.rising + place) streams after
+      → (key : ℕ) × (slice_get after.others.keys place ≡ Some key) × ((stream == key) ≡ true) → (added : Bool)
+      → added ≡ not (is_among stream before.others.keys) → IsRowOf added stream (before.rising + place) streams after
   row-in_table place out same keys at stored true e =
       let none : is_among stream before.others.keys ≡ false = grind arith in
       let behind = none-from_test stream before.others.keys none in

@@ -1,17 +1,12 @@
 -- What is shown of findings put in order, cut and joined. A connection error is always shown, so the audit ends at the
 -- same finding whether credits are shown or not.
-use Rattle.split_merge.proofs.Terms.{◌≡◌, Bool, true, false, if◌then◌else◌, List, [], ◌∷◌, ◌++◌, filter, refl, ap, ◌∙◌}
-use Rattle.split_merge.proofs.Terms.{arith, flat_map, filter-append, shown, comes_after, in_order, upto_stop, is_shown}
-use Rattle.audit_terms.specs.declared.kinds.Kind.{Kind}
-use Rattle.audit_terms.specs.declared.kinds.Kind.TheVariants.{ConnectionCredit, StreamCredit}
-use Rattle.audit_terms.specs.declared.findings.Finding.{Finding}
-use Rattle.audit_terms.specs.Kind.{is_connection_error, is_credit}
-use Rattle.audit_terms.specs.Order.{put_by, ordered_by}
-use Rattle.audit_terms.proofs.OrderedLists.{IsAfter, NoneBefore, IsInOrder, put-front, in_order-ordered}
 use Rattle.audit_terms.proofs.FindingOrder.{comes_after_is}
-use Rattle.audit_terms.specs.Finding.{stops}
-use Rattle.split_merge.proofs.Terms.{inl, inr, not}
-use Rattle.std.proofs.lemmas.Bool.{cases_Bool}
+use Rattle.audit_terms.proofs.OrderedLists.{IsAfter, IsInOrder, NoneBefore, in_order-ordered, put-front}
+use Rattle.audit_terms.specs.declared.kinds.Kind.TheVariants.{ConnectionCredit, StreamCredit}
+use Rattle.audit_terms.specs.declared.{findings.Finding.Finding, kinds.Kind.Kind}
+use Rattle.audit_terms.specs.{Finding.stops, Kind.is_connection_error, Kind.is_credit, Order.ordered_by, Order.put_by}
+use Rattle.split_merge.proofs.Terms.{Bool, List, [], ap, arith, false, filter, not, refl, shown, true, ◌++◌, ◌∷◌, ◌≡◌}
+use Rattle.split_merge.proofs.Terms.{comes_after, filter-append, flat_map, if◌then◌else◌, in_order, is_shown, upto_stop}
 
 -- ---- of lists joined
 
@@ -23,8 +18,7 @@ pub shown-flat_map : {X : Type 0} (credits_shown : Bool) (f : X → List Finding
     shown credits_shown (flat_map f xs) ≡ flat_map (λ x. shown credits_shown (f x)) xs
 shown-flat_map credits_shown f [] = refl
 shown-flat_map credits_shown f (x ∷ xs) =
-    shown-append credits_shown (f x) (flat_map f xs)
-    ∙ ap (λ l. shown credits_shown (f x) ++ l) (shown-flat_map credits_shown f xs)
+    grind (arith, shown-append credits_shown (f x) (flat_map f xs), shown-flat_map credits_shown f xs)
 
 -- ---- of findings in order
 
@@ -44,17 +38,12 @@ module _ {X : Type 0} (after : X → X → Bool) (o : IsAfter after) (is_kept : 
       ≡ (if is_kept x then put_by after x (filter is_kept ys) else filter is_kept ys)
   put-kept x [] h = grind arith
   put-kept x (y ∷ ys) h =
-      let none : after x y ≡ false → NoneBefore after o x (filter is_kept (y ∷ ys)) =
-      λ e. none-kept x (y ∷ ys) (e, none-below x y ys e h.0) in
-      grind (arith, put-kept x ys h.1, put-front after o x (filter is_kept (y ∷ ys)))
+      grind (arith, none-kept, none-below, put-kept x ys h.1, put-front after o x (filter is_kept (y ∷ ys)), h.0, h.1)
 
   kept-ordered : (xs : List X) → ordered_by after (filter is_kept xs) ≡ filter is_kept (ordered_by after xs)
   kept-ordered [] = refl
   kept-ordered (x ∷ xs) =
-      rw (put-kept x (ordered_by after xs) (in_order-ordered after o xs)) (elim (cases_Bool (is_kept x)) [
-        | inl e ↦ rw e (ap (put_by after x) (kept-ordered xs))
-        | inr e ↦ rw e (kept-ordered xs)
-      ])
+      grind (arith, put-kept x (ordered_by after xs) (in_order-ordered after o xs), kept-ordered xs)
 
 -- what is shown of findings in order is in order
 pub in_order-shown : (credits_shown : Bool) (xs : List Finding) →
@@ -76,18 +65,9 @@ stopping-shown false x e = ap not (error-no-credit x.kind e)
 pub upto_stop-shown : (credits_shown : Bool) (xs : List Finding) →
     upto_stop (shown credits_shown xs) ≡ shown credits_shown (upto_stop xs)
 upto_stop-shown credits_shown [] = refl
-upto_stop-shown credits_shown (x ∷ xs) =
-    let rest = upto_stop-shown credits_shown xs in
-    elim (cases_Bool (stops x)) [
-      | inl e ↦ rw (e, stopping-shown credits_shown x e, e) refl
-      | inr e ↦ elim (cases_Bool (is_shown credits_shown x)) [
-        | inl s ↦ rw (e, s, e) (ap (λ l. x ∷ l) rest)
-        | inr s ↦ rw (e, s) rest
-      ]
-    ]
+upto_stop-shown credits_shown (x ∷ xs) = grind (arith, upto_stop-shown credits_shown xs, stopping-shown)
 
 -- both together: a merge of what is shown is what is shown of the merge
 pub merge-shown : (credits_shown : Bool) (xs : List Finding) →
     upto_stop (in_order (shown credits_shown xs)) ≡ shown credits_shown (upto_stop (in_order xs))
-merge-shown credits_shown xs =
-    ap upto_stop (in_order-shown credits_shown xs) ∙ upto_stop-shown credits_shown (in_order xs)
+merge-shown credits_shown xs = grind (arith, in_order-shown, upto_stop-shown)

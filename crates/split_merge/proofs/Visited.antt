@@ -1,12 +1,11 @@
 -- The streams that frames name, gathered one by one, and what the table of them says after one more visit.
 use Rattle.split_merge.proofs.Terms.{◌≡◌, ◌≢◌, ℕ, ◌<◌, zero, suc, Bool, true, false, not, ◌==◌, List, [], ◌∷◌, ◌++◌}
-use Rattle.split_merge.proofs.Terms.{length, get_or, slice_get, inl, inr, filter, arith, refl, sym, ap, ◌∙◌, Some}
+use Rattle.split_merge.proofs.Terms.{length, get_or, slice_get, filter, arith, refl, sym, ap, ◌∙◌, Some}
 use Rattle.split_merge.proofs.Terms.{append_assoc, find, nat_tests, get_or-map, length-map, get_or_from_slice_get}
 use Rattle.split_merge.proofs.Terms.{slice_get-get_or, slice_get_within, first_of, Visited, NotAmong, AreDistinct}
 use Rattle.split_merge.proofs.Terms.{is_among, with_stream, streams_in, ◌||◌, map_push, slice_get-map, ◌+◌, ◌≤◌, set}
 use Rattle.split_merge.proofs.Terms.{append-nil, length-set, length_push, filter-append, noted_positions, total_of}
 use Rattle.split_merge.proofs.Terms.{counted, noted, IsIndex, IsTableOf, map-append, rows_of, with_row}
-use Rattle.std.proofs.lemmas.Bool.{cases_Bool}
 use Rattle.split_merge.specs.declared.visits.Visits.{Visits}
 
 -- ---- which streams are among some
@@ -75,8 +74,7 @@ without-new stream seen (x ∷ later) = grind (arith, among-push x stream seen, 
 -- the streams seen and those still to come stay the same
 pub named-more : (stream : ℕ) (seen later : List ℕ)
     → with_stream stream seen ++ without (with_stream stream seen) later ≡ seen ++ without seen (first_of stream later)
-named-more stream seen later =
-    grind (arith, append_assoc, without-seen stream seen later, without-new stream seen later)
+named-more stream seen later = grind (arith, nat_tests, append_assoc, without-seen, without-new)
 
 pub named-first : (streams : List ℕ) → without [] streams ≡ streams
 named-first [] = refl
@@ -119,13 +117,11 @@ noted_positions-append s xs ys = simp (filter-append, map-append)
 -- the positions of a stream, when one more is noted
 pub positions-own : (q stream position : ℕ) (notes : List (ℕ × ℕ)) → q ≡ stream → stream ≢ 0
     → noted_positions q (notes ++ noted stream position) ≡ noted_positions q notes ++ position ∷ []
-positions-own q stream position notes same above =
-    let split = noted_positions-append q notes (noted stream position) in grind (arith, nat_tests)
+positions-own q stream position notes same above = grind (arith, nat_tests, noted_positions-append)
 
 pub positions-other : (q stream position : ℕ) (notes : List (ℕ × ℕ)) → stream ≢ q
     → noted_positions q (notes ++ noted stream position) ≡ noted_positions q notes
-positions-other q stream position notes apart =
-    let split = noted_positions-append q notes (noted stream position) in grind (arith, nat_tests, append-nil)
+positions-other q stream position notes apart = grind (arith, nat_tests, noted_positions-append, append-nil)
 
 -- ---- a row for a stream
 
@@ -141,18 +137,12 @@ streams-counted (x ∷ rows) (suc i) d = ap (λ l. x.stream ∷ l) (streams-coun
 
 rows-new : (streams : List ℕ) (stream : ℕ) (notes : List (ℕ × ℕ)) → noted_positions stream notes ≡ []
     → rows_of streams notes ++ record { stream = stream; count = 0 } ∷ [] ≡ rows_of (streams ++ stream ∷ []) notes
-rows-new streams stream notes none =
-    let row : ℕ → Visited = λ q. record { stream = q; count = length (noted_positions q notes) } in
-    rw none at (sym (map_push row streams stream))
+rows-new streams stream notes none = grind (arith, nat_tests, map_push)
 
 rows-row : (rows : List Visited) (stream : ℕ) (notes : List (ℕ × ℕ)) → rows ≡ rows_of (streams_in rows) notes
     → (NotAmong stream (streams_in rows) → noted_positions stream notes ≡ [])
     → with_row stream rows ≡ rows_of (streams_in (with_row stream rows)) notes
-rows-row rows stream notes is none = elim (cases_Bool (is_among stream (streams_in rows))) [
-  | inl e ↦ rw e is
-  | inr e ↦ rw (e, streams_in-push) (ap (λ l. l ++ record { stream = stream; count = 0 } ∷ []) is
-      ∙ rows-new (streams_in rows) stream notes (none (none-from_test stream (streams_in rows) e)))
-]
+rows-row rows stream notes is none = grind (arith, nat_tests, streams_in-push, rows-new, none-from_test)
 
 absent-row : (q stream : ℕ) (rows : List Visited) → NotAmong q (streams_in (with_row stream rows))
     → NotAmong q (streams_in rows)
@@ -200,8 +190,7 @@ pub total-counted : (rows : List Visited) (i : ℕ) (d : Visited) → i < length
     × ((get_or rows i d).count ≤ total_of rows)
 total-counted [] i d l = absurd (omega arith)
 total-counted (x ∷ rows) zero d l = (omega arith, omega arith)
-total-counted (x ∷ rows) (suc i) d l =
-    let e = total-counted rows i d (omega arith) in (omega (arith, e), omega (arith, e))
+total-counted (x ∷ rows) (suc i) d l = grind (arith, nat_tests, total-counted rows i d (omega arith))
 
 -- the table, when a stream that has a row meets one more frame
 pub table-visited : {notes : List (ℕ × ℕ)} {old new : Visits} (rows : List Visited) (stream position row : ℕ)

@@ -1,7 +1,6 @@
-use Rattle.split_merge.proofs.Terms.{◌≡◌, sym, arith}
-use Rattle.std.proofs.lemmas.List.FromFn.{map-range_with_len_more}
+use Rattle.split_merge.proofs.{GroupRanges.groups-consecutive, Terms.arith, Terms.sym, Terms.◌≡◌}
 use Rattle.split_merge.specs.code.Groups.{group_at}
-use Rattle.split_merge.proofs.GroupRanges.{groups-consecutive}
+use Rattle.std.proofs.lemmas.List.FromFn.{map-range_with_len_more}
 use Rattle.split_merge.proofs.grouping.groups.Goals as goal
 
 pub loop-group-preserved : goal.loop-group-preserved

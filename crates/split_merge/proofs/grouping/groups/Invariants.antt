@@ -1,5 +1,4 @@
-use Rattle.split_merge.proofs.Terms.{◌≡◌, map, range_with_len}
-use Rattle.split_merge.specs.code.Groups.{group_at}
+use Rattle.split_merge.{proofs.Terms.map, proofs.Terms.range_with_len, proofs.Terms.◌≡◌, specs.code.Groups.group_at}
 use Rattle.split_merge.proofs.grouping.groups.Given as goal
 
 abbrev pub invariant-loop-group : goal.invariant-loop-group

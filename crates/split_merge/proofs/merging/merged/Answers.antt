@@ -1,8 +1,6 @@
-use Rattle.std.proofs.Common.{eqb-true}
-use Rattle.std.proofs.lemmas.List.{nil_from_length}
-use Rattle.split_merge.proofs.Terms.{◌≡◌, [], sym, ◌∙◌}
 use Rattle.itertools.proofs.ListLemmas.{merge_by-nil}
-use Rattle.split_merge.proofs.MergedRuns.{merge-in_order}
+use Rattle.split_merge.proofs.{MergedRuns.merge-in_order, Terms.[], Terms.sym, Terms.◌∙◌, Terms.◌≡◌}
+use Rattle.std.proofs.{Common.eqb-true, lemmas.List.nil_from_length}
 use Rattle.split_merge.proofs.merging.merged.Goals as goal
 
 pub returns-then-is_empty : goal.returns-then-is_empty

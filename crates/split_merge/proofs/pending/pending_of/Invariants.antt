@@ -1,5 +1,4 @@
-use Rattle.split_merge.proofs.Terms.{◌≡◌, ◌++◌, drop}
-use Rattle.split_merge.specs.code.Pending.{pending_of}
+use Rattle.split_merge.{proofs.Terms.drop, proofs.Terms.◌++◌, proofs.Terms.◌≡◌, specs.code.Pending.pending_of}
 use Rattle.split_merge.proofs.pending.pending_of.Given as goal
 
 -- those so far, and those of the connections to come

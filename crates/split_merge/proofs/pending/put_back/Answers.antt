@@ -1,5 +1,4 @@
-use Rattle.split_merge.proofs.Terms.{sym, ◌∙◌, arith}
-use Rattle.split_merge.proofs.PutBack.{back-all}
+use Rattle.split_merge.proofs.{PutBack.back-all, Terms.arith, Terms.sym, Terms.◌∙◌}
 use Rattle.split_merge.proofs.pending.put_back.Goals as goal
 
 pub returns : goal.returns

@@ -1,7 +1,6 @@
-use Rattle.split_merge.proofs.Terms.{◌≡◌, ◌++◌, drop, length, map, take}
-use Rattle.std.specs.Vec.Iter.{into_iter_items}
-use Rattle.split_merge.proofs.PutBack.{items_in}
+use Rattle.split_merge.proofs.{PutBack.items_in, Terms.drop, Terms.length, Terms.map, Terms.take, Terms.◌++◌, Terms.◌≡◌}
 use Rattle.split_merge.specs.code.Pending.{put_back}
+use Rattle.std.specs.Vec.Iter.{into_iter_items}
 use Rattle.split_merge.proofs.pending.put_back.Given as goal
 
 -- the lists of the connections so far, and what comes of the others

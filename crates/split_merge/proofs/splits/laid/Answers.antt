@@ -1,9 +1,7 @@
-use Rattle.split_merge.proofs.Terms.{◌∙◌, ◌≡◌, length, ap, arith, streams_in, total_of, laid_out, places_from}
-use Rattle.split_merge.proofs.Terms.{with_items_is, nat_tests, sym}
+use Rattle.split_merge.proofs.{LaidOut.can-place, LoudStreams.loud-streams, LoudStreams.loud-total, Positions.notes-fit}
+use Rattle.split_merge.proofs.Terms.{ap, arith, laid_out, length, nat_tests, places_from, streams_in, sym, total_of}
+use Rattle.split_merge.proofs.Terms.{with_items_is, ◌∙◌, ◌≡◌}
 use Rattle.std.proofs.lemmas.List.{nil_from_length}
-use Rattle.split_merge.proofs.Positions.{notes-fit}
-use Rattle.split_merge.proofs.LaidOut.{can-place}
-use Rattle.split_merge.proofs.LoudStreams.{loud-total, loud-streams}
 use Rattle.split_merge.proofs.splits.laid.Goals as goal
 
 pub returns-then-is_empty : goal.returns-then-is_empty

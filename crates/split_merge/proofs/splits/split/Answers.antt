@@ -1,10 +1,8 @@
-use Rattle.split_merge.proofs.Terms.{◌≡◌, ◌∙◌, Bool, List, length, Change, Frame, SplitFrames, AreHushed, IsHushedOf}
-use Rattle.split_merge.proofs.Terms.{streams_in}
-use Rattle.split_merge.specs.declared.visits.Visits.{Visits}
+use Rattle.split_merge.proofs.{LaidOut.split-is, Terms.AreHushed}
+use Rattle.split_merge.proofs.Terms.{Bool, Change, Frame, IsHushedOf, List, SplitFrames, length, streams_in, ◌∙◌, ◌≡◌}
+use Rattle.split_merge.{proofs.Visited.length-streams_in, specs.declared.visits.Visits.Visits}
 use Rattle.std.proofs.lemmas.Slice.Zip.{AllZip-long}
-use Rattle.split_merge.proofs.Visited.{length-streams_in}
-use Rattle.std.specs.Prelude.{IfOk, Result, Ok, Err}
-use Rattle.split_merge.proofs.LaidOut.{split-is}
+use Rattle.std.specs.Prelude.{Err, IfOk, Ok, Result}
 use Rattle.split_merge.proofs.splits.split.Goals as goal
 
 if-more : {E : Type 0} (P Q : SplitFrames → Type 0) (r : Result SplitFrames E) → ((x : SplitFrames) → P x → Q x)

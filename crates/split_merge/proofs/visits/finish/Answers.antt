@@ -1,7 +1,6 @@
-use Rattle.split_merge.proofs.Terms.{[], get_or, frames_of, IsAheadOf, Visited}
+use Rattle.split_merge.proofs.Ahead.{ended-more, ended-next}
+use Rattle.split_merge.proofs.{Terms.IsAheadOf, Terms.Visited, Terms.[], Terms.frames_of, Terms.get_or, Visited.row-at}
 use Rattle.std.proofs.lemmas.Slice.Zip.{AllZip-long}
-use Rattle.split_merge.proofs.Visited.{row-at}
-use Rattle.split_merge.proofs.Ahead.{ended-next, ended-more}
 use Rattle.split_merge.proofs.visits.finish.Goals as goal
 
 -- any row, for a place that has one

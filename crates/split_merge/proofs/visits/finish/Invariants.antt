@@ -1,5 +1,4 @@
-use Rattle.split_merge.proofs.Terms.{List, [], Frame, streams_in, AreAhead}
-use Rattle.split_merge.proofs.Ahead.{IsPartEnded}
+use Rattle.split_merge.proofs.{Ahead.IsPartEnded, Terms.AreAhead, Terms.Frame, Terms.List, Terms.[], Terms.streams_in}
 use Rattle.split_merge.proofs.visits.finish.Given as goal
 
 abbrev pub invariant-loop-row : goal.invariant-loop-row

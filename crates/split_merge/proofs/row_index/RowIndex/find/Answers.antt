@@ -1,6 +1,5 @@
-use Rattle.split_merge.proofs.Terms.{sym, streams_in}
-use Rattle.split_merge.proofs.Visited.{none-from_test}
 use Rattle.split_merge.proofs.Rising.{absent-from_both, row-from_table}
+use Rattle.split_merge.proofs.{Terms.streams_in, Terms.sym, Visited.none-from_test}
 use Rattle.split_merge.proofs.row_index.RowIndex.find.Goals as goal
 
 pub returns-in_err-place : goal.returns-in_err-place

@@ -1,6 +1,5 @@
-use Rattle.split_merge.proofs.Terms.{sym, OnTrue_from}
+use Rattle.split_merge.proofs.{Rising.all-below, Terms.OnTrue_from, Terms.sym}
 use Rattle.std.proofs.lemmas.Bool.{OnTrue_at}
-use Rattle.split_merge.proofs.Rising.{all-below}
 use Rattle.split_merge.proofs.row_index.RowIndex.is_above.Goals as goal
 
 pub returns-in-Some-clause-above : goal.returns-in-Some-clause-above

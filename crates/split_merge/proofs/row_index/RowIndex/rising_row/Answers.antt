@@ -1,7 +1,6 @@
-use Rattle.split_merge.proofs.Terms.{◌≤◌, length, arith, rules}
-use Rattle.std.proofs.lemmas.List.Sorted.{answers_always}
-use Rattle.split_merge.proofs.Visited.{length-streams_in}
 use Rattle.split_merge.proofs.Rising.{none-from_front, row-from_front}
+use Rattle.split_merge.proofs.{Terms.arith, Terms.length, Terms.rules, Terms.◌≤◌, Visited.length-streams_in}
+use Rattle.std.proofs.lemmas.List.Sorted.{answers_always}
 use Rattle.split_merge.proofs.row_index.RowIndex.rising_row.Goals as goal
 
 pub returns-in-Ok : goal.returns-in-Ok

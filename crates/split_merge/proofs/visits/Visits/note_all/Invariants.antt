@@ -1,6 +1,5 @@
-use Rattle.split_merge.proofs.Terms.{◌≡◌, ℕ, ◌++◌, List, drop, streams_of, frames_of, streams_in, notes_from, AreAhead}
-use Rattle.split_merge.proofs.Terms.{IsTableOf}
-use Rattle.split_merge.proofs.Visited.{without}
+use Rattle.split_merge.proofs.Terms.{AreAhead, IsTableOf, List, drop, frames_of, notes_from, streams_in, streams_of, ℕ}
+use Rattle.split_merge.proofs.{Terms.◌++◌, Terms.◌≡◌, Visited.without}
 use Rattle.split_merge.proofs.visits.Visits.note_all.Given as goal
 
 abbrev pub invariant-loop-frame : goal.invariant-loop-frame

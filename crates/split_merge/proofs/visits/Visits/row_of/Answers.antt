@@ -1,6 +1,5 @@
-use Rattle.split_merge.proofs.Terms.{[], refl, streams_in}
-use Rattle.split_merge.proofs.Visited.{found_among, slice_get-last, none_among, streams_in-push}
-use Rattle.split_merge.proofs.Ahead.{ahead-new}
+use Rattle.split_merge.proofs.{Ahead.ahead-new, Terms.[], Terms.refl, Terms.streams_in}
+use Rattle.split_merge.proofs.Visited.{found_among, none_among, slice_get-last, streams_in-push}
 use Rattle.split_merge.proofs.visits.Visits.row_of.Goals as goal
 
 pub returns-in-Some : goal.returns-in-Some
