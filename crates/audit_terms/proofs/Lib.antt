@@ -1,9 +1,9 @@
 pub mod OrderedLists
 pub mod FindingOrder
-pub mod UptoStop
+mod UptoStop
 pub mod Bounds
 pub mod Watching
 pub mod FindingLists
 pub mod SaidPlaces
-pub mod Packing
+mod Packing
 pub mod OrderlyFrames

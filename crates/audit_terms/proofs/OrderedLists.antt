@@ -49,9 +49,7 @@ module _ {X : Type 0} (after : X → X → Bool) (o : IsAfter after) where
       put_by after (get_or xs i d) (ordered_by after (set xs i v)) ≡ put_by after v (ordered_by after xs)
   put-set [] i d v l = absurd (omega arith)
   put-set (x ∷ xs) zero d v l = put-put x v (ordered_by after xs)
-  put-set (x ∷ xs) (suc i) d v l =
-      put-put (get_or xs i d) x (ordered_by after (set xs i v))
-      ∙ ap (put_by after x) (put-set xs i d v (omega arith)) ∙ put-put x v (ordered_by after xs)
+  put-set (x ∷ xs) (suc i) d v l = grind (arith, put-set xs i d v (omega arith), put-put)
 
   ordered-swap : (xs : List X) (i j : ℕ) → i < length xs → j < length xs
       → ordered_by after (swap xs i j) ≡ ordered_by after xs
@@ -102,9 +100,7 @@ module _ {X : Type 0} (after : X → X → Bool) (o : IsAfter after) where
   -- two lists that are alike in order may stand for each other in a longer one
   pub ordered-alike : (xs ys us vs : List X) → ordered_by after xs ≡ ordered_by after ys
       → ordered_by after us ≡ ordered_by after vs → ordered_by after (xs ++ us) ≡ ordered_by after (ys ++ vs)
-  ordered-alike xs ys us vs p q =
-      sym (ordered-both xs us) ∙ ap (λ l. ordered_by after (l ++ ordered_by after us)) p
-      ∙ ap (λ l. ordered_by after (ordered_by after ys ++ l)) q ∙ ordered-both ys vs
+  ordered-alike xs ys us vs p q = grind (arith, ordered-both xs us, ordered-both ys vs)
 
   -- no element of the list stands before x
   abbrev pub NoneBefore : X → List X → Type 0
@@ -132,14 +128,11 @@ module _ {X : Type 0} (after : X → X → Bool) (o : IsAfter after) where
 
   none_before-put : (y x : X) (zs : List X) → after y x ≡ false → NoneBefore y zs → NoneBefore y (put_by after x zs)
   none_before-put y x [] p h = (p, tt)
-  none_before-put y x (z ∷ zs) p h =
-      cond_both (after x z) _ _ (NoneBefore y) (λ _. (h.0, none_before-put y x zs p h.1)) (λ _. (p, h))
+  none_before-put y x (z ∷ zs) p h = grind (arith, none_before-put y x zs p h.1, h.0, h.1)
 
   pub in_order-put : (x : X) (xs : List X) → IsInOrder xs → IsInOrder (put_by after x xs)
   in_order-put x [] h = (tt, tt)
-  in_order-put x (y ∷ ys) h =
-      cond_both (after x y) _ _ IsInOrder (λ e. (none_before-put y x ys (o.one_way x y e) h.0, in_order-put x ys h.1))
-      (λ e. ((e, none_before-below x y ys e h.0), h))
+  in_order-put x (y ∷ ys) h = grind (arith, in_order-put x ys h.1, none_before-put, none_before-below, h.0, h.1)
 
   -- what is put in order stands in order
   pub in_order-ordered : (xs : List X) → IsInOrder (ordered_by after xs)

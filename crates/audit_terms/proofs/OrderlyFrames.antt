@@ -1,10 +1,9 @@
 -- Orderly frames, and whatever else has rising numbers.
-use Rattle.std.specs.Ordering.{nat_cmp, ordering_index}
-use Rattle.std.proofs.Common.{Bool, List, [], ap, arith, drop, filter, get_or, length, suc, sym, zero, ℕ, ◌+◌, ◌<◌, ◌^◌}
-use Rattle.std.proofs.Common.{◌∙◌, ◌∷◌, ◌≡◌, ◌≤◌}
-use Rattle.std.proofs.lemmas.{Grind.common_steps, List.drop_more}
 use Rattle.audit_terms.specs.code.runs.{Changes.AreOrderlyFrom, Orderly.IsInRange, Orderly.IsOrderlyFrom}
 use Rattle.audit_terms.specs.declared.{frames.Frame.Frame, items.Change.Change}
+use Rattle.std.proofs.Common.{Bool, List, [], ap, arith, drop, filter, get_or, length, suc, sym, zero, ℕ, ◌+◌, ◌<◌, ◌^◌}
+use Rattle.std.proofs.{Common.◌∙◌, Common.◌∷◌, Common.◌≡◌, Common.◌≤◌, lemmas.Grind.common_steps, lemmas.List.drop_more}
+use Rattle.std.specs.Ordering.{nat_cmp, ordering_index}
 
 module _ {X : Type 0} (number : X → ℕ) where
   -- each number above the one before it, the first `low` or above

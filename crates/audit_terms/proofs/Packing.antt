@@ -1,5 +1,5 @@
 -- Settings are the same after they were kept in words.
-use Rattle.std.proofs.Common.{Option, ap, arith, refl, subst, sym, ℕ, ◌%◌, ◌*◌, ◌+◌, ◌/◌, ◌∙◌, ◌≡◌, ◌≤◌}
+use Rattle.std.proofs.Common.{Option, ap, arith, refl, subst, sym, ℕ, ◌*◌, ◌+◌, ◌≡◌, ◌≤◌}
 use Rattle.std.specs.Prelude.{unwrap_or}
 use Rattle.audit_terms.specs.code.Packing.{IsPacked, mark, marked, one_less, one_more, packed, unpacked}
 use Rattle.audit_terms.specs.declared.settings.{PackedSettings.TheInside.Inside, Settings.Settings}
@@ -19,20 +19,7 @@ same : {a b c d a' b' c' d' : Option ℕ} → a ≡ a' → b ≡ b' → c ≡ c'
 same p q r s = cc
 
 pub packing_keeps : (settings : Settings) → unpacked (packed settings) ≡ settings
-packing_keeps settings =
-    let bad = one_more settings.bad in
-    let long = mark settings.max_frame in
-    let first = mark settings.initial in
-    let push = mark settings.push in
-    let marks = ((bad * 2 + long) * 2 + first) * 2 + push in
-    let push_is : marks % 2 ≡ push = omega (arith, little) in
-    let first_is : marks / 2 % 2 ≡ first = omega (arith, little) in
-    let long_is : marks / 4 % 2 ≡ long = omega (arith, little) in
-    let bad_is : marks / 8 ≡ bad = omega (arith, little) in
-    same (ap (λ m. marked m (unwrap_or settings.push 0)) push_is ∙ kept settings.push)
-    (ap (λ m. marked m (unwrap_or settings.initial 0)) first_is ∙ kept settings.initial)
-    (ap (λ m. marked m (unwrap_or settings.max_frame 0)) long_is ∙ kept settings.max_frame)
-    (ap one_less bad_is ∙ back settings.bad)
+packing_keeps settings = grind (arith, little, same, kept, back)
 
 fields : {marks push initial max_frame marks' push' initial' max_frame' : ℕ} → marks ≡ marks' → push ≡ push'
     → initial ≡ initial' → max_frame ≡ max_frame' →

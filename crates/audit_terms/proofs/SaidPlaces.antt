@@ -1,7 +1,7 @@
 -- What is said at a frame has the frame's number, and what has a lower number stands before.
 use Rattle.std.proofs.Common.{Bool, List, None, Some, [], pos, refl, sym, true, ℕ, ℤ, ◌*◌, ◌+◌, ◌<◌, ◌^◌, ◌∷◌, ◌≡◌, ◌≤◌}
 use Rattle.std.proofs.Common.{Option, arith, false, if◌then◌else◌, ◌++◌}
-use Rattle.std.proofs.lemmas.Bool.{cond_both, Decides.nat_tests}
+use Rattle.std.proofs.lemmas.Bool.{Decides.nat_tests}
 use Rattle.std.specs.{Cmp.nat_cmp_is, List.AllByRecursion, declared.cmp.Ordering.TheVariants.Less}
 use Rattle.audit_terms.proofs.{FindingOrder.comes_after_is, OrderedLists.NoneBefore, OrderedLists.Precedes}
 use Rattle.audit_terms.specs.{InForce.InForce, InForce.settings_said, Place.place_number, Stream.WindowStep}
@@ -37,9 +37,7 @@ at-append n xs ys p q = record { within = within-append (n * 2 ^ 36) (n * 2 ^ 36
 within-put : (low high : ℕ) (x : Finding) (xs : List Finding) → low ≤ x.place → x.place < high → AreWithin low high xs →
     AreWithin low high (put_by comes_after x xs)
 within-put low high x [] p q h = (p, q, tt)
-within-put low high x (y ∷ ys) p q h =
-    cond_both (comes_after x y) _ _ (AreWithin low high) (λ _. (h.0, h.1, within-put low high x ys p q h.2))
-    (λ _. (p, q, h))
+within-put low high x (y ∷ ys) p q h = grind (arith, nat_tests, within-put low high x ys p q h.2, h.0, h.1, h.2)
 
 within-in_order : (low high : ℕ) (xs : List Finding) → AreWithin low high xs → AreWithin low high (in_order xs)
 within-in_order low high [] h = tt

@@ -49,16 +49,13 @@ none-past : (stop : Option ℕ) (low : ℕ) (met : List ℕ) (number : ℕ) (lef
     → (low ≤ number) × (list_any (is_past stop) met ≡ false)
 none-past stop low [] number left fall is = (fall.0, refl)
 none-past stop low (x ∷ xs) number left (order, fall) is =
-    let rest = none-past stop x xs number left fall is in
-    let at = past-lower stop x number rest.0 is in
-    (omega arith, rw (at) rest.1)
+    grind (arith, nat_tests, none-past stop x xs number left fall is, past-lower)
 
 -- all steps from one that lies past on lie past
 get-later : (stop : Option ℕ) (low : ℕ) (met : List ℕ) (number : ℕ) (left : List ℕ) (at later : ℕ)
     → NeverFallFrom low (met ++ number ∷ left) → is_past stop number ≡ true → length met ≤ at
     → slice_get (met ++ number ∷ left) at ≡ Some later → is_past stop later ≡ true
-get-later stop low [] number left at later fall past order is =
-    past-higher stop number later (fall-at number later (number ∷ left) at (omega arith, fall.1) is) past
+get-later stop low [] number left at later fall past order is = grind (arith, nat_tests, past-higher, fall-at)
 get-later stop low (x ∷ xs) number left zero later fall past order is = absurd (omega arith)
 get-later stop low (x ∷ xs) number left (suc at) later fall past order is =
     get-later stop x xs number left at later fall.1 past (omega arith) is
