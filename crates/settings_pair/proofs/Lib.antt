@@ -1,3 +1,3 @@
 mod Words
-pub mod WaitingLemmas
-pub mod OrderLemmas
+mod WaitingLemmas
+mod OrderLemmas

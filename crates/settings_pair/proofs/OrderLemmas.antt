@@ -1,11 +1,10 @@
 -- The changes of orderly frames are orderly, and each is that of an acknowledgement.
-use Rattle.std.proofs.Common.{◌≡◌, ℕ, ◌+◌, ◌≤◌, true, List, [], ◌∷◌, ◌++◌, All, Option}
-use Rattle.std.proofs.Common.{Some, None, refl, is_some, arith}
+use Rattle.settings_pair.proofs.Words.{AreAcknowledged, AreOrderlyFrom, Change, Frame, InForce, IsInRange, IsOrderly}
+use Rattle.settings_pair.proofs.Words.{IsOrderlyFrom, Settings, change_taking, changes_from, changes_of, in_force_after}
+use Rattle.settings_pair.proofs.Words.{initial_in_force, is_ack, option_to_list, taken}
+use Rattle.std.proofs.Common.{All, List, None, Option, Some, [], arith, is_some, refl, true, ℕ, ◌++◌, ◌+◌, ◌∷◌, ◌≡◌}
+use Rattle.std.proofs.{Common.◌≤◌, lemmas.List.Elements.All-from_recursion, lemmas.List.Elements.All-weaker}
 use Rattle.std.specs.List.{AllByRecursion}
-use Rattle.std.proofs.lemmas.List.Elements.{All-from_recursion, All-weaker}
-use Rattle.settings_pair.proofs.Words.{option_to_list, Settings, Frame, Change, is_ack, IsInRange}
-use Rattle.settings_pair.proofs.Words.{IsOrderlyFrom, IsOrderly, InForce, initial_in_force, taken, change_taking}
-use Rattle.settings_pair.proofs.Words.{in_force_after, changes_of, changes_from, AreOrderlyFrom, AreAcknowledged}
 
 orderly-lower : (low lower : ℕ) (changes : List Change) → lower ≤ low → AreOrderlyFrom low changes
     → AreOrderlyFrom lower changes

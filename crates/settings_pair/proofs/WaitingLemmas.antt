@@ -1,22 +1,19 @@
 -- What an acknowledgement takes from the queues is what it takes by position.
-use Rattle.std.proofs.Common.{◌≡◌, ℕ, suc, zero, ◌+◌, ◌<◌, ◌≤◌, Bool, true, false, ◌&&◌, if◌then◌else◌, List, [], ◌∷◌}
-use Rattle.std.proofs.Common.{◌++◌, length, drop, slice_get, get_or, Option, Some, None, is_some, is_none, pos, refl}
-use Rattle.std.proofs.Common.{sym, ap, ◌∙◌, add-zero, length-append, arith}
-use Rattle.std.proofs.lemmas.List.{drop-drop, drop-append-le, at_drop_more}
-use Rattle.std.proofs.lemmas.Grind.{flat_map-append}
-use Rattle.std.proofs.lemmas.Option.{slice_get_within, slice_get_cases}
-use Rattle.settings_pair.proofs.Words.{option_to_list, append-nil, drop_all, Side, Settings, Frame, other, is_side}
-use Rattle.settings_pair.proofs.Words.{side_of, is_ack, settings_in, UnmatchedAck, finding_at, say, InForce}
-use Rattle.settings_pair.proofs.Words.{initial_in_force, taken, change_taking, change_of, in_force_after, settings_said}
-use Rattle.settings_pair.proofs.Words.{Waiting, sent_of, sent_by, waiting_of, IsWaiting}
+use Rattle.settings_pair.proofs.Words.{Frame, InForce, IsWaiting, Settings, Side, UnmatchedAck, Waiting, append-nil}
+use Rattle.settings_pair.proofs.Words.{change_of, change_taking, drop_all, finding_at, in_force_after, initial_in_force}
+use Rattle.settings_pair.proofs.Words.{is_ack, is_side, option_to_list, other, say, sent_by, sent_of, settings_in}
+use Rattle.settings_pair.proofs.Words.{settings_said, side_of, taken, waiting_of}
+use Rattle.std.proofs.Common.{Bool, List, None, Option, Some, [], add-zero, ap, arith, drop, false, get_or}
+use Rattle.std.proofs.Common.{if◌then◌else◌, is_none, is_some, length, length-append, pos, refl, slice_get, suc, sym}
+use Rattle.std.proofs.Common.{true, zero, ℕ, ◌&&◌, ◌++◌, ◌+◌, ◌<◌, ◌∙◌, ◌∷◌, ◌≡◌, ◌≤◌}
+use Rattle.std.proofs.lemmas.{Grind.flat_map-append, List.at_drop_more, List.drop-append-le, List.drop-drop}
+use Rattle.std.proofs.lemmas.Option.{slice_get_cases, slice_get_within}
 
 -- ---- the settings of one side, frame by frame
 
 pub sent-at : (d : Side) (seen : List Frame) (at : ℕ) (frame : Frame) → at < length seen → frame ≡ get_or seen at frame
     → sent_by d (drop at seen) ≡ sent_of d frame ++ sent_by d (drop (at + 1) seen)
-sent-at d seen at frame within is =
-    at_drop_more (sent_by d) seen at frame within
-    ∙ ap (λ (one : Frame). sent_of d one ++ sent_by d (drop (at + 1) seen)) (sym is)
+sent-at d seen at frame within is = grind (arith, at_drop_more (sent_by d) seen at frame within)
 
 -- what is left after a place, by what is sent there
 pub record IsSent (sent : Option Settings) (left after : List Settings) : Type 0 where
@@ -40,10 +37,7 @@ none-left_by d seen from at left past = sym left ∙ ap (sent_by d) (drop_all at
 -- what waits grows by the settings of a frame more
 waiting-on : (d : Side) (from : ℕ) (seen : List Frame) (frame : Frame) → from ≤ length seen
     → sent_by d (drop from (seen ++ frame ∷ [])) ≡ sent_by d (drop from seen) ++ sent_of d frame
-waiting-on d from seen frame within =
-    ap (sent_by d) (drop-append-le from seen (frame ∷ []) within)
-    ∙ flat_map-append (sent_of d) (drop from seen) (frame ∷ [])
-    ∙ ap (λ l. sent_by d (drop from seen) ++ l) (append-nil (sent_of d frame))
+waiting-on d from seen frame within = grind (arith, drop-append-le, flat_map-append, append-nil)
 
 -- ---- sides
 

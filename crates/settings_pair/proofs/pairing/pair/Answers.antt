@@ -1,15 +1,9 @@
-use Rattle.std.proofs.Common.{◌≡◌, ℕ, ◌+◌, ◌<◌, List, ◌∷◌, append_assoc, ap, drop, get_or, length, refl, sym, ◌∙◌}
-use Rattle.std.proofs.lemmas.List.{at_drop_more, take_more}
-use Rattle.settings_pair.proofs.Words.{append-nil, changes_of, drop_all, Frame, in_force_after, initial_in_force}
+use Rattle.audit_terms.proofs.OrderlyFrames.{drop-at}
 use Rattle.settings_pair.proofs.OrderLemmas.{changes_from-orderly, changes_of-acknowledged}
 use Rattle.settings_pair.proofs.WaitingLemmas.{waiting-at_start}
+use Rattle.settings_pair.proofs.Words.{append-nil, changes_of, drop_all, in_force_after, initial_in_force}
+use Rattle.std.proofs.{Common.append_assoc, Common.refl, Common.◌+◌, Common.◌≡◌, lemmas.List.take_more}
 use Rattle.settings_pair.proofs.pairing.pair.Goals as goal
-
--- the frames from a place on
-from-here : (frames : List Frame) (at : ℕ) (frame : Frame) → at < length frames → frame ≡ get_or frames at frame
-    → drop at frames ≡ frame ∷ drop (at + 1) frames
-from-here frames at frame within is =
-    at_drop_more (λ l. l) frames at frame within ∙ ap (λ (one : Frame). one ∷ drop (at + 1) frames) (sym is)
 
 pub loop-at-init : goal.loop-at-init
 loop-at-init c = record {
@@ -23,13 +17,13 @@ loop-at-init c = record {
 
 pub meet-requires : goal.meet-requires
 meet-requires c =
-    (rw (from-here c.args.frames.now _ _ c.loop-at-test.true c.index-frames-at.is) at c.loop-at.invariant.orderly).1
+    (rw (drop-at c.args.frames.now _ _ c.index-frames-at.is c.loop-at-test.true) at c.loop-at.invariant.orderly).1
 
 pub loop-at-preserved : goal.loop-at-preserved
 loop-at-preserved c =
     let was = c.loop-at.invariant in
     let frame = c.index-frames-at.result in
-    let here = from-here c.args.frames.now _ frame c.loop-at-test.true c.index-frames-at.is in
+    let here = drop-at c.args.frames.now _ frame c.index-frames-at.is c.loop-at-test.true in
     let did = c.in_ok-meet.ensures in record {
       now = in_force_after was.now frame;
       low = frame.number + 1;

@@ -1,8 +1,7 @@
-use Rattle.std.proofs.Common.{◌+◌, ◌∙◌, drop, sym, arith}
-use Rattle.settings_pair.proofs.Words.{sent_by}
 use Rattle.settings_pair.proofs.WaitingLemmas.{IsSent, none-left_by, sent-here}
+use Rattle.settings_pair.proofs.{Words.sent_by, waiting.first_from.Goals.After-is_some}
+use Rattle.std.proofs.Common.{arith, drop, sym, ◌+◌, ◌∙◌}
 use Rattle.settings_pair.proofs.waiting.first_from.Goals as goal
-use Rattle.settings_pair.proofs.waiting.first_from.Goals.{After-is_some}
 
 -- what this frame's settings are among those that are left
 sent : (c : After-is_some) → IsSent c.settings_of-sent.result (sent_by c.args.sender (drop c.args.from c.args.seen.now))
