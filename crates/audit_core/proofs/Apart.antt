@@ -8,7 +8,7 @@ use Rattle.audit_core.proofs.{Pairs.pairs-ordered, Pairs.pairs-refine, PassOrder
 use Rattle.audit_core.proofs.{PassOrder.from-full_from, PassOrder.streams-streams_of, TableRows.IsRow}
 use Rattle.audit_core.proofs.{TableRows.error_side, Words.AllByRecursion, Words.AreApart, Words.AreApartAsErrors}
 use Rattle.audit_core.proofs.Words.{AreFrom, AreWithin, EachPair, Finding, Frame, IsInRange, IsOrderly, IsOrderlyFrom}
-use Rattle.audit_core.proofs.Words.{PassState, Side, StandApart, comes_after, cond_both, each-ordered, each-weaker}
+use Rattle.audit_core.proofs.Words.{PassState, Side, StandApart, comes_after, each-ordered, each-weaker}
 use Rattle.audit_core.proofs.Words.{eq-eqb, first_of, full, full_from, next, pass_start, place_rank, promised_by, said}
 
 not_among-others : (stream : ℕ) (streams : List ℕ)
@@ -19,9 +19,7 @@ not_among-others stream streams =
     (recursion_from_All _ _ (filter_passes (λ other. not (other == stream)) streams))
 
 distinct-first_of : (stream : ℕ) (streams : List ℕ) → EachPair ◌≢◌ streams → EachPair ◌≢◌ (first_of stream streams)
-distinct-first_of stream streams h =
-    cond_both (stream == 0) _ _ (EachPair ◌≢◌) (λ e. h)
-    (λ e. (not_among-others stream streams, pairs-filter ◌≢◌ _ streams h))
+distinct-first_of stream streams h = grind (arith, not_among-others, pairs-filter)
 
 -- no stream is named twice
 pub distinct-streams_of : (frames : List Frame) → EachPair ◌≢◌ (streams_of frames)

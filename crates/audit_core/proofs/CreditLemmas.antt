@@ -93,8 +93,7 @@ since-all : (opening low : ℕ) (frames : List Frame) → opening ≤ low → Is
     → since opening frames ≡ frames
 since-all opening low [] below h = refl
 since-all opening low (frame ∷ frames) below h =
-    let rest = since-all opening (frame.number + 1) frames (omega (arith, h.0)) h.2 in
-    grind (arith, nat_tests, h.0)
+    grind (arith, nat_tests, since-all opening (frame.number + 1) frames (omega (arith, h.0)) h.2, h.0, h.2)
 
 -- what a live window's credit is, where the stream was not opened before the frames
 abbrev IsSumSince : Side → (stream opening : ℕ) → PassState → List Frame → ℤ → Type 0

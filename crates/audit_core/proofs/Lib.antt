@@ -1,16 +1,16 @@
 mod Words
 pub mod PassOrder
-pub mod PassRows
-pub mod Meetings
-pub mod CreditLemmas
-pub mod LiveWindows
+mod PassRows
+mod Meetings
+mod CreditLemmas
+mod LiveWindows
 pub mod StreamSteps
 pub mod PartsLemmas
 pub mod QuietSteps
-pub mod StopLemmas
-pub mod Pairs
-pub mod TableRows
-pub mod FrameRows
-pub mod Apart
-pub mod JoinedSteps
+mod StopLemmas
+mod Pairs
+mod TableRows
+mod FrameRows
+mod Apart
+mod JoinedSteps
 pub mod StreamsMet

@@ -1,12 +1,11 @@
 -- The pass stands in order: what is said at a frame has the frame's number, and the numbers rise.
-use Rattle.std.proofs.Common.{◌≡◌, ℕ, ◌+◌, ◌^◌, ◌<◌, ◌==◌, List, [], ◌∷◌, ◌++◌, arith}
-use Rattle.audit_core.proofs.Words.{Frame, Finding, side_of, comes_after, in_order, promised_by, IsInRange}
-use Rattle.audit_core.proofs.Words.{IsOrderlyFrom, IsOrderly, local_said, settings_said, connection_said, PassState}
-use Rattle.audit_core.proofs.Words.{pass_start, said, full_from, full, next, first_of, streams_of, streams_said}
-use Rattle.audit_core.proofs.Words.{step_of, item_of, IsInOrder, in_order-ordered, in_order-append, ordered-in_order}
-use Rattle.audit_core.proofs.Words.{comes_after_is, AreAt, AreFrom, at-append, at-in_order, at-nil, at-local}
-use Rattle.audit_core.proofs.Words.{at-settings, at-connection, at-stream, from-at, from-from, from-append, precedes-at}
-use Rattle.audit_core.proofs.Words.{AllByRecursion, cond_both, each-filter}
+use Rattle.audit_core.proofs.Words.{AllByRecursion, AreFrom, at-connection, comes_after_is, settings_said, streams_said}
+use Rattle.audit_core.proofs.Words.{AreAt, at-in_order, at-settings, comes_after, each-filter, from-append, precedes-at}
+use Rattle.audit_core.proofs.Words.{Finding, at-append, at-local, at-stream, first_of, from-from, full_from, in_order}
+use Rattle.audit_core.proofs.Words.{Frame, at-nil, from-at, full, item_of, next, said, side_of, step_of}
+use Rattle.audit_core.proofs.Words.{IsInOrder, IsInRange, IsOrderly, PassState, local_said, promised_by, streams_of}
+use Rattle.audit_core.proofs.Words.{IsOrderlyFrom, connection_said, in_order-append, in_order-ordered, ordered-in_order}
+use Rattle.std.proofs.Common.{List, [], arith, ℕ, ◌++◌, ◌+◌, ◌<◌, ◌^◌, ◌∷◌, ◌≡◌}
 
 -- all streams have 31 bits
 abbrev pub AreStreams : List ℕ → Type 0
@@ -56,8 +55,7 @@ in_order-full_from streams state low (frame ∷ frames) small h =
 
 streams-first_of : (stream : ℕ) (streams : List ℕ) → stream < 2 ^ 31 → AreStreams streams →
     AreStreams (first_of stream streams)
-streams-first_of stream streams p h =
-    cond_both (stream == 0) _ _ AreStreams (λ e. h) (λ e. (p, each-filter (λ other. other < 2 ^ 31) _ streams h))
+streams-first_of stream streams p h = grind (arith, each-filter)
 
 -- the streams that orderly frames name
 pub streams-streams_of : (low : ℕ) (frames : List Frame) → IsOrderlyFrom low frames → AreStreams (streams_of frames)
@@ -68,5 +66,4 @@ streams-streams_of low (frame ∷ frames) h =
 
 pub findings_stand_in_order : (frames : List Frame) → IsOrderly frames → in_order (full frames) ≡ full frames
 findings_stand_in_order frames h =
-    ordered-in_order comes_after comes_after_is (full frames)
-    (in_order-full_from (streams_of frames) pass_start 0 frames (streams-streams_of 0 frames h) h)
+    grind (arith, ordered-in_order, comes_after_is, in_order-full_from, streams-streams_of)

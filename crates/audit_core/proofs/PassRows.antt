@@ -57,9 +57,7 @@ module _ (state : PassState) (frame : Frame) where
   opens-rows : (streams : List ℕ) → list_any (row_opens frame) (rows_in state.streams streams)
       ≡ (list_any (λ other. other == frame.stream) streams && opens_it frame.stream)
   opens-rows [] = refl
-  opens-rows (stream ∷ streams) =
-      rw (opens-rows streams) (either-opens (stream == frame.stream) (opens_it stream) (opens_it frame.stream) _
-      (λ e. ap opens_it (eqb-true stream frame.stream e)))
+  opens-rows (stream ∷ streams) = grind (arith, nat_tests, opens-rows streams, either-opens)
 
   -- no frame promises its own stream, and none opens stream 0
   zero-unopened : (frame.stream == 0) ≡ true → opens_it frame.stream ≡ false
@@ -127,9 +125,7 @@ module _ {all : List Frame} {changes : List Change} {frame : Frame} {rest : List
   -- the change at the frame's number
   pub brings : {change : Option Change} → change ≡ find (is_at frame.number) changes →
       change ≡ change_of h.state.in_force frame
-  brings e =
-      e ∙ h.brought frame.number h.orderly.0 ∙ find-on h.state.in_force frame rest frame.number h.orderly.2
-      ∙ rw (eq-eqb frame.number frame.number refl) refl
+  brings e = grind (arith, nat_tests, find-on, rest)
 
   module _ (opens : Bool) (change : Option Change) (is : change ≡ find (is_at frame.number) changes)
       (opened : opens ≡ list_any (row_opens frame) entries) (own : list_any (meets frame.stream) all ≡ true) where

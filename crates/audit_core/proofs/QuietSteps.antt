@@ -1,7 +1,7 @@
 -- A step without a frame and without a new initial window shows and changes nothing.
-use Rattle.std.proofs.Common.{◌≡◌, ℕ, ℤ, [], ◌++◌, ap, ◌∙◌, arith, Option, None, ap₂}
+use Rattle.std.proofs.Common.{◌≡◌, ℕ, ℤ, [], ap, arith, Option, None}
 use Rattle.audit_core.proofs.Words.{ints, Side, Client, Server, Sides, Change, Step, Stream, say_of, side_of}
-use Rattle.audit_core.proofs.Words.{new_initial, window_step, live_window_said, window_after, stream_window_said}
+use Rattle.audit_core.proofs.Words.{new_initial, window_step, live_window_said, window_after}
 use Rattle.audit_core.proofs.Words.{stream_said, stream_after, counted, initial_after}
 
 -- a step of a change alone, or of nothing
@@ -30,10 +30,7 @@ module _ (stream : ℕ) (initial : Sides ℕ) (number : ℕ) (change : Option Ch
   -- the stream
   pub stream_said-quiet : stream_said stream initial entry (bare_step number change) ≡ []
   stream_said-quiet =
-      ap (λ said. said ++ stream_window_said Server stream initial entry (bare_step number change))
-      (window_said-quiet Client entry.window.client) ∙ window_said-quiet Server entry.window.server
+      grind (arith, window_said-quiet Client entry.window.client, window_said-quiet Server entry.window.server)
 
   pub stream_after-quiet : stream_after stream initial entry (bare_step number change) ≡ entry
-  stream_after-quiet =
-      ap₂ {C = Stream} (λ (a b : Option ℤ). record { life = entry.life; window = record { client = a; server = b } })
-      (window_after-quiet Client entry.window.client) (window_after-quiet Server entry.window.server)
+  stream_after-quiet = grind (arith, window_after-quiet)

@@ -1,10 +1,10 @@
 -- The steps of one stream are those frames of the connection at which it has a frame or a change is brought.
-use Rattle.std.proofs.Common.{Bool, List, None, Option, Some, arith, if◌then◌else◌, ltb-true, nat_lt, refl, ◌++◌, ◌==◌}
+use Rattle.std.proofs.Common.{Bool, List, None, Option, Some, arith, if◌then◌else◌, ltb-true, refl, ◌++◌}
 use Rattle.std.proofs.Common.{[], ℕ, ◌+◌, ◌<◌, ◌∷◌, ◌≡◌, ◌≤◌}
 use Rattle.audit_core.proofs.{Pairs.all-mapped, Words.AllByRecursion, Words.in_force_after, Words.option_to_list}
-use Rattle.audit_core.proofs.Words.{Change, Frame, InForce, Step, eqb-true, meets, step_of, steps_of, taken}
+use Rattle.audit_core.proofs.Words.{Change, Frame, InForce, Step, meets, step_of, steps_of, taken}
 use Rattle.audit_core.proofs.Words.{IsOrderlyFrom, change_step, change_taking, changes_from, each-append, each-filter}
-use Rattle.audit_core.proofs.Words.{Settings, change_of, cond_both, frame_step, frames_of, nat_tests, with_change}
+use Rattle.audit_core.proofs.Words.{Settings, change_of, frame_step, frames_of, nat_tests, with_change}
 
 -- ---- one more change among some steps
 
@@ -13,10 +13,7 @@ pub with_change-cases : (P : List Step → Type 0) (change : Change) (step : Ste
     → (step.number ≡ change.number → P (record step { change = Some change } ∷ steps))
     → (change.number < step.number → P (change_step change ∷ step ∷ steps))
     → (step.number < change.number → P (step ∷ with_change steps change)) → P (with_change (step ∷ steps) change)
-with_change-cases P change step steps same before after =
-    cond_both (step.number == change.number) _ _ P (λ e. same (eqb-true _ _ e))
-    (λ e. cond_both (nat_lt change.number step.number) _ _ P (λ f. before (ltb-true _ _ f))
-    (λ f. after (grind (arith, nat_tests))))
+with_change-cases P change step steps same before after = grind (arith, nat_tests, ltb-true, after)
 
 -- what holds of steps of frames alone and of changes alone, and of both together, holds of all steps
 module _ (P : Step → Type 0) (joined : (change : Change) (step : Step) → step.number ≡ change.number →
