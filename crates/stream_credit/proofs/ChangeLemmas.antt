@@ -23,8 +23,7 @@ drop-next met changes change is =
 
 -- ---- what is in force
 
-after-append : (now : Sides ℕ) (a b : List Change) → after_changes now (a ++ b)
-    ≡ after_changes (after_changes now a) b
+after-append : (now : Sides ℕ) (a b : List Change) → after_changes now (a ++ b) ≡ after_changes (after_changes now a) b
 after-append now [] b = refl
 after-append now (change ∷ a) b = after-append (initial_after (Some change) now) a b
 
@@ -49,10 +48,7 @@ pub initial-is : (met : ℕ) (changes : List Change) (windows : List (Sides ℕ)
     → met ≤ length changes → windows ≡ after_each initial_in_force.initial changes
     → now ≡ slice_index_or windows (met - 1) d → now ≡ initial_at met changes
 initial-is met changes windows now d some h w e =
-    let whole : suc (met - 1) ≡ met = omega (arith, some) in
-    let at = at-each initial_in_force.initial changes (met - 1) (omega (arith, some, h)) in
-    e ∙ rw w (get_or_from_slice_get (after_each initial_in_force.initial changes) (met - 1) _ d at)
-    ∙ ap (λ n. initial_at n changes) whole
+    grind (arith, at-each initial_in_force.initial changes (met - 1) (omega (arith, some, h)), get_or_from_slice_get)
 
 -- ---- the order of changes
 
@@ -66,8 +62,7 @@ orderly-parted number met changes h =
 few : (low : ℕ) (changes : List Change) → low ≤ 2 ^ 28 - 1 → AreOrderlyFrom low changes
     → low + length changes ≤ 2 ^ 28 - 1
 few low [] b h = omega (arith, b)
-few low (change ∷ changes) b h =
-    let more = few (change.number + 1) changes (omega (arith, h.1)) h.2 in omega (arith, more, h.0)
+few low (change ∷ changes) b h = grind (arith, few (change.number + 1) changes (omega (arith, h.1)) h.2, h.1, h.2, h.0)
 
 pub few-changes : (changes : List Change) → AreOrderly changes → length changes < 2 ^ 28
 few-changes changes h = omega (arith, few 0 changes (omega arith) h)

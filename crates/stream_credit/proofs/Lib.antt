@@ -1,8 +1,8 @@
 pub mod Words
-pub mod ChangeLemmas
-pub mod MergedLemmas
+mod ChangeLemmas
+mod MergedLemmas
 pub mod SilentLemmas
-pub mod WalkLemmas
+mod WalkLemmas
 pub mod QuietLemmas
-pub mod RunLemmas
+mod RunLemmas
 pub mod QuietStreams

@@ -1,14 +1,12 @@
 -- The forward walk gives the steps of the definition, in order; it takes out a change before the next frame, or a frame
 -- with the change that it brings.
-use Rattle.std.proofs.Common.{All}
-use Rattle.stream_credit.proofs.Words.{◌≡◌, ℕ, ◌+◌, ◌<◌, ◌≤◌, ◌^◌, ◌-◌, List, [], ◌∷◌, map, refl, sym, ap, ◌∙◌, drop}
-use Rattle.stream_credit.proofs.Words.{arith, nat_tests, AllByRecursion, recursion_from_All, eq-eqb, ne_eqb, lt-ltb}
-use Rattle.stream_credit.proofs.Words.{le-ltb, Option, Some, None, Frame, Change, Step, frame_step, change_step}
-use Rattle.stream_credit.proofs.Words.{with_change, steps_of, AreOrderlyFrom, AreAcknowledged, frame_with, merged}
-use Rattle.stream_credit.proofs.Words.{AcknowledgesAt, Acknowledge, StartsAt, AreFrom, IsBrought, met_after, AreInOrder}
-use Rattle.stream_credit.proofs.Words.{IsOrderly, IsOrderlyFrom}
-use Rattle.stream_credit.proofs.ChangeLemmas.{drop-next}
-use Rattle.std.proofs.lemmas.List.Elements.{All-weaker}
+use Rattle.std.proofs.{Common.All, lemmas.List.Elements.All-weaker}
+use Rattle.stream_credit.proofs.{ChangeLemmas.drop-next, Words.Acknowledge, Words.AcknowledgesAt}
+use Rattle.stream_credit.proofs.Words.{AllByRecursion, AreAcknowledged, AreFrom, AreInOrder, AreOrderlyFrom, Change}
+use Rattle.stream_credit.proofs.Words.{Frame, IsBrought, IsOrderly, IsOrderlyFrom, List, None, Option, Some, StartsAt}
+use Rattle.stream_credit.proofs.Words.{Step, [], ap, arith, change_step, drop, eq-eqb, frame_step, frame_with, le-ltb}
+use Rattle.stream_credit.proofs.Words.{lt-ltb, map, merged, met_after, nat_tests, ne_eqb, recursion_from_All, refl}
+use Rattle.stream_credit.proofs.Words.{steps_of, sym, with_change, ℕ, ◌+◌, ◌-◌, ◌<◌, ◌^◌, ◌∷◌, ◌≡◌, ◌≤◌}
 
 -- ---- the walk is the definition's list
 
@@ -29,8 +27,7 @@ pub steps_of-merged : (low : ℕ) (frames : List Frame) (changes : List Change) 
     → steps_of frames changes ≡ merged frames changes
 steps_of-merged low frames [] h = sym (merged-no_changes frames)
 steps_of-merged low frames (change ∷ changes) h =
-    ap (λ steps. with_change steps change) (steps_of-merged (change.number + 1) frames changes h.2)
-    ∙ with_change-merged frames change changes h.2
+    grind (arith, nat_tests, steps_of-merged (change.number + 1) frames changes h.2, with_change-merged, h.2)
 
 -- ---- the steps come in order
 
@@ -58,21 +55,13 @@ pub merged-change : (number : ℕ) (frames : List Frame) (change : Change) (chan
     → StartsAt number frames → change.number < number
     → merged frames (change ∷ changes) ≡ change_step change ∷ merged frames changes
 merged-change number [] change changes h below = refl
-merged-change number (frame ∷ frames) change changes h below =
-    rw (
-      ne_eqb frame.number change.number (λ e. absurd (omega (arith, h, below, e))),
-      lt-ltb change.number frame.number (omega (arith, h, below)),
-    ) refl
+merged-change number (frame ∷ frames) change changes h below = grind (arith, nat_tests, ne_eqb, lt-ltb)
 
 -- a frame before all changes
 pub merged-first : (frame : Frame) (frames : List Frame) (changes : List Change) → AreFrom (frame.number + 1) changes
     → merged (frame ∷ frames) changes ≡ frame_step frame ∷ merged frames changes
 merged-first frame frames [] h = refl
-merged-first frame frames (change ∷ changes) h =
-    rw (
-      ne_eqb frame.number change.number (λ e. absurd (omega (arith, h, e))),
-      le-ltb change.number frame.number (omega (arith, h)),
-    ) refl
+merged-first frame frames (change ∷ changes) h = grind (arith, nat_tests, ne_eqb, le-ltb)
 
 -- a frame with the change that it brings, if it brings one
 pub merged-brought : (frame : Frame) (frames : List Frame) (met : ℕ) (changes : List Change) (change : Option Change)
@@ -80,8 +69,7 @@ pub merged-brought : (frame : Frame) (frames : List Frame) (met : ℕ) (changes 
     → merged (frame ∷ frames) (drop met changes)
     ≡ frame_with frame change ∷ merged frames (drop (met_after met change) changes)
 merged-brought frame frames met changes None h from = merged-first frame frames (drop met changes) (h from)
-merged-brought frame frames met changes (Some change) h from =
-    rw (drop-next met changes change h.0, eq-eqb frame.number change.number (sym h.1)) refl
+merged-brought frame frames met changes (Some change) h from = grind (arith, nat_tests, drop-next, eq-eqb, h.0, h.1)
 
 -- ---- acknowledgements, by recursion
 

@@ -1,7 +1,7 @@
 -- A frame that moves one window of a stream and shows nothing where credits are not shown.
 use Rattle.stream_credit.proofs.Words.{◌≡◌, ℕ, ℤ, ◌+◌, ◌*◌, ◌^◌, false, [], Option, Some, None, is_some}
 use Rattle.stream_credit.proofs.Words.{refl, sym, ap, ◌∙◌, arith, ints, append-nil, same_Some, Side, Client, Server}
-use Rattle.stream_credit.proofs.Words.{Sides, Frame, Change, Step, StreamLife, Stream, other, side_of, is_used_up}
+use Rattle.stream_credit.proofs.Words.{Sides, Frame, Change, Step, Stream, other, side_of, is_used_up}
 use Rattle.stream_credit.proofs.Words.{in_order, shown, stream_said, stream_after, HasRoom, WindowHasRoom, Move, Walk}
 use Rattle.stream_credit.proofs.Words.{frame_with, IsMove, IsQuiet, IsCounted, HasRoomAt}
 use Rattle.stream_credit.proofs.SilentLemmas.{frame-unshown, IsCalm, calm-same, calm-some, stream-shown, stream-moved}
@@ -41,9 +41,7 @@ module _ (stream : ℕ) (initial : Sides ℕ) (entry : Stream) (frame : Frame) (
       (frame-unshown stream entry (alone frame) frame m.opened m.in_time m.grants)
 
   pub quiet-after : stream_after stream initial entry (alone frame) ≡ record { life = entry.life; window = next }
-  quiet-after =
-      stream-moved stream initial entry (alone frame) next m.opens calm
-      ∙ ap (λ (life : StreamLife). record { life = life; window = next }) m.kept
+  quiet-after = grind (arith, stream-moved stream initial entry (alone frame) next m.opens calm, calm)
 
 -- ---- the walk that moves the window has counted the frame
 

@@ -1,20 +1,18 @@
 -- A stream of which nothing is shown, from one of its frames to the next.
-use Rattle.stream_credit.proofs.Words.{◌≡◌, pos, List, drop, Some, None, refl, Frame, Step, other, shown, Move, Side}
-use Rattle.stream_credit.proofs.Words.{ℕ, idle_stream, stream_said, change_step, QuietStream, Acknowledge, ShowsNothing}
-use Rattle.stream_credit.proofs.Words.{◌+◌, ◌-◌, ◌^◌, ◌<◌, ◌≤◌, [], ◌∷◌, sym, ap, ◌∙◌}
-use Rattle.stream_credit.proofs.Words.{Bool, in_order, IsOrderly, has_ended, window_of, stream_of, IsMovedBy, ArePassed}
-use Rattle.stream_credit.proofs.Words.{true, Finding, side_of, is_shown, is_live, IsRaised, IsQuiet, IsPassed, StartsAt}
-use Rattle.stream_credit.proofs.Words.{false, arith, Sides, Change, Stream, merged, IsMove, IsNext, AreFrom, IsAhead}
-use Rattle.stream_credit.proofs.Words.{length, filter-append, stream_after, IsOrderlyFrom, initial_after, each-in_order}
-use Rattle.stream_credit.proofs.Words.{slice_get, nat_tests, frame_step, AreOrderly, has_credit, initial_at, is_used_up}
-use Rattle.stream_credit.proofs.Words.{slice_get_within, StreamLife, stream_run_from, stream_after_all, AreAcknowledged}
 use Rattle.audit_terms.proofs.OrderlyFrames.{orderly-earlier}
-use Rattle.stream_credit.proofs.ChangeLemmas.{drop-next, initial-next, passed-each, none-left}
-use Rattle.stream_credit.proofs.MergedLemmas.{steps_of-merged, acknowledge-all, merged-first, merged-change}
-use Rattle.stream_credit.proofs.QuietLemmas.{quiet-unshown, quiet-after}
-use Rattle.stream_credit.proofs.SilentLemmas.{IsUnshown, AreUnshown, none-shown, calm-changes, stream-shown}
-use Rattle.stream_credit.proofs.SilentLemmas.{stream-moved}
-use Rattle.stream_credit.proofs.WalkLemmas.{none-live}
+use Rattle.stream_credit.proofs.ChangeLemmas.{drop-next, initial-next, none-left, passed-each}
+use Rattle.stream_credit.proofs.MergedLemmas.{acknowledge-all, merged-change, merged-first, steps_of-merged}
+use Rattle.stream_credit.proofs.SilentLemmas.{AreUnshown, calm-changes, none-shown, stream-moved, stream-shown}
+use Rattle.stream_credit.proofs.Words.{Acknowledge, QuietStream, StreamLife, change_step, idle_stream, pos, stream_said}
+use Rattle.stream_credit.proofs.Words.{AreAcknowledged, AreOrderly, slice_get_within, stream_after_all, stream_run_from}
+use Rattle.stream_credit.proofs.Words.{AreFrom, ShowsNothing, each-in_order, filter-append, initial_after, stream_after}
+use Rattle.stream_credit.proofs.Words.{ArePassed, IsMovedBy, IsOrderly, frame_step, has_credit, initial_at, is_used_up}
+use Rattle.stream_credit.proofs.Words.{Bool, Change, IsMove, IsNext, Stream, arith, false, length, merged, other, shown}
+use Rattle.stream_credit.proofs.Words.{Finding, IsAhead, IsQuiet, Sides, StartsAt, in_order, is_live, is_shown, side_of}
+use Rattle.stream_credit.proofs.Words.{Frame, IsPassed, IsRaised, has_ended, nat_tests, slice_get, stream_of, window_of}
+use Rattle.stream_credit.proofs.Words.{List, Move, None, Side, Some, Step, drop, refl, sym, true, ℕ, ◌+◌, ◌-◌, ◌<◌, ◌^◌}
+use Rattle.stream_credit.proofs.{QuietLemmas.quiet-after, QuietLemmas.quiet-unshown, SilentLemmas.IsUnshown}
+use Rattle.stream_credit.proofs.{WalkLemmas.none-live, Words.[], Words.ap, Words.◌∙◌, Words.◌∷◌, Words.◌≡◌, Words.◌≤◌}
 
 -- ---- what a run comes to
 

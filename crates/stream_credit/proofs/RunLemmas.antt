@@ -1,20 +1,19 @@
 -- The run of a stream: it begins as the definition does, meets each frame behind the changes before it, and ends whole
 -- or cut.
-use Rattle.std.proofs.Common.{All}
-use Rattle.stream_credit.proofs.Words.{◌≡◌, append-nil, idle_stream, change_step, stream_run, opened_up_to, Acknowledge}
-use Rattle.stream_credit.proofs.Words.{ℕ, ◌+◌, ◌-◌, ◌^◌, ◌<◌, ◌≤◌, ◌∷◌, refl, sym, ap, ◌∙◌, Walk, IsAt}
-use Rattle.stream_credit.proofs.Words.{Bool, true, List, [], drop, Some, None, arith, Frame, shown, up_to, IsRun, IsDue}
-use Rattle.stream_credit.proofs.Words.{false, subst, Option, Client, Server, Change, Stream, merged, IsSound, IsBegun}
-use Rattle.stream_credit.proofs.Words.{if◌then◌else◌, Finding, place_number, initial_after, stream_at_end, step_numbers}
-use Rattle.stream_credit.proofs.Words.{MatchBool, All-from_recursion, initial_in_force, AreAcknowledged, IsAcknowledged}
-use Rattle.stream_credit.proofs.Words.{IsOrderly, AreOrderly, ArePassed, IsBrought, initial_at, frame_with, HasStopped}
-use Rattle.stream_credit.proofs.Words.{steps_of, AreFrom, met_after, StartsAt, is_live, HasRoomAt, WholeRun, HasEnded}
 use Rattle.audit_terms.proofs.Watching.{ends, is-cut}
-use Rattle.stream_credit.proofs.ChangeLemmas.{drop-next, initial-brought, within-brought, brought-acknowledged}
-use Rattle.stream_credit.proofs.ChangeLemmas.{passed-each, none-left}
-use Rattle.stream_credit.proofs.MergedLemmas.{steps_of-merged, acknowledge-all, merged-change, merged-brought}
-use Rattle.stream_credit.proofs.MergedLemmas.{order-steps}
-use Rattle.stream_credit.proofs.WalkLemmas.{order-all, fall-met, HasNumber, upto-numbered, run-numbered, step-passed}
+use Rattle.std.proofs.Common.{All}
+use Rattle.stream_credit.proofs.ChangeLemmas.{brought-acknowledged, initial-brought, passed-each, within-brought}
+use Rattle.stream_credit.proofs.MergedLemmas.{acknowledge-all, merged-brought, merged-change, steps_of-merged}
+use Rattle.stream_credit.proofs.WalkLemmas.{HasNumber, fall-met, order-all, run-numbered, step-passed, upto-numbered}
+use Rattle.stream_credit.proofs.Words.{Acknowledge, AreOrderly, HasStopped, change_step, idle_stream, step_numbers, sym}
+use Rattle.stream_credit.proofs.Words.{All-from_recursion, AreAcknowledged, ArePassed, IsAcknowledged, initial_in_force}
+use Rattle.stream_credit.proofs.Words.{AreFrom, if◌then◌else◌, initial_after, opened_up_to, place_number, stream_at_end}
+use Rattle.stream_credit.proofs.Words.{Bool, IsAt, IsRun, List, None, Some, Walk, [], arith, false, shown, subst, up_to}
+use Rattle.stream_credit.proofs.Words.{Change, Client, Frame, IsDue, IsSound, Option, Server, Stream, is_live, merged}
+use Rattle.stream_credit.proofs.Words.{Finding, HasEnded, IsBegun, MatchBool, StartsAt, WholeRun, met_after, steps_of}
+use Rattle.stream_credit.proofs.Words.{HasRoomAt, IsBrought, IsOrderly, append-nil, frame_with, initial_at, stream_run}
+use Rattle.stream_credit.proofs.Words.{ap, drop, refl, true, ℕ, ◌+◌, ◌-◌, ◌<◌, ◌^◌, ◌∙◌, ◌∷◌, ◌≡◌, ◌≤◌}
+use Rattle.stream_credit.proofs.{ChangeLemmas.drop-next, ChangeLemmas.none-left, MergedLemmas.order-steps}
 
 -- ---- a walk before some frames
 

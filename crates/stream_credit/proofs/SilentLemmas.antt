@@ -37,8 +37,7 @@ none-shown (x ∷ xs) h = rw (h.0) (none-shown xs h.1)
 
 pub frame-unshown : (stream : ℕ) (entry : Stream) (step : Step) (frame : Frame)
     → is_not_opened stream entry.life frame ≡ false → is_after_end entry.life frame ≡ false
-    → (is_zero_grant frame.body && is_some entry.life.opened) ≡ false
-    → AreUnshown (frame_said stream entry step frame)
+    → (is_zero_grant frame.body && is_some entry.life.opened) ≡ false → AreUnshown (frame_said stream entry step frame)
 frame-unshown stream entry step frame used late zero =
     both _ _ (both _ _ (unsaid _ _ used) (unsaid _ _ late)) (unsaid _ _ zero)
 

@@ -116,8 +116,7 @@ AreNumbered P found = AllByRecursion (HasNumber P) found
 
 pub below-more : (low number : ℕ) (xs : List Finding) → low ≤ number → AreNumbered (λ n. n < low) xs
     → AreNumbered (λ n. n < number) xs
-below-more low number xs order h =
-    each-weaker (HasNumber (λ n. n < low)) (HasNumber (λ n. n < number)) (λ one p. omega (arith, order, p)) xs h
+below-more low number xs order h = grind (arith, each-weaker)
 
 pub said-numbered : (P : ℕ → Type 0) (stream : ℕ) (initial : Sides ℕ) (entry : Stream) (step : Step)
     → stream < 2 ^ 31 → P step.number → AreNumbered P (in_order (stream_said stream initial entry step))

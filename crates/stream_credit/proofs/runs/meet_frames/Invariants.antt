@@ -1,5 +1,4 @@
-use Rattle.stream_credit.proofs.Words.{◌++◌, List, drop, Frame}
-use Rattle.stream_credit.proofs.RunLemmas.{MeetsFrames}
+use Rattle.stream_credit.proofs.{RunLemmas.MeetsFrames, Words.Frame, Words.List, Words.drop, Words.◌++◌}
 use Rattle.stream_credit.proofs.runs.meet_frames.Given as goal
 
 abbrev pub invariant-loop-frame : goal.invariant-loop-frame

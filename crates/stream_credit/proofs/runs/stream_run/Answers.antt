@@ -1,5 +1,4 @@
-use Rattle.stream_credit.proofs.Words.{◌∙◌}
-use Rattle.stream_credit.proofs.RunLemmas.{run-starts, run-ends, kept-numbered}
+use Rattle.stream_credit.proofs.{RunLemmas.kept-numbered, RunLemmas.run-ends, RunLemmas.run-starts, Words.◌∙◌}
 use Rattle.stream_credit.proofs.runs.stream_run.Goals as goal
 
 pub meet_all-requires-clause-sound : goal.meet_all-requires-clause-sound

@@ -1,5 +1,4 @@
-use Rattle.stream_credit.proofs.Words.{OnTrue_at, OnTrue_from}
-use Rattle.stream_credit.proofs.QuietStreams.{shows-nothing}
+use Rattle.stream_credit.proofs.{QuietStreams.shows-nothing, Words.OnTrue_at, Words.OnTrue_from}
 use Rattle.stream_credit.proofs.quiet_streams.QuietStream.finish.Goals as goal
 
 pub returns-then-self : goal.returns-then-self

@@ -1,5 +1,4 @@
-use Rattle.stream_credit.proofs.Words.{refl}
-use Rattle.stream_credit.proofs.QuietStreams.{ahead-idle}
+use Rattle.stream_credit.proofs.{QuietStreams.ahead-idle, Words.refl}
 use Rattle.stream_credit.proofs.quiet_streams.QuietStream.idle.Goals as goal
 
 pub returns : goal.returns

@@ -1,5 +1,4 @@
-use Rattle.stream_credit.proofs.Words.{◌∷◌, refl, OnTrue_at}
-use Rattle.stream_credit.proofs.QuietStreams.{ahead-told}
+use Rattle.stream_credit.proofs.{QuietStreams.ahead-told, Words.OnTrue_at, Words.refl, Words.◌∷◌}
 use Rattle.stream_credit.proofs.quiet_streams.QuietStream.meet.Goals as goal
 
 pub meet_frame-requires-clause-ahead : goal.meet_frame-requires-clause-ahead

@@ -1,5 +1,4 @@
-use Rattle.stream_credit.proofs.Words.{◌∙◌, sym, ArePassed}
-use Rattle.stream_credit.proofs.QuietStreams.{ahead-passed}
+use Rattle.stream_credit.proofs.{QuietStreams.ahead-passed, Words.ArePassed, Words.sym, Words.◌∙◌}
 use Rattle.stream_credit.proofs.quiet_streams.QuietStream.meet_changes.Goals as goal
 
 pub returns : goal.returns

@@ -1,6 +1,5 @@
+use Rattle.stream_credit.proofs.{ChangeLemmas.few-changes, QuietStreams.ahead-change}
 use Rattle.stream_credit.proofs.Words.{arith, slice_get_within}
-use Rattle.stream_credit.proofs.ChangeLemmas.{few-changes}
-use Rattle.stream_credit.proofs.QuietStreams.{ahead-change}
 use Rattle.stream_credit.proofs.quiet_streams.QuietStream.meet_each.Goals as goal
 
 pub meet_change-requires : goal.meet_change-requires

@@ -1,5 +1,4 @@
-use Rattle.stream_credit.proofs.Words.{OnTrue_at, OnTrue_from, IfOk-weaker}
-use Rattle.stream_credit.proofs.QuietStreams.{ahead-frame}
+use Rattle.stream_credit.proofs.{QuietStreams.ahead-frame, Words.IfOk-weaker, Words.OnTrue_at, Words.OnTrue_from}
 use Rattle.stream_credit.proofs.quiet_streams.QuietStream.meet_frame.Goals as goal
 
 pub returns-then-moves : goal.returns-then-moves

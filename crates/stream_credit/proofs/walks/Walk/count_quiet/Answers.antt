@@ -1,6 +1,5 @@
-use Rattle.stream_credit.proofs.Words.{◌∙◌, refl, sym, Client, Server}
-use Rattle.stream_credit.proofs.WalkLemmas.{room-wide}
-use Rattle.stream_credit.proofs.QuietLemmas.{quiet-counted}
+use Rattle.stream_credit.proofs.{QuietLemmas.quiet-counted, WalkLemmas.room-wide}
+use Rattle.stream_credit.proofs.Words.{Client, Server, refl, sym, ◌∙◌}
 use Rattle.stream_credit.proofs.walks.Walk.count_quiet.Goals as goal
 
 pub moved_quietly-requires-clause-client : goal.moved_quietly-requires-clause-client

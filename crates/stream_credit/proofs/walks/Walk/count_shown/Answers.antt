@@ -1,5 +1,4 @@
-use Rattle.stream_credit.proofs.Words.{Client, Server, refl}
-use Rattle.stream_credit.proofs.WalkLemmas.{room-wide, room-next}
+use Rattle.stream_credit.proofs.{WalkLemmas.room-next, WalkLemmas.room-wide, Words.Client, Words.Server, Words.refl}
 use Rattle.stream_credit.proofs.walks.Walk.count_shown.Goals as goal
 
 pub say_stream-requires-clause-client : goal.say_stream-requires-clause-client

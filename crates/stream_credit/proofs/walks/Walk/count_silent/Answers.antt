@@ -1,6 +1,5 @@
-use Rattle.stream_credit.proofs.Words.{◌∙◌, sym, Client, Server}
-use Rattle.stream_credit.proofs.WalkLemmas.{room-wide, room-next}
-use Rattle.stream_credit.proofs.SilentLemmas.{silent-counted}
+use Rattle.stream_credit.proofs.{SilentLemmas.silent-counted, WalkLemmas.room-next, WalkLemmas.room-wide}
+use Rattle.stream_credit.proofs.Words.{Client, Server, sym, ◌∙◌}
 use Rattle.stream_credit.proofs.walks.Walk.count_silent.Goals as goal
 
 pub moved-next_client-requires : goal.moved-next_client-requires

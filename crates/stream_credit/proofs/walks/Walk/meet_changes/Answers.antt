@@ -1,5 +1,4 @@
-use Rattle.stream_credit.proofs.Words.{sym, ◌∙◌}
-use Rattle.stream_credit.proofs.RunLemmas.{sound-passed}
+use Rattle.stream_credit.proofs.{RunLemmas.sound-passed, Words.sym, Words.◌∙◌}
 use Rattle.stream_credit.proofs.walks.Walk.meet_changes.Goals as goal
 
 pub returns : goal.returns

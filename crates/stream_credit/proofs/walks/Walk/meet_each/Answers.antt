@@ -1,7 +1,6 @@
-use Rattle.stream_credit.proofs.Words.{Some, refl, ap, ◌∙◌, ◌+◌, arith, slice_get_within}
-use Rattle.stream_credit.proofs.ChangeLemmas.{few-changes}
-use Rattle.stream_credit.proofs.WalkLemmas.{step-count, step-due, step-on, step-stops, live-on}
-use Rattle.stream_credit.proofs.RunLemmas.{change-at, sound-next}
+use Rattle.stream_credit.proofs.{ChangeLemmas.few-changes, RunLemmas.change-at, RunLemmas.sound-next}
+use Rattle.stream_credit.proofs.WalkLemmas.{live-on, step-count, step-due, step-on, step-stops}
+use Rattle.stream_credit.proofs.Words.{Some, ap, arith, refl, slice_get_within, ◌+◌, ◌∙◌}
 use Rattle.stream_credit.proofs.walks.Walk.meet_each.Goals as goal
 
 pub goes_on-requires : goal.goes_on-requires
