@@ -1,13 +1,12 @@
 -- Segments with their openings, as the definition folds them, beside what the past shows.
-use Rattle.tcp_streams.proofs.Words.{◌≡◌, ◌&&◌, not, List, [], ◌∷◌, Option, None, Some, refl, sym, ◌∙◌, arith, ap}
-use Rattle.tcp_streams.proofs.Words.{filter, map, if◌then◌else◌, list_any, filter_map, Packet, Carried, Segment}
-use Rattle.tcp_streams.specs.Membership.{AreConnections, Belonging, IsConnectionOf, belongings, first_strays}
-use Rattle.tcp_streams.specs.Membership.{last_opening, members, openings, opens, stray_of, strays, strays_of}
-use Rattle.tcp_streams.proofs.Words.{is_request, segment_in, is_same_pair, is_of, pair_of, Membership, Connection}
-use Rattle.tcp_streams.{specs.Membership.with_segment, proofs.Lists.by_Bool}
-use Rattle.tcp_streams.proofs.Pairs.{is_pair-same, same-pair}
-use Rattle.std.{proofs.Common.ap₂, specs.List.AllZip, specs.Prelude.fold}
-use Rattle.packet_heads.specs.declared.packets.Packet.TheVariants.{Skipped, Refused}
+use Rattle.packet_heads.specs.declared.packets.Packet.TheVariants.{Refused, Skipped}
+use Rattle.std.{specs.List.AllZip, specs.Prelude.fold}
+use Rattle.tcp_streams.proofs.Words.{Carried, Option, Packet, Segment, [], filter, is_of, pair_of, segment_in}
+use Rattle.tcp_streams.proofs.Words.{Connection, Membership, arith, filter_map, if◌then◌else◌, is_request, is_same_pair}
+use Rattle.tcp_streams.proofs.Words.{List, None, Some, ap, map, not, refl, sym, ◌&&◌, ◌∙◌, ◌∷◌, ◌≡◌}
+use Rattle.tcp_streams.proofs.{Lists.by_Bool, Pairs.is_pair-same, Pairs.same-pair}
+use Rattle.tcp_streams.specs.Membership.{AreConnections, IsConnectionOf, first_strays, last_opening, with_segment}
+use Rattle.tcp_streams.specs.Membership.{Belonging, belongings, members, openings, opens, stray_of, strays, strays_of}
 use Rattle.tcp_streams.specs.code.Past as past_words
 
 -- the past's segments with their openings
@@ -43,9 +42,7 @@ last-are s (t ∷ past) =
 
 opening-are : (s : Segment) (past : List Segment) → (opens s (last_opening s (belong past)) ≡ past_words.opens s past)
     × (owner s past ≡ past_words.opening_at s past)
-opening-are s past =
-    let opened = opens-are s (last_opening s (belong past)) in
-    (rw (opened, last-are s past), rw (opened, last-are s past))
+opening-are s past = grind (arith, opens-are, last-are)
 
 openings-are : (past : List Segment) → openings (belong past) ≡ past_words.openings past
 openings-are [] = refl
@@ -65,23 +62,14 @@ pair-tests s = λ i t. same-pair s t i
 
 first_strays-are : (past : List Segment) → first_strays (belong past) ≡ past_words.first_strays past
 first_strays-are [] = refl
-first_strays-are (s ∷ past) =
-    rw (
-      (opening-are s past).1,
-      ap (λ test. list_any test (strays (belong past))) (pair-tests s),
-      strays-are past,
-      first_strays-are past,
-    )
+first_strays-are (s ∷ past) = grind (arith, opening-are s past, pair-tests s, strays-are past, first_strays-are past)
 
 stray-is : (all : List Segment) (s : Segment) → stray_of all s ≡ past_words.stray_of all s
 stray-is all s = rw (ap (λ test. filter test all) (pair-tests s))
 
 -- the strays of a capture are those that its past shows
 pub strays-of-past : (packets : List Packet) → strays_of packets ≡ past_words.strays_of (past_words.past_of packets)
-strays-of-past packets =
-    let past = past_words.past_of packets in
-    rw (belongings-are packets, strays-are past, first_strays-are past)
-    (λ i. map (λ s. stray-is (past_words.strays past) s i) (past_words.first_strays past))
+strays-of-past packets = grind (arith, belongings-are, strays-are, first_strays-are, stray-is)
 
 -- a connection of the definition is the table's, and the other way round
 is-connection : (past : List Segment) (o : Segment) (c : Connection)
@@ -101,10 +89,7 @@ zip-to_map : (past : List Segment) (os : List Segment) (cs : List Connection)
 zip-to_map past [] [] h = refl
 zip-to_map past [] (c ∷ cs) h = absurd h
 zip-to_map past (o ∷ os) [] h = absurd h
-zip-to_map past (o ∷ os) (c ∷ cs) h =
-    let is = h.0 in
-    let one : past_words.membership c ≡ past_words.connection_of past o = cc (members-are o past) in
-    ap₂ (λ m ms. m ∷ ms) one (zip-to_map past os cs h.1)
+zip-to_map past (o ∷ os) (c ∷ cs) h = grind (arith, zip-to_map past os cs h.1, members-are, h.0, h.1)
 
 map-to_zip : (past : List Segment) (os : List Segment) (cs : List Connection)
     → map past_words.membership cs ≡ map (past_words.connection_of past) os
@@ -117,10 +102,7 @@ map-to_zip past (o ∷ os) (c ∷ cs) e = (is-connection past o c cc, map-to_zip
 -- the connections of a capture are those that its past shows, and the other way round
 pub connections-shown : (packets : List Packet) (found : List Connection) → AreConnections packets found
     → map past_words.membership found ≡ past_words.connections_of (past_words.past_of packets)
-connections-shown packets found h =
-    let past = past_words.past_of packets in
-    zip-to_map past (openings (belong past)) found (rw (belongings-are packets) at h)
-    ∙ ap (map (past_words.connection_of past)) (openings-are past)
+connections-shown packets found h = grind (arith, zip-to_map, belongings-are, openings-are)
 
 pub shown-connections : (packets : List Packet) (found : List Connection)
     → map past_words.membership found ≡ past_words.connections_of (past_words.past_of packets)

@@ -1,5 +1,5 @@
 -- All flows of a capture fit in it together: a payload belongs to one connection at most.
-use Rattle.tcp_streams.proofs.Words.{◌≡◌, ℕ, ◌≤◌, List, [], ◌∷◌, Option, None, Some, refl, sym, ◌∙◌, arith, suc, ◌+◌}
+use Rattle.tcp_streams.proofs.Words.{◌≡◌, ℕ, ◌≤◌, List, [], ◌∷◌, Option, None, Some, refl, ◌∙◌, arith, suc, ◌+◌}
 use Rattle.tcp_streams.proofs.Words.{◌-◌, drop, filter, false≢true, drop-drop, sum_by-cons, Side, Client, Server}
 use Rattle.tcp_streams.proofs.Words.{PayloadsRise, Packet, Carried, Segment, is_sent_by, segments_of, side_segments}
 use Rattle.tcp_streams.proofs.Words.{segment_of, payload_length, AreMembers, payload_sum, Connection, Bool, false, ◌++◌}
@@ -32,8 +32,7 @@ members-fit packets done from size (n ∷ rest) h m =
 pub sides-sum : (connection : Connection) (segments : List Segment)
     → payload_sum (filter (is_sent_by connection Client) segments) + payload_sum
     (filter (is_sent_by connection Server) segments) ≡ payload_sum segments
-sides-sum connection segments =
-    sum_by-filter_both (is_sent_by connection Client) (is_sent_by connection Server) (λ s. refl) payload_length segments
+sides-sum connection segments = grind (arith, nat_tests, sum_by-filter_both)
 
 -- both sides' payloads fit in the capture together
 pub sides-fit : (packets : List Packet) (size : ℕ) (connection : Connection) → PayloadsRise 0 size packets
@@ -45,8 +44,7 @@ sides-fit packets size connection rise members =
     omega (arith, sum, members-fit packets 0 0 size connection.members.items rise members)
 
 pub side-fits : (packets : List Packet) (size : ℕ) (connection : Connection) (side : Side) → PayloadsRise 0 size packets
-    → AreMembers 0 packets connection.members.items
-    → payload_sum (side_segments packets connection side) ≤ size
+    → AreMembers 0 packets connection.members.items → payload_sum (side_segments packets connection side) ≤ size
 side-fits packets size connection Client rise members = omega (arith, sides-fit packets size connection rise members)
 side-fits packets size connection Server rise members = omega (arith, sides-fit packets size connection rise members)
 
@@ -86,10 +84,7 @@ module _ (q : Segment) (v : ℕ) where
   shares-few : (n : ℕ) (past : List Segment) → Falls n past
       → (shares (openings past) ≤ v) × (n ≤ q.rec → shares (openings past) ≡ 0)
   shares-few n [] f = (omega arith, λ le. refl)
-  shares-few n (s ∷ past) f =
-      let rest = shares-few s.rec past f.1 in
-      let push = sum_by_push (share (Some q) v) (openings past) s in
-      (grind (arith, nat_tests, push, rest.0, rest.1), λ le. grind (arith, nat_tests, push, rest.1))
+  shares-few n (s ∷ past) f = grind (arith, nat_tests, shares-few s.rec past f.1, sum_by_push, f.1)
 
 share-most : (x : Option Segment) (v n : ℕ) (past : List Segment) → Falls n past
     → sum_by (share x v) (openings past) ≤ v
@@ -118,15 +113,13 @@ members-sum n all f (s ∷ past) =
 segments-push : (packets : List Packet) (xs : List ℕ) (m : ℕ) → segments_of packets (xs ++ m ∷ [])
     ≡ segments_of packets xs ++ option_to_list (segment_of packets m)
 segments-push packets [] m = append-nil (option_to_list (segment_of packets m))
-segments-push packets (x ∷ xs) m =
-    rw (segments-push packets xs m) (sym (append_assoc (option_to_list (segment_of packets x)) _ _))
+segments-push packets (x ∷ xs) m = grind (arith, nat_tests, segments-push packets xs m, append_assoc)
 
 members-named : (packets : List Packet) (o : Segment) (past : List Segment) → Known packets past
     → segments_of packets (recs (members o past)) ≡ members o past
 members-named packets o [] k = refl
 members-named packets o (s ∷ past) k =
-    let grown = map-append (λ (t : Segment). t.rec) (members o past) (s ∷ []) in
-    grind (arith, grown, segments-push packets (recs (members o past)) s.rec, members-named packets o past k.2)
+    grind (arith, nat_tests, members-named packets o past k.2, map-append, segments-push, recs, k.2)
 
 -- all flows together
 pub flows-fit : (packets : List Packet) (size : ℕ) (found : List Connection) → AreNumberedFrom 1 packets

@@ -54,8 +54,7 @@ clipped-beyond low high a b (y ∷ ys) le h =
 
 -- where an interval passes the end, those after it have no part
 pub clipped-last : (low high a b : ℕ) (ys : List Interval) (k : ℕ) (d : Interval) → k < length ys
-    → high < (get_or ys k d).upto → Spans a ys b
-    → clipped low high (drop k ys) ≡ clipped low high (get_or ys k d ∷ [])
+    → high < (get_or ys k d).upto → Spans a ys b → clipped low high (drop k ys) ≡ clipped low high (get_or ys k d ∷ [])
 clipped-last low high a b [] k d lt over h = absurd (omega (arith, lt))
 clipped-last low high a b (y ∷ ys) zero d lt over h = simp (clipped-beyond low high y.upto b ys (omega arith) h.2)
 clipped-last low high a b (y ∷ ys) (suc k) d lt over h = clipped-last low high y.upto b ys k d
@@ -98,8 +97,7 @@ overlay-before low (x ∷ kept) later o h lt =
 
 -- from low on, the first of the two brings the byte, and the second where the first has none
 at-overlay : (low : ℕ) (kept later : List Interval) (o : ℕ) → Spans low kept end_of_offsets → low ≤ o
-    → o < end_of_offsets
-    → at (overlay kept later low) o ≡ option_or (at kept o) (at later o)
+    → o < end_of_offsets → at (overlay kept later low) o ≡ option_or (at kept o) (at later o)
 at-overlay low [] later o h a b = grind (arith, nat_tests, at-clipped low end_of_offsets later o)
 at-overlay low (x ∷ kept) later o h a b =
     let before = λ (lt : o < x.upto). Spans-before x.upto end_of_offsets kept o lt h.2 in
@@ -114,9 +112,7 @@ below n (x ∷ xs) = (min n x.upto - x.from) + below n xs
 below-more : (n : ℕ) (xs : List Interval) → (below n xs ≤ below (suc n) xs)
     × (IsSome (at xs n) → below n xs < below (suc n) xs)
 below-more n [] = (omega arith, λ some. absurd (false≢true some))
-below-more n (x ∷ xs) =
-    let rest = below-more n xs in
-    (omega (arith, rest.0), λ some. grind (arith, nat_tests, rest.0, rest.1))
+below-more n (x ∷ xs) = grind (arith, nat_tests, below-more n xs)
 
 below-all : (n : ℕ) (xs : List Interval) → below n xs ≤ size_of xs
 below-all n [] = omega arith

@@ -99,10 +99,7 @@ on_ok_3 (Ok x) p q h f = f p q h
 on_ok_3 (Err e) p q h f = tt
 
 -- what one element more gives
-pub filter_map-more : {X Y : Type 0} (f : X → Option Y) (xs : List X) (k : ℕ) (d : X) (o : Option Y)
-    → k < length xs → o ≡ f (get_or xs k d)
-    → filter_map f (take (k + 1) xs) ≡ filter_map f (take k xs) ++ option_to_list o
-filter_map-more f xs k d None lt is =
-    rw (take_more xs k d lt, filter_map-append f (take k xs) (get_or xs k d ∷ []), ← is) refl
-filter_map-more f xs k d (Some y) lt is =
-    rw (take_more xs k d lt, filter_map-append f (take k xs) (get_or xs k d ∷ []), ← is) refl
+pub filter_map-more : {X Y : Type 0} (f : X → Option Y) (xs : List X) (k : ℕ) (d : X) (o : Option Y) → k < length xs
+    → o ≡ f (get_or xs k d) → filter_map f (take (k + 1) xs) ≡ filter_map f (take k xs) ++ option_to_list o
+filter_map-more f xs k d None lt is = grind (arith, common_steps, take_more, filter_map-append)
+filter_map-more f xs k d (Some y) lt is = grind (arith, common_steps, take_more, filter_map-append)

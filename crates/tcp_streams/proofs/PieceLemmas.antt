@@ -123,10 +123,7 @@ either (Some x) q P h k = h
 module _ (initial_number size : ℕ) (small : size < 2 ^ 31) where
   brings-are : (s : Segment) (o : ℕ) → StandsIn size s → s.nanos < 2 ^ 63
       → IfSome (brings initial_number s o) (λ (x : Source). (x.rec ≡ s.rec) × (x.index < size) × (x.nanos < 2 ^ 63))
-  brings-are s o stands timely =
-      by_lt (distance initial_number s o) (payload_length s)
-      (λ e lt. rw e (refl, omega arith, timely))
-      (λ e _. rw e tt)
+  brings-are s o stands timely = grind (arith, nat_tests, by_lt, timely)
 
   -- one segment before others
   module _ (low : ℕ) (s : Segment) (later : List Segment) (sound : IsSound size low s)
@@ -134,9 +131,7 @@ module _ (initial_number size : ℕ) (small : size < 2 ^ 31) where
     -- its source comes before theirs
     first : (o : ℕ) → source initial_number (s ∷ later) o
         ≡ option_or (brings initial_number s o) (source initial_number later o)
-    first o = earliest (brings initial_number s o) (source initial_number later o) s.rec
-        (IfSome_then (brings initial_number s o) (brings-are s o sound.stands sound.timely) (λ x k. k.0))
-        (IfSome_then (source initial_number later o) (are.cited o) (λ x k. k.0))
+    first o = grind (arith, nat_tests, earliest, brings-are)
 
     cited : (o : ℕ) → IfSome (source initial_number (s ∷ later) o) (IsCitedAfter size low)
     cited o = rw (first o) (either (brings initial_number s o) (source initial_number later o) (IsCitedAfter size low)

@@ -161,8 +161,7 @@ module _ (size : ℕ) (sources : ℕ → Option Source) where
 
   -- so do those after one arrival, of the bytes of intervals that follow it
   arrivals-from : (a : Arrival) (xs : List Interval) (low rec : ℕ) → low < a.upto → rec < a.rec → a.nanos < 2 ^ 63
-      → Follows a.upto xs → All (IsHeld size) xs
-      → ((o : ℕ) → low ≤ o → o < a.upto → IsArrivalOf a (arrival sources o))
+      → Follows a.upto xs → All (IsHeld size) xs → ((o : ℕ) → low ≤ o → o < a.upto → IsArrivalOf a (arrival sources o))
       → ((o : ℕ) → a.upto ≤ o → o < run_end a.upto xs → sources o ≡ at xs o)
       → AreArrived sources low rec (run_end a.upto xs) (arrivals_after a xs)
   arrivals-from a [] low rec some k timely f h here same = record {
@@ -199,8 +198,7 @@ module _ (size : ℕ) (sources : ℕ → Option Source) where
 
   -- and those of a run
   run-arrivals : (run : List Interval) → Follows 0 run → All (IsHeld size) run
-      → ((o : ℕ) → o < run_end 0 run → sources o ≡ at run o)
-      → AreArrived sources 0 0 (run_end 0 run) (arrivals_in run)
+      → ((o : ℕ) → o < run_end 0 run → sources o ≡ at run o) → AreArrived sources 0 0 (run_end 0 run) (arrivals_in run)
   run-arrivals [] f h same = record { rises = refl; timely = All-nil _; each = λ o le lt. absurd (omega (arith, lt)) }
   run-arrivals (x ∷ xs) f h same =
       let head = All-head (IsHeld size) x xs h in
@@ -221,8 +219,7 @@ gap_of (y ∷ ys) n = Some n
 module _ (capture : List ℕ) (whole run rest : List Interval) (same : run ++ rest ≡ whole) (is : IsRunOf 0 run rest)
     (captured : AreCaptured (length capture) (at whole)) where
   here : (o : ℕ) → o < run_end 0 run → at whole o ≡ at run o
-  here o lt = ap (λ l. at l o) (sym same) ∙ at-append run rest o
-      ∙ or-some (at run o) (at rest o) (run-covers 0 run o is.follows (omega arith) lt)
+  here o lt = grind (arith, nat_tests, at-append, or-some, run-covers)
 
   there : (o : ℕ) → run_end 0 run ≤ o → at whole o ≡ at rest o
   there o le = ap (λ l. at l o) (sym same) ∙ at-append run rest o ∙ rw (run-beyond 0 run o is.follows le)

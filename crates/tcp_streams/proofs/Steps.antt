@@ -1,25 +1,24 @@
 -- What the table shows after one more segment, which opens a connection, joins one, counts as one more stray of its
 -- pair, or is the first stray of it; and what a segment does, by what the table shows of its pair.
-use Rattle.tcp_streams.proofs.Words.{◌≡◌, ℕ, ◌<◌, Bool, true, false, List, [], ◌∷◌, Option, None, Some, refl, ◌∙◌}
-use Rattle.tcp_streams.proofs.Words.{arith, ◌++◌, length, filter, get_or, ◌⊎◌, map, set, inl, inr, if◌then◌else◌}
-use Rattle.tcp_streams.proofs.Words.{is_none, All, list_any, option_or, ne_eqb, or_right, eq-eqb, append-nil}
-use Rattle.tcp_streams.proofs.Words.{length-append, length-map, map-append, All-weaker, list_any-append, Segment}
-use Rattle.tcp_streams.proofs.Words.{is_opening, is_of, pair_of, is_pair, first_strays, last_opening, members}
-use Rattle.tcp_streams.proofs.Words.{opening_at, openings, opens, strays, Membership, connection_of, stray_of, Falls}
-use Rattle.tcp_streams.proofs.Words.{IsOpened, IsUnopened, Stray, Pair, Opened, ◌≤◌, not, sym, slice_get, ap}
-use Rattle.tcp_streams.proofs.Words.{get_or-map, get_or_from_slice_get, slice_get_within, is_request, membership}
-use Rattle.tcp_streams.proofs.Lists.{by_Bool, list_any-other, map-agree, map-but, map-pushed, slice_get-last}
-use Rattle.tcp_streams.proofs.Past.{AreOfTwo, IsBefore, first_strays-apart, first_strays-other, last_opening-kept}
-use Rattle.tcp_streams.proofs.Past.{last_opening-new, last_opening-other, members-to_come, opening_at-kept}
-use Rattle.tcp_streams.proofs.Words.{standing_of, IsTableOf, Connection, Table}
-use Rattle.tcp_streams.specs.{code.Past.is_again, Membership.is_answer, code.Standings.SetsStandingIn}
+use Rattle.std.proofs.lemmas.List.{Elements.filter-append, Folds.find-append, Sums.count_by-le-length}
+use Rattle.std.proofs.lemmas.{List.Sums.length-filter, Option.slice_get-map}
+use Rattle.std.specs.Prelude.{find, option_map, ◌||◌}
+use Rattle.tcp_streams.proofs.Lists.{by_Bool, list_any-other, map-agree, map-pushed, slice_get-last, slice_get-with_if}
+use Rattle.tcp_streams.proofs.Past.{first_strays-apart, first_strays-other, last_opening-kept, last_opening-other}
+use Rattle.tcp_streams.proofs.Past.{last_opening-new, members-to_come, opening_at-kept, opening_at-opens, openings-rise}
+use Rattle.tcp_streams.proofs.Words.{All, Falls, Option, Stray, eq-eqb, filter, get_or, length, ne_eqb, pair_of, strays}
+use Rattle.tcp_streams.proofs.Words.{All-weaker, first_strays, if◌then◌else◌, last_opening, length-append, standing_of}
+use Rattle.tcp_streams.proofs.Words.{Bool, List, None, Pair, Some, Table, arith, false, is_of, opens, refl, true, ◌++◌}
+use Rattle.tcp_streams.proofs.Words.{Connection, IsUnopened, Membership, append-nil, get_or-map, is_opening, is_request}
+use Rattle.tcp_streams.proofs.Words.{IsOpened, [], length-map, map-append, membership, opening_at, option_or, slice_get}
+use Rattle.tcp_streams.proofs.Words.{IsTableOf, connection_of, get_or_from_slice_get, list_any-append, slice_get_within}
+use Rattle.tcp_streams.proofs.Words.{Opened, Segment, is_none, is_pair, list_any, members, openings, or_right, stray_of}
+use Rattle.tcp_streams.proofs.Words.{ap, inl, inr, map, not, set, sym, ℕ, ◌<◌, ◌∙◌, ◌∷◌, ◌≡◌, ◌≤◌, ◌⊎◌}
+use Rattle.tcp_streams.proofs.{Lists.map-but, Pairs.is_endpoint-refl, Pairs.is_pair-refl, Pairs.is_pair-same}
+use Rattle.tcp_streams.proofs.{Pairs.is_pair-sym, Past.AreOfTwo, Past.IsBefore, Past.openings-below}
 use Rattle.tcp_streams.specs.code.Table.{IsShown, IsUnknown, Stands, counted, first_stray, joined, opened_by}
 use Rattle.tcp_streams.specs.declared.standings.Standing.{Standing, TheVariants.Unopened}
-use Rattle.tcp_streams.proofs.{Lists.slice_get-with_if, Past.opening_at-opens, Past.openings-below, Past.openings-rise}
-use Rattle.tcp_streams.proofs.Pairs.{is_endpoint-refl, is_pair-refl, is_pair-same, is_pair-sym}
-use Rattle.std.specs.Prelude.{◌||◌, find, option_map}
-use Rattle.std.proofs.lemmas.{List.Elements.filter-append, List.Folds.find-append, Option.slice_get-map}
-use Rattle.std.proofs.lemmas.List.Sums.{count_by-le-length, length-filter}
+use Rattle.tcp_streams.specs.{Membership.is_answer, code.Past.is_again, code.Standings.SetsStandingIn}
 
 -- what was so of a pair is so still, where its last opening and whether it has strays stay
 Stands-grown : (past : List Segment) (s : Segment) (p : Pair) (w : Option Standing)
@@ -62,11 +61,7 @@ first-seq x b s = grind arith
 -- with one more member it has joined
 connection_with-push : (o s : Segment) (ms : List Segment) → connection_with o (ms ++ s ∷ []) ≡ joined
     (connection_with o ms) s
-connection_with-push o s ms = rw (
-  find-append (is_answer o) ms (s ∷ []),
-  map-append (λ (t : Segment). t.rec) ms (s ∷ []),
-  first-seq (find (is_answer o) ms) (is_answer o s) s,
-)
+connection_with-push o s ms = grind (arith, find-append, map-append, first-seq)
 
 module _ (past : List Segment) (s : Segment) where
   -- a segment that does not look back to an opening leaves its connection as it was
@@ -82,15 +77,11 @@ module _ (past : List Segment) (s : Segment) where
   -- a segment of another pair is not counted with the strays of this one
   stray-other : (f : Segment) → is_of (pair_of f) s ≡ false → stray_of (strays past) f ≡ stray_of
       (strays past ++ s ∷ []) f
-  stray-other f e =
-      let own = is_of (pair_of f) in
-      rw (filter-append own (strays past) (s ∷ []), e, append-nil (filter own (strays past)))
+  stray-other f e = grind (arith, filter-append, append-nil)
 
   stray-counted : (f : Segment) → is_of (pair_of f) s ≡ true → stray_of (strays past ++ s ∷ []) f ≡ counted
       (stray_of (strays past) f)
-  stray-counted f e =
-      let own = is_of (pair_of f) in
-      rw (filter-append own (strays past) (s ∷ []), e, length-append (filter own (strays past)) (s ∷ []))
+  stray-counted f e = grind (arith, filter-append, length-append)
 
   -- whether a pair has a stray, where the segment is one
   strays-any : (p : Pair) → opening_at s past ≡ None
@@ -150,10 +141,7 @@ module _ (past : List Segment) (s : Segment) where
     -- a stray's segment leaves every connection as it was
     opened-kept : opening_at s past ≡ None → opens s past ≡ false → opened ≡ map (connection_of (s ∷ past))
         (openings (s ∷ past))
-    opened-kept none e =
-        let grown : openings (s ∷ past) ≡ openings past = rw e in
-        rw (grown, shown.opened_are) (map-agree (connection_of past) (connection_of (s ∷ past)) (openings past)
-        (λ k d lt. connection-kept (get_or (openings past) k d) (rw none)))
+    opened-kept none e = grind (arith, map-agree, connection-kept)
 
     -- the segment is one more stray of its pair
     pub shown-counts : (k : ℕ) (after : List Stray) (t : Stray) → opens s past ≡ false
@@ -233,9 +221,7 @@ module _ (past : List Segment) (t : Table) (shown : IsTableOf past t) (p : Pair)
   pub stands-unopened : (u : IsUnopened past p k) (x : Stray) → x ≡ get_or t.strays.items k x
       → stray_of (strays past) u.first ≡ x
   stands-unopened u x is =
-      let here : slice_get t.strays.items k ≡ Some (stray_of (strays past) u.first) =
-      rw (shown.strays_are, slice_get-map (stray_of (strays past)) (first_strays past) k, u.at) in
-      sym (get_or_from_slice_get t.strays.items k _ x here) ∙ sym is
+      grind (arith, slice_get-map (stray_of (strays past)) (first_strays past) k, get_or_from_slice_get)
 
   -- no stray is counted more often than there are segments
   pub counted-few : IsUnopened past p k → (x : Stray) → x ≡ get_or t.strays.items k x → x.segments ≤ length past

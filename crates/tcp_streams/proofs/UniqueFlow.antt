@@ -1,9 +1,9 @@
 -- Two flows of the same sources are one.
 use Rattle.tcp_streams.proofs.Words.{◌≡◌, ℕ, ◌<◌, ◌≤◌, List, [], ◌∷◌, Option, None, Some, refl, sym, ◌∙◌, arith, length}
-use Rattle.tcp_streams.proofs.Words.{slice_get, ap, get_or, IfSome, IsSomeAnd, false≢true, lt-ltb, le-ltb, IfSome_then}
+use Rattle.tcp_streams.proofs.Words.{slice_get, ap, get_or, IfSome, IsSomeAnd, false≢true, lt-ltb, le-ltb}
 use Rattle.tcp_streams.proofs.Words.{Rises, IsArrivalOf, IsFlow, IsGap, arrival_at, Source, arrival, Arrival}
 use Rattle.tcp_streams.{specs.Flow.IsLongestRun, proofs.Lists.by_lt}
-use Rattle.std.{specs.Prelude.unwrap_or, proofs.lemmas.Grind.same_number_lists}
+use Rattle.std.{proofs.lemmas.Grind.same_number_lists}
 use Rattle.std.proofs.lemmas.Option.{unwrap_or-slice_get}
 
 -- no longest run is shorter than another
@@ -15,8 +15,7 @@ same-byte : (p : Option Source) (capture xs ys : List ℕ) (o : ℕ)
     → IsSomeAnd p (λ (s : Source). slice_get capture s.index ≡ slice_get xs o)
     → IsSomeAnd p (λ (s : Source). slice_get capture s.index ≡ slice_get ys o) → get_or xs o 0 ≡ get_or ys o 0
 same-byte None capture xs ys o h k = absurd h
-same-byte (Some s) capture xs ys o h k =
-    sym (unwrap_or-slice_get xs o 0) ∙ ap (λ p. unwrap_or p 0) (sym h ∙ k) ∙ unwrap_or-slice_get ys o 0
+same-byte (Some s) capture xs ys o h k = grind (arith, unwrap_or-slice_get xs o 0, unwrap_or-slice_get ys o 0)
 
 gap-unique : (F : ℕ → Option Source) (n : ℕ) (g k : Option ℕ) → IsGap F n g → IsGap F n k → g ≡ k
 gap-unique F n None None h k = refl
@@ -38,10 +37,7 @@ Rises-end low rec (e ∷ l) n h = omega (arith, h.0, Rises-end e.upto e.rec l n 
 entry-later : (low rec : ℕ) (l : List Arrival) (n o : ℕ) → Rises low rec l n
     → IfSome (arrival_at l o) (λ (f : Arrival). rec < f.rec)
 entry-later low rec [] n o h = tt
-entry-later low rec (e ∷ l) n o h =
-    by_lt o e.upto
-    (λ t _. rw t h.1)
-    (λ t _. rw t (IfSome_then (arrival_at l o) (entry-later e.upto e.rec l n o h.2) (λ f lt. omega (arith, h.1))))
+entry-later low rec (e ∷ l) n o h = grind (arith, entry-later e.upto e.rec l n o h.2, by_lt, h.1, h.2)
 
 -- so the entry after e does not bear the source of one of its record
 other-rec : (s : Option Source) (p : Option Arrival) (e f : Arrival) → IfSome p (λ (g : Arrival). e.rec < g.rec)
@@ -57,11 +53,7 @@ module _ (S : ℕ → Option Source) (n : ℕ) where
   module _ (low rec rec' : ℕ) (e f : Arrival) (l k : List Arrival) (h : Rises low rec (e ∷ l) n)
       (j : Rises low rec' (f ∷ k) n) (are : Bear low (e ∷ l)) (bear : Bear low (f ∷ k)) where
     first : (e.rec ≡ f.rec) × (e.nanos ≡ f.nanos)
-    first =
-        let end = Rises-end e.upto e.rec l n h.2 in
-        let within : low < n = omega (arith, h.0) in
-        same-rec (S low) e f (rw (lt-ltb low e.upto h.0) at (are low (omega arith) within))
-        (rw (lt-ltb low f.upto j.0) at (bear low (omega arith) within))
+    first = grind (arith, Rises-end, same-rec, lt-ltb)
 
     -- an entry does not end before the other's
     not-before : e.upto < f.upto → ⊥

@@ -1,6 +1,6 @@
 -- The worked example of a flow whose sequence numbers come round.
-use Rattle.tcp_streams.proofs.Words.{◌≡◌, ℕ, ◌<◌, List, [], ◌∷◌, Option, None, Some, refl, arith, zero, suc, ◌+◌, ◌-◌}
-use Rattle.tcp_streams.proofs.Words.{◌^◌, length, slice_get, ap, ◌%◌, filter, map, le-ltb, Segment, bytes_of, IsFlow}
+use Rattle.tcp_streams.proofs.Words.{◌≡◌, ℕ, ◌<◌, List, [], ◌∷◌, Option, None, Some, refl, arith, zero, suc, ◌-◌}
+use Rattle.tcp_streams.proofs.Words.{◌^◌, length, slice_get, ap, filter, map, le-ltb, Segment, bytes_of, IsFlow}
 use Rattle.tcp_streams.proofs.Words.{segments_of, is_endpoint, Source, source, Membership, membership, Connection}
 use Rattle.tcp_streams.proofs.{Words.Arrival, Words.length-map, Belongings.connections-shown, UniqueFlow.IsFlow-unique}
 use Rattle.tcp_streams.specs.examples.Retransmission.{WrappedRetransmission, client, letters, server, wrapped}
@@ -33,12 +33,7 @@ below_six P a b c d e f (suc (suc (suc (suc (suc zero))))) lt = f
 below_six P a b c d e f (suc (suc (suc (suc (suc (suc o)))))) lt = absurd (omega arith)
 
 none-later : (o : ℕ) → 6 < o → o < 2 ^ 31 → brought opened o ≡ None
-none-later o low high = rw (
-  le-ltb ((o + (2 ^ 32 - 0)) % 2 ^ 32) 0 (omega arith),
-  le-ltb ((o + (2 ^ 32 - 4)) % 2 ^ 32) 2 (omega arith),
-  le-ltb ((o + (2 ^ 32 - 3)) % 2 ^ 32) 3 (omega arith),
-  le-ltb ((o + (2 ^ 32 - 0)) % 2 ^ 32) 3 (omega arith),
-)
+none-later o low high = grind (arith, le-ltb)
 
 flow-is : IsFlow letters (brought opened) (codes "abcdEF") arrived None
 flow-is = record {
