@@ -32,8 +32,7 @@ get_or-arrivals_from o (a ∷ later) d h = grind (arith, nat_tests, get_or-arriv
 
 -- each byte of the flow arrives
 pub arrivals_from-not_empty : (low rec high o : ℕ) (arrivals : List Arrival) → Rises low rec arrivals high → low ≤ o
-    → o < high →
-    0 < length (arrivals_from o arrivals)
+    → o < high → 0 < length (arrivals_from o arrivals)
 arrivals_from-not_empty low rec high o [] rises h k = absurd (omega arith)
 arrivals_from-not_empty low rec high o (a ∷ later) rises h k =
     grind (arith, nat_tests, arrivals_from-not_empty a.upto a.rec high o later rises.2)
@@ -54,12 +53,9 @@ pub arrivals_from-timely : (o : ℕ) (arrivals : List Arrival)
     → AllByRecursion (λ (a : Arrival). a.nanos < 2 ^ 63) arrivals →
     AllByRecursion (λ (a : Arrival). a.nanos < 2 ^ 63) (arrivals_from o arrivals)
 arrivals_from-timely o [] all = all
-arrivals_from-timely o (a ∷ later) all =
-    cond_both (nat_lt o a.upto) _ _ (AllByRecursion (λ (x : Arrival). x.nanos < 2 ^ 63)) (λ e. all)
-    (λ e. arrivals_from-timely o later all.1)
+arrivals_from-timely o (a ∷ later) all = grind (arith, nat_tests, arrivals_from-timely o later all.1, all.1)
 
-pub first_timely : (arrivals : List Arrival) (d : Arrival)
-    → AllByRecursion (λ (a : Arrival). a.nanos < 2 ^ 63) arrivals →
-    0 < length arrivals → (get_or arrivals 0 d).nanos < 2 ^ 63
+pub first_timely : (arrivals : List Arrival) (d : Arrival) → AllByRecursion (λ (a : Arrival). a.nanos < 2 ^ 63) arrivals
+    → 0 < length arrivals → (get_or arrivals 0 d).nanos < 2 ^ 63
 first_timely [] d all h = absurd (omega arith)
 first_timely (a ∷ later) d all h = all.0

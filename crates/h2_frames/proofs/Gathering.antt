@@ -1,6 +1,6 @@
 -- Going on in bytes that lie in pieces.
 use Rattle.std.proofs.Common.{◌≡◌, ℕ, zero, suc, ◌+◌, ◌-◌, ◌<◌, ◌≤◌, List, [], ◌∷◌, ◌++◌, length, get_or, take, drop}
-use Rattle.std.proofs.Common.{refl, ap, sym, ◌∙◌, arith, append_assoc, add-one, length-append, length-drop, drop-cons}
+use Rattle.std.proofs.Common.{refl, ap, ◌∙◌, arith, append_assoc, add-one, length-append, length-drop, drop-cons}
 use Rattle.std.{proofs.lemmas.List.take_all, specs.Borrow.Bor}
 use Rattle.h2_frames.{proofs.Words.Pieces, proofs.Words.joined, proofs.Words.IsCounted, specs.code.Pieces.bytes_of}
 
@@ -28,9 +28,7 @@ joined-over (p ∷ ps) (suc i) h = joined-over ps i (omega arith)
 pub gone_on : (first : List ℕ) (later rest : List (Bor (List ℕ))) (d : Bor (List ℕ)) → length first ≡ 0
     → 0 < length later →
     rest ≡ take (length later - 1) (drop 1 later) → (get_or later 0 d).now ++ joined rest ≡ first ++ joined later
-gone_on first later rest d over more rest_is =
-    rw (rest_is, take_all (length later - 1) (drop 1 later) (omega (arith, length-drop 1 later)))
-    (sym (joined-from later 0 d more) ∙ sym (none_before first (joined later) over))
+gone_on first later rest d over more rest_is = grind (arith, take_all, length-drop, joined-from, none_before)
 
 -- some of the bytes were taken, and so many are still wanted
 pub record IsPartlyTaken (count wanted : ℕ) (old new : Pieces) : Type 0 where
@@ -42,9 +40,8 @@ pub record IsPartlyTaken (count wanted : ℕ) (old new : Pieces) : Type 0 where
 
 -- one part more
 abbrev pub partly_taken-turn : (count wanted : ℕ) (old now next : Pieces) (part : List ℕ)
-    → IsPartlyTaken count wanted old now →
-    bytes_of now ≡ part ++ bytes_of next → length part ≤ wanted → IsCounted next →
-    IsPartlyTaken count (wanted - length part) old next
+    → IsPartlyTaken count wanted old now → bytes_of now ≡ part ++ bytes_of next → length part ≤ wanted → IsCounted next
+    → IsPartlyTaken count (wanted - length part) old next
 partly_taken-turn count wanted old now next part taken part_is fits counted =
     record {
       front = taken.front ++ part;

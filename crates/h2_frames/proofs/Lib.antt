@@ -1,13 +1,13 @@
 mod Words
-pub mod Promised
-pub mod SettingsRead
-pub mod SettingsRanges
-pub mod Arriving
-pub mod Reading
-pub mod Gathering
-pub mod Merging
-pub mod BothSides
-pub mod Walking
-pub mod Splitting
-pub mod Batching
+mod Promised
+mod SettingsRead
+mod SettingsRanges
+mod Arriving
+mod Reading
+mod Gathering
+mod Merging
+mod BothSides
+mod Walking
+mod Splitting
+mod Batching
 pub mod Uniqueness

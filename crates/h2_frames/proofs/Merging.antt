@@ -67,22 +67,19 @@ rec_above low rec high o (a ∷ later) rises h k =
     grind (arith, nat_tests, rises.1, rec_above a.upto a.rec high o later rises.2)
 
 pub rec_rises : (low rec high o p : ℕ) (arrivals : List Arrival) → Rises low rec arrivals high → low ≤ o → o ≤ p
-    → p < high →
-    (byte_arrival arrivals o).rec ≤ (byte_arrival arrivals p).rec
+    → p < high → (byte_arrival arrivals o).rec ≤ (byte_arrival arrivals p).rec
 rec_rises low rec high o p [] rises h k l = absurd (omega arith)
 rec_rises low rec high o p (a ∷ later) rises h k l =
-    let above = rec_above a.upto a.rec high p later rises.2 in
-    grind (arith, nat_tests, above, rec_rises a.upto a.rec high o p later rises.2)
+    grind (arith, nat_tests, rec_rises a.upto a.rec high o p later rises.2, rec_above, rises.2)
 
 later_number : (x y : Frame) → x.number < y.number → x.rec ≤ y.rec → comes_after x y ≡ false
 later_number x y h k = grind (arith, nat_tests)
 
 -- a side's frames stand in order
-captured-ascending : (side : Side) (arrivals : List Arrival) (high : ℕ) → Rises 0 0 arrivals high →
-    (number offset : ℕ) (spelled : List Spelled) (bytes tail : List ℕ) → Spells bytes spelled tail
-    → offset + length bytes ≤ high →
-    (x : Frame) (last : ℕ) → x.number < number → last ≤ offset → x.rec ≡ (byte_arrival arrivals last).rec →
-    IsAscendingFrom x (captured_from side arrivals number offset spelled)
+captured-ascending : (side : Side) (arrivals : List Arrival) (high : ℕ) → Rises 0 0 arrivals high
+    → (number offset : ℕ) (spelled : List Spelled) (bytes tail : List ℕ) → Spells bytes spelled tail
+    → offset + length bytes ≤ high → (x : Frame) (last : ℕ) → x.number < number → last ≤ offset
+    → x.rec ≡ (byte_arrival arrivals last).rec → IsAscendingFrom x (captured_from side arrivals number offset spelled)
 captured-ascending side arrivals high rises number offset [] bytes tail spells within x last h k e = tt
 captured-ascending side arrivals high rises number offset (s ∷ later) bytes tail spells within x last h k e =
     let makes = spells.4 in
@@ -96,10 +93,9 @@ captured-ascending side arrivals high rises number offset (s ∷ later) bytes ta
           (captured side number (byte_arrival arrivals (upto - 1)) s) (upto - 1) (omega arith) (omega arith) refl,
     )
 
-pub captured-in_order : (side : Side) (arrivals : List Arrival) (high : ℕ) → Rises 0 0 arrivals high →
-    (offset : ℕ) (spelled : List Spelled) (bytes tail : List ℕ) → Spells bytes spelled tail
-    → offset + length bytes ≤ high →
-    IsAscending (captured_from side arrivals 1 offset spelled)
+pub captured-in_order : (side : Side) (arrivals : List Arrival) (high : ℕ) → Rises 0 0 arrivals high
+    → (offset : ℕ) (spelled : List Spelled) (bytes tail : List ℕ) → Spells bytes spelled tail
+    → offset + length bytes ≤ high → IsAscending (captured_from side arrivals 1 offset spelled)
 captured-in_order side arrivals high rises offset [] bytes tail spells within = tt
 captured-in_order side arrivals high rises offset (s ∷ later) bytes tail spells within =
     (captured-ascending side arrivals high rises 1 offset (s ∷ later) bytes tail spells within

@@ -1,18 +1,16 @@
 -- One frame is read of what is ahead.
-use Rattle.std.proofs.Common.{◌≡◌, ℕ, ◌+◌, ◌-◌, ◌*◌, ◌≤◌, ◌<◌, List, ◌∷◌, length, get_or, refl, ap, arith}
-use Rattle.std.proofs.Common.{◌∙◌, length-append}
-use Rattle.h2_frames.proofs.Words.{Arrival, Frame, Read, Spelled, ToRead, Unread, byte_arrival, captured}
-use Rattle.h2_frames.proofs.Words.{captured_from, arrivals_from, AreAhead, IsOneTaken}
-use Rattle.h2_frames.proofs.Arriving.{captured_from-from, get_or-arrivals_from, arrivals_from-not_empty}
-use Rattle.h2_frames.proofs.Words.{IsPlaced, IsReadable, IsReadOn, IsReady, Pieces}
-use Rattle.h2_frames.{specs.code.Pieces.bytes_of, proofs.Promised.promised-fits}
-use Rattle.h2_frames.proofs.Arriving.{arrivals_from-rise, arrivals_from-timely, first_timely}
+use Rattle.h2_frames.proofs.Arriving.{arrivals_from-not_empty, arrivals_from-timely, first_timely, get_or-arrivals_from}
+use Rattle.h2_frames.proofs.Words.{AreAhead, IsOneTaken, IsReadable, Pieces, arrivals_from, byte_arrival, captured_from}
+use Rattle.h2_frames.proofs.Words.{Arrival, Frame, IsPlaced, IsReadOn, IsReady, Read, Spelled, ToRead, Unread, captured}
+use Rattle.h2_frames.proofs.{Arriving.arrivals_from-rise, Arriving.captured_from-from, Promised.promised-fits}
+use Rattle.h2_frames.specs.code.Pieces.{bytes_of}
+use Rattle.std.proofs.Common.{List, arith, get_or, length, length-append, refl, ◌*◌, ◌+◌, ◌-◌, ◌<◌, ◌∙◌, ◌∷◌, ◌≡◌, ◌≤◌}
+use Rattle.std.proofs.Common.{ap, ℕ}
 
 -- the frame and what follows make up the length
 size_of_taken : (s : Spelled) (old : List ℕ) (new : Pieces) → IsOneTaken s old new
     → length old ≡ 9 + s.header.length + length (bytes_of new)
-size_of_taken s old new one =
-    omega (arith, ap length one.bytes, length-append {A = ℕ}, one.makes.nine, one.makes.whole)
+size_of_taken s old new one = grind (arith, length-append, one.bytes, one.makes.nine, one.makes.whole)
 
 -- the first whole frame ahead has an arrival
 pub frame_arrives : (unread : Unread) → IsPlaced unread → (s : Spelled) (after : Pieces)

@@ -1,9 +1,8 @@
 -- Reading the settings of a payload one after the other.
-use Rattle.std.proofs.Common.{◌≡◌, ℕ, ◌≤◌, ◌+◌, Bool, not, ◌&&◌, List, ◌∷◌, length, take, drop, Option, None, Some}
-use Rattle.std.{proofs.Common.refl, proofs.Common.arith, proofs.Common.sym, specs.Option.option_or}
-use Rattle.std.specs.Prelude.{is_none, if◌then◌else◌, find, option_map}
-use Rattle.h2_frames.proofs.Words.{◌==◌, Settings, Setting, setting_at, settings_in, is_in_range, last_value, first_bad}
-use Rattle.h2_frames.proofs.Words.{with_setting}
+use Rattle.h2_frames.proofs.Words.{Setting, Settings, first_bad, last_value, setting_at, settings_in, with_setting}
+use Rattle.std.proofs.Common.{Bool, List, None, Option, Some, arith, drop, length, not, refl, take, ℕ, ◌&&◌, ◌+◌, ◌∷◌}
+use Rattle.std.proofs.Common.{◌≡◌, ◌≤◌}
+use Rattle.std.specs.{Option.option_or, Prelude.if◌then◌else◌, Prelude.is_none, Prelude.option_map}
 
 -- the settings so far, with later ones put over them
 abbrev pub with_later : Settings → List Setting → Settings
@@ -28,12 +27,7 @@ bad_step before fine s later = grind arith
 -- one more setting read is one setting less to come
 with_later-step : (settings : Settings) (s : Setting) (later : List Setting) →
     with_later (with_setting settings s) later ≡ with_later settings (s ∷ later)
-with_later-step settings s later = rw (
-  value_step (last_value 2 later) (s.identifier == 2) s.value settings.push,
-  value_step (last_value 4 later) (s.identifier == 4) s.value settings.initial,
-  value_step (last_value 5 later) (s.identifier == 5) s.value settings.max_frame,
-  bad_step settings.bad (is_in_range s) s (find (λ (t : Setting). not (is_in_range t)) later),
-)
+with_later-step settings s later = grind (arith, value_step, bad_step)
 
 -- whole settings begin with one
 pub settings_in-step : (payload : List ℕ) → 6 ≤ length payload →
@@ -42,11 +36,8 @@ settings_in-step (a ∷ b ∷ c ∷ d ∷ e ∷ f ∷ later) h = refl
 settings_in-step _ h = absurd (omega arith)
 
 -- one turn of the loop over a payload
-pub with_later-turn : (settings new : Settings) (s : Setting) (rest pair later : List ℕ) →
-    pair ≡ take 6 rest → later ≡ drop 6 rest → length later + 6 ≡ length rest →
-    s ≡ setting_at pair → new ≡ with_setting settings s →
-    with_later new (settings_in later) ≡ with_later settings (settings_in rest)
+pub with_later-turn : (settings new : Settings) (s : Setting) (rest pair later : List ℕ) → pair ≡ take 6 rest
+    → later ≡ drop 6 rest → length later + 6 ≡ length rest → s ≡ setting_at pair → new ≡ with_setting settings s
+    → with_later new (settings_in later) ≡ with_later settings (settings_in rest)
 with_later-turn settings new s rest pair later pair_is later_is size s_is new_is =
-    let begins : s ∷ settings_in later ≡ settings_in rest =
-    rw (s_is, pair_is, later_is) (sym (settings_in-step rest (omega arith))) in
-    rw (new_is, ← begins) (with_later-step settings s (settings_in later))
+    grind (arith, settings_in-step, with_later-step)

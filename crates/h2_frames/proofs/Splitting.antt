@@ -1,16 +1,7 @@
 -- Frames of both sides up to a limit are merged, and then those past it.
-use Rattle.std.proofs.Common.{◌≡◌, ℕ, ◌+◌, true, false, List, [], ◌∷◌, ◌++◌, length, refl, ap, sym, ◌∙◌, arith}
+use Rattle.std.proofs.Common.{◌≡◌, ℕ, ◌+◌, true, false, List, [], ◌∷◌, ◌++◌, length, refl, ap, arith}
 use Rattle.h2_frames.proofs.Words.{nat_tests, AllByRecursion, Frame, Limit, Next, Over, Read, ToRead, Unread}
-use Rattle.h2_frames.proofs.Words.{comes_after, cond_both, is_past, merged, AreLeftAfter, IsPassed}
-
--- what is not past the limit comes before what is
-past-after : (limit : Limit) (x y : Frame) → is_past limit x ≡ false → is_past limit y ≡ true →
-    comes_after y x ≡ true
-past-after limit x y h k = grind (arith, nat_tests)
-
-within-first : (limit : Limit) (x y : Frame) → is_past limit x ≡ false → is_past limit y ≡ true →
-    comes_after x y ≡ false
-within-first limit x y h k = grind (arith, nat_tests)
+use Rattle.h2_frames.proofs.Words.{is_past, merged, AreLeftAfter, IsPassed}
 
 abbrev pub AreWithin : Limit → List Frame → Type 0
 AreWithin limit frames = AllByRecursion (λ (frame : Frame). is_past limit frame ≡ false) frames
@@ -27,23 +18,19 @@ merged-nil (x ∷ xs) = ap (λ (ys : List Frame). x ∷ ys) (merged-nil xs)
 split-client : (limit : Limit) (c lc ls : List Frame) → AreWithin limit c → StartsPast limit ls →
     merged (c ++ lc) ls ≡ c ++ merged lc ls
 split-client limit [] lc ls h k = refl
-split-client limit (x ∷ c) lc [] h k =
-    merged-nil (x ∷ c ++ lc) ∙ ap (λ (xs : List Frame). x ∷ c ++ xs) (sym (merged-nil lc))
-split-client limit (x ∷ c) lc (y ∷ ls) h k =
-    rw (within-first limit x y h.0 k) (ap (λ (xs : List Frame). x ∷ xs) (split-client limit c lc (y ∷ ls) h.1 k))
+split-client limit (x ∷ c) lc [] h k = grind (arith, nat_tests, merged-nil)
+split-client limit (x ∷ c) lc (y ∷ ls) h k = grind (arith, nat_tests, split-client limit c lc (y ∷ ls) h.1 k, h.0, h.1)
 
 split-server : (limit : Limit) (s lc ls : List Frame) → AreWithin limit s → StartsPast limit lc →
     merged lc (s ++ ls) ≡ s ++ merged lc ls
 split-server limit [] lc ls h k = refl
 split-server limit (y ∷ s) [] ls h k = refl
-split-server limit (y ∷ s) (z ∷ lc) ls h k =
-    rw (past-after limit y z h.0 k) (ap (λ (xs : List Frame). y ∷ xs) (split-server limit s (z ∷ lc) ls h.1 k))
+split-server limit (y ∷ s) (z ∷ lc) ls h k = grind (arith, nat_tests, split-server limit s (z ∷ lc) ls h.1 k, h.0, h.1)
 
 pub merged-split : (limit : Limit) (c s lc ls : List Frame) → AreWithin limit c → AreWithin limit s →
     StartsPast limit lc → StartsPast limit ls → merged (c ++ lc) (s ++ ls) ≡ merged c s ++ merged lc ls
 merged-split limit [] s lc ls h k p q = split-server limit s lc ls k p
-merged-split limit (x ∷ c) [] lc ls h k p q =
-    split-client limit (x ∷ c) lc ls h q ∙ ap (λ (xs : List Frame). xs ++ merged lc ls) (sym (merged-nil (x ∷ c)))
+merged-split limit (x ∷ c) [] lc ls h k p q = grind (arith, nat_tests, split-client, merged-nil)
 merged-split limit (x ∷ c) (y ∷ s) lc ls h k p q =
     grind (arith, merged-split limit (x ∷ c) s lc ls h k.1 p q, merged-split limit c (y ∷ s) lc ls h.1 k p q)
 
@@ -53,8 +40,7 @@ pub merged-all : (P : Frame → Type 0) (xs ys : List Frame) → AllByRecursion 
 merged-all P [] ys h k = k
 merged-all P (x ∷ xs) [] h k = (h.0, merged-all P xs [] h.1 k)
 merged-all P (x ∷ xs) (y ∷ ys) h k =
-    cond_both (comes_after x y) _ _ (AllByRecursion P) (λ e. (k.0, merged-all P (x ∷ xs) ys h k.1))
-    (λ e. (h.0, merged-all P xs (y ∷ ys) h.1 k))
+    grind (arith, nat_tests, merged-all P (x ∷ xs) ys h k.1, merged-all P xs (y ∷ ys) h.1 k, h.0, h.1, k.0, k.1)
 
 pub length-merged : (xs ys : List Frame) → length (merged xs ys) ≡ length xs + length ys
 length-merged [] ys = omega arith

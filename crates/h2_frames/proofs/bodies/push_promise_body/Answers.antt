@@ -1,8 +1,7 @@
-use Rattle.std.proofs.Common.{◌≡◌, ℕ, if◌then◌else◌, drop, ap, ◌∙◌, rules}
-use Rattle.std.proofs.lemmas.List.{take_rest}
 use Rattle.audit_terms.specs.declared.frames.Body.TheVariants.{PushPromise}
-use Rattle.h2_frames.specs.Body.{is_padded, padded_body}
-use Rattle.h2_frames.specs.Header.{number_of_31_bits}
+use Rattle.h2_frames.specs.{Body.is_padded, Body.padded_body, Header.number_of_31_bits}
+use Rattle.std.proofs.Common.{ap, drop, if◌then◌else◌, rules, ℕ, ◌∙◌, ◌≡◌}
+use Rattle.std.proofs.lemmas.List.{take_rest}
 use Rattle.h2_frames.proofs.bodies.push_promise_body.Goals as goal
 
 pub returns : goal.returns

@@ -1,6 +1,5 @@
-use Rattle.std.proofs.Common.{◌∙◌, arith}
-use Rattle.std.proofs.lemmas.Grind.{common_steps}
 use Rattle.h2_frames.proofs.SettingsRead.{with_later-turn}
+use Rattle.std.proofs.{Common.arith, Common.◌∙◌, lemmas.Grind.common_steps}
 use Rattle.h2_frames.proofs.settings.settings_of.Goals as goal
 
 pub loop-pair-preserved : goal.loop-pair-preserved

@@ -4,9 +4,8 @@ use Rattle.h2_frames.proofs.Words.{take-append-drop}
 use Rattle.h2_frames.proofs.spelling.first_frame.Goals as goal
 
 -- two cuts leave three parts
-three_parts : (i j : ℕ) (bytes first rest second later : List ℕ) →
-    first ≡ take i bytes → rest ≡ drop i bytes → second ≡ take j rest → later ≡ drop j rest →
-    bytes ≡ first ++ second ++ later
+three_parts : (i j : ℕ) (bytes first rest second later : List ℕ) → first ≡ take i bytes → rest ≡ drop i bytes
+    → second ≡ take j rest → later ≡ drop j rest → bytes ≡ first ++ second ++ later
 three_parts i j bytes first rest second later a b c d =
     let front : first ++ rest ≡ bytes = rw (a, b) (take-append-drop i bytes) in
     let back : second ++ later ≡ rest = rw (c, d) (take-append-drop j rest) in

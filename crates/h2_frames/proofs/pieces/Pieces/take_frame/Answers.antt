@@ -1,5 +1,4 @@
-use Rattle.std.proofs.Common.{arith}
-use Rattle.std.proofs.lemmas.Grind.{common_steps}
+use Rattle.std.proofs.{Common.arith, lemmas.Grind.common_steps}
 use Rattle.h2_frames.proofs.pieces.Pieces.take_frame.Goals as goal
 
 pub returns-in-None : goal.returns-in-None

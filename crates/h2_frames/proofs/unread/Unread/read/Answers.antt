@@ -1,6 +1,5 @@
-use Rattle.std.proofs.Common.{arith, refl}
-use Rattle.std.proofs.lemmas.Grind.{common_steps}
-use Rattle.h2_frames.proofs.{Words.IsOneTaken, Words.bytes_left, Reading.frame_arrives, Reading.read-on}
+use Rattle.h2_frames.proofs.{Reading.frame_arrives, Reading.read-on, Words.IsOneTaken, Words.bytes_left}
+use Rattle.std.proofs.{Common.arith, Common.refl, lemmas.Grind.common_steps}
 use Rattle.h2_frames.proofs.unread.Unread.read.Goals as goal
 
 pub returns : goal.returns
