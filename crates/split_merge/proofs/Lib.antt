@@ -1,11 +1,11 @@
 mod Terms
-pub mod Rising
-pub mod Visited
-pub mod Positions
-pub mod LaidOut
+mod Rising
+mod Visited
+mod Positions
+mod LaidOut
 pub mod Ahead
-pub mod LoudStreams
+mod LoudStreams
 pub mod GroupRanges
 pub mod ShownMerge
-pub mod MergedRuns
-pub mod PutBack
+mod MergedRuns
+mod PutBack
