@@ -1,10 +1,10 @@
 -- A frame is found by its number, since numbers rise.
-use Rattle.std.proofs.Common.{◌≡◌, ◌≢◌, ℕ, zero, suc, ◌+◌, ◌<◌, ◌≤◌, false, List, [], ◌∷◌, length, get_or, refl}
-use Rattle.std.proofs.Common.{arith, Some, None, nat_eq, eq-eqb, sym, subst, ⊎_elim}
+use Rattle.std.proofs.Common.{◌≡◌, ◌≢◌, ℕ, zero, suc, ◌+◌, ◌<◌, false, List, [], ◌∷◌, length, get_or, refl}
+use Rattle.std.proofs.Common.{arith, Some, None, nat_eq, eq-eqb, sym, ⊎_elim}
 use Rattle.std.{proofs.lemmas.Bool.cases_lt, specs.List.Sorted.IsNonDecreasingBy, specs.List.Sorted.IsPartitionPoint}
 use Rattle.std.{proofs.lemmas.Grind.common_steps, specs.Ordering.nat_cmp, specs.Ordering.ordering_index}
 use Rattle.std.specs.declared.cmp.Ordering.TheVariants.{Less, Equal, Greater}
-use Rattle.audit_terms.specs.{declared.frames.Frame.Frame, code.runs.Orderly.IsInRange, code.runs.Orderly.IsOrderlyFrom}
+use Rattle.audit_terms.specs.{declared.frames.Frame.Frame, code.runs.Orderly.IsOrderlyFrom}
 use Rattle.audit_terms.proofs.FindingOrder.{nat_level}
 use Rattle.audit_terms.proofs.OrderlyFrames.{number_at_least, numbers_rise, ranks_rise}
 use Rattle.audit_report.specs.FrameLookup.{frame_numbered}
@@ -15,9 +15,7 @@ pub frame_numbered_at : (low : ℕ) (frames : List Frame) → IsOrderlyFrom low 
 frame_numbered_at low [] h i d l = absurd (omega arith)
 frame_numbered_at low (x ∷ xs) h zero d l = rw (eq-eqb x.number x.number refl) refl
 frame_numbered_at low (x ∷ xs) h (suc i) d l =
-    let later = number_at_least (x.number + 1) xs h.2 i d (omega arith) in
-    let apart : nat_eq x.number (get_or xs i d).number ≡ false = grind (arith, common_steps) in
-    rw apart (frame_numbered_at (x.number + 1) xs h.2 i d (omega arith))
+    grind (arith, common_steps, frame_numbered_at (x.number + 1) xs h.2 i d (omega arith), number_at_least, h.2)
 
 -- there is none where no frame has the number
 pub frame_numbered_none : (frames : List Frame) (n : ℕ)
@@ -37,10 +35,7 @@ greater_apart a n e same = grind (arith, common_steps)
 -- what a search by halving answers, where it finds the number
 pub frame_numbered_found : (frames : List Frame) (n i : ℕ) (d : Frame) → IsOrderlyFrom 0 frames → i < length frames
     → ((e : Frame) → nat_cmp (get_or frames i e).number n ≡ Equal) → Some (get_or frames i d) ≡ frame_numbered frames n
-frame_numbered_found frames n i d h l at =
-    let same : (get_or frames i d).number ≡ n = nat_level _ _ (at d) in
-    sym (subst (λ (k : ℕ). frame_numbered frames k ≡ Some (get_or frames i d)) same
-    (frame_numbered_at 0 frames h i d l))
+frame_numbered_found frames n i d h l at = grind (arith, common_steps, nat_level, frame_numbered_at)
 
 -- and where it does not
 pub frame_numbered_missed : (frames : List Frame) (n i : ℕ) → IsOrderlyFrom 0 frames

@@ -1,5 +1,5 @@
-pub mod Joins
-pub mod Pairs
-pub mod FrameNumbers
-pub mod Sweep
-pub mod Standing
+mod Joins
+mod Pairs
+mod FrameNumbers
+mod Sweep
+mod Standing

@@ -1,6 +1,6 @@
 -- Going down the connections and what is told of them, side by side.
 use Rattle.std.proofs.Common.{◌≡◌, ℕ, zero, suc, ◌+◌, ◌<◌, ◌≤◌, Bool, List, [], ◌∷◌, ◌++◌, take, drop, length, get_or}
-use Rattle.std.proofs.Common.{◌-◌, ◌∙◌, refl, ap, sym, append_assoc, arith, length-drop}
+use Rattle.std.proofs.Common.{◌-◌, refl, ap, append_assoc, arith, length-drop}
 use Rattle.std.proofs.lemmas.List.{drop_more, length-take, Elements.All-drop, Elements.All-take}
 use Rattle.audit_report.specs.code.Contents.{contents_in, opening_text}
 use Rattle.audit_report.specs.code.Reported.{AreHeaded, HasOrderlyOutcome, extents_in, outcome_text, told_text}
@@ -20,8 +20,7 @@ sections_from_here shown k next i headings told other t on lc la there =
 -- one piece more of a text of which the rest is to come
 pub written_more : (o o' piece rest all whole : List ℕ) → o' ≡ o ++ piece → all ≡ piece ++ rest → o ++ all ≡ whole
     → o' ++ rest ≡ whole
-written_more o o' piece rest all whole pushed split so_far =
-    ap (λ l. l ++ rest) pushed ∙ append_assoc o piece rest ∙ ap (λ l. o ++ l) (sym split) ∙ so_far
+written_more o o' piece rest all whole pushed split so_far = grind (arith, append_assoc)
 
 pub none-told : (shown : Bool) (k : ℕ) (headings : List Heading) → told_text shown k headings [] ≡ []
 none-told shown k [] = refl
@@ -34,11 +33,7 @@ pub told_parts : (shown : Bool) (k n : ℕ) (headings : List Heading) (told : Li
 told_parts shown k zero headings told = let same : k + zero ≡ k = omega arith in rw same refl
 told_parts shown k (suc n) [] told = refl
 told_parts shown k (suc n) (h ∷ hs) [] = none-told shown (k + suc n) (drop n hs)
-told_parts shown k (suc n) (h ∷ hs) (t ∷ ts) =
-    let piece = opening_text k h (extents_in t.reach) (contents_in t.outcome) ++ outcome_text shown t.outcome in
-    let on : k + suc n ≡ k + 1 + n = omega arith in
-    rw on (append_assoc piece (told_text shown (k + 1) (take n hs) (take n ts)) _
-    ∙ ap (λ l. piece ++ l) (told_parts shown (k + 1) n hs ts))
+told_parts shown k (suc n) (h ∷ hs) (t ∷ ts) = grind (arith, told_parts shown (k + 1) n hs ts, append_assoc)
 
 -- the same of parts that are given
 pub told_in_parts : (shown : Bool) (k next n : ℕ) (headings front back : List Heading)
@@ -46,8 +41,7 @@ pub told_in_parts : (shown : Bool) (k next n : ℕ) (headings front back : List 
     → k + n ≡ next → front ≡ take n headings → back ≡ drop n headings → told_front ≡ take n told
     → told_back ≡ drop n told
     → told_text shown k headings told ≡ told_text shown k front told_front ++ told_text shown next back told_back
-told_in_parts shown k next n headings front back told told_front told_back on f b tf tb =
-    rw (← on, f, b, tf, tb) (sym (told_parts shown k n headings told))
+told_in_parts shown k next n headings front back told told_front told_back on f b tf tb = grind (arith, told_parts)
 
 -- each part stands under its headings
 pub front-headed : (before n : ℕ) (headings front : List Heading) (told told_front : List Told)

@@ -1,12 +1,11 @@
 -- The sweep from the back meets the stalls in reverse.
-use Rattle.std.proofs.Common.{◌≡◌, ℕ, ◌+◌, ◌-◌, ◌<◌, ◌≤◌, Bool, true, false, if◌then◌else◌, List, [], ◌∷◌, ◌++◌}
-use Rattle.std.proofs.Common.{reverse, drop, length, get_or, ap, subst, sym, ◌∙◌, arith, Option, Some}
-use Rattle.std.proofs.lemmas.List.{reverse-append, drop_more}
-use Rattle.audit_terms.specs.declared.{sides.Side.Side, findings.Finding.Finding, frames.Frame.Frame}
-use Rattle.audit_terms.specs.{Place.place_stream, Kind.begins_stall}
-use Rattle.audit_report.specs.code.Ends.{end_in, begun_by}
-use Rattle.audit_report.specs.Stalls.{is_end_of, first_end, stall_of, stalls}
-use Rattle.audit_report.specs.declared.{ends.Ends.Ends, stalls.Stall.Stall}
+use Rattle.audit_report.specs.{Stalls.first_end, Stalls.is_end_of, Stalls.stall_of, Stalls.stalls, code.Ends.begun_by}
+use Rattle.audit_report.specs.{code.Ends.end_in, declared.ends.Ends.Ends, declared.stalls.Stall.Stall}
+use Rattle.audit_terms.specs.{Kind.begins_stall, Place.place_stream}
+use Rattle.audit_terms.specs.declared.{findings.Finding.Finding, frames.Frame.Frame, sides.Side.Side}
+use Rattle.std.proofs.Common.{Bool, List, Option, Some, [], ap, arith, drop, false, get_or, if◌then◌else◌, length}
+use Rattle.std.proofs.Common.{reverse, subst, sym, true, ℕ, ◌++◌, ◌+◌, ◌-◌, ◌<◌, ◌∙◌, ◌∷◌, ◌≡◌, ◌≤◌}
+use Rattle.std.proofs.lemmas.List.{drop_more, reverse-append}
 
 -- the table has the first end of each window among the findings
 pub record HasFirstEnds (ends : Ends) (later : List Finding) : Type 0 where
@@ -44,13 +43,8 @@ swept_more frames found later ends ends' met swept ended = record {
 
 -- what is left of a list from one place before
 drop_one_less : (findings : List Finding) (left : ℕ) (found : Finding) → 0 < left → left ≤ length findings
-    → found ≡ get_or findings (left - 1) found
-    → drop (left - 1) findings ≡ found ∷ drop left findings
-drop_one_less findings left found positive within here =
-    let same : left - 1 + 1 ≡ left = omega arith in
-    drop_more findings (left - 1) found (omega arith)
-    ∙ ap (λ (n : ℕ). get_or findings (left - 1) found ∷ drop n findings) same
-    ∙ ap (λ (f : Finding). f ∷ drop left findings) (sym here)
+    → found ≡ get_or findings (left - 1) found → drop (left - 1) findings ≡ found ∷ drop left findings
+drop_one_less findings left found positive within here = grind (arith, drop_more)
 
 -- one step down the list
 pub swept_down : (frames : List Frame) (findings : List Finding) (left : ℕ) (found : Finding) (ends ends' : Ends)

@@ -1,6 +1,5 @@
-use Rattle.std.proofs.Common.{◌≡◌, ◌++◌, length}
-use Rattle.std.specs.String.{string_bytes}
 use Rattle.audit_report.specs.code.Shares.{IsHeaded, share_text}
+use Rattle.std.{proofs.Common.length, proofs.Common.◌++◌, proofs.Common.◌≡◌, specs.String.string_bytes}
 use Rattle.audit_report.proofs.batches.push_batches.Given as goal
 
 -- what is written, with the lines of the connections to come, is the whole
