@@ -1,34 +1,27 @@
 -- The round over blocks need not go past the stop: what is left to do of connections makes their passes.
-use Rattle.audit_rounds.proofs.Words.{◌≡◌, ℕ, ◌+◌, ◌*◌, ◌^◌, ◌<◌, ◌≤◌, Bool, true, nat_lt, List, [], ◌∷◌, ◌++◌, filter}
-use Rattle.audit_rounds.proofs.Words.{refl, sym, ap, ◌∙◌, arith, nat_tests, append_assoc, append-nil, Contains, Option}
-use Rattle.audit_rounds.proofs.Words.{Some, None, map-append, ConnectionState, Finding, Frame, Change, Item}
-use Rattle.audit_rounds.proofs.Words.{connection_start, connection_after_all, block_run, in_order, upto_stop, is_shown}
-use Rattle.audit_rounds.proofs.Words.{shown, IsOrderly, IsOrderlyFrom, settings_run, changes_of, local_run, is_past}
-use Rattle.audit_rounds.proofs.Words.{pass, streams_of, place_number, joined, AreFrom, item_with, items_with, StopsAt}
-use Rattle.audit_rounds.proofs.Words.{IsLeast, IsPast, contains-none, shown-append, openings_of, streams_shown}
-use Rattle.audit_rounds.proofs.Words.{blocks_shown, AgreeWithin, IsAfterStreams, frames_within, ltb-true, zero, suc}
-use Rattle.audit_rounds.proofs.Words.{pos, ◌-◌, false, not, leb, map, take, length, get_or, All, Vec, Global}
-use Rattle.audit_rounds.proofs.Words.{length-map, get_or-map, length-orderly, IsStop, Block, BlockFits, items_in}
-use Rattle.audit_rounds.proofs.Words.{Prepared, AreAfterStreams, IsRest, AreRests, IsPrepared, IsRemaining}
-use Rattle.audit_rounds.proofs.Words.{AreRemaining, AreGoneThrough}
-use Rattle.std.proofs.lemmas.Bool.{cond_both}
-use Rattle.std.proofs.lemmas.List.Sorted.{IsPermutation-refl, IsPartitionedBy-leb}
+use Rattle.audit_rounds.proofs.Words.{AgreeWithin, IsRemaining, openings_of, place_number, settings_run, shown-append}
+use Rattle.audit_rounds.proofs.Words.{All, AreGoneThrough, IsAfterStreams, IsOrderlyFrom, contains-none, length-orderly}
+use Rattle.audit_rounds.proofs.Words.{AreAfterStreams, AreFrom, ConnectionState, connection_after_all, connection_start}
+use Rattle.audit_rounds.proofs.Words.{AreRemaining, BlockFits, append_assoc, blocks_shown, frames_within, streams_shown}
+use Rattle.audit_rounds.proofs.Words.{AreRests, Contains, Finding, Prepared, ap, in_order, is_shown, items_in, ltb-true}
+use Rattle.audit_rounds.proofs.Words.{Block, Bool, Frame, Item, arith, false, get_or, joined, length, nat_lt, shown, ℕ}
+use Rattle.audit_rounds.proofs.Words.{Change, Global, IsLeast, IsPast, IsRest, IsStop, Option, StopsAt, filter, is_past}
+use Rattle.audit_rounds.proofs.Words.{IsOrderly, IsPrepared, append-nil, changes_of, get_or-map, items_with, length-map}
+use Rattle.audit_rounds.proofs.Words.{List, None, Some, Vec, leb, map, not, pass, pos, refl, take, true, zero, ◌++◌}
+use Rattle.audit_rounds.proofs.Words.{[], block_run, item_with, local_run, map-append, nat_tests, streams_of, upto_stop}
+use Rattle.audit_rounds.proofs.Words.{suc, sym, ◌*◌, ◌+◌, ◌-◌, ◌<◌, ◌^◌, ◌∙◌, ◌∷◌, ◌≡◌, ◌≤◌}
+use Rattle.audit_rounds.proofs.{Items.items_are_found_lem, Jobs.run-ordered, Lists.some_of, Rounds.rounds_make_pass_lem}
+use Rattle.audit_rounds.specs.laws.Settling.{RoundsSettle, blocks_within}
+use Rattle.audit_terms.proofs.FindingOrder.{in_order-alike, in_order-append_comm}
+use Rattle.audit_terms.proofs.OrderlyFrames.{numbers_rise, orderly-filter}
+use Rattle.audit_terms.proofs.Watching.{past-higher}
+use Rattle.audit_terms.specs.code.{Room.HasRoom, runs.States.items_of}
+use Rattle.std.proofs.lemmas.List.Sorted.{IsPartitionedBy-leb, IsPermutation-refl}
+use Rattle.std.proofs.lemmas.{Bool.cond_both, Int.ints, List.ext_get_or}
 use Rattle.std.specs.List.Sorted.{IsPartitionPoint, IsPartitionedBy}
-use Rattle.std.proofs.lemmas.Int.{ints}
-use Rattle.std.proofs.lemmas.List.{ext_get_or}
-use Rattle.audit_terms.specs.code.runs.States.{items_of}
-use Rattle.audit_terms.proofs.FindingOrder.{in_order-append_comm, in_order-alike}
 use Rattle.stop_desk.proofs.RoundCuts.{stops_join_lem}
 use Rattle.stop_desk.proofs.RoundMembers.{contains-each, filter-contains}
 use Rattle.stop_desk.proofs.RoundMerge.{cut-all}
-use Rattle.audit_terms.specs.code.Room.{HasRoom}
-use Rattle.audit_rounds.specs.laws.Settling.{blocks_within, RoundsSettle}
-use Rattle.audit_rounds.proofs.Jobs.{run-ordered}
-use Rattle.audit_rounds.proofs.Items.{items_are_found_lem}
-use Rattle.audit_terms.proofs.Watching.{past-higher}
-use Rattle.audit_terms.proofs.OrderlyFrames.{numbers_rise, orderly-filter}
-use Rattle.audit_rounds.proofs.Rounds.{rounds_make_pass_lem}
-use Rattle.audit_rounds.proofs.Lists.{some_of}
 
 -- ---- what lies past a stop does not count
 
@@ -96,9 +89,8 @@ past-shown c (Some place) now opened changes frames h found k =
     omega arith
 
 -- openings count by the frames within
-same-items : (xs ys : List ℕ) (changes : List Change) (stop : Option ℕ) (frames : List Frame) →
-    AgreeWithin stop xs ys →
-    items_with xs changes (frames_within stop frames) ≡ items_with ys changes (frames_within stop frames)
+same-items : (xs ys : List ℕ) (changes : List Change) (stop : Option ℕ) (frames : List Frame) → AgreeWithin stop xs ys
+    → items_with xs changes (frames_within stop frames) ≡ items_with ys changes (frames_within stop frames)
 same-items xs ys changes stop [] h = refl
 same-items xs ys changes stop (frame ∷ frames) h =
     grind (arith, same-items xs ys changes stop frames h, h frame.number)
@@ -173,13 +165,11 @@ take-point test zero (frame ∷ frames) l point =
     (λ k d low below. absurd (omega arith), λ k d low below. point.1 (suc k) d (omega arith) (omega arith)))
 take-point test (suc i) [] l point = absurd (omega arith)
 take-point test (suc i) (frame ∷ frames) l point =
-    rw (
-      point.0 0 frame (omega arith) (omega arith),
-      take-point test i frames (omega arith) (
-        λ k d low below. point.0 (suc k) d (omega arith) (omega arith),
-        λ k d low below. point.1 (suc k) d (omega arith) (omega arith),
-      ),
-    ) refl
+    let rest = take-point test i frames (omega arith) (
+      λ k d low below. point.0 (suc k) d (omega arith) (omega arith),
+      λ k d low below. point.1 (suc k) d (omega arith) (omega arith),
+    ) in
+    rw (point.0 0 frame (omega arith) (omega arith), rest) refl
 
 not-above : (last number : ℕ) → leb number last ≡ not (nat_lt last number)
 not-above last number = grind (arith, nat_tests)
@@ -187,8 +177,7 @@ not-above last number = grind (arith, nat_tests)
 -- the frames up to a number stand before the point
 pub within-point : (last i : ℕ) (frames : List Frame) → i ≤ length frames
     → IsPartitionPoint (λ (frame : Frame). leb frame.number last ≡ true)
-    (λ (frame : Frame). leb frame.number last ≡ false)
-    frames i
+    (λ (frame : Frame). leb frame.number last ≡ false) frames i
     → take i frames ≡ filter (λ (frame : Frame). not (nat_lt last frame.number)) frames
 within-point last i frames l point =
     take-point (λ (frame : Frame). leb frame.number last) i frames l point
