@@ -1,35 +1,24 @@
 -- The audits for which what is told of connections stands.
-use Rattle.std.proofs.Common.{◌≡◌, ℕ, ◌+◌, ◌<◌, ◌≤◌, ◌^◌, ◌||◌, Bool, List, [], ◌∷◌, ◌++◌, length, Vec, Global}
-use Rattle.std.proofs.Common.{refl, sym, ap, ◌∙◌, subst, arith, map}
-use Rattle.std.proofs.lemmas.List.{map-append}
-use Rattle.std.proofs.lemmas.List.Elements.{All-cons, All-nil}
-use Rattle.std.specs.List.{list_any}
 use Rattle.audit_report.specs.FlowLine.{extents_of}
 use Rattle.audit_report.specs.code.Reported.{AreToldOf, HasOrderlyOutcome, IsOutcomeOf, IsToldOf, extents_in}
-use Rattle.audit_report.specs.declared.audited.Audited.{Audited as Audit}
-use Rattle.audit_report.specs.declared.extents.Reach.{Reach}
-use Rattle.audit_report.specs.declared.told.Outcome.{Outcome}
-use Rattle.audit_report.specs.declared.told.Outcome.TheVariants.{Quiet, Audited, NotHttp2, NoPreface, NoHandshake}
+use Rattle.audit_report.specs.declared.{audited.Audited.Audited as Audit, extents.Reach.Reach, told.Outcome.Outcome}
+use Rattle.audit_report.specs.declared.told.Outcome.TheVariants.{Audited, NoHandshake, NoPreface, NotHttp2, Quiet}
 use Rattle.audit_report.specs.declared.told.Told.{Told}
-use Rattle.audit_terms.specs.Finding.{shown}
-use Rattle.audit_terms.specs.Kind.{is_fault}
-use Rattle.audit_terms.specs.Pass.{pass}
 use Rattle.audit_terms.proofs.OrderlyFrames.{length-orderly}
-use Rattle.audit_terms.specs.declared.findings.Finding.{Finding}
-use Rattle.audit_terms.specs.declared.frames.Frame.{Frame}
-use Rattle.audit_terms.specs.declared.sides.Side.TheVariants.{Client, Server}
-use Rattle.audit_terms.specs.declared.sides.Sides.{Sides}
-use Rattle.h2_frames.specs.Cut.{IsCut}
-use Rattle.h2_frames.specs.declared.connections.Cut.{Cut}
-use Rattle.h2_frames.specs.declared.connections.Cut.TheVariants as cut
+use Rattle.audit_terms.specs.{Finding.shown, Kind.is_fault, Pass.pass}
+use Rattle.audit_terms.specs.declared.{findings.Finding.Finding, frames.Frame.Frame}
+use Rattle.audit_terms.specs.declared.sides.{Side.TheVariants.Client, Side.TheVariants.Server, Sides.Sides}
+use Rattle.h2_frames.specs.{Cut.IsCut, declared.connections.Cut.Cut}
 use Rattle.h2audit.specs.Audited.{IsAudited, IsFlowOf, findings_of, has_fault}
-use Rattle.h2audit.specs.code.Flows.{AreToldAudits, AreToldFlows, IsHeldBy}
-use Rattle.h2audit.specs.code.Found.{AreFound, all_with, found_in, frames_of, has_fault_in, kept_in, left_after, put_in}
-use Rattle.h2audit.specs.code.Found.{with_next}
-use Rattle.stop_desk.specs.declared.parts.Part.{Part}
+use Rattle.h2audit.specs.code.{Flows.AreToldAudits, Flows.AreToldFlows, Flows.IsHeldBy, Found.AreFound, Found.all_with}
+use Rattle.h2audit.specs.code.Found.{found_in, frames_of, has_fault_in, kept_in, left_after, put_in, with_next}
 use Rattle.packet_heads.specs.declared.packets.Packet.{Packet}
-use Rattle.tcp_streams.specs.declared.members.Connection.{Connection}
-use Rattle.tcp_streams.specs.declared.streams.Flow.{Flow}
+use Rattle.std.proofs.Common.{Bool, Global, List, Vec, [], ap, arith, length, map, refl, subst, sym, ℕ, ◌++◌, ◌+◌, ◌<◌}
+use Rattle.std.proofs.{Common.◌^◌, Common.◌||◌, Common.◌∙◌, Common.◌∷◌, Common.◌≡◌, Common.◌≤◌, lemmas.List.map-append}
+use Rattle.std.{proofs.lemmas.List.Elements.All-cons, proofs.lemmas.List.Elements.All-nil, specs.List.list_any}
+use Rattle.stop_desk.specs.declared.parts.Part.{Part}
+use Rattle.tcp_streams.specs.declared.{members.Connection.Connection, streams.Flow.Flow}
+use Rattle.h2_frames.specs.declared.connections.Cut.TheVariants as cut
 
 -- a list in memory of these items, in the place of another one
 abbrev list-of : {X Y : Type 0} → Vec X Global → (items : List Y) → length items < 2 ^ 63 → Vec Y Global
