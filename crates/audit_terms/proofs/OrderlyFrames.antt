@@ -11,7 +11,8 @@ module _ {X : Type 0} (number : X → ℕ) where
   RiseFrom low [] = Unit {0}
   RiseFrom low (x ∷ xs) = (low ≤ number x) × RiseFrom (number x + 1) xs
 
-  rise-least : (low : ℕ) (xs : List X) → RiseFrom low xs → (i : ℕ) (d : X) → i < length xs → low ≤ number (get_or xs i d)
+  rise-least : (low : ℕ) (xs : List X) → RiseFrom low xs → (i : ℕ) (d : X) → i < length xs
+      → low ≤ number (get_or xs i d)
   rise-least low [] h i d l = absurd (omega arith)
   rise-least low (x ∷ xs) h zero d l = h.0
   rise-least low (x ∷ xs) h (suc i) d l = omega (arith, rise-least (number x + 1) xs h.1 i d (omega arith), h.0)
