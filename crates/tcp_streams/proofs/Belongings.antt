@@ -3,7 +3,7 @@ use Rattle.packet_heads.specs.declared.packets.Packet.TheVariants.{Refused, Skip
 use Rattle.std.{specs.List.AllZip, specs.Prelude.fold}
 use Rattle.tcp_streams.proofs.Words.{Carried, Option, Packet, Segment, [], filter, is_of, pair_of, segment_in}
 use Rattle.tcp_streams.proofs.Words.{Connection, Membership, arith, filter_map, if◌then◌else◌, is_request, is_same_pair}
-use Rattle.tcp_streams.proofs.Words.{List, None, Some, ap, map, not, refl, sym, ◌&&◌, ◌∙◌, ◌∷◌, ◌≡◌}
+use Rattle.tcp_streams.proofs.Words.{List, None, Some, ap, map, not, refl, ◌&&◌, ◌∷◌, ◌≡◌}
 use Rattle.tcp_streams.proofs.{Lists.by_Bool, Pairs.is_pair-same, Pairs.same-pair}
 use Rattle.tcp_streams.specs.Membership.{AreConnections, IsConnectionOf, first_strays, last_opening, with_segment}
 use Rattle.tcp_streams.specs.Membership.{Belonging, belongings, members, openings, opens, stray_of, strays, strays_of}
@@ -107,7 +107,4 @@ connections-shown packets found h = grind (arith, zip-to_map, belongings-are, op
 pub shown-connections : (packets : List Packet) (found : List Connection)
     → map past_words.membership found ≡ past_words.connections_of (past_words.past_of packets)
     → AreConnections packets found
-shown-connections packets found e =
-    let past = past_words.past_of packets in
-    rw (belongings-are packets) (map-to_zip past (openings (belong past)) found
-    (e ∙ ap (map (past_words.connection_of past)) (sym (openings-are past))))
+shown-connections packets found e = grind (arith, belongings-are, map-to_zip, openings-are)

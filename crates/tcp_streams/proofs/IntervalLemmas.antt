@@ -75,8 +75,7 @@ Spans-clipped m low high a b (y ∷ ys) h k le counts =
 
 Spans-overlay : (low : ℕ) (kept later : List Interval) → Spans low kept end_of_offsets
     → Spans 0 later end_of_offsets → Spans low (overlay kept later low) end_of_offsets
-Spans-overlay low [] later h k = Spans-clipped low low end_of_offsets 0 end_of_offsets later k (omega arith) h
-    (omega arith)
+Spans-overlay low [] later h k = grind (arith, nat_tests, Spans-clipped)
 Spans-overlay low (x ∷ kept) later h k =
     Spans-append low x.from end_of_offsets (clipped low x.from later) (x ∷ overlay kept later x.upto)
     (Spans-clipped low low x.from 0 end_of_offsets later k (omega arith) h.0 (omega (arith, h.1.some, h.1.counts)))

@@ -49,11 +49,9 @@ pub Falls-past_after : (n : ℕ) (past : List Segment) (packets : List Packet) �
     → Falls (n + length packets) (past_after past packets)
 Falls-past_after n past [] h f = Falls-weaker n (n + 0) past (omega arith) f
 Falls-past_after n past (Carried s ∷ rest) h f =
-    Falls-weaker (n + 1 + length rest) _ (past_after (s ∷ past) rest) (omega arith)
-    (Falls-past_after (n + 1) (s ∷ past) rest h.1 (omega (arith, h.0), rw h.0 f))
+    grind (arith, common_steps, Falls-past_after (n + 1) (s ∷ past) rest h.1 (omega (arith, h.0), rw h.0 f), h.1, h.0)
 Falls-past_after n past (_ ∷ rest) h f =
-    Falls-weaker (n + 1 + length rest) _ (past_after past rest) (omega arith)
-    (Falls-past_after (n + 1) past rest h (Falls-weaker n (n + 1) past (omega arith) f))
+    grind (arith, common_steps, Falls-past_after (n + 1) past rest h (Falls-weaker n (n + 1) past (omega arith) f))
 
 -- the records fall along the past, from below the next segment's
 pub Falls-next : (n : ℕ) (past : List Segment) (packets : List Packet) (i : ℕ) (s : Segment) → AreNumberedFrom n packets

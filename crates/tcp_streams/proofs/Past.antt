@@ -41,8 +41,7 @@ IsBelow-if b n s o h k = by_Bool b (λ e. rw e h) (λ e. rw e (IfSome_then o k (
 
 last_opening-below : (p : Pair) (n : ℕ) (past : List Segment) → Falls n past → IsBelow n (last_opening p past)
 last_opening-below p n [] f = tt
-last_opening-below p n (s ∷ past) f =
-    IsBelow-if (is_of p s && opens s past) n s (last_opening p past) f.0 (last_opening-below p s.rec past f.1)
+last_opening-below p n (s ∷ past) f = grind (arith, last_opening-below p s.rec past f.1, IsBelow-if, f.0, f.1)
 
 -- what looks back to an earlier opening does not look back to this one
 is_opening-below : (o : Segment) (x : Option Segment) → IsBelow o.rec x → is_opening o x ≡ false

@@ -1,16 +1,15 @@
 -- On the pieces of a side's segments: they bring what the segments bring.
-use Rattle.tcp_streams.proofs.Words.{◌≡◌, ℕ, ◌<◌, ◌≤◌, List, [], ◌∷◌, Option, None, Some, refl, sym, ◌∙◌, arith, zero}
-use Rattle.tcp_streams.proofs.Words.{suc, ◌+◌, ◌-◌, ◌^◌, slice_get, ◌%◌, filter, drop, if◌then◌else◌, All, IfSome}
-use Rattle.tcp_streams.proofs.Words.{nat_lt, option_and_then, filter_map, option_or, option_to_list, lt-ltb, nat_tests}
-use Rattle.tcp_streams.proofs.Words.{All-nil, All-cons, sum_by-cons, IfSome_then, none-some, Side, AreNumberedFrom}
-use Rattle.tcp_streams.proofs.Words.{PayloadsRise, TimesFit, Packet, Carried, Segment, is_sent_by, segments_of}
-use Rattle.tcp_streams.proofs.Words.{segment_in, segment_of, Source, end_of_offsets, payload_length, source, IsInterval}
-use Rattle.tcp_streams.proofs.Words.{IsCaptured, at, size_of, width, IsSame, member_piece, piece, AreMembers}
-use Rattle.tcp_streams.proofs.Words.{payload_sum, Interval, Connection}
-use Rattle.tcp_streams.specs.Sequence.{brings, distance, earlier_of, modulus, start_of}
-use Rattle.tcp_streams.{specs.code.Interval.stretch, specs.laws.Flows.ByteHasOffset, proofs.Numbered.numbered_at}
-use Rattle.tcp_streams.proofs.{IntervalLemmas.at-append, Lists.by_Bool, Lists.by_lt, Lists.by_option}
 use Rattle.std.{proofs.Common.min, specs.List.cons_option}
+use Rattle.tcp_streams.proofs.Words.{All, All-cons, is_sent_by, none-some, option_or, segment_in, segment_of, slice_get}
+use Rattle.tcp_streams.proofs.Words.{All-nil, Carried, IfSome, Interval, IsSame, Option, Segment, TimesFit, [], size_of}
+use Rattle.tcp_streams.proofs.Words.{AreMembers, Connection, IsCaptured, IsInterval, filter_map, nat_tests, sum_by-cons}
+use Rattle.tcp_streams.proofs.Words.{AreNumberedFrom, end_of_offsets, option_and_then, option_to_list, payload_length}
+use Rattle.tcp_streams.proofs.Words.{IfSome_then, PayloadsRise, if◌then◌else◌, member_piece, payload_sum, segments_of}
+use Rattle.tcp_streams.proofs.Words.{List, None, Packet, Source, arith, filter, lt-ltb, nat_lt, piece, source, width, ℕ}
+use Rattle.tcp_streams.proofs.Words.{Side, Some, at, drop, refl, suc, sym, zero, ◌%◌, ◌+◌, ◌-◌, ◌<◌, ◌^◌, ◌∙◌, ◌∷◌, ◌≡◌}
+use Rattle.tcp_streams.proofs.{IntervalLemmas.at-append, Lists.by_Bool, Lists.by_lt, Lists.by_option}
+use Rattle.tcp_streams.specs.{Sequence.earlier_of, Sequence.modulus, code.Interval.stretch, laws.Flows.ByteHasOffset}
+use Rattle.tcp_streams.{proofs.Numbered.numbered_at, proofs.Words.◌≤◌, specs.Sequence.brings}
 
 -- a payload that stands in the capture
 pub record StandsIn (size : ℕ) (s : Segment) : Type 0 where
@@ -57,17 +56,11 @@ same-at st size o s stands small low lt = grind (arith, nat_tests, distance-past
 
 module _ (initial_number size : ℕ) (small : size < 2 ^ 31) (s : Segment) (stands : StandsIn size s) where
   pub piece-is : IfSome (piece initial_number s) (IsPieceOf s)
-  piece-is =
-      let low : start_of initial_number s < 2 ^ 32 = omega arith in
-      by_lt (start_of initial_number s) end_of_offsets
-      (λ e below. rw e (stretch-is s 0 _ _ (omega (arith, stands.within)) (omega arith) (λ some. omega arith)))
-      (λ e above. rw e (stretch-is s _ 0 _ (omega (arith, stands.within)) (omega arith) (λ some. omega arith)))
+  piece-is = grind (arith, nat_tests, by_lt, stretch-is)
 
   -- the piece of a segment brings what the segment brings
   pub piece-same : IsSame (brings initial_number s) (at (option_to_list (piece initial_number s)))
-  piece-same = λ o lt.
-      let low : start_of initial_number s < 2 ^ 32 = omega arith in
-      same-at (start_of initial_number s) size o s stands small low lt
+  piece-same = grind (arith, nat_tests, same-at, stands)
 
 round-trip : (a initial_number k : ℕ) → k < 2 ^ 32
     → ((a + k + (2 ^ 32 - 1 - initial_number)) % 2 ^ 32 + (2 ^ 32
@@ -76,10 +69,7 @@ round-trip a initial_number k lt = omega arith
 
 -- payload byte k has the offset that is k past the first one's
 pub byte-has-offset : ByteHasOffset
-byte-has-offset initial_number s k le lt =
-    let at : distance initial_number s ((s.seq + (if s.syn then 1 else 0) + k + (2 ^ 32 - 1 - initial_number)) % 2 ^ 32)
-    ≡ k = round-trip (s.seq + (if s.syn then 1 else 0)) initial_number k (omega arith) in
-    rw (at, lt-ltb k (payload_length s) lt)
+byte-has-offset initial_number s k le lt = grind (arith, nat_tests, round-trip, lt-ltb)
 
 pub ruleset laws = (byte-has-offset)
 
@@ -134,10 +124,7 @@ module _ (initial_number size : ℕ) (small : size < 2 ^ 31) where
     first o = grind (arith, nat_tests, earliest, brings-are)
 
     cited : (o : ℕ) → IfSome (source initial_number (s ∷ later) o) (IsCitedAfter size low)
-    cited o = rw (first o) (either (brings initial_number s o) (source initial_number later o) (IsCitedAfter size low)
-        (IfSome_then (brings initial_number s o) (brings-are s o sound.stands sound.timely)
-        (λ x k. (omega (arith, k.0, sound.after), (k.1, omega (arith, k.0, sound.after), k.2))))
-        (IfSome_then (source initial_number later o) (are.cited o) (λ x k. (omega (arith, k.0, sound.after), k.1))))
+    cited o = grind (arith, nat_tests, first, either, brings-are)
 
     one_more : (p : Option Interval) → IfSome p (IsPieceOf s) → IsSame (brings initial_number s) (at (option_to_list p))
         → ArePiecesOf initial_number size low (s ∷ later) (cons_option p rest)
