@@ -18,6 +18,10 @@ STOREYS = ["specs", "code", "laws", "examples"]
 # What the toolchain makes of the code.
 MADE = ("declared", "contracts")
 CITED = re.compile(r"\bRattle\.(\w+)\.(specs|proofs)\.(\w+(?:\.\w+)*)|\b(\w+)::(specs|proofs)::(\w+(?:::\w+)*)")
+# What a module names of another one of specs/.
+NAMED = re.compile(r"\bRattle\.(\w+)\.specs\.(\w+(?:\.\w+)*)\.\{([^}]*)\}")
+# A lemma is declared by its name and type alone, and its first equation follows.
+LEMMA = re.compile(r"^( *)(?:pub )?([^\s:()]+) : .*(?:\n\1 +\S.*)*\n\1\2 ", re.M)
 # Functions with empty bodies, whose contracts are laws and examples.
 LAWS = re.compile(r"src/laws\.rt$|src/worked_\w+\.rt$")
 
@@ -73,6 +77,18 @@ class Storeys(unittest.TestCase):
                 self.assertLessEqual(storey(path), highest, where)
 
 
+    def test_lemmas(self) -> None:
+        """Of the storeys code/ alone has lemmas, in the crates that ARCHITECTURE.md names."""
+        crates = set()
+        for file in files("specs"):
+            crate, _, *path = file.relative_to(CRATES).with_suffix("").parts
+            if lemmas(crate, path):
+                self.assertEqual(path[0], "code", file.relative_to(CRATES))
+                crates.add(crate)
+        (said,) = re.findall(r"obeys the laws: those of ([^.]*)\.", " ".join(ARCHITECTURE.split()))
+        self.assertEqual(crates, set(re.findall(r"`(\w+)`", said)))
+
+
 class Documents(unittest.TestCase):
     def test_believed_crates(self) -> None:
         """The table of crates has each of crates.txt, and says of which something is believed."""
@@ -117,12 +133,23 @@ def uses() -> dict[str, list[str]]:
 
 
 def pairs() -> set[tuple[str, str]]:
-    """The crates whose proofs cite lemmas of others."""
+    """The crates whose proofs cite lemmas of others, or any module those of specs/."""
     found = set()
     for file in files("proofs"):
         own = file.relative_to(CRATES).parts[0]
         found |= {(own, crate) for crate, room, _ in cited(file) if room == "proofs" and crate != own}
+    for file in files("proofs") + files("specs") + files("src", "rt"):
+        own = file.relative_to(CRATES).parts[0]
+        for crate, path, names in NAMED.findall(file.read_text(encoding="utf-8")):
+            if crate != own and set(re.split(r",\s*", names)) & lemmas(crate, path.split(".")):
+                found.add((own, crate))
     return found
+
+
+def lemmas(crate: str, path: list[str]) -> set[str]:
+    """The lemmas of a module of specs/."""
+    file = CRATES.joinpath(crate, "specs", *path).with_suffix(".antt")
+    return {name for _, name in LEMMA.findall(file.read_text(encoding="utf-8"))} if file.is_file() else set()
 
 
 if __name__ == "__main__":

@@ -2,7 +2,7 @@ mod Terms
 mod SumLemmas
 pub mod WalkLemmas
 mod ClearLemmas
-mod ItemsLemmas
+pub mod ItemsLemmas
 pub mod ShownLemmas
 mod FitLemmas
 mod Halfway
