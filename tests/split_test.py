@@ -285,6 +285,8 @@ def merge_endings(audit: pathlib.Path, program: pathlib.Path) -> list[str]:
         head, connection = report.read_bytes().split(b"\n", 1)
         report.write_bytes(head + b"\n" + connection * 2000)  # more than a pipe holds
         closed = run("sh", "-c", '"$0" "$1" >&-', MERGE, parts)
+        # What a shell runs in the background ignores Ctrl-C, and so would its child.
+        signal.signal(signal.SIGINT, signal.default_int_handler)
         with subprocess.Popen([MERGE, parts], stdout=subprocess.PIPE, stderr=subprocess.PIPE) as child:
             assert child.stdout and child.stderr
             child.stdout.read(1)
