@@ -21,9 +21,9 @@ def signalled(words: Iterable[object], begin: bytes, numbers: Sequence[int],
     """The status and the standard error of a program that gets signals once it is amid its work. Its standard input
     begins so, and has no end: it reads where that is longer than a pipe holds.
     """
-    for number in SIGNALS:
-        if signal.getsignal(number) is signal.SIG_IGN:  # as of what a shell runs in the background; a child has it too
-            signal.signal(number, signal.SIG_DFL)
+    for one in SIGNALS:
+        if signal.getsignal(one) is signal.SIG_IGN:  # as of what a shell runs in the background; a child has it too
+            signal.signal(one, signal.SIG_DFL)
     child = subprocess.Popen([*map(str, words)], stdin=subprocess.PIPE, stderr=subprocess.PIPE)
     assert child.stdin and child.stderr
     try:
