@@ -27,8 +27,7 @@ use tcp_streams::{Connection, ConnectionWalk, Connections, Stray};
 
 /// The report of a capture, and its verdict.
 ///
-/// Answers `Pcap` exactly where the capture is refused, else `OutOfMemory` where memory is wanting, and never `Read` or
-/// `Write`.
+/// Answers `Pcap` exactly where the capture is refused, else `OutOfMemory` where memory runs out; never another fault.
 pub fn audit(
     rt: &(impl Threads + Sync + RandomSource),
     alloc: Global,

@@ -182,8 +182,7 @@ fn told_from<R: Threads>(
     }
 }
 
-/// What the flows of one connection hold, with nothing found yet. No list of frames is made where it shows on the way
-/// that nothing is shown of them.
+/// What the flows of one connection hold, with nothing found yet. Where nothing is shown of them, no list is made.
 fn outcome_of<R: Threads>(
     rt: &R,
     alloc: Global,

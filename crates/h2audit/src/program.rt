@@ -35,8 +35,7 @@ pub fn program_words(rt: &(impl Env + AllocGlobal)) -> io::Result<Vec<String>> {
     Ok(words)
 }
 
-/// What the program is lent: a way to open FILE by its name, a way to say a line on standard error, and the accounts of
-/// its reads and writes.
+/// What the program is lent: ways to open FILE and to say a line on standard error, and accounts of reads and writes.
 #[derive(Drop)]
 pub struct Outside<O, S, I, F, W> {
     pub open_file: O,
@@ -160,8 +159,7 @@ fn open<O: FnMut(&str) -> io::Result<F>, S, I, F, W>(
     (outside.open_file)(path)
 }
 
-/// What the audit of FILE answers, and the account of its reads. One that could not be opened is a failure to read, or
-/// want of memory.
+/// What the audit of FILE answers, and the account of its reads. Not opened, it is a failed read, or want of memory.
 fn audit_file<F: Read + Drop, W: Write>(
     rt: &(impl AllocGlobal + Threads + Sync + RandomSource),
     options: &Options,

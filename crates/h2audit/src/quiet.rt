@@ -22,8 +22,7 @@ use tcp_streams::Flow;
 /// How many frames a batch has at least for which threads are started.
 const FEW: usize = 1_024;
 
-/// How many bytes both flows have together where two threads work on them: below this the frames are met before a
-/// second thread has begun.
+/// With so many bytes in both flows two threads work on them: fewer are met before a second one has begun.
 const LONG: u64 = 1_048_576;
 
 /// The number of frames and the tails of a connection of HTTP/2 of which nothing is shown, where credits are not.
@@ -90,8 +89,7 @@ fn quiet_in_batches<R: Threads>(
     Ok(Some(quiet_by(&walk)))
 }
 
-/// Meets a batch, on a thread of its own where one can be had, and takes the next one meanwhile. A short batch is done
-/// sooner than a thread has begun.
+/// Meets a batch, on a thread of its own where one can be had and the batch is not short, and takes the next one.
 fn meet_and_take<R: Threads>(
     rt: &R,
     threads: usize,

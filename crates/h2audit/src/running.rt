@@ -70,8 +70,7 @@ pub(crate) fn write_out<W: Write>(
     }
 }
 
-/// Audits what is kept of a capture, or answers the refusal that was read. Where there is no memory for the list of its
-/// chunks, the account has that.
+/// Audits what is kept of a capture, or answers the refusal that was read. Want of memory is entered in the account.
 fn audit_kept<T: Threads + Sync, G: Gate, R: Read>(
     team: &Team<'_, T, G>,
     options: &Options,

@@ -3,7 +3,6 @@
 pub enum Verdict {
     /// No connection has a finding that is a fault.
     Clean,
-    /// Some connection has a finding that is a fault: a breach of the protocol, as opposed to a
-    /// stall or a change of credit.
+    /// Some connection has a fault: a breach of the protocol, as opposed to a stall or a change of credit.
     Faults,
 }

@@ -1,10 +1,8 @@
-//! Worked examples of command lines, which stand with their answers in `specs/examples/KnownWords.antt`. The function
-//! does nothing; its contract is the examples.
+//! Worked examples of command lines (`specs/examples/KnownWords.antt`), as the contract of an empty function.
 
 ghost use Rattle.h2audit.specs.examples.KnownWords.{KnownWords};
 
-/// What the words of some command lines ask for, by the definition: no words, every option, help, the version, and
-/// words that are refused.
+/// What some command lines ask for: no words, every option, help, the version, and words that are refused.
 pub fn known_words()
     ensures { KnownWords }
 {}
