@@ -108,14 +108,13 @@ impl<'a> FrameWalk<'a> {
             IsWalkAfter client server frames self.old → IsHttp2 client server frames (tails_of self.new))) }
     {
         self.read_ahead()?;
-        let Some(frame) = take_first(&mut self.client, &mut self.server) else {
-            return Ok(None);
-        };
-        self.taken += 1;
-        Ok(Some(Frame {
-            number: self.taken,
-            ..frame
-        }))
+        let mut first = take_first(&mut self.client, &mut self.server);
+        // In place: a frame made anew from this one has each of its fields copied.
+        if let Some(frame) = &mut first {
+            self.taken += 1;
+            frame.number = self.taken;
+        }
+        Ok(first)
     }
 
     /// Reads the next frame of each side ahead, and says up to where the next batch goes, where there is a frame left.

@@ -106,6 +106,17 @@ impl KeptConnection {
         }
     }
 
+    /// The same of a frame that opens no stream and promises none. SETTINGS bring no change until they are acknowledged.
+    pub(crate) fn meet_settings(&mut self, frame: &Frame, change: &Option<Change>) -> bool
+        requires { is_server_promise frame.now ≡ false }
+        ensures { OnTrue result (IsConnectionAfter frame.now false change.now self.old self.new) }
+    {
+        match change {
+            Some(_) => self.meet(frame, false, change),
+            None => self.meet_plain(frame),
+        }
+    }
+
     /// The greatest stream that the client opened, after a frame, if that is in order (5.1.1).
     fn opened_after(&self, frame: &Frame, opens: bool) -> Option<u32>
         ensures { ForSome result (IsOpenedAfter frame.now opens self.now.opened) }

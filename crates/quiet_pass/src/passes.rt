@@ -132,7 +132,7 @@ impl QuietPass {
         if frame.stream != 0 || is_unmatched(frame, &change) || frame.is_server_promise() {
             return Ok(false);
         }
-        if !self.connection.meet(frame, false, &change) {
+        if !self.connection.meet_settings(frame, &change) {
             return Ok(false);
         }
         let is_quiet = self.bring(&change);

@@ -6,7 +6,7 @@ ghost use Rattle.std.specs.Bool.{OnTrue};
 ghost use Rattle.std.specs.Option.{ForSome};
 ghost use Rattle.audit_terms.specs.declared.sides.Sides.{Sides as SidesTerm};
 ghost use Rattle.quiet_pass.specs.code.Rows.{life_of, IsRowOf, IsRowAfter, IsOpened, AreRising, HasMet};
-ghost use Rattle.quiet_pass.specs.code.Rows.{AreMoved, IsPast, IsRowMoved, IsRowWith};
+ghost use Rattle.quiet_pass.specs.code.Rows.{AreMoved, IsPast, IsRowMoved};
 
 use crate::standings::{opening_standing, standing_after};
 use audit_terms::{Frame, Side, Sides, StreamLife};
@@ -61,12 +61,11 @@ impl Row {
         {
             return None;
         }
-        row_of(
-            self.stream,
-            self.opened,
-            standing_after(self.client, Side::Client, frame),
-            standing_after(self.server, Side::Server, frame),
-        )
+        Some(Row {
+            client: standing_after(self.client, Side::Client, frame)?,
+            server: standing_after(self.server, Side::Server, frame)?,
+            ..*self
+        })
     }
 
     /// The row of a stream that a frame opens, if it does and nothing but credits is shown of that.
@@ -82,40 +81,23 @@ impl Row {
         }
         let client_ends = frame.is_last_of(Side::Client, stream);
         let server_ends = frame.is_last_of(Side::Server, stream);
-        row_of(
+        Some(Row {
             stream,
-            frame.number,
-            opening_standing(initial.client, client_ends),
-            opening_standing(initial.server, server_ends),
-        )
+            opened: frame.number,
+            client: opening_standing(initial.client, client_ends)?,
+            server: opening_standing(initial.server, server_ends)?,
+        })
     }
 
     /// The row after a change of the initial windows in force, if nothing of that is shown (RFC 9113, 6.9.2).
     fn moved(&self, before: &Sides<u32>, after: &Sides<u32>) -> Option<Row>
         ensures { ForSome result (IsRowMoved before.now after.now self.now) }
     {
-        row_of(
-            self.stream,
-            self.opened,
-            moved(self.client, before.client, after.client),
-            moved(self.server, before.server, after.server),
-        )
-    }
-}
-
-/// The row of a stream, which a frame of some number opened, if both sides stand in some way.
-#[inline]
-fn row_of(stream: u32, opened: u32, client: Option<u32>, server: Option<u32>) -> Option<Row>
-    ensures { ForSome result (IsRowWith stream opened client server) }
-{
-    match (client, server) {
-        (Some(client), Some(server)) => Some(Row {
-            stream,
-            opened,
-            client,
-            server,
-        }),
-        _ => None,
+        Some(Row {
+            client: moved(self.client, before.client, after.client)?,
+            server: moved(self.server, before.server, after.server)?,
+            ..*self
+        })
     }
 }
 

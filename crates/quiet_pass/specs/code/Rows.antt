@@ -1,5 +1,5 @@
 -- The rows of the streams that were opened. No public clause cites this.
-use Rattle.std.specs.Prelude.{◌≡◌, ◌≢◌, ℕ, ◌<◌, Bool, true, false, ◌==◌, if◌then◌else◌, List, [], ◌∷◌, Option, Some}
+use Rattle.std.specs.Prelude.{◌≡◌, ◌≢◌, ℕ, ◌<◌, Bool, true, false, ◌==◌, if◌then◌else◌, List, [], ◌∷◌, Some}
 use Rattle.std.specs.Prelude.{slice_get}
 use Rattle.audit_terms.specs.declared.sides.Sides.{Sides}
 use Rattle.audit_terms.specs.declared.frames.Frame.{Frame}
@@ -49,14 +49,6 @@ pub record IsRowOf (rows : List Row) (stream at : ℕ) : Type 0 where
   pub row : Row
   pub there : slice_get rows at ≡ Some row
   pub same : row.stream ≡ stream
-
--- the row of a stream, opened by the frame of that number, whose sides stand so
-pub record IsRowWith (stream number : ℕ) (by_client by_server : Option ℕ) (row : Row) : Type 0 where
-  pub client : ℕ
-  pub server : ℕ
-  pub client_is : by_client ≡ Some client
-  pub server_is : by_server ≡ Some server
-  pub row_is : row ≡ record { stream = stream; opened = number; client = client; server = server }
 
 -- a row after a frame on its stream: nothing of that is shown
 pub record IsRowAfter (frame : Frame) (old new : Row) : Type 0 where
