@@ -106,7 +106,7 @@ impl KeptConnection {
         }
     }
 
-    /// The same of a frame that opens no stream and promises none. SETTINGS bring no change until they are acknowledged.
+    /// The same of a frame that opens no stream and promises none. SETTINGS bring no change before an acknowledgement.
     pub(crate) fn meet_settings(&mut self, frame: &Frame, change: &Option<Change>) -> bool
         requires { is_server_promise frame.now ≡ false }
         ensures { OnTrue result (IsConnectionAfter frame.now false change.now self.old self.new) }
