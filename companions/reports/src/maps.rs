@@ -1,0 +1,1 @@
+//! Maps of imports (docs/MAP.md).
