@@ -21,8 +21,9 @@ mod records;
 mod sessions;
 mod suites;
 
-pub use connection::{Connection, Emit, Shared, Side};
+pub use connection::{Connection, Emit, Known, Shared, Side};
 pub use handshake::{Handshake, Stage};
+pub use hellos::Random;
 pub use key_log::Keys;
 pub use reason::Reason;
 pub use records::looks_like_tls;

@@ -108,7 +108,9 @@ impl Opener {
 
     pub fn tls_1_2(suite: &Suite, keys: &TrafficKeys, is_encrypted_first: bool) -> Result<Opener, Reason> {
         let way = match (suite.mac, suite.mode) {
-            (Some(mac), _) => Blocks::new(suite, mac, keys, is_encrypted_first).map(|blocks| Way::Blocks(Box::new(blocks))),
+            (Some(mac), _) => {
+                Blocks::new(suite, mac, keys, is_encrypted_first).map(|blocks| Way::Blocks(Box::new(blocks)))
+            }
             (None, Mode::Poly1305) => Aead::new(suite, keys, Nonce::Poly1305).map(Way::Aead),
             (None, _) => Aead::new(suite, keys, Nonce::Explicit).map(Way::Aead),
         };
@@ -188,7 +190,8 @@ impl Blocks {
             None
         } else {
             let mut context = CipherCtx::new()?;
-            context.decrypt_init(Some(&fetched(name_of(suite))?), Some(&keys.key), None)?;
+            let found = fetched(name_of(suite))?;
+            context.decrypt_init(Some(&found), Some(&keys.key), None)?;
             Some(context)
         };
         Ok(Blocks {

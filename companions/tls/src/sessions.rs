@@ -65,7 +65,8 @@ pub fn lines_for(sessions: &Sessions, keys: &Keys) -> Vec<u8> {
     }
     let mut lines = String::new();
     for random in order {
-        writeln!(lines, "CLIENT_RANDOM {} {}", hexadecimal(&random), hexadecimal(&masters[&random])).unwrap_or_default();
+        writeln!(lines, "CLIENT_RANDOM {} {}", hexadecimal(&random), hexadecimal(&masters[&random]))
+            .unwrap_or_default();
     }
     lines.into_bytes()
 }
