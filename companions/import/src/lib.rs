@@ -33,7 +33,7 @@ mod words;
 
 pub use addresses::{escaped, Addresses};
 pub use course::Course;
-pub use importing::{imported, Asked, Done};
+pub use importing::{imported, Asked};
 pub use map::{Files, Map};
 pub use map_file::MapFile;
 pub use others::{Kind, Other};
