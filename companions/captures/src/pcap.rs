@@ -113,7 +113,11 @@ impl Reader {
 /// Writes packets of nanoseconds, numbers in the order of most machines.
 pub struct Writer<W: Write> {
     out: W,
+    /// The header of a record, with what follows it where that is short.
+    head: Vec<u8>,
 }
+
+const MOST_JOINED: usize = 256;
 
 const SNAPSHOT_LENGTH: u32 = 1 << 18;
 
@@ -132,23 +136,28 @@ impl<W: Write> Writer<W> {
     /// Begins a file.
     pub fn new(mut out: W, link: u16) -> io::Result<Writer<W>> {
         write_header(&mut out, link)?;
-        Ok(Writer { out })
+        Ok(Writer::after_header(out))
     }
 
     /// Goes on with a file whose header is written.
     pub fn after_header(out: W) -> Writer<W> {
-        Writer { out }
+        Writer { out, head: Vec::new() }
     }
 
     /// Writes a packet, which may stand in two parts. Its time is in seconds of 32 bits, and nanoseconds below a second.
     pub fn write(&mut self, time: (u32, u32), original: u32, parts: [&[u8]; 2]) -> io::Result<()> {
         let length = (parts[0].len() + parts[1].len()) as u32;
-        let mut head = [0; RECORD_HEADER_LENGTH];
-        for (at, number) in [time.0, time.1, length, original].into_iter().enumerate() {
-            head[at * 4..at * 4 + 4].copy_from_slice(&number.to_le_bytes());
+        self.head.clear();
+        for number in [time.0, time.1, length, original] {
+            self.head.extend_from_slice(&number.to_le_bytes());
         }
-        self.out.write_all(&head)?;
-        self.out.write_all(parts[0])?;
+        if parts[0].len() > MOST_JOINED {
+            self.out.write_all(&self.head)?;
+            self.out.write_all(parts[0])?;
+        } else {
+            self.head.extend_from_slice(parts[0]);
+            self.out.write_all(&self.head)?;
+        }
         self.out.write_all(parts[1])
     }
 

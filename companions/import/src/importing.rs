@@ -19,7 +19,8 @@ use crate::table::{Belongs, Table};
 
 /// Datagrams whose fragments are known to be of some connection.
 const MOST_FRAGMENTED: usize = 1 << 12;
-const KEYS_BEFORE_LOOK: u64 = 0x3FF;
+/// So often it is looked whether something went wrong in writing, and how far the work is.
+const MOST_BETWEEN_LOOKS: u64 = 0x3FF;
 
 /// What is imported.
 pub struct Asked<'a> {
@@ -181,8 +182,11 @@ impl<'a, 'b, 'c> Importer<'a, 'b, 'c> {
                 Item::Secrets(text) => self.secrets(text),
                 Item::Cut => self.sink.map.cut(self.packets + 1),
             }
-            self.look_for_problems()?;
+            if self.sink.has_problem() {
+                break;
+            }
         }
+        self.look_for_problems()?;
         Ok(reader.source().has_bytes_behind())
     }
 
@@ -196,8 +200,9 @@ impl<'a, 'b, 'c> Importer<'a, 'b, 'c> {
 
     fn packet(&mut self, packet: &Packet<'_>) -> Result<(), Early> {
         self.packets += 1;
-        if self.packets & KEYS_BEFORE_LOOK == 0 {
+        if self.packets & MOST_BETWEEN_LOOKS == 0 {
             self.progress.tell(self.packets);
+            self.look_for_problems()?;
         }
         let arrival = Arrival { packet: self.packets, nanos: packet.nanos };
         if packet.link.is_some() {

@@ -20,11 +20,13 @@ pub struct MapFile<'a> {
     files: Files,
     addresses: Addresses,
     failure: Option<Failure>,
+    /// Where a line is put together.
+    line: Vec<u8>,
 }
 
 impl<'a> MapFile<'a> {
     pub fn new(out: Option<&'a mut Output>) -> MapFile<'a> {
-        let mut map = MapFile { out, files: Files::default(), addresses: Addresses::default(), failure: None };
+        let mut map = MapFile { out, files: Files::default(), addresses: Addresses::default(), failure: None, line: Vec::new() };
         map.line(format_args!("{FIRST_LINE}"));
         map
     }
@@ -97,18 +99,18 @@ impl Map for MapFile<'_> {
     }
 
     fn record(&mut self, number: u64, packet: u64) {
+        if self.out.is_none() {
+            return;
+        }
         let (file, packet) = self.files.place(packet);
         let mut digits = [itoa::Buffer::new(), itoa::Buffer::new(), itoa::Buffer::new()];
         let [first, second, third] = &mut digits;
-        self.written(|out| {
-            out.write_all(b"record ")?;
-            out.write_all(first.format(number).as_bytes())?;
-            out.write_all(b" file ")?;
-            out.write_all(second.format(file).as_bytes())?;
-            out.write_all(b" packet ")?;
-            out.write_all(third.format(packet).as_bytes())?;
-            out.write_all(b"\n")
-        });
+        let parts = ["record ", first.format(number), " file ", second.format(file), " packet ", third.format(packet), "\n"];
+        let mut line = std::mem::take(&mut self.line);
+        line.clear();
+        parts.iter().for_each(|part| line.extend_from_slice(part.as_bytes()));
+        self.written(|out| out.write_all(&line));
+        self.line = line;
     }
 
     fn passed(&mut self, packet: u64, why: &PassedOver) {

@@ -78,6 +78,11 @@ impl<'a> Sink<'a> {
         self.map.record(self.count, arrival.packet);
     }
 
+    /// Whether something went wrong with the capture.
+    pub fn has_problem(&self) -> bool {
+        self.problem.is_some()
+    }
+
     /// What went wrong first, of the capture and of its map.
     pub fn take_problem(&mut self) -> Option<Problem> {
         self.problem.take().or_else(|| self.map.take_failure().map(Problem::Failed))
