@@ -46,7 +46,7 @@ impl<'a, W: Write> Writer<'a, W> {
             if report.line.starts_with(b"frame ") {
                 self.finding(report)?;
             } else {
-                self.output.write_all(&report.line)?;
+                self.other(report)?;
             }
             report.advance()?;
         }
@@ -55,6 +55,15 @@ impl<'a, W: Write> Writer<'a, W> {
         } else {
             Err(report.broken().into())
         }
+    }
+
+    /// A line that names no record of the part. One of a later version that did would need a number of the whole.
+    fn other(&mut self, report: &PartReport) -> Result<(), MergeError> {
+        if !report.line.is_ascii() || memchr::memmem::find(&report.line, b" record ").is_some() {
+            return Err(report.broken().into());
+        }
+        self.output.write_all(&report.line)?;
+        Ok(())
     }
 
     /// A finding, whose record has its number in the whole.
