@@ -73,7 +73,7 @@ impl<'a, W: Write> Writer<'a, W> {
         self.has_faults |= is_fault;
         let number = report.numbers.whole(record)?;
         self.output.write_all(&report.line[..digits.start])?;
-        write!(self.output, "{number}")?;
+        self.output.write_all(itoa::Buffer::new().format(number).as_bytes())?;
         self.output.write_all(&report.line[digits.end..])?;
         Ok(())
     }
