@@ -20,7 +20,7 @@ use crate::NAME;
 
 pub const MOST_PARTS: u64 = 500;
 const SPLIT: &str = "h2audit-split";
-const MERGE: &str = "h2audit-merge";
+pub const MERGE: &str = "h2audit-merge";
 const REFUSED: i32 = 3;
 const NO_MEMORY: i32 = 5;
 const TICK: Duration = Duration::from_millis(5);
