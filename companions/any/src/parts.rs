@@ -45,13 +45,7 @@ impl PartPrograms {
     }
 
     /// Audits so many parts, as many at once as there are processors, and begins to merge their reports.
-    pub fn audit(
-        &self,
-        program: &OsStr,
-        options: &[String],
-        parts: u64,
-        capture: &Path,
-    ) -> Result<Parts, Failure> {
+    pub fn audit(&self, program: &OsStr, options: &[String], parts: u64, capture: &Path) -> Result<Parts, Failure> {
         let (guard, top) = private_folder()?;
         let folder = top.join("parts");
         let is_whole = self.split(parts, &folder, capture)?;
@@ -156,4 +150,3 @@ pub fn as_ours(program: &str, status: i32, said: &str) -> Failure {
         }
     }
 }
-

@@ -90,9 +90,9 @@ impl<W: Write> Back<'_, W> {
         let line = finding_in(text.trim_end_matches('\n')).ok_or(Broken::NoReport)?;
         let packet = self.packet(line.record)?;
         self.shown.has_faults |= is_fault(line.kind);
-        self.out.write_all(text[..line.record_at.start].as_bytes())?;
+        self.out.write_all(&text.as_bytes()[..line.record_at.start])?;
         self.out.write_all(itoa::Buffer::new().format(packet).as_bytes())?;
-        self.out.write_all(text[line.record_at.end..].as_bytes())?;
+        self.out.write_all(&text.as_bytes()[line.record_at.end..])?;
         Ok(())
     }
 

@@ -117,16 +117,27 @@ pub struct Writer<W: Write> {
 
 const SNAPSHOT_LENGTH: u32 = 1 << 18;
 
+/// Writes the header of a file, before any packet.
+pub fn write_header(out: &mut (impl Write + ?Sized), link: u16) -> io::Result<()> {
+    let mut head = [0; HEADER_LENGTH];
+    head[..4].copy_from_slice(&0xA1B2_3C4D_u32.to_le_bytes());
+    head[4] = 2;
+    head[6] = 4;
+    head[16..20].copy_from_slice(&SNAPSHOT_LENGTH.to_le_bytes());
+    head[20..22].copy_from_slice(&link.to_le_bytes());
+    out.write_all(&head)
+}
+
 impl<W: Write> Writer<W> {
+    /// Begins a file.
     pub fn new(mut out: W, link: u16) -> io::Result<Writer<W>> {
-        let mut head = [0; HEADER_LENGTH];
-        head[..4].copy_from_slice(&0xA1B2_3C4D_u32.to_le_bytes());
-        head[4] = 2;
-        head[6] = 4;
-        head[16..20].copy_from_slice(&SNAPSHOT_LENGTH.to_le_bytes());
-        head[20..22].copy_from_slice(&link.to_le_bytes());
-        out.write_all(&head)?;
+        write_header(&mut out, link)?;
         Ok(Writer { out })
+    }
+
+    /// Goes on with a file whose header is written.
+    pub fn after_header(out: W) -> Writer<W> {
+        Writer { out }
     }
 
     /// Writes a packet, which may stand in two parts. Its time is in seconds of 32 bits, and nanoseconds below a second.

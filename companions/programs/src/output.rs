@@ -1,7 +1,7 @@
 //! Writes what a program makes to a file, which is there only once it is whole; no error and no signal leaves a part.
 
 use std::fs::{self, File, OpenOptions, Permissions};
-use std::io::{self, BufWriter, Write};
+use std::io::{self, BufWriter, Seek, Write};
 use std::os::unix::fs::{MetadataExt, PermissionsExt};
 use std::os::unix::io::AsFd;
 use std::path::{Path, PathBuf};
@@ -50,6 +50,22 @@ impl Output {
             (file, Some(replaced))
         };
         Ok(Output { writer: BufWriter::with_capacity(BUFFER, file), name: name.to_path_buf(), replaced })
+    }
+
+    /// Begins a file that nobody but its owner may read, also once it is whole.
+    pub fn begin_private(name: &Path) -> Result<Output, Failure> {
+        let mut output = Output::begin(name)?;
+        if let Some(replaced) = &mut output.replaced {
+            replaced.mode = 0o600;
+        }
+        Ok(output)
+    }
+
+    /// Takes back what was written, to a file that is not there yet.
+    pub fn begin_anew(&mut self) -> io::Result<()> {
+        self.writer.flush()?;
+        let file = self.writer.get_mut();
+        file.set_len(0).and_then(|()| file.rewind())
     }
 
     /// The file of this name is whole.
