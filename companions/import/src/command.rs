@@ -8,8 +8,9 @@ use captures::{Error, Item, Reader, Source};
 use programs::{end_cleanly, is_special, print, printable, say, Failure, Outcome, Output};
 
 use crate::course::Course;
-use crate::importing::{imported, Asked, Done};
+use crate::importing::{imported, Asked};
 use crate::map_file::MapFile;
+use crate::outcomes::Summary;
 use crate::sink::Sink;
 use crate::words::{words_of, Import, Words};
 
@@ -63,11 +64,10 @@ fn import(asked: &Import) -> Outcome {
     let mut output = Output::begin_private(&asked.output)?;
     let mut map = asked.map.as_deref().map(Output::begin_private).transpose()?;
     let mut course = asked.course.as_deref().map(Output::begin_private).transpose()?;
-    let done = made(asked, &files, &mut output, map.as_mut(), course.as_mut())?;
+    let summary = made(asked, &files, &mut output, map.as_mut(), course.as_mut())?;
     output.finish()?;
     [map, course].into_iter().flatten().try_for_each(Output::finish)?;
-    done.warnings.iter().for_each(|warning| say(NAME, warning));
-    if done.summary.read() > 0 {
+    if summary.read() > 0 {
         return Ok(0);
     }
     say(NAME, "no connection could be read");
@@ -80,7 +80,7 @@ fn made(
     output: &mut Output,
     map: Option<&mut Output>,
     course: Option<&mut Output>,
-) -> Result<Done, Failure> {
+) -> Result<Summary, Failure> {
     let can_repeat = [Some(&asked.output), asked.map.as_ref(), asked.course.as_ref()]
         .into_iter()
         .flatten()

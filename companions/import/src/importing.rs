@@ -3,12 +3,11 @@
 use std::collections::HashMap;
 use std::ffi::{OsStr, OsString};
 use std::fs::File;
-use std::io;
 
 use captures::{
     pcapng, Arrival, Decoder, Ends, Error, Fragment, Item, Packet, PassedOver, Reader, Source, STANDARD_INPUT,
 };
-use programs::{printable, Failure};
+use programs::{printable, say, Failure};
 use tls::Shared;
 
 use crate::course::Course;
@@ -32,34 +31,29 @@ pub struct Asked<'a> {
     pub can_repeat: bool,
 }
 
-/// What is known at the end, and what a user should know of it besides.
-pub struct Done {
-    pub summary: Summary,
-    pub warnings: Vec<String>,
-}
-
-/// Reads all files into the sink; once more where the sessions in them show secrets for more connections.
-pub fn imported(asked: &Asked<'_>, sink: &mut Sink<'_>, course: &mut Option<Course<'_>>) -> Result<Done, Failure> {
+/// Reads all files into the sink; once more where the sessions in them show secrets for more connections. What a user
+/// should know besides is said on standard error.
+pub fn imported(asked: &Asked<'_>, sink: &mut Sink<'_>, course: &mut Option<Course<'_>>) -> Result<Summary, Failure> {
     let standard = [OsString::from(STANDARD_INPUT)];
     let files = if asked.files.is_empty() { &standard[..] } else { asked.files };
     let mut shared = Shared::default();
-    let mut warnings = read_keys(asked, files, &mut shared)?;
+    read_keys(asked, files, &mut shared)?;
     shared.keys.waits_for_sessions = shared.more_keys || !asked.can_repeat;
-    let (mut summary, missed) = read_through(asked, files, &mut shared, sink, course, &mut warnings)?;
+    let (mut summary, missed) = read_through(asked, files, &mut shared, sink, course, true)?;
     if !missed.is_empty() {
         sink.begin_anew()?;
         *course = course.take().map(Course::begin_anew).transpose()?;
         shared.sessions = Default::default();
         shared.keys.add_text(&missed);
-        summary = read_through(asked, files, &mut shared, sink, course, &mut Vec::new())?.0;
+        summary = read_through(asked, files, &mut shared, sink, course, false)?.0;
     }
-    Ok(Done { summary, warnings })
+    Ok(summary)
 }
 
 /// The keys that are known before the capture is read, and whether more may come in it.
-fn read_keys(asked: &Asked<'_>, files: &[OsString], shared: &mut Shared) -> Result<Vec<String>, Failure> {
+fn read_keys(asked: &Asked<'_>, files: &[OsString], shared: &mut Shared) -> Result<(), Failure> {
     for path in asked.key_logs {
-        let read = opened_key_log(path).and_then(|file| shared.keys.read(file));
+        let read = File::open(path).and_then(|file| shared.keys.read(file));
         read.map_err(|error| Failure::of_file(path, &error))?;
     }
     for path in files {
@@ -77,12 +71,10 @@ fn read_keys(asked: &Asked<'_>, files: &[OsString], shared: &mut Shared) -> Resu
         }
     }
     let bad = shared.keys.bad_lines;
-    Ok((bad > 0).then(|| format!("{bad} lines of the key logs are none, and were passed over")).into_iter().collect())
-}
-
-fn opened_key_log(path: &OsStr) -> io::Result<File> {
-    let file = File::open(path)?;
-    Ok(file)
+    if bad > 0 {
+        say(asked.program, &format!("{bad} lines of the key logs are none, and were passed over"));
+    }
+    Ok(())
 }
 
 fn read_through(
@@ -91,22 +83,22 @@ fn read_through(
     shared: &mut Shared,
     sink: &mut Sink<'_>,
     course: &mut Option<Course<'_>>,
-    warnings: &mut Vec<String>,
+    is_first: bool,
 ) -> Result<(Summary, Vec<u8>), Failure> {
     let mut importer = Importer::new(shared, sink, course, Progress::new(asked.program));
     for path in files {
-        importer.file(path, warnings).map_err(|problem| problem.failure(Some(path)))?;
+        let has_bytes_behind = importer.file(path).map_err(|problem| problem.failure(Some(path)))?;
+        if has_bytes_behind && is_first {
+            let path = printable(path);
+            say(asked.program, &format!("{path}: bytes behind the end of what gzip packed were passed over"));
+        }
     }
     let (summary, missed) = importer.finish().map_err(|problem| problem.failure(None))?;
-    if let Some(back) = summary.back {
-        warnings.push(times_go_back(back.packet));
+    if let Some(back) = summary.back.filter(|_| is_first) {
+        let packet = back.packet;
+        say(asked.program, &format!("times go back at packet {packet}: are the files in order? reordercap"));
     }
     Ok((summary, missed))
-}
-
-/// What is said of packets whose times lie before that of the packet before them; this is the first of them.
-pub fn times_go_back(packet: u64) -> String {
-    format!("times go back at packet {packet}: are the files in order? reordercap")
 }
 
 /// What ends the work early.
@@ -175,7 +167,8 @@ impl<'a, 'b, 'c> Importer<'a, 'b, 'c> {
         }
     }
 
-    fn file(&mut self, path: &OsStr, warnings: &mut Vec<String>) -> Result<(), Early> {
+    /// Reads a file, and answers whether bytes stood behind the end of what gzip packed.
+    fn file(&mut self, path: &OsStr) -> Result<bool, Early> {
         let source = Source::open(path)?;
         self.sink.map.begin_file(path, self.packets);
         if let Some(course) = self.course {
@@ -190,10 +183,7 @@ impl<'a, 'b, 'c> Importer<'a, 'b, 'c> {
             }
             self.look_for_problems()?;
         }
-        if reader.source().has_bytes_behind() {
-            warnings.push(format!("{}: bytes behind the end of the gzip data were passed over", printable(path)));
-        }
-        Ok(())
+        Ok(reader.source().has_bytes_behind())
     }
 
     fn look_for_problems(&mut self) -> Result<(), Early> {

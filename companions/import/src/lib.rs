@@ -32,9 +32,8 @@ mod tracked;
 mod words;
 
 pub use addresses::{escaped, Addresses};
-pub use command::sorted;
 pub use course::Course;
-pub use importing::{imported, times_go_back, Asked, Done};
+pub use importing::{imported, Asked};
 pub use map::{Files, Map};
 pub use map_file::MapFile;
 pub use others::{Kind, Other};

@@ -30,8 +30,6 @@ pub struct Sent {
     /// Holes before that: begin and end of each.
     holes: BTreeMap<u32, u32>,
     recent: VecDeque<Recent>,
-    /// Whether doubles are not looked for any longer.
-    is_over: bool,
 }
 
 struct Recent {
@@ -46,12 +44,6 @@ impl Sent {
     /// Whether bytes are missing before some that came.
     pub fn has_hole(&self) -> bool {
         !self.holes.is_empty()
-    }
-
-    /// The connection is over: what packets held is not kept any longer.
-    pub fn expect_no_double(&mut self) {
-        self.is_over = true;
-        self.recent = VecDeque::new();
     }
 
     pub fn add(&mut self, arrival: Arrival, segment: &Segment<'_>) -> Fresh {
@@ -79,9 +71,6 @@ impl Sent {
     /// Whether these bytes came with a packet just before that was no other one: with the same identification, or, where
     /// packets have none, at nearly the same time.
     fn is_double(&mut self, arrival: Arrival, segment: &Segment<'_>, payload: &[u8]) -> bool {
-        if self.is_over {
-            return false;
-        }
         let mut hasher = DefaultHasher::new();
         hasher.write(payload);
         let one = Recent {

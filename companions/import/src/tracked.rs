@@ -80,9 +80,6 @@ impl Tracked {
         }
         facts.extend(one.count(arrival, segment));
         facts.extend(one.window(arrival, segment));
-        if self.sides[CLIENT].has_fin && self.sides[SERVER].has_fin || has(flags::RST) {
-            self.sides.iter_mut().for_each(|side| side.sent.expect_no_double());
-        }
         facts
     }
 }

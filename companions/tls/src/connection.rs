@@ -352,7 +352,8 @@ impl Connection {
     /// Whether the client ended the handshake before it had keys for what its server said first.
     fn client_gave_up(&self, known: &Known) -> bool {
         let has_ended = self.handshake.alert().is_some() || known.has_client_ended;
-        has_ended && self.handshake.opened() > 0 && self.handshake.stage(CLIENT) != Stage::Traffic
+        let is_read = self.sides[CLIENT].end.is_none() && self.handshake.opened() > 0;
+        has_ended && is_read && self.handshake.stage(CLIENT) != Stage::Traffic
     }
 }
 
