@@ -5,7 +5,7 @@ use std::io;
 
 use captures::PassedOver;
 use import::{Addresses, Became as Outcome, Map, Sink, Summary, Target};
-use programs::{say, Failure};
+use programs::Failure;
 use reports::Capture;
 
 use crate::original::{Became, Connection, Original, Other, SideRead};
@@ -18,9 +18,8 @@ pub fn make(asked: &Audited, files: &[OsString], made: &mut PrivateFile) -> Resu
     let mut keeping = Keeping::default();
     let mut sink = Sink::new(made, &mut keeping)?;
     let import = import::Asked { program: NAME, files, key_logs: &asked.key_logs, can_repeat: true };
-    let done = import::imported(&import, &mut sink, &mut None)?;
+    import::imported(&import, &mut sink, &mut None)?;
     drop(sink);
-    done.warnings.iter().for_each(|warning| say(NAME, warning));
     Ok(keeping.original)
 }
 
