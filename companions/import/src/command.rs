@@ -92,7 +92,7 @@ fn made(
 }
 
 /// The files in the order of their first packets; those without any come last.
-fn sorted(files: &[OsString]) -> Result<Vec<OsString>, Failure> {
+pub fn sorted(files: &[OsString]) -> Result<Vec<OsString>, Failure> {
     let mut dated = Vec::new();
     for path in files {
         if !Source::can_be_read_twice(path).map_err(|error| Failure::of_file(path, &error))? {

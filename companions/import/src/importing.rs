@@ -97,9 +97,14 @@ fn read_through(
     let (summary, missed) = importer.finish().map_err(|problem| problem.failure(None))?;
     if let Some(back) = summary.back.filter(|_| is_first) {
         let packet = back.packet;
-        say(asked.program, &format!("times go back at packet {packet}: are the files in order? reordercap"));
+        say(asked.program, &times_go_back(packet));
     }
     Ok((summary, missed))
+}
+
+/// What is said of packets whose times lie before that of the packet before them; this is the first of them.
+pub fn times_go_back(packet: u64) -> String {
+    format!("times go back at packet {packet}: are the files in order? reordercap")
 }
 
 /// What ends the work early.

@@ -33,7 +33,8 @@ mod words;
 
 pub use addresses::{escaped, Addresses};
 pub use course::Course;
-pub use importing::{imported, Asked};
+pub use command::sorted;
+pub use importing::{imported, times_go_back, Asked};
 pub use map::{Files, Map};
 pub use map_file::MapFile;
 pub use others::{Kind, Other};

@@ -46,7 +46,7 @@ impl<'a, W: Write> Writer<'a, W> {
             if report.line.starts_with(b"frame ") {
                 self.finding(report)?;
             } else {
-                self.output.write_all(&report.line)?;
+                self.other(report)?;
             }
             report.advance()?;
         }
@@ -57,6 +57,15 @@ impl<'a, W: Write> Writer<'a, W> {
         }
     }
 
+    /// A line that names no record of the part. One of a later version that did would need a number of the whole.
+    fn other(&mut self, report: &PartReport) -> Result<(), MergeError> {
+        if !report.line.is_ascii() || memchr::memmem::find(&report.line, b" record ").is_some() {
+            return Err(report.broken().into());
+        }
+        self.output.write_all(&report.line)?;
+        Ok(())
+    }
+
     /// A finding, whose record has its number in the whole.
     fn finding(&mut self, report: &mut PartReport) -> Result<(), MergeError> {
         let found = report.text().and_then(finding_in).map(|line| (line.record, line.record_at, is_fault(line.kind)));
@@ -64,7 +73,7 @@ impl<'a, W: Write> Writer<'a, W> {
         self.has_faults |= is_fault;
         let number = report.numbers.whole(record)?;
         self.output.write_all(&report.line[..digits.start])?;
-        write!(self.output, "{number}")?;
+        self.output.write_all(itoa::Buffer::new().format(number).as_bytes())?;
         self.output.write_all(&report.line[digits.end..])?;
         Ok(())
     }

@@ -6,11 +6,12 @@
 
 use std::net::SocketAddrV4;
 
+use captures::{Ends, Error};
 use programs::Failure;
 use reports::Line;
 
 use crate::part_report::{Numbered, PartReport};
-use crate::part_segments::{Endpoint, PartSegments};
+use crate::part_segments::PartSegments;
 use crate::split_folder::failed;
 
 /// The walk over a part's capture, which begins with the first such line.
@@ -31,11 +32,13 @@ impl StrayPairs {
             none => none.insert(PartSegments::open(&report.capture)?),
         };
         let ends = match report.text().and_then(Line::of) {
-            Some(Line::Unopened { sender, receiver, .. }) => endpoint(&sender).zip(endpoint(&receiver)),
+            Some(Line::Unopened { sender, receiver, .. }) => ends_of(&sender, &receiver),
             _ => None,
         };
-        let (sender, receiver) = ends.ok_or_else(|| report.broken())?;
-        let found = segments.find(sender, receiver).map_err(|error| failed(&report.capture, &error))?;
+        let found = segments.find(ends.ok_or_else(|| report.broken())?).map_err(|error| match error {
+            Error::Io(error) => failed(&report.capture, &error),
+            Error::Refused(_) => report.broken(),
+        })?;
         let number = report.numbers.whole(found.ok_or_else(|| report.broken())?)?;
         let line = report.line.clone();
         report.advance()?;
@@ -43,7 +46,10 @@ impl StrayPairs {
     }
 }
 
-fn endpoint(text: &str) -> Option<Endpoint> {
-    let address: SocketAddrV4 = text.parse().ok()?;
-    Some((address.ip().octets(), address.port().to_be_bytes()))
+/// The ends of what the one sends to the other, as headers have them.
+fn ends_of(sender: &str, receiver: &str) -> Option<Ends> {
+    let (sender, receiver): (SocketAddrV4, SocketAddrV4) = (sender.parse().ok()?, receiver.parse().ok()?);
+    let addresses = [sender.ip().octets(), receiver.ip().octets()].concat();
+    let ports = [sender.port().to_be_bytes(), receiver.port().to_be_bytes()].concat();
+    [addresses, ports].concat().try_into().ok()
 }

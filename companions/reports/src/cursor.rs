@@ -32,12 +32,14 @@ impl<'a> Cursor<'a> {
         (length > 0).then_some(front)
     }
 
-    pub fn digits(&mut self) -> Option<&'a str> {
-        self.while_some(|byte| byte.is_ascii_digit()).filter(|digits| digits.len() <= MOST_DIGITS)
-    }
-
     pub fn number(&mut self) -> Option<u64> {
-        self.digits()?.parse().ok()
+        let (mut number, mut length) = (0_u64, 0);
+        for byte in self.rest.bytes().take_while(u8::is_ascii_digit) {
+            number = number.checked_mul(10)?.checked_add(u64::from(byte - b'0'))?;
+            length += 1;
+        }
+        self.rest = self.rest.get(length..)?;
+        (1..=MOST_DIGITS).contains(&length).then_some(number)
     }
 
     /// A number that may be negative.

@@ -1,6 +1,5 @@
 //! The kinds of findings. The table is that of the programs in Python, so both tell the same.
 
-use std::collections::HashMap;
 use std::fmt;
 use std::rc::Rc;
 
@@ -54,16 +53,11 @@ pub(crate) struct Row {
     pub sentence: &'static str,
 }
 
-struct Table {
-    rows: HashMap<&'static str, Row>,
-    /// A kind that a newer h2audit may have.
-    unknown: Row,
-}
-
-static KINDS: Lazy<Table> = Lazy::new(|| {
-    let mut rows: HashMap<&str, Row> = rows_of(TABLE).map(|row| (row.name, row)).collect();
-    let unknown = rows.remove("").unwrap_or(Row { name: "", blame: Blame::Named, sections: "", sentence: "" });
-    Table { rows, unknown }
+/// The rows in the order of their names, the shorter first, since lengths compare faster. The first has no name: it is a kind that a newer h2audit may have.
+static KINDS: Lazy<Vec<Row>> = Lazy::new(|| {
+    let mut rows: Vec<Row> = rows_of(TABLE).collect();
+    rows.sort_by_key(|row| (row.name.len(), row.name));
+    rows
 });
 
 fn rows_of(table: &'static str) -> impl Iterator<Item = Row> {
@@ -89,9 +83,9 @@ pub enum Kind {
 
 impl Kind {
     pub fn of(name: &str) -> Kind {
-        match KINDS.rows.get(name) {
-            Some(row) => Kind::Known(row.name),
-            None => Kind::Unknown(name.into()),
+        match row(name).name {
+            "" => Kind::Unknown(name.into()),
+            known => Kind::Known(known),
         }
     }
 
@@ -128,7 +122,8 @@ impl Kind {
 }
 
 fn row(name: &str) -> &'static Row {
-    KINDS.rows.get(name).unwrap_or(&KINDS.unknown)
+    let place = KINDS.binary_search_by(|row| (row.name.len(), row.name).cmp(&(name.len(), name))).unwrap_or(0);
+    &KINDS[place]
 }
 
 /// Whether a kind of this name is a fault, which makes h2audit's status 1: any but stalls and credit.

@@ -89,6 +89,8 @@ pub enum Line {
     },
     Opening(Opening),
     Flow(Flow),
+    /// So many IP fragments of the connection were passed over.
+    Fragments(u64),
     Finding(Finding),
     Stall(Stall),
     /// The audit stopped at this frame, or went over all frames.
@@ -100,7 +102,7 @@ pub enum Line {
 impl Line {
     /// Whether it stands below the line that begins a connection.
     pub fn is_of_connection(&self) -> bool {
-        matches!(self, Line::Flow(_) | Line::Finding(_) | Line::Stall(_) | Line::Audited { .. })
+        matches!(self, Line::Flow(_) | Line::Fragments(_) | Line::Finding(_) | Line::Stall(_) | Line::Audited { .. })
     }
 
     /// What a line says, without its line feed; none where it is no line of a report.
@@ -110,6 +112,7 @@ impl Line {
             "stall" => stall(text).map(Line::Stall),
             "connection" => opening(text).map(Line::Opening),
             "flow" => flow(text).map(Line::Flow),
+            "fragments" => fragments(text),
             "audit" => audited(text),
             "record" => passed_over(text),
             "unopened" => unopened(text),
@@ -296,6 +299,14 @@ fn flow(text: &str) -> Option<Flow> {
     Some(Flow { side, bytes, gap, tail, end })
 }
 
+fn fragments(text: &str) -> Option<Line> {
+    let mut line = Cursor::new(text);
+    line.literal("fragments ")?;
+    let count = line.number()?;
+    line.end()?;
+    Some(Line::Fragments(count))
+}
+
 fn audited(text: &str) -> Option<Line> {
     let mut line = Cursor::new(text);
     if text == "audit of all frames" {
@@ -331,4 +342,38 @@ fn unopened(text: &str) -> Option<Line> {
     let segments = line.number()?;
     line.end()?;
     Some(Line::Unopened { sender, receiver, segments })
+}
+
+#[cfg(test)]
+mod tests {
+    use super::Line;
+
+    /// The lines that the reader in Python is held against too.
+    const LINES: &str = include_str!("../../../tests/report_lines.txt");
+
+    fn kind_of(text: &str) -> &'static str {
+        match Line::of(text) {
+            None => "none",
+            Some(Line::Capture(_)) => "capture",
+            Some(Line::PassedOver { .. }) => "passed-over",
+            Some(Line::Unopened { .. }) => "unopened",
+            Some(Line::Opening(_)) => "opening",
+            Some(Line::Flow(_)) => "flow",
+            Some(Line::Fragments(_)) => "fragments",
+            Some(Line::Finding(_)) => "finding",
+            Some(Line::Stall(_)) => "stall",
+            Some(Line::Audited { .. }) => "audited",
+        }
+    }
+
+    #[test]
+    fn each_line() {
+        let rows: Vec<(&str, &str)> =
+            LINES.lines().filter(|row| !row.starts_with('#')).filter_map(|row| row.split_once('|')).collect();
+        assert!(rows.len() > 40);
+        for (kind, text) in rows {
+            let text = text.strip_prefix(' ').unwrap_or(text);
+            assert_eq!(kind_of(text), kind.trim(), "{text}");
+        }
+    }
 }

@@ -48,9 +48,10 @@ impl Pairing {
 }
 
 impl Note {
-    /// What the finding tells, how long its stall took, and who is to blame. Places are named by this.
-    pub fn sentence(&self, other: Option<&Note>, place: impl Fn(&Note) -> String) -> String {
-        sentence_of(&self.finding, &self.other_end(other, place))
+    /// What the finding tells, how long its stall took, what else is known of it, and who is to blame. `place` names
+    /// the packet of a note.
+    pub fn sentence(&self, other: Option<&Note>, place: impl Fn(&Note) -> String, more: &str) -> String {
+        sentence_of(&self.finding, &(self.other_end(other, place) + more))
     }
 
     /// Where a stall ended or began, and how long it took.
