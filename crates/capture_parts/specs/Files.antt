@@ -4,7 +4,7 @@ use Rattle.std.specs.List.{AllByRecursion, concat}
 use Rattle.byteorder.specs.Endian.{big_number, little_number}
 use Rattle.pcap_records.specs.FileHeader.{ByteOrder}
 use Rattle.pcap_records.specs.Record.{captured_length}
-use Rattle.capture_parts.specs.Dealt.{IsRecord, part_at, part_bytes, part_numbers}
+use Rattle.capture_parts.specs.Dealt.{IsRecord, pair_at, part_at, part_bytes, part_full, part_numbers}
 use Rattle.capture_parts.specs.Parts.{AllGrow}
 use Rattle.capture_parts.specs.declared.dealer.Dealer.{Dealer}
 use Rattle.capture_parts.specs.declared.part.Part.{Part}
@@ -18,6 +18,7 @@ order_of false n bytes = big_number n bytes
 pub record IsWithin (d : Dealer) (parts : ℕ) (records : List (List ℕ)) (front : List ℕ) : Type 0 where
   pub number : d.number ≡ length records + 1
   pub part : d.part ≡ part_at d.link parts d.number front
+  pub pair : d.pair ≡ pair_at d.link front
   pub enough : 98 ≤ length front
   pub left : length front + d.left ≡ 16 + captured_length (order_of d.is_little) front
 
@@ -37,3 +38,4 @@ module _ {W : Type 0} (contents : W → Option (List ℕ)) where
     pub stands : Stands d (length old) records front
     pub parts : AllGrow contents old new (λ i. part_bytes d.link (length old) i records front)
         (λ i. part_numbers d.link (length old) i records front)
+        (λ i size. part_full d.link (length old) i size records front)

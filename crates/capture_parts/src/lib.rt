@@ -27,14 +27,17 @@
 
 mod dealer;
 mod fault;
+mod files;
+mod finishing;
 mod header;
 pub mod laws;
 mod pair;
 mod part;
 mod splitting;
 
-pub use fault::SplitFault;
-pub use header::link_type;
+pub use fault::{FileFault, PartFile, SplitFault};
+pub use files::split_capture;
+pub use finishing::{FlushFault, RefusedPart, flush_parts, refuse_full};
 pub use pair::Pair;
 pub use part::{FullPart, Part, part_count};
-pub use splitting::{Splitter, make_buffer, read_header, split_capture, split_file, split_last};
+pub use splitting::{make_buffer, read_header};

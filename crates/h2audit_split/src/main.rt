@@ -13,6 +13,7 @@ mod command;
 mod failure;
 mod inputs;
 mod outputs;
+mod printable;
 mod program;
 
 use failure::end;
