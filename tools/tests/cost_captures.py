@@ -48,10 +48,22 @@ def take_turns(capture: Capture, streams: Iterable[int], rounds: int) -> None:
 
 
 def loud_turns() -> Capture:
-    """500 streams by turns, after a finding: each frame's stream is looked up, and packets are many."""
+    """500 streams by turns, after a finding, with a packet for each frame."""
     capture = opened(UNMATCHED)
     headers(capture, range(1, 1001, 2))
     take_turns(capture, range(1, 1001, 2), 12)
+    return capture
+
+
+def loud_crowd() -> Capture:
+    """1,000 streams by turns, 100 of their frames in a segment, after a finding: so most is to look streams up."""
+    capture = opened(UNMATCHED)
+    streams = range(1, 2001, 2)
+    headers(capture, streams)
+    turn = [frame_of(["DATA", str(stream), "0"]) for stream in streams]
+    for _ in range(60):
+        for start in range(0, 1000, 100):
+            capture.send("C", b"".join(turn[start:start + 100]))
     return capture
 
 
@@ -130,7 +142,7 @@ def one_server_above() -> Capture:
 
 
 OWN: tuple[Callable[[], Capture], ...] = (
-    loud_turns, loud_stream, loud_connections, short_connections, larger_windows, far_streams, one_server_below, one_server_above,
+    loud_turns, loud_crowd, loud_stream, loud_connections, short_connections, larger_windows, far_streams, one_server_below, one_server_above,
 )
 # Those of bench/generate.py, with their size in megabytes.
 GENERATED = {

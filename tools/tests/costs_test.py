@@ -11,8 +11,9 @@ stored, so that the next one is seen. --write stores the figures of this program
 bytes that tables are keyed with are the same in each run here, reads wait for threads that were started before, and
 there seem to be four processors (count.c), so that a figure hardly depends on the machine.
 
-Beside that one worker starts no thread, each thread that is started is waited for, and a small stack is enough: what
-nests as deep as a capture is long would end the program.
+Beside that one worker starts no thread, each thread that is started is waited for, all memory is freed but what the C
+library keeps of ended threads, and a small stack is enough: what nests as deep as a capture is long would end the
+program.
 """
 
 import concurrent.futures
@@ -29,7 +30,7 @@ FIGURES = ("instructions", "memory of one worker", "memory of several", "threads
 # By how much of the stored one a figure may differ. Of twenty runs on one to four processors, of which all did other
 # work too, the figures of one worker and the threads were the same, and the memory of several differed by 6 % at most.
 MARGINS = (0.02, 0.02, 0.1, 0.0)
-STACK = 512 << 10
+STACK, LEFT = 512 << 10, 64 << 10
 
 Figures = tuple[int, ...]
 
@@ -41,6 +42,8 @@ def counts_of(counter: Counter, words: list[str]) -> Counts:
         raise ValueError(f"{words[0]}: ends with status {ran.status} and says {ran.said.decode()!r}")
     if ran.counts.joined < ran.counts.started:
         raise ValueError(f"{words[0]}: of {ran.counts.started} threads {ran.counts.joined} are waited for")
+    if ran.counts.alive > LEFT:
+        raise ValueError(f"{words[0]}: {ran.counts.alive} bytes are still allocated at the end")
     return ran.counts
 
 
@@ -104,7 +107,8 @@ def main(program: str, *words: str) -> None:
     wanted = stored()
     for title, seen in found.items():
         wrong += differences(title, seen, wanted[title]) if title in wanted else [f"{title}: no figure is stored"]
-    wrong += [f"{title}: there is no such capture" for title in wanted if title not in found]
+    titles = [case.title for case in cost_captures.cases()]
+    wrong += [f"{title}: there is no such capture" for title in wanted if title not in titles]
     print("\n".join(wrong) if wrong else f"{len(found)} captures: all figures within their margins")
     if wrong:
         sys.exit("costs_test: figures that are as they should be are stored by --write")

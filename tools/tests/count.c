@@ -1,13 +1,14 @@
 /* Counts what a program asks of its system, for counting.py: LD_PRELOAD names this library, and COUNTS a file of zeros, in
  * which the counts stand in the order of `struct counts`, even where the program is killed.
  *
- * KEY, a number, gives the random bytes; without it the system does. READ_MOST is how many bytes a read gives at most. With
+ * KEY, a number, gives the random bytes, and an empty one refuses them; without it the system gives them. READ_MOST is how many bytes a read gives at most. With
  * SETTLE each read waits until all threads that were started have ended, so that what threads do beside reads is divided in
  * the same way in each run; and there are four processors. Compiled with KEY_ALONE it does what KEY asks for and nothing else, so that it adds nothing to
  * instructions that are counted.
  */
 #define _GNU_SOURCE
 #include <dlfcn.h>
+#include <errno.h>
 #include <fcntl.h>
 #include <malloc.h>
 #include <pthread.h>
@@ -169,6 +170,8 @@ int getentropy(void *to, size_t count) {
     ADD(drawn, 1);
     if (!key)
         return REAL(getentropy)(to, count);
+    if (!*key)
+        return errno = ENOSYS, -1;
     memset(to, atoi(key), count);
     return 0;
 }
