@@ -110,7 +110,7 @@ def larger_windows() -> Capture:
 
 
 def far_streams() -> Capture:
-    """A client that opens every fourth stream number, so that none but the first stands where it is looked for first."""
+    """A client that opens every eighth stream, so that none but the first stands where it is looked for first."""
     capture = opened()
     headers(capture, range(1, 2401, 8))
     take_turns(capture, range(1, 2401, 8), 20)
@@ -142,7 +142,8 @@ def one_server_above() -> Capture:
 
 
 OWN: tuple[Callable[[], Capture], ...] = (
-    loud_turns, loud_crowd, loud_stream, loud_connections, short_connections, larger_windows, far_streams, one_server_below, one_server_above,
+    loud_turns, loud_crowd, loud_stream, loud_connections, short_connections, larger_windows, far_streams,
+    one_server_below, one_server_above,
 )
 # Those of bench/generate.py, with their size in megabytes.
 GENERATED = {

@@ -71,7 +71,7 @@ def store(found: dict[str, Figures]) -> None:
 def differences(name: str, seen: Figures, wanted: Figures) -> list[str]:
     """The figures that are outside their margins, a line each."""
     return [
-        f"{name}: {figure}: stored {was:,}, seen {now:,}, which is {now / max(was, 1):.3f} times it, margin {margin:.0%}"
+        f"{name}: {figure}: stored {was:,}, seen {now:,}, {now / max(was, 1):.3f} times as much; margin {margin:.0%}"
         for figure, margin, was, now in zip(FIGURES, MARGINS, wanted, seen)
         if abs(now - was) > margin * was
     ]

@@ -1,10 +1,10 @@
-/* Counts what a program asks of its system, for counting.py: LD_PRELOAD names this library, and COUNTS a file of zeros, in
- * which the counts stand in the order of `struct counts`, even where the program is killed.
+/* Counts what a program asks of its system, for counting.py: LD_PRELOAD names this library, and COUNTS a file of zeros,
+ * in which the counts stand in the order of `struct counts`, even where the program is killed.
  *
- * KEY, a number, gives the random bytes, and an empty one refuses them; without it the system gives them. READ_MOST is how many bytes a read gives at most. With
- * SETTLE each read waits until all threads that were started have ended, so that what threads do beside reads is divided in
- * the same way in each run; and there are four processors. Compiled with KEY_ALONE it does what KEY asks for and nothing else, so that it adds nothing to
- * instructions that are counted.
+ * KEY, a number, gives the random bytes, and an empty one refuses them; without it the system gives them. READ_MOST is
+ * how many bytes a read gives at most. With SETTLE each read waits until all threads that were started have ended, so
+ * that what threads do beside reads is divided in the same way in each run; and there are four processors. Compiled
+ * with KEY_ALONE it does what KEY asks for and nothing else, so that it adds nothing to instructions that are counted.
  */
 #define _GNU_SOURCE
 #include <dlfcn.h>

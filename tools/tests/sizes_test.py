@@ -1,9 +1,10 @@
 #!/usr/bin/python3
 """Audits large captures, with one worker and with four: tools/tests/sizes_test.py PROGRAM
 
-One has more connections, and so more jobs of each round, than any other capture of the tests; the other has more bytes,
-and more frames than the rounds take at once. Their reports are those that a rule gives, and a limit of the address space
-holds meanwhile. How much memory is allocated at once is limited too.
+One has more connections, and so more jobs of each round, than any other capture of the tests; the other has more
+bytes, and more frames than the rounds take at once. Their reports are those that a rule gives, and a limit of the
+address space holds meanwhile. So does one of the memory that is allocated at once, and packets have to be made beside
+the reading up to its end.
 """
 
 import os
@@ -132,14 +133,18 @@ class Sizes(unittest.TestCase):
             path, wanted = pathlib.Path(folder, "capture"), "".join(report).encode()
             with path.open("wb") as file:
                 file.writelines(capture)
-            self.assertLess(least, path.stat().st_size)
+            size = path.stat().st_size
+            self.assertLess(least, size)
             counter = Counter(PROGRAM, folder, most_seconds=60)
             for workers, most in ((1, most_of_one), (4, most_of_one * 5 // 4)):
                 with self.subTest(workers=workers):
-                    ran = counter.run([f"--workers={workers}", str(path)], memory=1536 * MIB)
+                    ran = counter.run([f"--workers={workers}", str(path)], memory=1536 * MIB, SETTLE="1")
                     self.assertEqual((1, b""), (ran.status, ran.said))
                     self.assertTrue(ran.text == wanted, "another report")
                     self.assertLess(ran.counts.peak, most)
+                    # One makes a chunk for each MiB but the first, for which there are four, and one goes over it.
+                    beside_reads = 2 * (size // MIB) + 3 if workers > 1 else 0
+                    self.assertLessEqual(beside_reads, ran.counts.started)
 
     def test_many_connections(self) -> None:
         # 314,527,992 bytes were counted.

@@ -5,8 +5,8 @@ No contract says that threads run, since it could not say that they take turns. 
 docs/ARCHITECTURE.md divides the work has a capture here that takes it, and the number of threads that it adds,
 computed by hand. A way that is idle, or a thread that is started in vain, changes a sum. One worker starts no thread.
 
-The reader begins a walk over packets where the one before it is done. Here a read waits for the threads that were started
-before it (count.c), so there is a walk for each MiB but the last.
+The reader begins a walk over packets where the one before it is done. Here a read waits for the threads that were
+started before it (count.c), so there is a walk for each MiB but the last.
 """
 
 import os
