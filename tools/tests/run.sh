@@ -10,7 +10,8 @@
 set -euo pipefail
 cd "$(dirname "$0")/../.."
 
-needed=(python3-matplotlib mandoc lintian zsh fish gawk mawk original-awk tshark binutils gcc libc6-dev)
+needed=(python3-matplotlib mandoc lintian zsh fish gawk mawk original-awk tshark binutils gcc libc6-dev
+    valgrind)
 # Of types.
 needed+=(mypy)
 # Of the page and its tests.
@@ -129,5 +130,8 @@ try 'many captures: without daemons' tools/tests/fleet_collect_test.py "${audits
 try 'install and package' tools/tests/package_test.sh "$program" "$split"
 try_built 'refused growths, threads, reads and writes' tools/tests/refusals_test.py "$built"
 try_built 'threads that are started' tools/tests/threads_test.py "$built"
+try_built 'random bytes, and reads of any length' tools/tests/calls_test.py "$built"
+try_built 'costs: instructions, memory, threads' tools/tests/costs_test.py "$built"
+try_built 'large captures' tools/tests/sizes_test.py "$built"
 [[ ${#left_out[@]} -eq 0 ]] || fail "did not run, for want of the program: $(printf '%s; ' "${left_out[@]}")"
 echo 'test-tools: all passed'
