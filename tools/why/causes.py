@@ -55,7 +55,8 @@ class Causes:
         }
         held = [sorted(some) for some in seen.held]
         self.held = held
-        self.held_times = [Stretches([(one.begin, min(one.end, seen.last.time), one.why) for one in some]) for some in held]
+        last = seen.last.time
+        self.held_times = [Stretches([(one.begin, min(one.end, last), one.why) for one in some]) for some in held]
 
     def name(self, request: Request) -> None:
         """Gives a request its cause."""

@@ -56,9 +56,7 @@ def other_settings(seen: Seen, finding: Finding) -> str:
         return ""
     if not is_gone:
         return ""
-    return (
-        f"it is gone if the SETTINGS in packet {packet} count from there on: the {finding.side} had not acknowledged them"
-    )
+    return f"it is gone if the SETTINGS in packet {packet} count from there on: {finding.side} had not acknowledged them"
 
 
 def settings_at(seen: Seen, side: int, frame: int, identifier: int) -> tuple[int, int, list[int]]:
@@ -95,9 +93,8 @@ def set_by_of(seen: Seen, finding: Finding) -> tuple[list[At], str]:
     upto = bisect_right(grants.frames, finding.frame) if grants else 0
     if grants and upto:
         last = [seen.at(frame) for frame in grants.frames[max(0, upto - MOST_GRANTS) : upto]]
-        packets = ("the last in packets " if upto > MOST_GRANTS else "packets ") + ", ".join(
-            str(one.packet) for one in last
-        )
+        packets = ("the last in " if upto > MOST_GRANTS else "") + ("packets " if upto > 1 else "packet ")
+        packets += ", ".join(str(one.packet) for one in last)
         words.append(f"{sum(grants.amounts[:upto]):,} granted in {upto:,} WINDOW_UPDATE ({packets})")
         places += last
     else:
@@ -117,5 +114,5 @@ def initial_window(seen: Seen, side: int, frame: int) -> tuple[list[At], str]:
     settings, answer = found
     places = [seen.at(settings.frame), seen.at(answer)]
     value = settings.value(INITIAL_WINDOW_SIZE)
-    text = f"initial window {value:,} by SETTINGS in packet {places[0].packet}, acknowledged in packet {places[1].packet}"
-    return places, text
+    packets = f"packet {places[0].packet}, acknowledged in packet {places[1].packet}"
+    return places, f"initial window {value:,} by SETTINGS in {packets}"

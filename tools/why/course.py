@@ -60,7 +60,8 @@ class Course:
     @property
     def end(self) -> Place | None:
         """The connection's last packet."""
-        return max((place for place in self.last if place), key=lambda place: place.time, default=None)
+        places = [place for place in self.last if place]
+        return max(places, key=lambda place: place.time) if places else None
 
     def closes(self) -> list[tuple[int, str, int, Place]]:
         """Each FIN and RST by its time: time, word, side, place."""

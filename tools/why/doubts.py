@@ -4,7 +4,7 @@ from __future__ import annotations
 
 from collections import Counter
 
-from why.answer import Answer, At, ConnectionSaid, NotAudited, Warning
+from why.answer import Answer, At, ConnectionSaid, NotAudited, Request, Warning
 from why.capture import SIDES
 from why.course import Back, Courses
 from why.origin import Origin
@@ -59,10 +59,8 @@ def doubts_of(answer: Answer, origin: Origin, courses: Courses) -> list[Warning]
             text = "one direction alone was captured: capture on one of the two hosts, or on both paths"
             said.append(Warning("one-direction", text, one.number, one.opened))
         for side, offset in one.gaps:
-            text = (
-                f"bytes of the {SIDES[side]} are missing from offset {offset:,} on: what is found behind it may not have "
-                "happened"
-            )
+            text = f"bytes of the {SIDES[side]} are missing from offset {offset:,} on: what is found behind it "
+            text += "may not have happened"
             said.append(Warning("gap", text, one.number, one.opened))
     if snapped := origin.capture.get("snapped", 0):
         if any(one.gaps for one in answer.connections):
@@ -77,7 +75,7 @@ def nothing_words(answer: Answer) -> str:
 
 def clocks(origin: Origin, courses: Courses) -> list[Warning]:
     """Times that go back: within a file, or from one file to the next."""
-    said = []
+    said: list[Warning] = []
     for one in courses.backs:
         between = begins_file(one)
         kind = "files-out-of-order" if between else "times-go-back"
@@ -86,15 +84,12 @@ def clocks(origin: Origin, courses: Courses) -> list[Warning]:
         at = At(one.place.packet, one.place.file, one.place.time)
         if between:
             name, before = origin.files[one.place.file - 1], origin.files[one.place.file - 2]
-            text = (
-                f"{name} begins {time_of(one.nanos)} before {before} ends: the files overlap, or stand in the wrong order"
-            )
+            text = f"{name} begins {time_of(one.nanos)} before {before} ends: the files overlap, or stand in the wrong "
+            text += "order (mergecap puts them in order)"
         else:
             many = f", and in {courses.backs_counted - 1:,} other places" if courses.backs_counted > 1 else ""
-            text = (
-                f"times go back at packet {one.place.packet} by {time_of(one.nanos)}{many}: what is said of order and of "
-                "durations may be wrong (reordercap)"
-            )
+            text = f"times go back at packet {one.place.packet} by {time_of(one.nanos)}{many}: what is said of order "
+            text += "and of durations may be wrong (reordercap)"
         said.append(Warning(kind, text, None, at))
     return said
 
@@ -121,8 +116,16 @@ def limits_of(said: ConnectionSaid, seen: Seen) -> list[str]:
     nanos = seen.round_trip.nanos or 0
     if said.captured_at not in SIDES or nanos < NEAR:
         return []
-    here, there = said.captured_at, SIDES[1 - SIDES.index(said.captured_at)]
+    here, there = said.captured_at, 1 - SIDES.index(said.captured_at)
+    if not any(uses_window(request, there, seen) for request in said.requests):
+        return []
     return [
-        f"captured at the {here}: a stall of the {there} may not show, since what it uses up within the round trip of "
-        f"{time_of(nanos)} is granted again here before the credit seems to be 0"
+        f"captured at the {here}: a stall of the {SIDES[there]} may not show, since what it uses up within the round "
+        f"trip of {time_of(nanos)} is granted again here before the credit seems to be 0"
     ]
+
+
+def uses_window(request: Request, side: int, seen: Seen) -> bool:
+    """Whether a side sent more on a stream than its window holds at once, so that it may have waited."""
+    window = seen.audit.windows.get((side, request.stream))
+    return window is not None and request.sides[side].content >= window.largest > 0

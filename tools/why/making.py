@@ -63,7 +63,7 @@ def folder() -> Iterator[Path]:
 def running(words: Sequence[str], output: Path | None = None) -> Iterator[Running]:
     """A program that runs meanwhile. Where this one is interrupted, that one ends too."""
     with contextlib.ExitStack() as stack:
-        out = stack.enter_context(open(output, "wb")) if output else subprocess.DEVNULL
+        out = stack.enter_context(open(output or os.devnull, "wb"))
         said = stack.enter_context(tempfile.TemporaryFile())
         child = subprocess.Popen(words, stdout=out, stderr=said)
         try:

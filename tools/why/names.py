@@ -33,11 +33,13 @@ class Names:
         if self.broken_at is not None:
             return None
         if len(block) > LONGEST_BLOCK or ENDLESS_INTEGER.search(block):
-            return self.breaks(frame, "a field block too long to be read")
+            self.breaks(frame, "a field block too long to be read")
+            return None
         try:
             return wanted(self.decoder.decode(block, raw=True))
         except (HPACKError, ValueError, IndexError, TypeError) as why:
-            return self.breaks(frame, f"a damaged field block ({type(why).__name__})")
+            self.breaks(frame, f"a damaged field block ({type(why).__name__})")
+            return None
 
     def breaks(self, frame: int, why: str) -> None:
         """From here on nothing of this side is known, since each block stands on those before."""

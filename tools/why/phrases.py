@@ -8,7 +8,7 @@ from why.capture import SIDES
 from why.leaks import leak_of
 from why.rounds import NEAR
 from why.seen import Seen
-from why.spans import SENDING
+from why.spans import CONNECTION_STALL, SENDING, STREAM_STALL
 from why.words import count, percent, rate_of, streams_named, time_of
 
 TCP_WORDS = {
@@ -47,7 +47,16 @@ class Phrases:
             return self.of_application(request, cause)
         if cause.kind == "unseen":
             return f"not known for {time_of(cause.nanos)}: behind a gap, or past the frame at which the audit stopped"
-        return "not stalled"
+        return self.hardly(request)
+
+    def hardly(self, request: Request) -> str:
+        """No cause is named: not stalled at all, or for less than counts."""
+        nanos = sum(said.shares[share] for said in request.sides for share in (STREAM_STALL, CONNECTION_STALL))
+        times = sum(self.counts.get((side, request.stream), 0) for side in (0, 1))
+        if not nanos:
+            return "not stalled"
+        often = f", {count(times, 'time')}" if times else ""
+        return f"stalled {time_of(nanos)} in all ({percent(nanos, request.nanos)}){often}"
 
     def of_window(self, request: Request, cause: Cause) -> str:
         """How long it was stalled, and why."""
@@ -105,7 +114,7 @@ class Phrases:
         needed = min(direction.content, direction.content * nanos // sending) if sending else direction.content
         request.needed_window = max(needed, window)
         if needed <= window:
-            return ""
+            return f"; {direction.content:,} would hold all of it" if direction.content > window else ""
         return f"; {needed:,} would do" + (f" for {rate_of(direction.content, sending)}" if sending else "")
 
     def unshown(self, request: Request, cause: Cause) -> str:
@@ -120,10 +129,8 @@ class Phrases:
     def whose(self, request: Request, cause: Cause) -> str:
         """The SETTINGS that made a stream's window what it is, or the streams that waited for the connection's."""
         if cause.kind == "connection-window":
-            others = [stream for stream in self.behind[cause.side] if stream != request.stream]
-            return f"; {streams_named(others)} waited too" if others and len(self.behind[cause.side]) <= 9 else (
-                f"; {len(others):,} others waited too" if others else ""
-            )
+            behind = self.behind[cause.side]
+            return f"; {streams_named(behind)} waited" if len(behind) > 1 else ""
         if cause.why not in ("round-trip", "granted-nothing"):
             return ""
         last = None
@@ -148,8 +155,8 @@ class Phrases:
             end = stall.end.frame if stall.end else len(self.seen.frames)
             found = leak_of(self.seen, cause.side, stall.begin.frame, end)
             said = (
-                f"the connection's credit was used up: {found.used:,} used by {streams_named(found.streams)} (cancelled), "
-                f"{found.granted:,} given back"
+                f"the connection's credit was used up: {found.used:,} used by {streams_named(found.streams)} "
+                f"(cancelled), {found.granted:,} given back"
             )
             self.leaks[stall.begin.frame] = said + self.never_had(cause, stall.begin.time)
         return self.leaks[stall.begin.frame]

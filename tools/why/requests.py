@@ -82,7 +82,8 @@ def end_of(seen: Seen, stream: Stream, side: int) -> Ended:
 
 
 def latest(one: At | None, other: At | None) -> At | None:
-    return max((place for place in (one, other) if place), key=lambda place: place.time, default=None)
+    places = [place for place in (one, other) if place]
+    return max(places, key=lambda place: place.time) if places else None
 
 
 def direction_said(seen: Seen, stream: Stream, side: int, opened: At, end: Ended, course: Course) -> DirectionSaid:

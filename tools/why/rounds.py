@@ -14,6 +14,8 @@ NEAR = 1_000_000
 # A side is near where the other one's answers take so many times as long.
 TIMES = 4
 LEAST_PAUSE = 1_000_000
+# A peer may take some milliseconds for its first answer; only from here on it tells of the way.
+LEAST_ANSWER = 10_000_000
 
 
 def handshake_of(course: Course) -> tuple[int, int] | None:
@@ -45,7 +47,7 @@ def round_trip_of(course: Course, told: Told, time: Callable[[int], int]) -> Rou
     client, server = found.http2
     if client is not None and server is not None:
         answers, known = client + server, found.nanos
-        if known is None or answers >= NEAR and answers > TIMES * known:
+        if known is None or answers >= LEAST_ANSWER and answers > TIMES * known:
             found.source, found.client, found.server = "http2", client, server
     return found
 

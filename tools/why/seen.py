@@ -29,10 +29,11 @@ class Seen:
     origin: Origin
     round_trip: RoundTrip
     unseen: int = NEVER  # the time from which something of it was not seen, or not judged
-    held: tuple[list[Held], list[Held]] = field(default_factory=lambda: ([], []))  # by sides
-    resent: tuple[list[Held], list[Held]] = field(default_factory=lambda: ([], []))  # of these, in order of their ends
+    held: list[list[Held]] = field(default_factory=list)  # by sides
+    resent: list[list[Held]] = field(default_factory=list)  # of these without windows of zero, in order of their ends
 
     def __post_init__(self) -> None:
+        self.held, self.resent = [[], []], [[], []]
         for one in sorted(self.course.held, key=lambda held: held.end):
             self.held[one.side].append(one)
             if one.why != "zero-window":

@@ -207,7 +207,8 @@ class Reader:
             return
         if column.lengths[index] % 6:
             return
-        settings = Settings(side, number, tuple(PAIR.iter_unpack(column.payload(index))))
+        pairs = [(name, value) for name, value in PAIR.iter_unpack(column.payload(index))]
+        settings = Settings(side, number, tuple(pairs))
         self.told.settings.append(settings)
         self.pending[side].append(number)
         if (size := settings.value(HEADER_TABLE_SIZE)) is not None:

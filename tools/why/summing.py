@@ -42,7 +42,9 @@ def summary_of(answer: Answer) -> Summary:
     return Summary(verdict, text, len(audited), len(requests), faults, len(held), len(tcp), hung, begin, max(nanos, 0))
 
 
-def sentences(answer: Answer, requests: list[Request], held: list[Request], tcp: list[Request], nanos: int) -> list[str]:
+def sentences(
+    answer: Answer, requests: list[Request], held: list[Request], tcp: list[Request], nanos: int
+) -> list[str]:
     audited = answer.audited
     if not audited:
         return ["Nothing was audited, so nothing is said of flow control."]
@@ -56,8 +58,10 @@ def sentences(answer: Answer, requests: list[Request], held: list[Request], tcp:
         said.append(
             f"Flow control held back {count(len(held), 'request')}" + f", of which {hung:,} hung" * bool(hung) + "."
         )
+    elif any(one.stalls for one in audited):
+        said.append("Flow control held back no request for as long as a millisecond.")
     else:
-        said.append("Flow control held back no request.")
+        said.append("No side used up its credit.")
     if tcp:
         said.append(f"TCP held back {count(len(tcp), 'request')}.")
     return said
@@ -73,6 +77,7 @@ def breaches(answer: Answer) -> str:
     said = []
     for (side, section, kind), times in broken.most_common(3):
         where = f" RFC 9113, {section}" if section else " a rule"
-        said.append(f"The {side} broke{where} ({kind})" + f" {times:,} times" * (times > 1))
+        said.append(f"the {side} broke{where} ({kind})" + f" {times:,} times" * (times > 1))
     more = len(broken) - len(said)
-    return "; ".join(said) + f"; and {more} rules more" * (more > 0) + "."
+    text = "; ".join(said) + f"; and {more} rules more" * (more > 0) + "."
+    return text[0].upper() + text[1:]

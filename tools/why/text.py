@@ -16,8 +16,8 @@ MOST_REQUESTS, MOST_CONNECTIONS, MOST_FAULTS = 8, 12, 8
 BOLD, RED, YELLOW, DIM, PLAIN = "1", "31", "33", "2", ""
 SOURCES = {"handshake": "", "http2": " by SETTINGS and PING"}
 PROVED = (
-    "Faults, stalls and credits are those of h2audit's proved report. Names, lives, causes, TCP and place of capture are "
-    "not: h2audit-why reads them from the frames and the packets."
+    "Faults, stalls and credits are those of h2audit's proved report. Names, lives, causes, TCP and place of capture "
+    "are not: h2audit-why reads them from the frames and the packets."
 )
 
 
@@ -71,18 +71,17 @@ class Page:
     def packet(self, at: At | None) -> str:
         if at is None:
             return "no packet"
-        name = f" of {escaped(self.answer.files[at.file - 1])}" if self.has_files and at.file else ""
-        return f"packet {at.packet}{name}"
+        return f"packet {at.packet}{self.of_file(at)}"
 
     def packets(self, first: At | None, last: At | None) -> str:
         if first is None or last is None or first.packet == last.packet and first.file == last.file:
             return self.packet(first or last)
         if self.has_files and first.file != last.file:
             return f"{self.packet(first)} to {self.packet(last)}"
-        return f"packets {first.packet}-{last.packet}" + self.packet(last).partition(" of ")[1] * 0 + self.of_file(last)
+        return f"packets {first.packet}-{last.packet}{self.of_file(last)}"
 
     def of_file(self, at: At) -> str:
-        return f" of {escaped(self.answer.files[at.file - 1])}" if self.has_files else ""
+        return f" of {escaped(self.answer.files[at.file - 1])}" if self.has_files and at.file else ""
 
     def connection(self, one: ConnectionSaid) -> Iterator[str]:
         head = f"connection {one.number}  {one.client} -> {one.server}"
@@ -100,9 +99,8 @@ class Page:
         for note in one.notes:
             yield from self.folded(f"  {escaped(note)}", "    ")
         yield from self.ending(one)
-        if any(request.cause.kind in (*WINDOWS, "application") for request in one.requests) or self.is_all:
-            for limit in one.limits:
-                yield from self.folded(f"  {limit}", "    ", DIM)
+        for limit in one.limits:
+            yield from self.folded(f"  {limit}", "    ", DIM)
 
     def fault(self, fault: FaultSaid) -> Iterator[str]:
         said = f"  FAULT: {sentence_of(fault.finding)}; {self.packet(fault.at)}, frame {fault.at.frame}"
@@ -117,8 +115,9 @@ class Page:
         shown = [request for request in ordered[:most] if self.is_all or request.trouble or len(ordered) <= most]
         names = [self.name(request) for request in shown]
         width = min(max(map(len, names), default=0), 48)
+        told: dict[tuple[str, int, str], int] = {}
         for request, name in zip(shown, names):
-            yield from self.request(request, name, width)
+            yield from self.request(request, name, width, told)
         if rest := len(ordered) - len(shown):
             held = sum(1 for request in ordered[len(shown) :] if request.cause.kind in WINDOWS)
             yield f"  {count(rest, 'request')} more" + f", of which {held:,} held back" * bool(held) + ": --all"
@@ -127,12 +126,20 @@ class Page:
         name = request.name or "(name unknown)"
         return ("pushed " * bool(request.promised_on)) + name
 
-    def request(self, request: Request, name: str, width: int) -> Iterator[str]:
+    def cause(self, request: Request, told: dict[tuple[str, int, str], int]) -> str:
+        """What held a request back; where the connection's window did, what it was is told once."""
+        cause = request.cause
+        key = cause.text.partition(": ")[2], cause.side, cause.kind
+        if cause.kind != "connection-window" or told.setdefault(key, request.stream) == request.stream:
+            return cause.text
+        return f"{cause.text.partition(': ')[0]}: the connection's window, as stream {told[key]}"
+
+    def request(self, request: Request, name: str, width: int, told: dict[tuple[str, int, str], int]) -> Iterator[str]:
         status = f"{request.status}" if request.status is not None else "-"
         if request.grpc_status:
             status += f" grpc {grpc_name(request.grpc_status)}"
         stream = f"stream {request.stream}"
-        said = f"  {name:{width}}  {stream:10}  {status}  {time_of(request.nanos):>9}   {request.cause.text}"
+        said = f"  {name:{width}}  {stream:10}  {status}  {time_of(request.nanos):>9}   {self.cause(request, told)}"
         if request.ended.how == "RST_STREAM" and request.ended.side is not None:
             said += f"; {SIDES[request.ended.side]}'s RST_STREAM {code_name(request.ended.code or 0)}"
         elif request.ended.how not in ("END_STREAM", "RST_STREAM") and not request.is_hung:
@@ -151,16 +158,16 @@ class Page:
 
     def idle_stalls(self, one: ConnectionSaid) -> Iterator[str]:
         """Stalls without an end that no request hung in, as where every stream had ended."""
-        if any(request.is_hung for request in one.requests):
-            return
-        for stall in [stall for stall in one.stalls if stall.is_hung][:1]:
+        named = {(request.cause.side, request.stream if request.cause.kind == "stream-window" else 0)
+                 for request in one.requests if request.cause.kind in WINDOWS}  # fmt: skip
+        for stall in [stall for stall in one.stalls if stall.is_hung and (stall.side, stall.stream) not in named][:1]:
             yield from self.folded(f"  {self.open_stall(stall)}", "    ")
 
     def open_stall(self, stall: StallSaid) -> str:
         where = f"on stream {stall.stream}" if stall.stream else "of the connection"
         return (
-            f"the {SIDES[stall.side]}'s credit {where} was used up in {self.packet(stall.begin)}, and no grant was seen in "
-            f"the {time_of(stall.nanos)} that followed"
+            f"the {SIDES[stall.side]}'s credit {where} was used up in {self.packet(stall.begin)}, and no grant was seen "
+            f"in the {time_of(stall.nanos)} that followed"
         )
 
     def ending(self, one: ConnectionSaid) -> Iterator[str]:
@@ -169,12 +176,14 @@ class Page:
             yield from self.folded(f"  {self.signal(signal)}", "    ", YELLOW)
         ended = one.ended
         if ended.how in ("FIN", "RST") and ended.side is not None:
-            without = "" if any(said.word == "GOAWAY" and said.side == ended.side for said in one.signals) else ", no GOAWAY"
+            has_goaway = any(said.word == "GOAWAY" and said.side == ended.side for said in one.signals)
+            without = "" if has_goaway else ", no GOAWAY"
             yield f"  ended by the {SIDES[ended.side]}: {ended.how}, {self.packet(ended.at)}{without}"
         elif ended.how == "capture":
             yield f"  the capture ends with it open, {self.packet(ended.at)}"
         if one.stopped_at:
-            yield f"  the audit stopped at frame {one.stopped_at.frame}, {self.packet(one.stopped_at)}: nothing is judged past it"
+            place = f"frame {one.stopped_at.frame}, {self.packet(one.stopped_at)}"
+            yield f"  the audit stopped at {place}: nothing is judged past it"
 
     def signal(self, signal: Signal) -> str:
         said = f"ended by the {SIDES[signal.side]}: " if signal.word == "GOAWAY" else f"the {SIDES[signal.side]} sent "
