@@ -8,7 +8,7 @@ from collections.abc import Iterator
 from dataclasses import dataclass, field
 from typing import BinaryIO
 
-from report.blame import CREDIT_KINDS, STALL_BEGIN
+from report.blame import STALL_BEGIN
 from report.lines import Audited, Capture, Finding, Flow, Opening, PassedOver, Stall, read_lines
 
 from why.capture import SIDES
@@ -66,13 +66,7 @@ class Audit:
 
     def add(self, finding: Finding) -> None:
         key = SIDES.index(finding.side), finding.stream
-        if finding.kind in CREDIT_KINDS:
-            window = self.windows.get(key)
-            if window is None:
-                window = self.windows[key] = Window()
-            window.frames.append(finding.frame)
-            window.credits.append(finding.value)
-        elif finding.is_fault:
+        if finding.is_fault:
             self.faults.append(finding)
         elif finding.kind in STALL_BEGIN:
             self.stalls.setdefault(key, []).append(Stalled(finding))
@@ -85,7 +79,17 @@ class Audit:
 def read_audits(report: BinaryIO) -> Iterator[Capture | Audit]:
     """What a report says: first of the capture, then of one connection after the other."""
     audit: Audit | None = None
-    for line in read_lines(report):
+
+    def take_credit(frame: int, side: bytes, stream: int, value: int) -> None:
+        assert audit is not None
+        key = side == b"server", stream
+        window = audit.windows.get(key)
+        if window is None:
+            window = audit.windows[key] = Window()
+        window.frames.append(frame)
+        window.credits.append(value)
+
+    for line in read_lines(report, take_credit):
         if isinstance(line, Finding):
             assert audit is not None
             audit.add(line)

@@ -19,19 +19,11 @@ from why.endings import ended_of, notes_of, settings_said, signals_of
 from why.frames import Frames, frames_of
 from why.origin import Origin, Outcome
 from why.phrases import Phrases
-from why.requests import requests_of
+from why.requests import Wanted, requests_of
 from why.rounds import place_of, round_trip_of
 from why.seen import Seen
 from why.stalls import stalls_of
 from why.streams import Reader, Told
-
-
-@dataclass(frozen=True, slots=True)
-class Wanted:
-    """What the command line wants of names."""
-
-    names: bool = True
-    query: bool = False
 
 
 @dataclass(slots=True)
@@ -118,7 +110,7 @@ def fill(said: ConnectionSaid, seen: Seen, wanted: Wanted) -> None:
     said.settings, said.signals, said.ended = settings_said(seen), signals_of(seen), ended_of(seen)
     said.faults = [fault_said(seen, finding) for finding in seen.audit.faults]
     said.stalls = stalls_of(seen)
-    said.requests = requests_of(seen, wanted.names, wanted.query)
+    said.requests = requests_of(seen, wanted)
     said.notes = notes_of(seen)
     if seen.audit.stopped_at is not None:
         said.stopped_at = seen.at(seen.audit.stopped_at)

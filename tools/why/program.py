@@ -107,10 +107,11 @@ def imported(asked: argparse.Namespace, importer: str, place: Path, progress: Pr
 
 
 def read(asked: argparse.Namespace, place: Path, audit_ends: object, progress: Progress) -> Answer:
-    from why.building import Sources, Wanted, answer_of
+    from why.building import Sources, answer_of
     from why.capture import made_of
     from why.course import read_course
     from why.origin import read_map
+    from why.requests import Wanted
 
     progress.say("reads")
     with open(place / "map", encoding="utf-8", errors="surrogateescape", newline="\n") as lines:
@@ -124,7 +125,7 @@ def read(asked: argparse.Namespace, place: Path, audit_ends: object, progress: P
     if status not in AUDITED:
         raise Failed(status if status in (3, 4, 5) else IO_FAILED, without_name(said))
     with open(place / "report", "rb") as report:
-        wanted = Wanted(not asked.no_requests, asked.query)
+        wanted = Wanted(not asked.no_requests, asked.query, asked.json or asked.json_lines)
         return answer_of(Sources(made, report, origin, courses), wanted, progress.connections)
 
 

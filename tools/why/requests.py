@@ -2,6 +2,8 @@
 
 from __future__ import annotations
 
+from dataclasses import dataclass
+
 from why.answer import At, Cause, DirectionSaid, Ended, Request
 from why.capture import CLIENT, SERVER
 from why.names import text_of
@@ -12,20 +14,31 @@ from why.streams import Stream
 from why.words import escaped
 
 
-def requests_of(seen: Seen, has_names: bool, has_query: bool) -> list[Request]:
+@dataclass(frozen=True, slots=True)
+class Wanted:
+    """What the command line wants of requests: their names, with the query of the path, and spans of their lives."""
+
+    names: bool = True
+    query: bool = False
+    spans: bool = True
+
+
+def requests_of(seen: Seen, wanted: Wanted) -> list[Request]:
     """In the order in which they were opened."""
     courses = [course_of(seen, side) for side in (CLIENT, SERVER)]
-    return [request_of(seen, stream, courses, has_names, has_query) for stream in seen.told.streams.values()]
+    return [request_of(seen, stream, courses, wanted) for stream in seen.told.streams.values()]
 
 
 def course_of(seen: Seen, side: int) -> Course:
     return Course(seen.stall_times(side, 0), seen.held_times(side), pause_of(seen.round_trip), seen.unseen)
 
 
-def request_of(seen: Seen, stream: Stream, courses: list[Course], has_names: bool, has_query: bool) -> Request:
+def request_of(seen: Seen, stream: Stream, courses: list[Course], wanted: Wanted) -> Request:
     opened = seen.at(stream.opened)
     ends = [end_of(seen, stream, side) for side in (CLIENT, SERVER)]
-    sides = tuple(direction_said(seen, stream, side, opened, ends[side], courses[side]) for side in (CLIENT, SERVER))
+    sides = [
+        direction_said(seen, stream, side, opened, ends[side], courses[side], wanted.spans) for side in (CLIENT, SERVER)
+    ]
     ended = max(ends, key=lambda one: one.at.time if one.at else 0)
     until = max([opened.time, *(one.at.time for one in ends if one.at)])
     request = Request(
@@ -33,8 +46,8 @@ def request_of(seen: Seen, stream: Stream, courses: list[Course], has_names: boo
         (sides[0], sides[1]), Cause("none"),
     )  # fmt: skip
     give_statuses(request, stream)
-    if has_names:
-        give_names(request, stream, has_query)
+    if wanted.names:
+        give_names(request, stream, wanted.query)
     return request
 
 
@@ -86,9 +99,11 @@ def latest(one: At | None, other: At | None) -> At | None:
     return max(places, key=lambda place: place.time) if places else None
 
 
-def direction_said(seen: Seen, stream: Stream, side: int, opened: At, end: Ended, course: Course) -> DirectionSaid:
+def direction_said(
+    seen: Seen, stream: Stream, side: int, opened: At, end: Ended, course: Course, has_spans: bool
+) -> DirectionSaid:
     direction = stream.sides[side]
-    life = Life(opened.time, end.at.time if end.at else opened.time, course)
+    life = Life(opened.time, end.at.time if end.at else opened.time, course, has_spans)
     life.divide(seen.intervals(side, direction), seen.stall_times(side, stream.number))
     said = DirectionSaid(life.end - life.begin, life.shares, life.spans if life.is_told else None, direction.content)
     said.first = seen.frame_at(side, direction, 0)

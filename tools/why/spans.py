@@ -133,31 +133,33 @@ class Course:
 class Life:
     """The life of one direction: from the stream's opening to its end, with the times of its frames."""
 
-    def __init__(self, begin: int, end: int, course: Course) -> None:
+    def __init__(self, begin: int, end: int, course: Course, has_spans: bool = True) -> None:
         self.begin, self.end = begin, max(begin, end)
         self.course = course
         self.shares = [0] * len(KINDS)
         self.spans: list[Span] = []
-        self.is_told = True
+        self.is_told = has_spans
         self.longest_idle = Span(self.begin, self.begin, IDLE)
 
     def divide(self, frames: Iterable[Interval], stalls: list[Interval]) -> None:
         """By the times of the frames' first and last bytes, and the stalls of the stream's window, in order."""
         own = disjoint(stalls)
-        at, has_begun, stall = self.begin, False, 0
+        at, has_begun, stall, until = self.begin, False, 0, self.end
         for first, last in frames:
-            first, last = min(max(first, at), self.end), min(max(last, at), self.end)
+            first = at if first < at else first if first < until else until
+            last = first if last < first else last if last < until else until
             if has_begun:
-                stall = self.pause(at, first, own, stall)
+                if first > at:
+                    stall = self.pause(at, first, own, stall)
             else:
                 self.put(at, first, WAITING)
             has_begun = True
             self.put(first, last, SENDING)
             at = last
         if has_begun:
-            self.pause(at, self.end, own, stall)
+            self.pause(at, until, own, stall)
         else:
-            self.put(at, self.end, WAITING)
+            self.put(at, until, WAITING)
 
     def pause(self, begin: int, end: int, own: list[Interval], stall: int) -> int:
         """A stretch between two frames; answers the first of the stream's stalls that may lie behind it."""
@@ -178,7 +180,11 @@ class Life:
         """A stretch without frames, and without a stall of the stream."""
         if begin >= end:
             return
-        seen = min(end, max(begin, self.course.unseen))
+        course = self.course
+        if not course.marked and end <= course.unseen:
+            self.put(begin, end, SENDING if end - begin <= course.pause else IDLE)
+            return
+        seen = min(end, max(begin, course.unseen))
         if self.is_told:
             for span in self.course.spans(begin, seen):
                 self.put(*span)
