@@ -32,9 +32,10 @@ class Window:
         at = bisect_right(self.frames, frame)
         return self.credits[at - 1] if at else None
 
-    @property
-    def largest(self) -> int:
-        return max(self.credits, default=0)
+    def largest_from(self, frame: int) -> int:
+        """The most that the window held from just before a frame on."""
+        at = max(bisect_left(self.frames, frame) - 1, 0)
+        return max(self.credits[at:], default=0)
 
 
 @dataclass(slots=True)

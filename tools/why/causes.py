@@ -5,6 +5,7 @@ from __future__ import annotations
 from bisect import bisect_left, bisect_right
 from itertools import accumulate
 
+from why import frames as kind_of
 from why.answer import At, Cause, DirectionSaid, Request, StallSaid
 from why.audit import FIRST_CREDIT
 from why.capture import CLIENT, SERVER, SIDES
@@ -111,38 +112,30 @@ class Causes:
     def unshown(self, request: Request, side: int) -> Cause | None:
         """A window that is used within each round trip: captured where the bytes arrive, no stall of it shows."""
         said, round_trip = request.sides[side], self.seen.round_trip.nanos
-        if self.captured_at != SIDES[1 - side] or not round_trip or said.shares[STREAM_STALL] or said.end is None:
+        if self.captured_at != SIDES[1 - side] or not round_trip or said.end is None:
+            return None
+        if is_held(said.shares[STREAM_STALL] + said.shares[CONNECTION_STALL], request):
             return None
         sending = said.shares[SENDING] + said.shares[IDLE]
         for kind, stream in (("stream-window", request.stream), ("connection-window", 0)):
-            window = self.window_of(side, stream)
+            window = window_of(self.seen, side, stream)
             trips = said.content // max(window, 1)
             # Of n windows the last needs no round trip more; what is left over takes a part of one.
             if trips >= 2 and sending and 0.6 < (trips - 1) * round_trip / sending <= 1.2:
                 return Cause(kind, "unshown", side, 1 - side, sending, said.first, said.end)
         return None
 
-    def window_of(self, side: int, stream: int) -> int:
-        """The most credit that the report tells of a window."""
-        window = self.seen.audit.windows.get((side, stream))
-        return max(FIRST_CREDIT if stream == 0 else 0, window.largest if window else 0)
-
     def of_application(self, request: Request) -> list[Cause]:
         """A side that sent nothing though it had credit: between two frames, or before its first."""
         found = []
         for side in (CLIENT, SERVER):
             said = request.sides[side]
-            waited = self.waited(request, side)
-            nanos = said.shares[IDLE] + (waited.nanos if waited else 0)
-            if nanos < LEAST_IDLE or nanos * IDLE_SHARE < request.nanos:
-                continue
-            idle = said.longest_idle
-            if waited and (idle is None or waited.nanos >= idle.end - idle.begin):
+            if waited := self.waited(request, side):
                 found.append(waited)
-            elif idle:
+            if idle := said.longest_idle:
                 places = self.around(said, idle.begin, side, request)
                 found.append(Cause("application", "between", side, side, idle.end - idle.begin, *places))
-        return found
+        return [one for one in found if one.nanos >= LEAST_IDLE and one.nanos * IDLE_SHARE >= request.nanos]
 
     def around(self, said: DirectionSaid, begin: int, side: int, request: Request) -> tuple[At | None, At | None]:
         """The frames before and after a stretch in which a side sent nothing on a stream."""
@@ -179,6 +172,19 @@ class Causes:
         if not stalls or not end or request.ended.how == "END_STREAM" or self.seen.unseen < end.time:
             return False
         return stalls[-1].end is None and stalls[-1].until <= end.time
+
+
+def window_of(seen: Seen, side: int, stream: int) -> int:
+    """The most credit that a side had of a window, from before its first content on."""
+    column = seen.frames.sides[side]
+    if stream == 0:
+        at = column.kinds.find(kind_of.DATA)
+    else:
+        some = seen.told.streams[stream].sides[side].frames
+        at = next((index for index in some if column.kinds[index] == kind_of.DATA), -1)
+    window = seen.audit.windows.get((side, stream))
+    first = FIRST_CREDIT if stream == 0 else 0
+    return max(first, window.largest_from(column.numbers[at])) if window and at >= 0 else first
 
 
 def is_held(nanos: int, request: Request) -> bool:

@@ -6,6 +6,7 @@ from collections import Counter
 
 from why.answer import Answer, At, ConnectionSaid, NotAudited, Request, Warning
 from why.capture import SIDES
+from why.causes import window_of
 from why.course import Back, Courses
 from why.origin import Origin
 from why.rounds import NEAR
@@ -127,5 +128,4 @@ def limits_of(said: ConnectionSaid, seen: Seen) -> list[str]:
 
 def uses_window(request: Request, side: int, seen: Seen) -> bool:
     """Whether a side sent more on a stream than its window holds at once, so that it may have waited."""
-    window = seen.audit.windows.get((side, request.stream))
-    return window is not None and request.sides[side].content >= window.largest > 0
+    return request.sides[side].content >= window_of(seen, side, request.stream) > 0

@@ -5,6 +5,7 @@ from __future__ import annotations
 from why.answer import Cause, ConnectionSaid, Request
 from why.audit import FIRST_CREDIT
 from why.capture import SIDES
+from why.causes import window_of
 from why.leaks import leak_of
 from why.rounds import NEAR
 from why.seen import Seen
@@ -93,10 +94,9 @@ class Phrases:
         return self.round_trip(request, cause, times)
 
     def window(self, request: Request, cause: Cause) -> int:
-        """The most credit that the report tells of the window."""
+        """The most credit that it had."""
         stream = request.stream if cause.kind == "stream-window" else 0
-        window = self.seen.audit.windows.get((cause.side, stream))
-        return max(0 if stream else FIRST_CREDIT, window.largest if window else 0)
+        return window_of(self.seen, cause.side, stream)
 
     def round_trip(self, request: Request, cause: Cause, times: int) -> str:
         """The window is below what a round trip carries, and which one would do."""
@@ -133,9 +133,9 @@ class Phrases:
             return f"; {streams_named(behind)} waited" if len(behind) > 1 else ""
         if cause.why not in ("round-trip", "granted-nothing"):
             return ""
-        last = None
+        last, begun = None, cause.first.frame if cause.first else 0
         for one in self.said.settings:
-            if one.side != cause.side and one.acknowledged and one.acknowledged.time <= request.opened.time:
+            if one.side != cause.side and one.acknowledged and one.acknowledged.frame <= begun:
                 last = one
         if last is None or last.acknowledged is None or last.value == FIRST_CREDIT:
             return ""

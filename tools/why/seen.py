@@ -2,7 +2,7 @@
 
 from __future__ import annotations
 
-from bisect import bisect_left
+from bisect import bisect_left, bisect_right
 from collections.abc import Iterator
 from dataclasses import dataclass, field
 
@@ -14,6 +14,7 @@ from why.capture import Made, Opened
 from why.course import NEVER, Course, Held, Place
 from why.frames import Frames
 from why.origin import Origin
+from why.rounds import pause_of
 from why.spans import Interval
 from why.streams import Direction, Stream, Told
 
@@ -70,10 +71,21 @@ class Seen:
         return Ended("capture", None, None, self.last)
 
     def intervals(self, side: int, direction: Direction) -> Iterator[Interval]:
-        """The times of the first and the last byte of each frame that a side sent on a stream."""
+        """When the bytes of each frame came that a side sent on a stream: from its first to its last packet.
+
+        Of a frame that took longer than a pause, each packet by itself.
+        """
         column, times = self.frames.sides[side], self.made.times
+        longest = pause_of(self.round_trip)
         for index in direction.frames:
-            yield times[column.begun[index]], times[column.records[index]]
+            begun, record = column.begun[index], column.records[index]
+            first, last = times[begun], times[record]
+            if last - first <= longest:
+                yield first, last
+                continue
+            arrivals = column.flow.records
+            for at in range(bisect_left(arrivals, begun), bisect_right(arrivals, record)):
+                yield times[arrivals[at]], times[arrivals[at]]
 
     def frame_at(self, side: int, direction: Direction, which: int) -> At | None:
         """The first (0) or last (-1) frame of a direction."""
