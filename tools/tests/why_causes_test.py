@@ -56,7 +56,7 @@ class Causes(Peers):
 
 class Windows(Causes):
     def at_either_end(self, server: Any) -> None:
-        """A window of 65,535 over a round trip: at the server the stalls show, at the client it is said that none does."""
+        """65,535 bytes over a round trip: at the server the stalls show, at the client it is said that none does."""
         with ExitStack() as stack:
             port = stack.enter_context(server(self.folder))
             near = stack.enter_context(proxy_to(port, ROUND_TRIP))
@@ -92,7 +92,9 @@ class Windows(Causes):
             near = stack.enter_context(proxy_to(port, ROUND_TRIP))
             stack.enter_context(captured(self.capture, port))
             self.download(near, "-w24", "-W16")
-        self.check(request_of(by_port(answer(self.capture), port), "/large"), "connection-window", ("round-trip",), "client")
+        self.check(
+            request_of(by_port(answer(self.capture), port), "/large"), "connection-window", ("round-trip",), "client"
+        )
 
     def test_named_settings(self) -> None:
         """Where an initial window is too small, the answer names the SETTINGS that set it and its acknowledgement."""
@@ -132,7 +134,9 @@ class Clients(Causes):
         request = request_of(by_port(found, port), "/large")
         self.check(request, "stream-window", ("granted-late",), "client")
         self.assertGreater(request["server"]["shares"]["stream_stall"], 900_000_000)
-        self.assertEqual((found["summary"]["held_back"], found["summary"]["hung"], found["summary"]["faults"]), (1, 0, 0))
+        self.assertEqual(
+            (found["summary"]["held_back"], found["summary"]["hung"], found["summary"]["faults"]), (1, 0, 0)
+        )
         self.assertIn("/large?secret=1", text("--query", self.capture))
         self.assertNotIn("secret", text(self.capture))
         self.assertNotIn("/large", text("--no-requests", self.capture) + str(answer("--no-requests", self.capture)))
@@ -201,7 +205,11 @@ class Clients(Causes):
         goaway = [one for one in connection["signals"] if one["word"] == "GOAWAY"]
         self.assertEqual([(one["side"], one["code_name"]) for one in goaway], [("server", "FLOW_CONTROL_ERROR")])
         self.assertEqual(len(connection["notes"]), 1, connection["notes"])
-        for words in ("never acknowledged", "6.9.2", f"GOAWAY FLOW_CONTROL_ERROR in packet {goaway[0]['at']['packet']}"):
+        for words in (
+            "never acknowledged",
+            "6.9.2",
+            f"GOAWAY FLOW_CONTROL_ERROR in packet {goaway[0]['at']['packet']}",
+        ):
             self.assertIn(words, connection["notes"][0])
         self.assertEqual(connection["faults"], [])
 
@@ -229,7 +237,7 @@ class Applications(Causes):
         import grpc  # type: ignore[import]
 
         def watch(_: bytes, __: Any) -> Any:
-            for _ in range(4000):
+            for _turn in range(4000):
                 yield bytes(10_000)
 
         def sleeps(_: bytes, __: Any) -> bytes:

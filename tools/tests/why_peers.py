@@ -125,7 +125,22 @@ def proxy_to(port: int, round_trip: float) -> Iterator[int]:
 def captured(path: pathlib.Path, *ports: int) -> Iterator[None]:
     """Captures the packets of some ports on loopback, whole."""
     ways = " or ".join(f"tcp port {port}" for port in ports)
-    words = ["tcpdump", "-i", "lo", "-U", "--immediate-mode", "-s", "0", "-B", "65536", "-Z", "root", "-w", str(path), ways]
+    words = [
+        "tcpdump",
+        "-i",
+        "lo",
+        "-U",
+        "--immediate-mode",
+        "-s",
+        "0",
+        "-B",
+        "65536",
+        "-Z",
+        "root",
+        "-w",
+        str(path),
+        ways,
+    ]
     child = subprocess.Popen(words, stderr=subprocess.PIPE)
     assert child.stderr
     child.stderr.readline()
@@ -293,7 +308,9 @@ class RawClient:
         )
         self.write(frame(1, 5, stream, block))
 
-    def read_until(self, is_enough: Callable[[list[tuple[int, int, int, bytes]]], bool], seconds: float = PATIENCE) -> None:
+    def read_until(
+        self, is_enough: Callable[[list[tuple[int, int, int, bytes]]], bool], seconds: float = PATIENCE
+    ) -> None:
         """Reads frames until enough came, or for so many seconds; SETTINGS are acknowledged."""
         until = time.monotonic() + seconds
         while not is_enough(self.frames) and (left := until - time.monotonic()) > 0:

@@ -44,17 +44,22 @@ def answer_of(sources: Sources, wanted: Wanted, progress: Callable[[int, int], N
     made = iter(sources.made.opened)
     for number, outcome in enumerate(outcomes, 1):
         progress(number, len(outcomes))
+        audit, opened = next(audits, None), next(made, None)
+        if audit is None or opened is None or not are_one(outcome, audit, opened, sources.origin):
+            raise Broken("the report is not about the capture that was made")
         if outcome.form == "refused":
             answer.connections.append(without_audit(number, outcome, sources))
             continue
-        audit, opened = next(audits, None), next(made, None)
-        if audit is None or opened is None or audit.opening.record != opened.record:
-            raise Broken("the report is not about the capture that was made")
         course = sources.courses.connections.get(number) or Course(outcome.client, outcome.server)
         answer.connections.append(connection_said(number, outcome, audit, opened, course, sources, wanted))
     answer.not_audited = not_audited(answer, sources.origin)
     answer.warnings = doubts_of(answer, sources.origin, sources.courses) + answer.warnings
     return answer
+
+
+def are_one(outcome: Outcome, audit: Audit, opened: Opened, origin: Origin) -> bool:
+    """Whether map, report and capture mean the same opening. Of a refused connection it was made too."""
+    return audit.opening.record == opened.record and origin.packet(opened.record) == (outcome.file, outcome.packet)
 
 
 def audits_of(report: BinaryIO) -> Iterator[Audit]:

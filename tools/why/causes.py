@@ -189,5 +189,3 @@ def window_of(seen: Seen, side: int, stream: int) -> int:
 
 def is_held(nanos: int, request: Request) -> bool:
     return nanos >= LEAST_HELD and nanos * HELD_SHARE >= request.nanos
-
-

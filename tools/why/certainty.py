@@ -56,7 +56,8 @@ def other_settings(seen: Seen, finding: Finding) -> str:
         return ""
     if not is_gone:
         return ""
-    return f"it is gone if the SETTINGS in packet {packet} count from there on: {finding.side} had not acknowledged them"
+    gone = f"it is gone if the SETTINGS in packet {packet} count from there on"
+    return f"{gone}: the {finding.side} had not acknowledged them"
 
 
 def settings_at(seen: Seen, side: int, frame: int, identifier: int) -> tuple[int, int, list[int]]:

@@ -118,5 +118,3 @@ def sides_that_closed(seen: Seen) -> list[str]:
         if seen.course.rst[side] and not any(one.side == side for one in seen.told.goaways):
             said.append(SIDES[side])
     return said
-
-

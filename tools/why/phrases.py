@@ -186,5 +186,3 @@ class Phrases:
             return None
         whole = connection.after(cause.first.frame) if connection else None
         return min(found, FIRST_CREDIT if whole is None else whole)
-
-

@@ -31,6 +31,8 @@ NAME = "h2audit-why"
 FAULTS, NOTHING_AUDITED = 1, 6
 IMPORTED, AUDITED = (0, 6), (0, 1)
 SECONDS_BEFORE_PROGRESS = 2.0
+# What the import says, and the answer says too.
+SAID_HERE = ("no connection could be read", "times go back")
 
 
 def arguments(words: list[str]) -> argparse.Namespace:
@@ -39,8 +41,15 @@ def arguments(words: list[str]) -> argparse.Namespace:
     )
     parser.add_argument("files", nargs="*", default=[], metavar="CAPTURE",
                         help="pcap or pcapng, also compressed; standard input without one, or as -")  # fmt: skip
-    parser.add_argument("-k", "--key-log", action="append", default=[], metavar="KEYLOG",
-                        help="secrets of TLS connections, as SSLKEYLOGFILE gets them; may stand several times")
+    parser.add_argument(
+        "-k",
+        "--key-log",
+        action="append",
+        default=[],
+        metavar="KEYLOG",
+        help="secrets of TLS connections, as SSLKEYLOGFILE gets them; may stand several times",
+    )
+    parser.add_argument("--sort", action="store_true", help="read several files in the order of their first packets")
     parser.add_argument("--all", action="store_true", help="every request and connection, and not the worst alone")
     parser.add_argument("--query", action="store_true", help="show the query of paths too")
     parser.add_argument("--no-requests", action="store_true", help="leave out the names of requests")
@@ -49,8 +58,12 @@ def arguments(words: list[str]) -> argparse.Namespace:
     form.add_argument("--json-lines", action="store_true", help="a line of JSON for each request")
     parser.add_argument("--color", choices=("auto", "always", "never"), default="auto",
                         help="colours: on a terminal without NO_COLOR, always, or never")  # fmt: skip
-    parser.add_argument("--width", type=number(40, 1000), metavar="N",
-                        help="fold lines at N letters; without it at a terminal's width, and elsewhere not")
+    parser.add_argument(
+        "--width",
+        type=number(40, 1000),
+        metavar="N",
+        help="fold lines at N letters; without it at a terminal's width, and elsewhere not",
+    )
     parser.add_argument("--h2audit", metavar="PROGRAM", help="the program that audits")
     parser.add_argument("--import", dest="importer", metavar="PROGRAM", help="the program that imports")
     parser.add_argument("-V", "--version", action="version", version=f"{NAME} {VERSION}",
@@ -96,13 +109,14 @@ def answered(asked: argparse.Namespace, progress: Progress) -> Answer:
 def imported(asked: argparse.Namespace, importer: str, place: Path, progress: Progress) -> None:
     progress.say("imports")
     words = [importer, "-o", str(place / "made.pcap"), "-m", str(place / "map"), "--course", str(place / "course")]
+    words += ["--sort"] * asked.sort
     for log in asked.key_log:
         words += ["-k", log]
     status, said = run([*words, "--", *(asked.files or ["-"])])
     if status not in IMPORTED:
         raise Failed(status if status in (2, 3, 4, 5) else IO_FAILED, without_name(said))
     for line in said.splitlines():
-        if status == 0 or "no connection could be read" not in line:
+        if not any(words in line for words in SAID_HERE):
             print(f"{NAME}: {printable(without_name(line))}", file=sys.stderr)
 
 

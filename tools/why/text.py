@@ -166,8 +166,8 @@ class Page:
     def open_stall(self, stall: StallSaid) -> str:
         where = f"on stream {stall.stream}" if stall.stream else "of the connection"
         return (
-            f"the {SIDES[stall.side]}'s credit {where} was used up in {self.packet(stall.begin)}, and no grant was seen "
-            f"in the {time_of(stall.nanos)} that followed"
+            f"the {SIDES[stall.side]}'s credit {where} was used up in {self.packet(stall.begin)}, and no grant was "
+            f"seen in the {time_of(stall.nanos)} that followed"
         )
 
     def ending(self, one: ConnectionSaid) -> Iterator[str]:
