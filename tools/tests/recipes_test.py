@@ -21,7 +21,7 @@ from collections.abc import Iterator
 TOP = pathlib.Path(__file__).resolve().parents[2]
 PAIR = re.compile(r"^```sh\n(.*?)^```\n+```text\n(.*?)^```$", re.M | re.S)
 LINK = re.compile(r"\]\(([^)#:]+)(?:#[^)]*)?\)")
-IMPORTS = re.compile("h2audit-(any|import) ")
+IMPORTS = re.compile("h2audit-(any|import|why) ")
 AWKS = {awk: path for awk in ("mawk", "gawk", "original-awk") if (path := shutil.which(awk))}
 
 
@@ -51,7 +51,8 @@ def tools_folder(folder: str, program: pathlib.Path, awk: str) -> pathlib.Path:
     bin_of = pathlib.Path(folder, awk)
     bin_of.mkdir()
     (bin_of / "h2audit").symlink_to(program)
-    for name in ("h2audit-any", "h2audit-comment", "h2audit-fleet", "h2audit-import", "h2audit-page", "h2audit-plot"):
+    for name in ("h2audit-any", "h2audit-comment", "h2audit-fleet", "h2audit-import", "h2audit-page", "h2audit-plot",
+                 "h2audit-why"):
         (bin_of / name).symlink_to(TOP / "tools" / name)
     (bin_of / "awk").symlink_to(AWKS[awk])
     return bin_of

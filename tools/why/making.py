@@ -17,7 +17,7 @@ from report.command import IO_FAILED
 from report.interrupts import SIGNALS
 
 HERE = Path(os.path.realpath(sys.argv[0])).parent
-# Where programs stand: beside this one, as built in the repository, or in the path.
+# Where programs stand: as built in the repository, beside this one, or in the path.
 BUILT = {
     "h2audit": HERE.parent / "crates" / "h2audit_cli" / "out" / "h2audit_cli",
     "h2audit-import": HERE.parent / "companions" / "target" / "release" / "h2audit-import",
@@ -35,10 +35,12 @@ class Failed(Exception):
 
 
 def program_named(name: str, named: str | None) -> str:
-    """The program that the command line or the environment names, else the one beside this one, else the path's."""
+    """The program that the command line or the environment names, else that of the repository, beside this, or the
+    path's.
+    """
     if named := named or os.environ.get(VARIABLES[name]):
         return named
-    for place in (HERE / name, BUILT[name]):
+    for place in (BUILT[name], HERE / name):
         if os.access(place, os.X_OK) and place.is_file():
             return str(place)
     if found := shutil.which(name):

@@ -36,13 +36,14 @@ class Page:
         if self.width is None or len(text) <= self.width:
             yield self.paint(text, colour)
             return
-        line = ""
-        for word in text.split(" "):
-            if line.strip() and len(line) + 1 + len(word) > self.width:
-                yield self.paint(line, colour)
+        first, *words = text.lstrip(" ").split(" ")
+        line = " " * (len(text) - len(text.lstrip(" "))) + first
+        for word in words:
+            if word and len(line) + 1 + len(word) > self.width:
+                yield self.paint(line.rstrip(" "), colour)
                 line = indent + word
             else:
-                line = f"{line} {word}" if line else word
+                line += " " + word
         yield self.paint(line, colour)
 
     def lines(self) -> Iterator[str]:
@@ -89,7 +90,7 @@ class Page:
             head += f"   round trip {time_of(one.round_trip.nanos)}{SOURCES[one.round_trip.source or 'handshake']}"
         if one.captured_at:
             head += ", captured " + (f"at the {one.captured_at}" if one.captured_at in SIDES else "between the peers")
-        yield self.paint(head, BOLD)
+        yield from self.folded(head, "  ", BOLD)
         for fault in one.faults if self.is_all else one.faults[:MOST_FAULTS]:
             yield from self.fault(fault)
         if not self.is_all and len(one.faults) > MOST_FAULTS:
@@ -178,12 +179,14 @@ class Page:
         if ended.how in ("FIN", "RST") and ended.side is not None:
             has_goaway = any(said.word == "GOAWAY" and said.side == ended.side for said in one.signals)
             without = "" if has_goaway else ", no GOAWAY"
-            yield f"  ended by the {SIDES[ended.side]}: {ended.how}, {self.packet(ended.at)}{without}"
+            yield from self.folded(
+                f"  ended by the {SIDES[ended.side]}: {ended.how}, {self.packet(ended.at)}{without}", "    "
+            )
         elif ended.how == "capture":
-            yield f"  the capture ends with it open, {self.packet(ended.at)}"
+            yield from self.folded(f"  the capture ends with it open, {self.packet(ended.at)}", "    ")
         if one.stopped_at:
             place = f"frame {one.stopped_at.frame}, {self.packet(one.stopped_at)}"
-            yield f"  the audit stopped at {place}: nothing is judged past it"
+            yield from self.folded(f"  the audit stopped at {place}: nothing is judged past it", "    ")
 
     def signal(self, signal: Signal) -> str:
         said = f"ended by the {SIDES[signal.side]}: " if signal.word == "GOAWAY" else f"the {SIDES[signal.side]} sent "
