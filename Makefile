@@ -8,8 +8,8 @@ SPLIT = crates/h2audit_split/out/h2audit_split
 # The capture whose report "make believed" computes from the definitions.
 RUN ?= examples/negative_window.pcap
 # Programs in Python beside these, and the packages that they share.
-PYTHON_PROGRAMS = h2audit-any h2audit-comment h2audit-fleet h2audit-import h2audit-merge h2audit-page h2audit-plot
-PYTHON_PACKAGES = comment fleet import/h2audit_import page page/assets plot report split
+PYTHON_PROGRAMS = h2audit-any h2audit-comment h2audit-fleet h2audit-import h2audit-merge h2audit-page h2audit-plot h2audit-why
+PYTHON_PACKAGES = comment fleet import/h2audit_import page page/assets plot report split why
 BESIDE = $(PYTHON_PROGRAMS) h2audit-split
 FIRST = examples/negative_window_tomcat.pcap examples/stream_overrun_go.pcap
 # The parts of "make check", the longest first.

@@ -23,7 +23,7 @@ from companions import companion
 TOP = pathlib.Path(__file__).resolve().parents[2]
 PAIR = re.compile(r"^```sh\n(.*?)^```\n+```text\n(.*?)^```$", re.M | re.S)
 LINK = re.compile(r"\]\(([^)#:]+)(?:#[^)]*)?\)")
-IMPORTS = re.compile("h2audit-(any|import) ")
+IMPORTS = re.compile("h2audit-(any|import|why) ")
 AWKS = {awk: path for awk in ("mawk", "gawk", "original-awk") if (path := shutil.which(awk))}
 
 
@@ -53,7 +53,7 @@ def tools_folder(folder: str, program: pathlib.Path, awk: str) -> pathlib.Path:
     bin_of = pathlib.Path(folder, awk)
     bin_of.mkdir()
     (bin_of / "h2audit").symlink_to(program)
-    for name in ("h2audit-fleet", "h2audit-import", "h2audit-page", "h2audit-plot"):
+    for name in ("h2audit-fleet", "h2audit-import", "h2audit-page", "h2audit-plot", "h2audit-why"):
         (bin_of / name).symlink_to(TOP / "tools" / name)
     for name in ("h2audit-any", "h2audit-comment", "h2audit-merge"):
         (bin_of / name).symlink_to(companion(name))

@@ -20,6 +20,8 @@ needed+=(libjs-dygraphs chromium chromium-driver python3-selenium)
 needed+=(python3-cryptography python3-zstandard zstd tcpdump openssl)
 # Of many captures and their tests.
 needed+=(python3-distributed sqlite3 parallel iproute2)
+# Of the answer in words and its tests: real servers and clients.
+needed+=(python3-hpack python3-jsonschema python3-grpcio nginx-light nghttp2-client nghttp2-server h2o caddy nodejs curl)
 built=crates/h2audit_cli/out/h2audit_cli
 split=crates/h2audit_split/out/h2audit_split
 work=$(mktemp -d)
@@ -128,6 +130,11 @@ try_built 'many captures: large imports, lost workers' tools/tests/fleet_imports
 try_built 'many captures: large imports on a cluster' tools/tests/fleet_imports_test.py "$built" OnCluster
 try 'many captures: without daemons' tools/tests/fleet_collect_test.py "${audits[@]}"
 try 'install and package' tools/tests/package_test.sh "$program" "$split"
+try_built 'the answer in words: captures' tools/tests/why_test.py "$built"
+try_built 'the answer in words: hostile captures' tools/tests/why_hostile_test.py "$built"
+try_built 'the answer in words: words' tools/tests/why_words_test.py "$built"
+try_built 'the answer in words: windows of real peers' tools/tests/why_causes_test.py "$built" Windows
+try_built 'the answer in words: real clients and applications' tools/tests/why_causes_test.py "$built" Clients Applications
 try_built 'refused growths, threads, reads and writes' tools/tests/refusals_test.py "$built"
 try_built 'threads that are started' tools/tests/threads_test.py "$built"
 try_built 'random bytes, and reads of any length' tools/tests/calls_test.py "$built"
