@@ -13,7 +13,9 @@ from typing import BinaryIO, NoReturn
 
 from report.interrupts import Waiting
 
-OK, WRONG_WORDS, REFUSED, IO_FAILED, MISSING = 0, 2, 3, 4, 5
+OK, WRONG_WORDS, REFUSED, IO_FAILED, NO_MEMORY = 0, 2, 3, 4, 5
+# A library that is missing is refused to be done without, by its package's name.
+MISSING = REFUSED
 # No number of a command line has more digits.
 DIGITS = r"\d{1,20}"
 # So many bytes are read at a time.

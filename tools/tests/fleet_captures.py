@@ -50,6 +50,25 @@ class Sample:
     def digest(self) -> str:
         return hashlib.sha256(self.capture).hexdigest()
 
+    @property
+    def has_http2(self) -> bool:
+        return " http2 frames " in self.report
+
+
+def beside(name: str) -> pathlib.Path:
+    """A program of the repository beside h2audit, by its name: in Python, or built."""
+    script = TOP / "tools" / name
+    return script if script.exists() else TOP / "companions" / "target" / "release" / name
+
+
+def summary(samples: list[Sample]) -> str:
+    """The last line on these captures, each of which was audited or refused."""
+    faults = sum(sample.status == 1 for sample in samples)
+    nothing = sum(not sample.has_http2 for sample in samples)
+    refused = sum(sample.status == 3 for sample in samples)
+    said = f"{len(samples)} captures: {faults} with faults, {nothing} in which nothing was audited"
+    return said + f" ({refused} refused)" * bool(refused)
+
 
 def until(is_done: Callable[[], bool], what: Callable[[], str] = str) -> None:
     """Waits for a condition with patience; where it does not come true `what` says more."""
@@ -108,13 +127,19 @@ class Machine:
         self.folder = pathlib.Path(self.held.name)
         for name in ("bin", "captures", "notes", "temporary"):
             (self.folder / name).mkdir()
-        (self.bin / "h2audit").symlink_to(STAND_IN)
+        for name in ("h2audit", "h2audit-any"):
+            self.link(name, STAND_IN)
         for sample in self.samples:
             (self.captures / f"{sample.name}.pcap").write_bytes(sample.capture)
         return self
 
     def __exit__(self, *_: object) -> None:
         self.held.cleanup()
+
+    def link(self, name: str, program: str | pathlib.Path) -> None:
+        """Puts a program in the path, by this name."""
+        (self.bin / name).unlink(missing_ok=True)
+        (self.bin / name).symlink_to(program)
 
     @property
     def bin(self) -> pathlib.Path:

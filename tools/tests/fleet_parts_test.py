@@ -14,7 +14,7 @@ import subprocess
 import sys
 import unittest
 
-from fleet_captures import PATIENCE, PROGRAM, TOP, Machine, Ran, by_hand
+from fleet_captures import PATIENCE, PROGRAM, TOP, Machine, Ran, beside, by_hand
 
 sys.path[:0] = [str(TOP / "tools"), str(TOP / "bench"), str(TOP / "tests")]
 
@@ -24,7 +24,6 @@ from fleet import tasks  # noqa: E402
 
 SPLIT = TOP / "crates" / "h2audit_split" / "out" / "h2audit_split"
 STAND_IN = TOP / "tools" / "tests" / "split_stand_in"
-MERGE = TOP / "tools" / "h2audit-merge"
 
 
 def over_ipv6(capture: bytes) -> bytes:
@@ -50,12 +49,11 @@ class Beside(unittest.TestCase):
         self.machine = Machine([], None)
         self.machine.__enter__()
         self.addCleanup(self.machine.__exit__)
-        (self.machine.bin / "h2audit").unlink()
         programs: dict[str, str | pathlib.Path] = {
-            "h2audit": str(PROGRAM), "h2audit-any": TOP / "tools" / "h2audit-any", "h2audit-merge": MERGE,
+            "h2audit": str(PROGRAM), "h2audit-any": beside("h2audit-any"), "h2audit-merge": beside("h2audit-merge"),
             "h2audit-split": SPLIT if SPLIT.exists() else STAND_IN}
         for name, program in programs.items():
-            (self.machine.bin / name).symlink_to(program)
+            self.machine.link(name, program)
 
     def large(self) -> pathlib.Path:
         path = self.machine.captures / "large.pcap"
@@ -149,8 +147,7 @@ class Parts(Beside):
 
     def test_too_large(self) -> None:
         """A part that would be too large is named, and the other parts stand."""
-        (self.machine.bin / "h2audit-split").unlink()
-        (self.machine.bin / "h2audit-split").symlink_to(STAND_IN)
+        self.machine.link("h2audit-split", STAND_IN)
         large = self.large()
         os.environ["FLEET_MOST"] = "450000"
         self.addCleanup(os.environ.pop, "FLEET_MOST")
