@@ -16,6 +16,7 @@ from pathlib import Path
 from types import TracebackType
 from typing import Any
 
+from fleet import programs
 from fleet.carrier import Client, Future
 
 PACKAGES = Path(__file__).resolve().parents[1]
@@ -65,15 +66,18 @@ class Task(Future):
 
 
 class Worker:
-    """A process that does tasks, in a session of its own, so that keys of the terminal do not reach it."""
+    """A process that does tasks, in a session of its own, so that keys of the terminal do not reach it. It ends with the
+    thread that began it.
+    """
 
     def __init__(self) -> None:
         here, there = multiprocessing.Pipe()
         self.connection: Connection = here
         with there:
             self.process = subprocess.Popen(
-                [sys.executable, "-c", BEGIN, str(PACKAGES), str(there.fileno())], pass_fds=[there.fileno()],
-                stdin=subprocess.DEVNULL, stdout=subprocess.DEVNULL, stderr=subprocess.DEVNULL, start_new_session=True)
+                [*programs.tied(), sys.executable, "-c", BEGIN, str(PACKAGES), str(there.fileno())],
+                pass_fds=[there.fileno()], stdin=subprocess.DEVNULL, stdout=subprocess.DEVNULL,
+                stderr=subprocess.DEVNULL, start_new_session=True)
 
     def do(self, task: Task) -> None:
         """Does a task, which ends with what the worker says or, where that is lost, as such."""

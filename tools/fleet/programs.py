@@ -73,6 +73,11 @@ def run(words: Sequence[str], source: int | None, output: IO[bytes], seconds: fl
         return Run(status, last_line(said), time.monotonic() - begin, is_late.is_set(), size, digest)
 
 
+def tied() -> list[str]:
+    """The words before a command whose process ends with the thread that begins it, however that ends."""
+    return ["setpriv", "--pdeathsig", "KILL", "--"] if shutil.which("setpriv") else []
+
+
 @contextmanager
 def child_of(words: Sequence[str], has_input: bool, handed: tuple[int, ...], output: IO[bytes],
              said: IO[bytes]) -> Iterator[subprocess.Popen[bytes]]:
@@ -81,9 +86,8 @@ def child_of(words: Sequence[str], has_input: bool, handed: tuple[int, ...], out
     It does not outlive its worker for long: one that is fed comes to the end of its capture, and any other is tied to
     the worker.
     """
-    tied = [] if has_input or not shutil.which("setpriv") else ["setpriv", "--pdeathsig", "KILL", "--"]
     child = subprocess.Popen(
-        [*tied, *words], stdin=subprocess.PIPE if has_input else subprocess.DEVNULL, stdout=output, stderr=said,
+        [*([] if has_input else tied()), *words], stdin=subprocess.PIPE if has_input else subprocess.DEVNULL, stdout=output, stderr=said,
         bufsize=0, pass_fds=handed, start_new_session=True)
     try:
         yield child
