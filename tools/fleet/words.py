@@ -3,7 +3,6 @@
 import argparse
 from dataclasses import dataclass
 
-from fleet import VERSION
 from report.command import Words, number
 
 MEGABYTE = 1000000
@@ -65,8 +64,7 @@ def parser() -> Words:
                        help="enter the reports that h2audit-any left in DIR, and audit nothing")
     add_audit(words)
     add_workers(words)
-    words.add_argument("-V", "--version", action="version", version=f"h2audit-fleet {VERSION}",
-                       help="print the version")
+    words.add_version()
     return words
 
 

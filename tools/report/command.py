@@ -11,10 +11,11 @@ import sys
 from collections.abc import Callable, Iterator
 from typing import BinaryIO, NoReturn
 
+from report import VERSION
 from report.interrupts import Waiting
 
 OK, WRONG_WORDS, REFUSED, IO_FAILED, NO_MEMORY = 0, 2, 3, 4, 5
-# A library that is missing is refused to be done without, by its package's name.
+# Of a library that is missing, by its package's name. 5 is for want of memory alone, in all programs.
 MISSING = REFUSED
 # No number of a command line has more digits.
 DIGITS = r"\d{1,20}"
@@ -24,6 +25,12 @@ BUFFER = 2**18
 
 class Words(argparse.ArgumentParser):
     """A command line of which one line says what is wrong with it."""
+
+    def add_version(self) -> None:
+        """The option that all programs have beside --help."""
+        self.add_argument(
+            "-V", "--version", action="version", version=f"{self.prog} {VERSION}", help="print the version"
+        )
 
     def error(self, message: str) -> NoReturn:
         self.exit(WRONG_WORDS, f"{self.prog}: {printable(message)}\n")
@@ -75,16 +82,25 @@ def hold_standard_files() -> None:
 
 
 def run(main: Callable[[list[str]], int]) -> NoReturn:
-    """Runs a program by its words."""
+    """Runs a program by its words, and ends with its status; help and version have one too."""
     hold_standard_files()
-    leave(main(sys.argv[1:]))
+    program = os.path.basename(sys.argv[0])
+    try:
+        status = main(sys.argv[1:])
+    except SystemExit as ended:
+        status = ended.code if isinstance(ended.code, int) else OK
+    except MemoryError:
+        status = failed(program, NO_MEMORY, "out of memory")
+    leave(status, program)
 
 
-def leave(status: int) -> NoReturn:
-    """Ends without a second complaint where standard output is a closed pipe."""
+def leave(status: int, program: str = "") -> NoReturn:
+    """Ends once all is written. Where it cannot be, one line says so, but none where the program has said it."""
     try:
         sys.stdout.flush()
-    except OSError:
+    except OSError as why:
         os.dup2(os.open(os.devnull, os.O_WRONLY), 1)
+        if program and status != IO_FAILED:
+            failed(program, IO_FAILED, f"standard output: {why.strerror}")
         status = IO_FAILED
     sys.exit(status)
