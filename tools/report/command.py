@@ -9,7 +9,7 @@ import os
 import re
 import sys
 from collections.abc import Callable, Iterator
-from typing import BinaryIO, NoReturn
+from typing import IO, BinaryIO, NoReturn
 
 from report import VERSION
 from report.interrupts import Waiting
@@ -32,6 +32,11 @@ class Words(argparse.ArgumentParser):
             "-V", "--version", action="version", version=f"{self.prog} {VERSION}", help="print the version"
         )
 
+    def _print_message(self, message: str, file: IO[str] | None = None) -> None:
+        """Where help or version cannot be written, that is an error: later versions of argparse pass over it."""
+        if message:
+            (file or sys.stderr).write(message)
+
     def error(self, message: str) -> NoReturn:
         self.exit(WRONG_WORDS, f"{self.prog}: {printable(message)}\n")
 
@@ -53,7 +58,8 @@ def printable(text: str) -> str:
 
 
 def failed(program: str, status: int, why: str) -> int:
-    print(f"{program}: {printable(why)}", file=sys.stderr)
+    with contextlib.suppress(OSError):
+        print(f"{program}: {printable(why)}", file=sys.stderr)
     return status
 
 
@@ -91,6 +97,8 @@ def run(main: Callable[[list[str]], int]) -> NoReturn:
         status = ended.code if isinstance(ended.code, int) else OK
     except MemoryError:
         status = failed(program, NO_MEMORY, "out of memory")
+    except OSError as why:  # help, version, or what a program prints
+        status = failed(program, IO_FAILED, f"{why.filename or 'standard output'}: {why.strerror}")
     leave(status, program)
 
 
