@@ -25,10 +25,10 @@ _h2audit() {
 
 _h2audit_plot() {
     local word=${COMP_WORDS[COMP_CWORD]} before=${COMP_WORDS[COMP_CWORD - 1]}
-    local options='--output --format --connection --stream --panels --by-frame --help -o -h'
+    local options='--output --format --connection --stream --panels --by-frame --title --help --version -o -t -h -V'
     case $before in
     --format) _h2audit_offer -W 'svg png' -- "$word" ;;
-    --connection | --stream | --panels) COMPREPLY=() ;;
+    --connection | --stream | --panels | --title | -t) COMPREPLY=() ;;
     *)
         case $word in
         -*) _h2audit_offer -W "$options" -- "$word" ;;
@@ -52,7 +52,7 @@ _h2audit_page() {
     --title | -t) COMPREPLY=() ;;
     *)
         case $word in
-        -*) _h2audit_offer -W '--output --title --help -o -t -h' -- "$word" ;;
+        -*) _h2audit_offer -W '--output --title --help --version -o -t -h -V' -- "$word" ;;
         *) _h2audit_offer -f -- "$word" ;;
         esac
         ;;
@@ -113,8 +113,9 @@ _h2audit_why() {
 
 _h2audit_fleet() {
     local word=${COMP_WORDS[COMP_CWORD]} before=${COMP_WORDS[COMP_CWORD - 1]}
-    local options='--db --list --resume --reports --collect --keys --import --timeout --retries --split-above --scratch --jobs'
-    options+=' --dashboard --scheduler --tls-ca --tls-cert --tls-key --unencrypted --version --help -k -j -V -h'
+    local options='--db --list --resume --require-http2 --reports --collect --keys --import --timeout --retries --split-above'
+    options+=' --scratch --jobs --dashboard --scheduler --tls-ca --tls-cert --tls-key --unencrypted --version --help'
+    options+=' -k -j -V -h'
     case $before in
     --import) _h2audit_offer -W 'auto always never' -- "$word" ;;
     --split-above) _h2audit_offer -W '0 256 512 1024' -- "$word" ;;

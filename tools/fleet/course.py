@@ -17,8 +17,7 @@ from functools import partial
 from typing import Any
 
 from fleet import tasks
-from fleet.carrier import Client, Future, KilledWorker
-from fleet.cluster import threads_of
+from fleet.carrier import Client, Future
 from fleet.tasks import Answer, Order
 from fleet.walk import Found
 
@@ -96,6 +95,8 @@ class Course:
         self.waiting.extend(Capture(found, tasks.parts_of(found.size, self.order)) for found in captures)
         if self.limits.scratch is not None:
             self.scratch = tempfile.mkdtemp(prefix="h2audit-fleet-", dir=self.limits.scratch)
+            self.order = self.order.copy()
+            self.order["scratch"] = self.scratch
         try:
             while tick():
                 self.fill()
@@ -146,7 +147,7 @@ class Course:
             return self.threads
         self.threads, self.next_look = 0, now + LOOK_SECONDS
         with suppress(OSError):
-            self.threads = threads_of(self.client)
+            self.threads = self.client.threads()
         if self.threads:
             self.last_seen = now
         elif now - self.last_seen > NO_WORKER_SECONDS:
@@ -160,7 +161,7 @@ class Course:
         for capture in captures:
             capture.tries += 1
         paths = [capture.found.path for capture in captures]
-        future = self.client.submit(tasks.audit_all, paths, self.order, pure=False, priority=USUAL)
+        future = self.client.submit(tasks.audit_all, paths, self.order, priority=USUAL)
         self.fly(future, partial(self.after_all, captures))
 
     def begin(self, capture: Capture) -> None:
@@ -187,7 +188,7 @@ class Course:
     def submit(self, capture: Capture, after: Callable[[Capture, Answer], None], work: Callable[..., Answer],
                *words: Any, tries: int = 1) -> None:
         priority = LAST if max(capture.tries, tries) > 1 else FIRST if capture.is_large else USUAL
-        future = self.client.submit(work, *words, pure=False, priority=priority)
+        future = self.client.submit(work, *words, priority=priority)
         capture.futures.add(future)
         self.fly(future, partial(after, capture))
 
@@ -216,10 +217,9 @@ class Course:
             # The worker that held the result is gone, and another makes it anew.
             future.add_done_callback(self.done.put)
             return
-        except KilledWorker:
-            answer = {"outcome": "failed", "reason": WORKER_LOST}
         except Exception as why:  # whatever a worker raised, also where its Python is another
-            answer = {"outcome": "failed", "reason": f"worker-failed {type(why).__name__}"}
+            is_lost = isinstance(why, self.client.lost)
+            answer = {"outcome": "failed", "reason": WORKER_LOST} if is_lost else {"outcome": "failed", "reason": f"worker-failed {type(why).__name__}"}
         self.flying.pop(future)(answer)
 
     # What follows a task

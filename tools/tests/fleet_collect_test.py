@@ -11,8 +11,7 @@ import subprocess
 import sys
 import unittest
 
-from companions import companion
-from fleet_captures import PATIENCE, PROGRAM, STAND_IN, TOP, Machine, by_hand
+from fleet_captures import PATIENCE, PROGRAM, TOP, Machine, beside, by_hand
 from fleet_test import rows_by_hand
 
 sys.path.insert(0, str(TOP / "tools"))
@@ -36,10 +35,9 @@ class Collected(unittest.TestCase):
         self.machine.__enter__()
         self.addCleanup(self.machine.__exit__)
         if PROGRAM:
-            (self.machine.bin / "h2audit").unlink()
-            (self.machine.bin / "h2audit").symlink_to(PROGRAM)
-        (self.machine.bin / "h2audit-any").symlink_to(companion("h2audit-any") if PROGRAM else STAND_IN)
-        (self.machine.bin / "h2audit-fleet").symlink_to(TOP / "tools" / "h2audit-fleet")
+            self.machine.link("h2audit", PROGRAM)
+            self.machine.link("h2audit-any", beside("h2audit-any"))
+        self.machine.link("h2audit-fleet", TOP / "tools" / "h2audit-fleet")
         first = self.machine.samples[0]
         (self.machine.captures / f"{first.name}.pcap").rename(self.machine.captures / "a\n'b $(c).pcap")
         self.jobs = self.machine.folder / "jobs"
@@ -68,7 +66,7 @@ class Collected(unittest.TestCase):
         """GNU parallel, and then the same tables; what is changed and audited anew is collected anew."""
         commands = block("h2audit_job()") + block("export -f")
         ran = self.bash(commands.replace("--db audits.sqlite", f"--db {self.machine.database}"))
-        wanted = "5 captures: 3 with faults, 0 refused, 0 failed\n"
+        wanted = "5 captures: 3 with faults, 0 in which nothing was audited\n"
         self.assertEqual((ran.returncode, ran.stdout), (1, wanted), ran.stderr)
         for place in range(5):
             self.check(place)
@@ -109,7 +107,8 @@ class Collected(unittest.TestCase):
         self.job("unended", None)
         self.job("unread", "no status\n")
         status, said, error = self.machine.run("--collect", "jobs")
-        wanted = "7 captures: 0 with faults, 1 refused, 6 failed; 2 did not come to their end\n"
+        wanted = ("7 captures: 0 with faults, 7 in which nothing was audited (1 refused, 6 failed); "
+                  "2 did not come to their end\n")
         self.assertEqual((status, said, error), (3, wanted, ""))
         rows = self.machine.ask(f"SELECT {PATHS}, outcome || ' ' || reason FROM captures")
         found = {name: why for name, why in rows}

@@ -13,9 +13,9 @@ import struct
 import subprocess
 import sys
 import unittest
+from unittest import mock
 
-from companions import companion
-from fleet_captures import PATIENCE, PROGRAM, TOP, Machine, Ran, by_hand
+from fleet_captures import PATIENCE, PROGRAM, TOP, Machine, Ran, beside, by_hand
 
 sys.path[:0] = [str(TOP / "tools"), str(TOP / "bench"), str(TOP / "tests")]
 
@@ -25,7 +25,6 @@ from fleet import tasks  # noqa: E402
 
 SPLIT = TOP / "crates" / "h2audit_split" / "out" / "h2audit_split"
 STAND_IN = TOP / "tools" / "tests" / "split_stand_in"
-ANY, MERGE = companion("h2audit-any"), companion("h2audit-merge")
 
 
 def over_ipv6(capture: bytes) -> bytes:
@@ -51,12 +50,11 @@ class Beside(unittest.TestCase):
         self.machine = Machine([], None)
         self.machine.__enter__()
         self.addCleanup(self.machine.__exit__)
-        (self.machine.bin / "h2audit").unlink()
         programs: dict[str, str | pathlib.Path] = {
-            "h2audit": str(PROGRAM), "h2audit-any": ANY, "h2audit-merge": MERGE,
+            "h2audit": str(PROGRAM), "h2audit-any": beside("h2audit-any"), "h2audit-merge": beside("h2audit-merge"),
             "h2audit-split": SPLIT if SPLIT.exists() else STAND_IN}
         for name, program in programs.items():
-            (self.machine.bin / name).symlink_to(program)
+            self.machine.link(name, program)
 
     def large(self) -> pathlib.Path:
         path = self.machine.captures / "large.pcap"
@@ -73,7 +71,7 @@ class Beside(unittest.TestCase):
         return subprocess.run([str(PROGRAM), *map(str, words)], capture_output=True)
 
     def any(self, *words: object, **more: str) -> Ran:
-        line = [ANY, "--h2audit", PROGRAM, *words]
+        line = [beside("h2audit-any"), "--h2audit", PROGRAM, *words]
         return subprocess.run(list(map(str, line)), capture_output=True, timeout=PATIENCE,
                               env={**self.machine.surroundings, **more})
 
@@ -89,7 +87,7 @@ class Imports(Beside):
         script = (TOP / "examples" / "use_after_reset.script").read_text()
         (self.machine.captures / "six.pcap").write_bytes(over_ipv6(scripts.capture_of(script)))
         status, said, error = self.machine.run("--jobs", "2", "--reports", "reports", "captures")
-        self.assertEqual((status, said, error), (1, "3 captures: 3 with faults, 0 refused, 0 failed\n", ""))
+        self.assertEqual((status, said, error), (1, "3 captures: 3 with faults, 0 in which nothing was audited\n", ""))
         six = wanted["use_after_reset"].report
         for side in "12":
             six = six.replace(f"10.0.0.{side}:", f"[2001:db8::{side}]:")
@@ -104,11 +102,16 @@ class Imports(Beside):
                          [("[2001:db8::1]",), ("[2001:db8::2]:80",)])
 
     def test_no_import(self) -> None:
-        (self.machine.captures / "a.pcapng").write_bytes(bytes.fromhex("0a0d0d0a") + bytes(40))
+        """A program that the path does not have is found beside this one; where it is nowhere, the row says so."""
+        capture = self.machine.captures / "a.pcapng"
+        capture.write_bytes(bytes.fromhex("0a0d0d0a") + bytes(40))
         (self.machine.bin / "h2audit-any").unlink()
         self.assertEqual(self.machine.run("--jobs", "1", "captures")[0], 3)
-        rows = self.machine.ask("SELECT outcome, reason FROM captures")
-        self.assertEqual(rows, [("failed", "no-program h2audit-any")])
+        self.assertEqual(self.machine.ask("SELECT outcome, reason FROM captures"), [("refused", "bad-block")])
+        order: tasks.Order = {"keys": [], "imports": "auto", "timeout": 60.0, "split_above": 0}
+        with mock.patch.dict(os.environ, self.machine.surroundings):
+            answer = tasks.audit(os.fsencode(capture), order)
+        self.assertEqual((answer["outcome"], answer["reason"]), ("failed", "no-program h2audit-any"))
         self.assertEqual(self.machine.run("--jobs", "1", "--resume", "--import", "never", "captures")[0], 3)
         self.assertEqual(self.machine.ask("SELECT outcome, reason FROM captures"), [("refused", "bad-magic")])
 
@@ -150,8 +153,7 @@ class Parts(Beside):
 
     def test_too_large(self) -> None:
         """A part that would be too large is named, and the other parts stand."""
-        (self.machine.bin / "h2audit-split").unlink()
-        (self.machine.bin / "h2audit-split").symlink_to(STAND_IN)
+        self.machine.link("h2audit-split", STAND_IN)
         large = self.large()
         os.environ["FLEET_MOST"] = "450000"
         self.addCleanup(os.environ.pop, "FLEET_MOST")

@@ -6,7 +6,7 @@
 A command is a block ```sh that a block ```text follows. It is run by bash at the top of the repository, where it has
 an awk once with each that is installed. The name h2audit is that of PROGRAM, and those of the programs beside it are
 of tools/ and companions/. Without PROGRAM, h2audit is a stand-in that prints the stored reports of examples/, and
-commands that import are left out.
+commands that import or capture are left out.
 """
 
 import os
@@ -23,7 +23,8 @@ from companions import companion
 TOP = pathlib.Path(__file__).resolve().parents[2]
 PAIR = re.compile(r"^```sh\n(.*?)^```\n+```text\n(.*?)^```$", re.M | re.S)
 LINK = re.compile(r"\]\(([^)#:]+)(?:#[^)]*)?\)")
-IMPORTS = re.compile("h2audit-(any|import|why) ")
+# What the stand-in has no report for.
+NEEDS_PROGRAM = re.compile("h2audit-(any|import|why) |tcpdump -i ")
 AWKS = {awk: path for awk in ("mawk", "gawk", "original-awk") if (path := shutil.which(awk))}
 
 
@@ -79,7 +80,7 @@ def main(words: list[str]) -> int:
         for awk in AWKS:
             bin_of = tools_folder(folder, program, awk)
             for place, command, wanted in recipes():
-                if awk != next(iter(AWKS)) and "awk" not in command or not words and IMPORTS.search(command):
+                if awk != next(iter(AWKS)) and "awk" not in command or not words and NEEDS_PROGRAM.search(command):
                     continue
                 number += 1
                 found = printed(command, bin_of)

@@ -102,6 +102,7 @@ try_built 'random captures by definition' tools/tests/definitions_test.py "$buil
 try_built 'random connections by definition' tools/tests/definitions_test.py "$built" connections
 try 'pictures' tools/tests/plot_test.py
 try 'lines of reports, and who is to blame' tools/tests/report_test.py
+try 'command lines of programs in Python' tools/tests/commands_test.py
 try 'comments of packets: examples' tools/tests/comment_test.py Examples
 try 'comments of packets: forms of captures' tools/tests/comment_test.py Forms
 try 'comments of packets: maps and bad input' tools/tests/comment_test.py Maps BadInput
@@ -122,6 +123,9 @@ try 'many captures: lost workers, memory, time' tools/tests/fleet_test.py \
 try 'many captures: Ctrl-C and resumption' tools/tests/fleet_test.py Course.test_{interrupted,ended_at_start,resumed}
 try 'many captures: names and refusals' tools/tests/fleet_test.py Words Schema
 try 'many captures: the database and its writer' tools/tests/fleet_test.py Writer
+try 'many captures: open stalls' tools/tests/fleet_stalls_test.py
+try 'many captures: folders and lists that bring nothing' tools/tests/fleet_unread_test.py Said
+try_built 'many captures: what is not audited' tools/tests/fleet_unread_test.py "$built" Unread
 try 'many captures: a cluster' tools/tests/fleet_cluster_test.py Tls
 try 'many captures: two machines' tools/tests/fleet_cluster_test.py TwoMachines
 try_built 'many captures: imports and parts' tools/tests/fleet_parts_test.py "$built"
