@@ -17,7 +17,7 @@ exit status:
   2    the command line is invalid
   3    some capture was refused or failed, which its row says; all others stand
   4    reading or writing failed: a PATH, the database
-  5    there are no workers: dask is missing, no scheduler answers, h2audit is missing on a worker
+  7    there are no workers: dask is missing, no scheduler answers, h2audit is missing on a worker
   130  ended by Ctrl-C (143 by SIGTERM, 129 by SIGHUP): --resume goes on
 """
 

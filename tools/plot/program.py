@@ -9,7 +9,7 @@ lines, named with their frame and the side that broke the rule. Where there are 
 faults are drawn, and then those with the longest stalls.
 
 Exit status: 0 if the picture was written, 2 for an invalid command line, 3 if the report is refused, 4 if reading or
-writing failed, 5 if matplotlib is not installed. What went wrong is one line on standard error.
+writing failed, 7 if matplotlib is not installed. What went wrong is one line on standard error.
 """
 
 import argparse

@@ -13,7 +13,8 @@ from typing import BinaryIO, NoReturn
 
 from report.interrupts import Waiting
 
-OK, WRONG_WORDS, REFUSED, IO_FAILED, MISSING = 0, 2, 3, 4, 5
+# 5 is want of memory, and 6 that nothing could be read.
+OK, WRONG_WORDS, REFUSED, IO_FAILED, MISSING = 0, 2, 3, 4, 7
 # No number of a command line has more digits.
 DIGITS = r"\d{1,20}"
 # So many bytes are read at a time.

@@ -576,7 +576,8 @@ class BadInput(InFolder):
 
     def test_closed_files(self) -> None:
         """Standard files that are closed are empty, and take everything."""
-        for words, status in ((("-", CAPTURE_REPORT, "-o", self.out), 3), ((self.CAPTURE, CAPTURE_REPORT, "-o", "-"), 0)):
+        rows = ((("-", CAPTURE_REPORT, "-o", self.out), 3), ((self.CAPTURE, CAPTURE_REPORT, "-o", "-"), 0))
+        for words, status in rows:
             closed = ["bash", "-c", '"$0" "$@" <&- >&-', str(PROGRAM), *map(str, words)]
             done = subprocess.run(closed, capture_output=True)
             said = b"h2audit-comment: capture refused: short-header\n" if status else b""

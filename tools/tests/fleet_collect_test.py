@@ -11,6 +11,7 @@ import subprocess
 import sys
 import unittest
 
+from companions import companion
 from fleet_captures import PATIENCE, PROGRAM, STAND_IN, TOP, Machine, by_hand
 from fleet_test import rows_by_hand
 
@@ -37,7 +38,7 @@ class Collected(unittest.TestCase):
         if PROGRAM:
             (self.machine.bin / "h2audit").unlink()
             (self.machine.bin / "h2audit").symlink_to(PROGRAM)
-        (self.machine.bin / "h2audit-any").symlink_to(TOP / "tools" / "h2audit-any" if PROGRAM else STAND_IN)
+        (self.machine.bin / "h2audit-any").symlink_to(companion("h2audit-any") if PROGRAM else STAND_IN)
         (self.machine.bin / "h2audit-fleet").symlink_to(TOP / "tools" / "h2audit-fleet")
         first = self.machine.samples[0]
         (self.machine.captures / f"{first.name}.pcap").rename(self.machine.captures / "a\n'b $(c).pcap")

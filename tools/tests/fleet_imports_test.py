@@ -20,6 +20,7 @@ import unittest
 import fleet_parts_test as parts
 import pcapng_blocks
 import tls_talk
+from companions import companion
 from fleet_captures import PATIENCE, PROGRAM, TOP, until
 from fleet_cluster_test import Cluster
 
@@ -165,7 +166,7 @@ class Forms(Imported):
         self.pcapng()
         self.by_one_worker()
         too_large = "case $* in *--map*) ;; *) echo 'h2audit: capture refused: too-large' >&2; exit 3 ;; esac"
-        self.instead("h2audit-any", TOP / "tools" / "h2audit-any", too_large)
+        self.instead("h2audit-any", companion("h2audit-any"), too_large)
         self.assertEqual(self.machine.run("--jobs", "1", "captures")[::2], (1, ""))
         self.check_rows()
         self.machine.database.unlink()

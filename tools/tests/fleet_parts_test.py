@@ -14,6 +14,7 @@ import subprocess
 import sys
 import unittest
 
+from companions import companion
 from fleet_captures import PATIENCE, PROGRAM, TOP, Machine, Ran, by_hand
 
 sys.path[:0] = [str(TOP / "tools"), str(TOP / "bench"), str(TOP / "tests")]
@@ -24,7 +25,7 @@ from fleet import tasks  # noqa: E402
 
 SPLIT = TOP / "crates" / "h2audit_split" / "out" / "h2audit_split"
 STAND_IN = TOP / "tools" / "tests" / "split_stand_in"
-MERGE = TOP / "tools" / "h2audit-merge"
+ANY, MERGE = companion("h2audit-any"), companion("h2audit-merge")
 
 
 def over_ipv6(capture: bytes) -> bytes:
@@ -52,7 +53,7 @@ class Beside(unittest.TestCase):
         self.addCleanup(self.machine.__exit__)
         (self.machine.bin / "h2audit").unlink()
         programs: dict[str, str | pathlib.Path] = {
-            "h2audit": str(PROGRAM), "h2audit-any": TOP / "tools" / "h2audit-any", "h2audit-merge": MERGE,
+            "h2audit": str(PROGRAM), "h2audit-any": ANY, "h2audit-merge": MERGE,
             "h2audit-split": SPLIT if SPLIT.exists() else STAND_IN}
         for name, program in programs.items():
             (self.machine.bin / name).symlink_to(program)
@@ -72,7 +73,7 @@ class Beside(unittest.TestCase):
         return subprocess.run([str(PROGRAM), *map(str, words)], capture_output=True)
 
     def any(self, *words: object, **more: str) -> Ran:
-        line = [TOP / "tools" / "h2audit-any", "--h2audit", PROGRAM, *words]
+        line = [ANY, "--h2audit", PROGRAM, *words]
         return subprocess.run(list(map(str, line)), capture_output=True, timeout=PATIENCE,
                               env={**self.machine.surroundings, **more})
 

@@ -8,6 +8,7 @@ use captures::{pcapng, Order, Source};
 use crate::comments::Comments;
 use crate::ended::Ended;
 use crate::options::put_with_comments;
+use crate::Copied;
 
 /// Wireshark reads no longer packet of any kind.
 const LONGEST_PACKET: usize = 128 << 20;
@@ -21,18 +22,28 @@ struct Record {
     original: u32,
 }
 
-/// Writes each record; answers how many they are, and whether the end cuts one.
-pub fn copy(mut source: Source, comments: &mut Comments, out: &mut impl Write) -> Result<(u64, bool), Ended> {
+/// Writes each record.
+pub fn copy(mut source: Source, comments: &mut Comments, out: &mut impl Write) -> Result<Copied, Ended> {
     let header = Header::read(&mut source)?;
     put_heading(&header, out)?;
+    let (packets, is_cut) = put_packets(&header, &mut source, comments, out)?;
+    Ok(Copied { packets, is_cut: is_cut || source.is_cut(), has_bytes_behind: source.has_bytes_behind() })
+}
+
+/// Answers how many records there are, and whether the end cuts one.
+fn put_packets(
+    header: &Header,
+    source: &mut Source,
+    comments: &mut Comments,
+    out: &mut impl Write,
+) -> Result<(u64, bool), Ended> {
     let mut number = 0;
     loop {
         let head = source.fill(RECORD_HEADER_LENGTH)?;
         if head.len() < RECORD_HEADER_LENGTH {
-            let is_cut = !head.is_empty();
-            return Ok((number, is_cut || source.is_cut()));
+            return Ok((number, !head.is_empty()));
         }
-        let record = record_of(&header, head);
+        let record = record_of(header, head);
         let size = RECORD_HEADER_LENGTH + record.captured;
         if record.captured > LONGEST_PACKET {
             return match source.skip(size as u64)? < size as u64 {

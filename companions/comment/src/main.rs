@@ -17,7 +17,7 @@ use std::path::{Path, PathBuf};
 
 use captures::{pcap, pcapng, Source};
 use lexopt::Arg::{Long, Short, Value};
-use programs::{end_cleanly, missing, print, run, say, wrong, Failure, Input, Outcome, Output};
+use programs::{end_cleanly, missing, print, printable, run, say, wrong, Failure, Input, Outcome, Output};
 use reports::grouped;
 
 use comments::{Comments, Findings};
@@ -82,9 +82,12 @@ fn comment(words: &Words) -> Outcome {
         None => 0,
     };
     let comments = Comments::new(findings).map_err(|ended| ended.of_input(&words.report))?;
-    let cut = copy(words, comments)?;
-    if let Some(packet) = cut {
-        say(NAME, &format!("the capture ends within packet {}, which is left out", grouped(packet)));
+    let copied = copy(words, comments)?;
+    if copied.is_cut {
+        say(NAME, &format!("the capture ends within packet {}, which is left out", grouped(copied.packets + 1)));
+    }
+    if copied.has_bytes_behind {
+        say(NAME, &format!("{}: bytes behind the end of what gzip packed were passed over", printable(&words.capture)));
     }
     if elsewhere > 0 {
         say(NAME, &format!("{} findings are about other files of the map", grouped(elsewhere)));
@@ -98,30 +101,37 @@ fn placed(findings: &mut Findings, map: &Path, capture: &Path) -> Result<u64, Fa
     import_map::place(findings, input, capture).map_err(|ended| ended.of_input(map))
 }
 
-/// Writes the capture with its comments, and answers the packet within which it ends, if it does.
-fn copy(words: &Words, mut comments: Comments) -> Result<Option<u64>, Failure> {
+/// What there was in the capture.
+struct Copied {
+    packets: u64,
+    is_cut: bool,
+    has_bytes_behind: bool,
+}
+
+/// Writes the capture with its comments.
+fn copy(words: &Words, mut comments: Comments) -> Result<Copied, Failure> {
     let source =
         Source::open(words.capture.as_os_str()).map_err(|error| Ended::from(error).of_input(&words.capture))?;
     end_cleanly().map_err(|error| Failure::from_io("signals", &error))?;
     let mut output = Output::begin(&words.output)?;
     let copied = copied(source, &mut comments, &mut output);
     match copied {
-        Ok(cut) => output.finish().map(|()| cut),
+        Ok(copied) => output.finish().map(|()| copied),
         Err(Ended::Write(error)) => Err(output.failure(&error)),
         Err(ended) => Err(ended.of_input(&words.capture)),
     }
 }
 
-fn copied(mut source: Source, comments: &mut Comments, output: &mut Output) -> Result<Option<u64>, Ended> {
+fn copied(mut source: Source, comments: &mut Comments, output: &mut Output) -> Result<Copied, Ended> {
     let magic = source.fill(4)?;
-    let (packets, is_cut) = match magic.len() {
+    let copied = match magic.len() {
         4 if magic == pcapng::MAGIC => packets::copy(source, comments, output)?,
         4 if pcap::format_of(magic).is_some() => classic::copy(source, comments, output)?,
         4 => return Err(Ended::refused("bad-magic")),
         _ => return Err(Ended::refused("short-header")),
     };
-    comments.finish(packets)?;
-    Ok(is_cut.then_some(packets + 1))
+    comments.finish(copied.packets)?;
+    Ok(copied)
 }
 
 fn main() {

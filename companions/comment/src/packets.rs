@@ -8,6 +8,7 @@ use captures::Source;
 use crate::comments::Comments;
 use crate::ended::Ended;
 use crate::options::put_with_comments;
+use crate::Copied;
 
 /// Wireshark reads no longer packet of any kind, nor a block that is much longer.
 const LONGEST_BLOCK: usize = 129 << 20;
@@ -22,8 +23,8 @@ struct Copy {
     has_interface: bool,
 }
 
-/// Writes each block; answers how many packets they hold, and whether the end cuts one.
-pub fn copy(source: Source, comments: &mut Comments, out: &mut impl Write) -> Result<(u64, bool), Ended> {
+/// Writes each block.
+pub fn copy(source: Source, comments: &mut Comments, out: &mut impl Write) -> Result<Copied, Ended> {
     let mut blocks = Blocks::new(source, LONGEST_BLOCK);
     let mut copy = Copy::default();
     while let Some(block) = blocks.next()? {
@@ -32,7 +33,8 @@ pub fn copy(source: Source, comments: &mut Comments, out: &mut impl Write) -> Re
     if blocks.is_cut() && copy.number == 0 && !copy.has_interface {
         return Err(Ended::refused("short-header"));
     }
-    Ok((copy.number, blocks.is_cut()))
+    let has_bytes_behind = blocks.source().has_bytes_behind();
+    Ok(Copied { packets: copy.number, is_cut: blocks.is_cut(), has_bytes_behind })
 }
 
 impl Copy {
