@@ -143,3 +143,69 @@ impl Held {
         }
     }
 }
+
+#[cfg(test)]
+mod tests {
+    use super::*;
+    use std::collections::hash_map::RandomState;
+    use std::hash::{BuildHasher, Hasher};
+
+    fn arrival(packet: u64) -> Arrival {
+        Arrival { packet, nanos: 0 }
+    }
+
+    /// Numbers that differ at each run; a failure shows all steps.
+    struct Dice(u64);
+
+    impl Dice {
+        fn below(&mut self, end: u64) -> u64 {
+            self.0 ^= self.0 << 13;
+            self.0 ^= self.0 >> 7;
+            self.0 ^= self.0 << 17;
+            self.0 % end
+        }
+    }
+
+    /// Beside a model that keeps of each offset the first byte that came for it.
+    #[test]
+    fn first_byte_of_each_offset_counts() {
+        let mut dice = Dice(RandomState::new().build_hasher().finish() | 1);
+        for _ in 0..20_000 {
+            let (mut flow, mut given, mut first) = (Flow::default(), Vec::new(), [None; 64]);
+            let mut steps = Vec::new();
+            for packet in 0..1 + dice.below(12) {
+                let offset = dice.below(20);
+                let data: Vec<u8> = (0..1 + dice.below(9)).map(|_| dice.below(256) as u8).collect();
+                steps.push((offset, data.clone()));
+                for (at, byte) in (offset as usize..).zip(&data) {
+                    first[at].get_or_insert(*byte);
+                }
+                given.extend_from_slice(&flow.add(offset as u32, &data, arrival(packet)));
+                let run: Vec<u8> = first.iter().map_while(|byte| *byte).collect();
+                assert_eq!(given, run, "{steps:?}");
+                assert_eq!(flow.next() as usize, run.len(), "{steps:?}");
+                assert_eq!(flow.has_hole(), first[run.len()..].iter().any(Option::is_some), "{steps:?}");
+                assert_eq!(flow.has_hole(), flow.behind_hole().is_some(), "{steps:?}");
+            }
+        }
+    }
+
+    #[test]
+    fn offsets_end() {
+        let mut flow = Flow { next: END_OF_OFFSETS - 2, ..Flow::default() };
+        assert_eq!(&*flow.add(END_OF_OFFSETS - 2, b"abcd", arrival(1)), b"ab");
+        assert_eq!(flow.next(), END_OF_OFFSETS);
+    }
+
+    /// What is held behind a hole is let go at 64 MiB, and the hole stays one.
+    #[test]
+    fn holes_are_not_waited_for_without_bound() {
+        let mut flow = Flow::default();
+        for at in 0..1100 {
+            flow.add(1 + (at << 16), &[0; 1 << 16], arrival(u64::from(at)));
+        }
+        assert!(flow.held.is_none());
+        assert_eq!(flow.behind_hole(), Some(arrival(0)));
+        assert!(flow.add(0, b"a", arrival(2000)).is_empty());
+    }
+}

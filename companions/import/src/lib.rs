@@ -32,8 +32,8 @@ mod tracked;
 mod words;
 
 pub use addresses::{escaped, Addresses};
-pub use course::Course;
 pub use command::sorted;
+pub use course::Course;
 pub use importing::{imported, times_go_back, Asked};
 pub use map::{Files, Map};
 pub use map_file::MapFile;

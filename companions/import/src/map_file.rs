@@ -26,7 +26,8 @@ pub struct MapFile<'a> {
 
 impl<'a> MapFile<'a> {
     pub fn new(out: Option<&'a mut Output>) -> MapFile<'a> {
-        let mut map = MapFile { out, files: Files::default(), addresses: Addresses::default(), failure: None, line: Vec::new() };
+        let mut map =
+            MapFile { out, files: Files::default(), addresses: Addresses::default(), failure: None, line: Vec::new() };
         map.line(format_args!("{FIRST_LINE}"));
         map
     }
@@ -105,7 +106,8 @@ impl Map for MapFile<'_> {
         let (file, packet) = self.files.place(packet);
         let mut digits = [itoa::Buffer::new(), itoa::Buffer::new(), itoa::Buffer::new()];
         let [first, second, third] = &mut digits;
-        let parts = ["record ", first.format(number), " file ", second.format(file), " packet ", third.format(packet), "\n"];
+        let parts =
+            ["record ", first.format(number), " file ", second.format(file), " packet ", third.format(packet), "\n"];
         let mut line = std::mem::take(&mut self.line);
         line.clear();
         parts.iter().for_each(|part| line.extend_from_slice(part.as_bytes()));

@@ -271,3 +271,63 @@ impl<R: BufRead> Read for Utf16<R> {
         Ok(made)
     }
 }
+
+#[cfg(test)]
+mod tests {
+    use super::*;
+
+    fn text() -> String {
+        format!("# a comment\nCLIENT_RANDOM {} {}\r\n", "Ab".repeat(32), "12".repeat(48))
+    }
+
+    fn read(bytes: &[u8]) -> (Option<usize>, u64) {
+        let mut keys = Keys::default();
+        keys.read(bytes).unwrap();
+        (keys.find(&[0xab; 32], Label::Master).map(<[u8]>::len), keys.bad_lines)
+    }
+
+    #[test]
+    fn forms_of_text() {
+        let utf_16 = |number: fn(u16) -> [u8; 2], mark: [u8; 2]| {
+            let units: Vec<u8> = text().encode_utf16().flat_map(number).collect();
+            [&mark[..], &units].concat()
+        };
+        let found = (Some(48), 0);
+        assert_eq!(read(text().as_bytes()), found);
+        assert_eq!(read(&[b"\xEF\xBB\xBF", text().as_bytes()].concat()), found);
+        assert_eq!(read(&utf_16(u16::to_le_bytes, [0xFF, 0xFE])), found);
+        assert_eq!(read(&utf_16(u16::to_be_bytes, [0xFE, 0xFF])), found);
+        assert_eq!(read(b""), (None, 0));
+        assert_eq!(read(b"\xFF\xFE"), (None, 0));
+    }
+
+    #[test]
+    fn lines_that_are_none_are_counted() {
+        let (random, secret) = ("ab".repeat(32), "12".repeat(48));
+        let lines = [
+            format!("CLIENT_RANDOM {random} {secret}zz"),
+            format!("CLIENT_RANDOM {secret}"),
+            secret.repeat(100),
+            format!("CLIENT_RANDOM {} {secret}", &random[2..]),
+            format!("CLIENT_RANDOM {random} {}", &secret[2..]),
+            format!("CLIENT_TRAFFIC_SECRET_0 {random} {secret} more"),
+        ];
+        assert_eq!(read(lines.join("\n").as_bytes()), (None, lines.len() as u64));
+        assert_eq!(read(format!("ANOTHER_LABEL {random} 12\n\n").as_bytes()), (None, 0));
+    }
+
+    /// The last line of a label counts, and each block of secrets names the connections that it is about.
+    #[test]
+    fn secrets_are_found_by_random_and_label() {
+        let mut keys = Keys::default();
+        let line =
+            |label: &str, random: &str, secret: &str| format!("{label} {} {}\n", random.repeat(32), secret.repeat(32));
+        let first = [line("CLIENT_RANDOM", "01", "11"), line("CLIENT_TRAFFIC_SECRET_0", "02", "22")].concat();
+        assert_eq!(keys.add_text(first.as_bytes()), [[1; 32], [2; 32]]);
+        assert_eq!(keys.add_text(line("CLIENT_RANDOM", "01", "33").as_bytes()), [[1; 32]]);
+        assert_eq!(keys.find(&[1; 32], Label::Master), Some(&[0x33; 32][..]));
+        assert_eq!(keys.find(&[1; 32], Label::ClientTraffic), None);
+        assert_eq!(keys.find(&[2; 32], Label::ClientTraffic), Some(&[0x22; 32][..]));
+        assert!(keys.has_of_side(&[2; 32], 0) && !keys.has_of_side(&[2; 32], 1));
+    }
+}

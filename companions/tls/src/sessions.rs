@@ -77,3 +77,22 @@ fn hexadecimal(bytes: &[u8]) -> String {
         text
     })
 }
+
+#[cfg(test)]
+mod tests {
+    use super::*;
+
+    /// A resumed connection gets a ticket of its own, which the next one shows.
+    #[test]
+    fn tickets_in_a_row() {
+        let (mut keys, mut sessions) = (Keys::default(), Sessions::default());
+        keys.add_text(format!("CLIENT_RANDOM {} {}\n", "aa".repeat(32), "12".repeat(48)).as_bytes());
+        sessions.begin(b"first ticket", &[0xaa; 32]);
+        sessions.resume([b"unknown", b"second ticket"], 9, &[0xcc; 32]);
+        sessions.resume([b"first ticket", b""], 5, &[0xbb; 32]);
+        sessions.begin(b"second ticket", &[0xbb; 32]);
+        sessions.resume([b"unknown", b""], 11, &[0xdd; 32]);
+        let wanted = ["bb", "cc"].map(|byte| format!("CLIENT_RANDOM {} {}\n", byte.repeat(32), "12".repeat(48)));
+        assert_eq!(lines_for(&sessions, &keys), wanted.concat().into_bytes());
+    }
+}
