@@ -37,7 +37,7 @@ from signals import SIGNALS, hidden_in, signalled
 
 TOP = pathlib.Path(__file__).resolve().parents[2]
 PROGRAM = companion("h2audit-comment")
-IMPORT = TOP / "tools" / "h2audit-import"
+IMPORT = companion("h2audit-import")
 TLS = TOP / "tests" / "tls"
 AUDIT = pathlib.Path(sys.argv.pop(1)).resolve() if len(sys.argv) > 1 and "/" in sys.argv[1] else None
 EXAMPLES = TOP / "examples"
