@@ -19,7 +19,7 @@ import time
 from collections.abc import Iterator
 from pathlib import Path
 
-from report.command import IO_FAILED, MISSING, OK, REFUSED, Words, failed, io_reason, number, printable
+from report.command import IO_FAILED, MISSING, NO_MEMORY, OK, REFUSED, Words, failed, io_reason, number, printable
 from report.interrupts import Interrupted, end_by, signals_raise
 from report.lines import Refused
 
@@ -191,7 +191,7 @@ def outcome_of(asked: argparse.Namespace) -> int:
     except OSError as why:
         return failed(NAME, IO_FAILED, io_reason(why))
     except MemoryError:
-        return failed(NAME, MISSING, "out of memory")
+        return failed(NAME, NO_MEMORY, "out of memory")
 
 
 def main(words: list[str]) -> int:
