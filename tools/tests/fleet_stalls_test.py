@@ -113,9 +113,7 @@ class Course(unittest.TestCase):
         for script, nanos in ((course, 3100), ("echo 'h2audit-import: unrecognized arguments' >&2; exit 2\n", None)):
             with Machine([], None) as machine:
                 for name, does in (("h2audit-any", f"cat << END\n{HEAD}{OF_SIX}END\n"), ("h2audit-import", script)):
-                    (machine.bin / name).unlink(missing_ok=True)
-                    (machine.bin / name).write_text(f"#!/bin/sh\n{does}")
-                    (machine.bin / name).chmod(0o755)
+                    machine.script(name, does)
                 (machine.captures / "a.pcapng").write_bytes(bytes.fromhex("0a0d0d0a") + bytes(40))
                 self.assertEqual(machine.run("--jobs", "1", "captures")[::2], (0, ""))
                 self.assertEqual(machine.ask("SELECT nanos, milliseconds FROM open_stalls"),

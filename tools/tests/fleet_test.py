@@ -351,6 +351,13 @@ class Words(OneCapture):
                                                                   "file is not a database\n"))
         self.assertEqual(self.machine.database.read_bytes(), b"of no interest")
 
+    def test_dashboard(self) -> None:
+        """With a dashboard dask carries the tasks of this machine."""
+        status, said, error = self.machine.run("--jobs", "1", "--dashboard", "127.0.0.1:0", "captures")
+        self.assertEqual((status, said), (1, f"{summary(self.machine.samples)}\n"))
+        self.assertRegex(error, r"^h2audit-fleet: dashboard at http://127\.0\.0\.1:\d+/status\n$")
+        self.assertEqual(list((self.machine.folder / "temporary").iterdir()), [])
+
     def test_no_program(self) -> None:
         (self.machine.bin / "h2audit").unlink()
         status, said, error = self.machine.run("--jobs", "1", "captures")
@@ -414,9 +421,7 @@ class Writer(OneCapture):
     def test_changed_while_read(self) -> None:
         """A capture that is written to while it is imported is tried again, and is then entered as such."""
         (self.machine.captures / "a.pcapng").write_bytes(bytes.fromhex("0a0d0d0a") + bytes(40))
-        program = self.machine.bin / "h2audit-any"
-        program.write_text(f"#!/bin/sh\necho more >> {self.machine.captures / 'a.pcapng'}\necho a report\n")
-        program.chmod(0o755)
+        self.machine.script("h2audit-any", f"echo more >> {self.machine.captures / 'a.pcapng'}\necho a report\n")
         self.assertEqual(self.machine.run("--jobs", "1", "captures")[0], 3)
         rows = self.machine.ask("SELECT outcome, reason, tries, report_sha256 FROM captures WHERE path LIKE '%.pcapng'")
         self.assertEqual(rows, [("failed", "changed", 3, None)])

@@ -124,10 +124,7 @@ class Unread(parts.Beside):
     def test_import_refused(self) -> None:
         """What h2audit audited stands where an import that might read more is refused."""
         self.capture("both.pcap", self.example + parts.over_ipv6(self.example)[24:])
-        (self.machine.bin / "h2audit-any").unlink()
-        (self.machine.bin / "h2audit-any").write_text(
-            "#!/bin/sh\necho 'h2audit-any: capture refused: address-clash: a' >&2; exit 3\n")
-        (self.machine.bin / "h2audit-any").chmod(0o755)
+        self.machine.script("h2audit-any", "echo 'h2audit-any: capture refused: address-clash: a' >&2; exit 3\n")
         self.assertEqual(self.machine.run("--jobs", "1", "captures"), (
             3, "1 captures: 1 with faults, 0 in which nothing was audited, 1 in part\n", ""))
         self.assertEqual(self.rows("program, outcome, reason"),
