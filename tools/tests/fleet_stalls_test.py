@@ -84,16 +84,16 @@ class Walk(unittest.TestCase):
 COURSE = """h2audit-course 1
 file 1 a.pcapng
 connection 1 client [2001:db8::1]:40000 server [2001:db8::2]:443
-syn 1 file 1 packet 3 time 1000
+syn 1 file 1 packet 3 time 1795331749332001000
 something 1 that a later version says
 connection 2 client [2001:db8::1]:40000 server [2001:db8::2]:443
-syn 2 file 1 packet 30 time 9000
-last 1 client file 1 packet 20 time 5000
-last 1 server file 1 packet 21 time 5100
-last 2 client file 1 packet 40 time 9900
+syn 2 file 1 packet 30 time 1795331749332009000
+last 1 client file 1 packet 20 time 1795331749332005000
+last 1 server file 1 packet 21 time 1795331749332005100
+last 2 client file 1 packet 40 time 1795331749332009900
 """
 SIX = "client [2001:db8::1]:40000 server [2001:db8::2]:443"
-OF_SIX = f"connection 7 {SIX} record 3 http2 frames 5\n{FLOWS}{open_stall(2000)}"
+OF_SIX = f"connection 7 {SIX} record 3 http2 frames 5\n{FLOWS}{open_stall(1795331749332002000)}"
 
 
 class Course(unittest.TestCase):
@@ -102,7 +102,7 @@ class Course(unittest.TestCase):
     def test_course(self) -> None:
         """A connection is known by its endpoints and the packet of its opening, whatever its number is."""
         opened = ends.with_open_stalls(io.BytesIO((HEAD + OF_SIX).encode()))
-        self.assertEqual(ends.by_course(io.BytesIO(COURSE.encode()), opened), {7: 5100})
+        self.assertEqual(ends.by_course(io.BytesIO(COURSE.encode()), opened), {7: 1795331749332005100})
         self.assertEqual(ends.by_course(io.BytesIO(b"h2audit-course 2\n"), opened), {})
         self.assertEqual(ends.by_course(io.BytesIO(b""), opened), {})
 
