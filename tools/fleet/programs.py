@@ -89,8 +89,8 @@ def child_of(words: Sequence[str], has_input: bool, handed: tuple[int, ...], out
     the worker.
     """
     child = subprocess.Popen(
-        [*([] if has_input else tied()), *words], stdin=subprocess.PIPE if has_input else subprocess.DEVNULL, stdout=output, stderr=said,
-        bufsize=0, pass_fds=handed, start_new_session=True)
+        [*([] if has_input else tied()), *words], stdin=subprocess.PIPE if has_input else subprocess.DEVNULL,
+        stdout=output, stderr=said, bufsize=0, pass_fds=handed, start_new_session=True)
     try:
         yield child
     finally:

@@ -136,18 +136,19 @@ class Rows(unittest.TestCase):
         """Each view of stalls counts an open one up to the last packet, as the longest of all here."""
         ended = ("frame 1 record 2 time 2 client stream-stall-begin stream 1 value 0\n"
                  "frame 2 record 3 time 4 client stream-stall-end stream 1 value 9\n")
-        report = HEAD + opening(1, 1) + ended + open_stall(5).replace("stall s", "stall client stream 1 from 1 to 2 nanos "
-                                                                       "2\nstall s", 1)
+        first = "stall client stream 1 from 1 to 2 nanos 2\n"
+        report = HEAD + opening(1, 1) + ended + open_stall(5).replace("stall s", f"{first}stall s", 1)
         packets = [(time, packet(CLIENT, SERVER)) for time in (1, 2, 4, 5, 105)]
         with Machine([Sample("a", capture(packets), 0, "", report)], None) as machine:
             self.assertEqual(machine.run("--jobs", "1", "captures")[::2], (0, ""))
             self.assertEqual(machine.ask("SELECT waited, first, last, open, nanos, endpoint FROM longest_stalls"),
                              [("server", 3, None, 1, 100, words(CLIENT)), ("client", 1, 2, 0, 2, words(SERVER))])
             self.assertEqual(machine.ask("SELECT first, nanos FROM open_stalls"), [(3, 100)])
-            asked = "SELECT peer, stalls, open, longest_milliseconds, total_milliseconds FROM stalls_by_peer ORDER BY peer"
-            self.assertEqual(machine.ask(asked), [("10.0.0.1", 1, 1, 1e-4, 1e-4), ("10.0.0.2:80", 1, 0, 2e-6, 2e-6)])
-            self.assertEqual(machine.ask("SELECT waited, stalls, open, milliseconds FROM still_windows ORDER BY waited"),
-                             [("client", 1, 0, 2e-6), ("server", 1, 1, 1e-4)])
+            wanted = "peer, stalls, open, longest_milliseconds, total_milliseconds"
+            self.assertEqual(machine.ask(f"SELECT {wanted} FROM stalls_by_peer ORDER BY peer"), [
+                ("10.0.0.1", 1, 1, 1e-4, 1e-4), ("10.0.0.2:80", 1, 0, 2e-6, 2e-6)])
+            windows = machine.ask("SELECT waited, stalls, open, milliseconds FROM still_windows ORDER BY waited")
+            self.assertEqual(windows, [("client", 1, 0, 2e-6), ("server", 1, 1, 1e-4)])
 
     def test_examples(self) -> None:
         """The open stalls of examples/, whose connections are alone in their captures."""

@@ -80,7 +80,7 @@ def rows_by_hand(report: str) -> dict[str, list[Row]]:
                                          int(stream), int(value), broke))
             case ["stall", side, _, stream, _, first, *end]:
                 position += 1
-                last, nanos = (None, None) if end == ["open"] else (int(end[1]), int(end[3]))  # open ones: see fleet_stalls_test
+                last, nanos = (None, None) if end == ["open"] else (int(end[1]), int(end[3]))
                 rows["stalls"].append(
                     (connection, position, side, int(stream), int(first), last, nanos, OTHER[side]))
             case ["audit", *how]:
@@ -133,6 +133,7 @@ class Tables(unittest.TestCase):
             for table, rows in rows_by_hand("" if sample.status == 3 else sample.report).items():
                 found = self.rows_of(sample, table)
                 if table == "stalls":
+                    # How long an open one lasted no report says: that is for fleet_stalls_test.
                     found = [row if row[5] else (*row[:6], None, row[7]) for row in found]
                 self.assertEqual(found, rows, f"{sample.name}: {table}")
 
@@ -233,7 +234,7 @@ class Course(unittest.TestCase):
         self.assertEqual((len(after), {path: after[path] for path in before}), (40, before))
 
     def test_ended_at_start(self) -> None:
-        """Ctrl-C, or the end of all processes of the run, as the workers begin: one line of error, and nothing is left."""
+        """Ctrl-C, or the end of all processes of the run, as the workers begin: one line, and nothing is left."""
         machine = self.machine(12)
         for number in (signal.SIGINT, signal.SIGTERM):
             child = machine.start("--jobs", "2", "--resume", "captures", start_new_session=True)
@@ -407,8 +408,8 @@ class Writer(OneCapture):
                           ("none/a", "No such file or directory")):
             with self.assertRaisesRegex((database.Unusable, OSError), why):
                 database.Database(str(self.machine.folder / name), True)
-        for change, why in (("PRAGMA user_version = 1", "its schema is 1, of an older h2audit-fleet, and this one writes 2: name"),
-                            ("PRAGMA user_version = 3", "its schema is 3, of a newer h2audit-fleet, and this one"),
+        for change, why in (("PRAGMA user_version = 1", "schema is 1, of an older h2audit-fleet, and this one writes 2: "),
+                            ("PRAGMA user_version = 3", "schema is 3, of a newer h2audit-fleet, and this one writes 2"),
                             ("PRAGMA application_id = 7", "it is no database of h2audit-fleet")):
             self.machine.database.unlink(missing_ok=True)
             with contextlib.closing(sqlite3.connect(self.machine.database)) as base:

@@ -17,10 +17,9 @@ import tempfile
 import unittest
 from unittest import mock
 
-import fleet_imports_test as imports
 import fleet_parts_test as parts
 import tls_talk
-from fleet_captures import TOP, Machine, by_hand, summary
+from fleet_captures import TOP, Machine, beside, by_hand, summary
 
 sys.path.insert(0, str(TOP / "tools"))
 
@@ -55,7 +54,7 @@ class Unread(parts.Beside):
 
     def setUp(self) -> None:
         super().setUp()
-        self.machine.link("h2audit-import", imports.beside("h2audit-import"))
+        self.machine.link("h2audit-import", beside("h2audit-import"))
         self.example = (TOP / "examples" / f"{EXAMPLE}.pcap").read_bytes()
 
     def capture(self, name: str, content: bytes) -> None:
@@ -104,7 +103,8 @@ class Unread(parts.Beside):
         self.assertEqual({found[name][0] for name in ("mpls.pcap", "udp.pcap")}, {"capture"})
         for name in ("packed.pcap.xz", "unnamed"):
             self.assertRegex(str(found.pop(name)[1]), "^refused: bad-")
-        self.assertEqual(set(found), {"empty.pcap", "nothing.pcap", "mpls.pcap", "udp.pcap", "cut.pcap.gz", "text.pcap"})
+        wanted = {"empty.pcap", "nothing.pcap", "mpls.pcap", "udp.pcap", "cut.pcap.gz", "text.pcap"}
+        self.assertEqual(set(found), wanted)
         self.assertNotIn(None, {reason for _, reason in found.values()})
         self.assertEqual(self.rows("verdict", "verdicts")["udp.pcap"], ("nothing audited",))
 
@@ -203,14 +203,14 @@ class Said(unittest.TestCase):
             (self.machine.captures / name).symlink_to(target)
         (aside / "back").symlink_to(self.machine.captures)
         self.assertEqual(self.machine.run("captures")[::2], (1, ""))
-        found = {path.removeprefix(f"{self.machine.captures}/") for path, in self.machine.ask("SELECT path FROM captures")}
-        self.assertEqual(found, {f"{EXAMPLE}.pcap", "again/b.pcap", "z/c.pcap"})
+        paths = [path.replace(f"{self.machine.captures}/", "") for path, in self.machine.ask("SELECT path FROM captures")]
+        self.assertEqual(sorted(paths), ["again/b.pcap", f"{EXAMPLE}.pcap", "z/c.pcap"])
 
     def test_full_folder(self) -> None:
         """Where the folder for temporary files is full, that is what the reason says."""
         full = self.folder("full")
         surroundings = {"PATH": f"{full}:/usr/bin:/bin", "TMPDIR": str(full)}
-        (full / "h2audit").write_text("#!/bin/sh\necho report\n[ $? = 0 ] || { echo 'h2audit: write failed' >&2; exit 4; }\n")
+        (full / "h2audit").write_text("#!/bin/sh\necho report || { echo 'h2audit: write failed' >&2; exit 4; }\n")
         (full / "h2audit").chmod(0o755)
         order: tasks.Order = {"keys": [], "imports": "never", "timeout": 60.0, "split_above": 0}
         with mock.patch.dict(os.environ, surroundings), mock.patch("tempfile.tempdir", None):
