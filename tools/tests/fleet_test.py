@@ -408,8 +408,8 @@ class Writer(OneCapture):
                           ("none/a", "No such file or directory")):
             with self.assertRaisesRegex((database.Unusable, OSError), why):
                 database.Database(str(self.machine.folder / name), True)
-        for change, why in (("PRAGMA user_version = 1", "schema is 1, of an older h2audit-fleet, and this one writes 2: "),
-                            ("PRAGMA user_version = 3", "schema is 3, of a newer h2audit-fleet, and this one writes 2"),
+        for change, why in (("PRAGMA user_version = 1", "schema is 1, of an older h2audit-fleet, and this one writes"),
+                            ("PRAGMA user_version = 3", "schema is 3, of a newer h2audit-fleet, and this one writes"),
                             ("PRAGMA application_id = 7", "it is no database of h2audit-fleet")):
             self.machine.database.unlink(missing_ok=True)
             with contextlib.closing(sqlite3.connect(self.machine.database)) as base:
