@@ -137,9 +137,11 @@ pictures:
 	tools/tests/wireshark_picture.sh docs/pictures/wireshark_comments.png
 
 # Measures time and memory on generated captures, beside cat. BENCH has more words for bench/measure.py, as
-# make bench BENCH='--peer PROGRAM --shapes bulk,chatty 40'.
+# make bench BENCH='--peer PROGRAM --shapes bulk,chatty 40'. Then h2audit-fleet beside xargs, over sets of captures that
+# BENCH_FLEET names, as BENCH_FLEET='1000 0.05 20 20'.
 bench: $(PROGRAM)
 	python3 bench/measure.py $(PROGRAM) $(BENCH)
+	python3 bench/measure_fleet.py $(PROGRAM) $(BENCH_FLEET)
 
 # Lists the definitions that a reader has to believe, with their lines, and marks those that the report of a capture
 # used.

@@ -219,7 +219,8 @@ class Course:
             return
         except Exception as why:  # whatever a worker raised, also where its Python is another
             is_lost = isinstance(why, self.client.lost)
-            answer = {"outcome": "failed", "reason": WORKER_LOST} if is_lost else {"outcome": "failed", "reason": f"worker-failed {type(why).__name__}"}
+            reason = WORKER_LOST if is_lost else f"worker-failed {type(why).__name__}"
+            answer = {"outcome": "failed", "reason": reason}
         self.flying.pop(future)(answer)
 
     # What follows a task

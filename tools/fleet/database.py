@@ -120,7 +120,9 @@ class Database:
                 self.put_rows(self.put(row), rows_of(unpacked(packed), rows) if packed is not None else ())
                 row |= dict(zip(HEADS, rows.heads))
                 self.put(row)
-        except (Refused, sqlite3.IntegrityError) as why:
+        except (Refused, sqlite3.IntegrityError, OverflowError) as why:
+            # SQLite holds numbers below 2^63.
+            why = Refused("a number of the report is too large") if isinstance(why, OverflowError) else why
             row |= {"outcome": "failed", "reason": f"bad-report: {why}"} | dict.fromkeys(HEADS)
             with self.transaction():
                 self.put_rows(self.put(row), ())

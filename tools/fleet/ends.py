@@ -18,17 +18,17 @@ from fleet import sniff
 # The time of each connection's last packet in nanoseconds, by the connection's number.
 Ends = dict[int, int]
 
-OPENING = re.compile(rb"connection (\d{1,18}) client (\S+) server (\S+) record (\d{1,18}) ")
+OPENING = re.compile(rb"connection (\d{1,20}) client (\S+) server (\S+) record (\d{1,20}) ")
 LONGEST_LINE = 4096
 NANOS = 10**9
 # The magic numbers of captures in nanoseconds; others are in microseconds.
 OF_NANOSECONDS = (b"\x4d\x3c\xb2\xa1", b"\xa1\xb2\x3c\x4d")
 TCP_PORTS = 4
 FIRST_COURSE = b"h2audit-course 1"
-PLACE = rb"file (\d{1,18}) packet (\d{1,18}) time (\d{1,18})"
-OF_COURSE = re.compile(rb"connection (\d{1,18}) client (\S+) server (\S+)")
-SYN_OF_COURSE = re.compile(rb"syn (\d{1,18}) " + PLACE)
-LAST_OF_COURSE = re.compile(rb"last (\d{1,18}) (?:client|server) " + PLACE)
+PLACE = rb"file (\d{1,20}) packet (\d{1,20}) time (\d{1,20})\n"
+OF_COURSE = re.compile(rb"connection (\d{1,20}) client (\S+) server (\S+)\n")
+SYN_OF_COURSE = re.compile(rb"syn (\d{1,20}) " + PLACE)
+LAST_OF_COURSE = re.compile(rb"last (\d{1,20}) (?:client|server) " + PLACE)
 
 
 @dataclass(frozen=True)

@@ -66,8 +66,9 @@ class Task(Future):
 
 
 class Worker:
-    """A process that does tasks, in a session of its own, so that keys of the terminal do not reach it. It ends with the
-    thread that began it.
+    """A process that does tasks.
+
+    It has a session of its own, so keys of the terminal do not reach it, and ends with the thread that began it.
     """
 
     def __init__(self) -> None:

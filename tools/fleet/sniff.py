@@ -13,8 +13,8 @@ CLASSIC = {
     b"\xd4\xc3\xb2\xa1": "<", b"\x4d\x3c\xb2\xa1": "<",
     b"\xa1\xb2\xc3\xd4": ">", b"\xa1\xb2\x3c\x4d": ">",
 }
-# gzip, Zstandard; and pcapng.
-PACKED = (b"\x1f\x8b", b"\x28\xb5\x2f\xfd")
+# gzip, Zstandard, xz, lz4, bzip2; and pcapng.
+PACKED = (b"\x1f\x8b", b"\x28\xb5\x2f\xfd", b"\xfd7zXZ\x00", b"\x04\x22\x4d\x18", b"BZh")
 ELSE = (b"\x0a\x0d\x0d\x0a", *PACKED)
 ETHERNET, RAW_IP = 1, 101
 FILE_HEADER, RECORD_HEADER = 24, 16

@@ -13,7 +13,7 @@ from dataclasses import dataclass, field
 from fleet import sniff
 
 # Names that captures have, with the numbers that rotation adds: a.pcap, a.pcap3, a.pcapng.gz, a.cap.
-USUAL_NAME = re.compile(rb"\.(?:pcap|pcapng|cap|ntar|dmp)[0-9]*(?:\.(?:gz|zst))?$")
+USUAL_NAME = re.compile(rb"\.(?:pcap|pcapng|cap|ntar|dmp)[0-9]*(?:\.(?:gz|zst|xz|lz4|bz2))?$")
 
 
 class NotThere(Exception):

@@ -19,9 +19,11 @@ PROGRAMS = ("h2audit-fleet", "h2audit-page", "h2audit-plot", "by-definition", "b
 # Escapes of a terminal, a line feed, a bell, a right-to-left override, and what is no UTF-8.
 HOSTILE = b"no\x1b[31m\nre\x07d\xe2\x80\xae\xff.txt"
 ESCAPED = "no\\x1b[31m\\nre\\x07d\\u202e\\udcff.txt"
+# A word of a command line.
+Word = str | pathlib.Path | bytes
 
 
-def ran(script: str, *words: str | pathlib.Path | bytes, **more: str) -> subprocess.CompletedProcess[bytes]:
+def ran(script: str, *words: Word, **more: str) -> subprocess.CompletedProcess[bytes]:
     """A run of bash, which has the words as its arguments."""
     surroundings = {**os.environ, **more}
     return subprocess.run(["bash", "-c", script, "bash", *words], capture_output=True, timeout=100, env=surroundings)
@@ -94,7 +96,7 @@ class Names(unittest.TestCase):
             missing = os.fsencode(folder) + b"/" + HOSTILE
             (pathlib.Path(folder) / "empty").mkdir()
             report = TOP / "examples" / "stream_overrun_go.frames.report"
-            for status, words in (
+            runs: tuple[tuple[int, tuple[Word, ...]], ...] = (
                 (4, (TOOLS / "h2audit-page", missing, "-o", "/dev/null")),
                 (4, (TOOLS / "h2audit-page", report, "-o", missing + b"/none")),
                 (2, (TOOLS / "h2audit-page", report, missing, "-o", "/dev/null")),
@@ -106,7 +108,8 @@ class Names(unittest.TestCase):
                 (2, (TOOLS / "by-definition", missing)),
                 (2, (TOOLS / "by-definition", "--script", missing)),
                 (2, (TOOLS / "believed.py", missing)),
-            ):
+            )
+            for status, words in runs:
                 run = ran('python3 "$@"', *words)
                 said = run.stderr.decode()
                 self.assertEqual((run.returncode, said.count("\n"), said[:-1].isprintable()), (status, 1, True), said)

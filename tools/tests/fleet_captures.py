@@ -143,6 +143,12 @@ class Machine:
         (self.bin / name).unlink(missing_ok=True)
         (self.bin / name).symlink_to(program)
 
+    def script(self, name: str, text: str) -> None:
+        """Puts commands of a shell in the path, by this name."""
+        (self.bin / name).unlink(missing_ok=True)
+        (self.bin / name).write_text(f"#!/bin/sh\n{text}")
+        (self.bin / name).chmod(0o755)
+
     @property
     def bin(self) -> pathlib.Path:
         return self.folder / "bin"

@@ -90,9 +90,7 @@ class Imported(parts.Beside):
 
     def instead(self, name: str, program: object, script: str) -> None:
         """A shell goes through a script before the program."""
-        (self.machine.bin / name).unlink()
-        (self.machine.bin / name).write_text(f"#!/bin/sh\ncd {self.machine.folder}\n{script}\nexec {program} \"$@\"\n")
-        (self.machine.bin / name).chmod(0o755)
+        self.machine.script(name, f"cd {self.machine.folder}\n{script}\nexec {program} \"$@\"\n")
 
     def everything(self, name: str = "audits.sqlite", but: tuple[str, ...] = ()) -> dict[str, list[tuple[object, ...]]]:
         """All rows of a database, but for what is of one run alone."""

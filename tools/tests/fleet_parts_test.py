@@ -170,16 +170,11 @@ class Parts(Beside):
     def test_misfortunes(self) -> None:
         """A part that runs out of memory, a splitter that fails: the capture is entered as failed, nothing is left."""
         self.large()
-        (self.machine.bin / "h2audit").unlink()
-        (self.machine.bin / "h2audit").write_text(
-            f"#!/bin/sh\ncase $* in *part-002*) exit 5 ;; esac\nexec {PROGRAM} \"$@\"\n")
-        (self.machine.bin / "h2audit").chmod(0o755)
+        self.machine.script("h2audit", f"case $* in *part-002*) exit 5 ;; esac\nexec {PROGRAM} \"$@\"\n")
         self.assertEqual(self.machine.run("--jobs", "2", "--retries", "1", "--split-above", "1", "captures")[0], 3)
         asked = "SELECT outcome, reason, tries FROM captures"
         self.assertEqual(self.machine.ask(asked), [("failed", "part 2: out-of-memory", 2)])
-        (self.machine.bin / "h2audit-split").unlink()
-        (self.machine.bin / "h2audit-split").write_text("#!/bin/sh\necho 'h2audit-split: write failed' >&2; exit 4\n")
-        (self.machine.bin / "h2audit-split").chmod(0o755)
+        self.machine.script("h2audit-split", "echo 'h2audit-split: write failed' >&2; exit 4\n")
         words = ("--jobs", "2", "--retries", "0", "--resume", "--split-above", "1", "captures")
         self.assertEqual(self.machine.run(*words)[0], 3)
         self.assertEqual(self.machine.ask(asked), [("failed", "write-failed", 1)])

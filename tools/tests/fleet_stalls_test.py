@@ -84,16 +84,16 @@ class Walk(unittest.TestCase):
 COURSE = """h2audit-course 1
 file 1 a.pcapng
 connection 1 client [2001:db8::1]:40000 server [2001:db8::2]:443
-syn 1 file 1 packet 3 time 1000
+syn 1 file 1 packet 3 time 1795331749332001000
 something 1 that a later version says
 connection 2 client [2001:db8::1]:40000 server [2001:db8::2]:443
-syn 2 file 1 packet 30 time 9000
-last 1 client file 1 packet 20 time 5000
-last 1 server file 1 packet 21 time 5100
-last 2 client file 1 packet 40 time 9900
+syn 2 file 1 packet 30 time 1795331749332009000
+last 1 client file 1 packet 20 time 1795331749332005000
+last 1 server file 1 packet 21 time 1795331749332005100
+last 2 client file 1 packet 40 time 1795331749332009900
 """
 SIX = "client [2001:db8::1]:40000 server [2001:db8::2]:443"
-OF_SIX = f"connection 7 {SIX} record 3 http2 frames 5\n{FLOWS}{open_stall(2000)}"
+OF_SIX = f"connection 7 {SIX} record 3 http2 frames 5\n{FLOWS}{open_stall(1795331749332002000)}"
 
 
 class Course(unittest.TestCase):
@@ -102,7 +102,7 @@ class Course(unittest.TestCase):
     def test_course(self) -> None:
         """A connection is known by its endpoints and the packet of its opening, whatever its number is."""
         opened = ends.with_open_stalls(io.BytesIO((HEAD + OF_SIX).encode()))
-        self.assertEqual(ends.by_course(io.BytesIO(COURSE.encode()), opened), {7: 5100})
+        self.assertEqual(ends.by_course(io.BytesIO(COURSE.encode()), opened), {7: 1795331749332005100})
         self.assertEqual(ends.by_course(io.BytesIO(b"h2audit-course 2\n"), opened), {})
         self.assertEqual(ends.by_course(io.BytesIO(b""), opened), {})
 
@@ -113,9 +113,7 @@ class Course(unittest.TestCase):
         for script, nanos in ((course, 3100), ("echo 'h2audit-import: unrecognized arguments' >&2; exit 2\n", None)):
             with Machine([], None) as machine:
                 for name, does in (("h2audit-any", f"cat << END\n{HEAD}{OF_SIX}END\n"), ("h2audit-import", script)):
-                    (machine.bin / name).unlink(missing_ok=True)
-                    (machine.bin / name).write_text(f"#!/bin/sh\n{does}")
-                    (machine.bin / name).chmod(0o755)
+                    machine.script(name, does)
                 (machine.captures / "a.pcapng").write_bytes(bytes.fromhex("0a0d0d0a") + bytes(40))
                 self.assertEqual(machine.run("--jobs", "1", "captures")[::2], (0, ""))
                 self.assertEqual(machine.ask("SELECT nanos, milliseconds FROM open_stalls"),
@@ -138,18 +136,19 @@ class Rows(unittest.TestCase):
         """Each view of stalls counts an open one up to the last packet, as the longest of all here."""
         ended = ("frame 1 record 2 time 2 client stream-stall-begin stream 1 value 0\n"
                  "frame 2 record 3 time 4 client stream-stall-end stream 1 value 9\n")
-        report = HEAD + opening(1, 1) + ended + open_stall(5).replace("stall s", "stall client stream 1 from 1 to 2 nanos "
-                                                                       "2\nstall s", 1)
+        first = "stall client stream 1 from 1 to 2 nanos 2\n"
+        report = HEAD + opening(1, 1) + ended + open_stall(5).replace("stall s", f"{first}stall s", 1)
         packets = [(time, packet(CLIENT, SERVER)) for time in (1, 2, 4, 5, 105)]
         with Machine([Sample("a", capture(packets), 0, "", report)], None) as machine:
             self.assertEqual(machine.run("--jobs", "1", "captures")[::2], (0, ""))
             self.assertEqual(machine.ask("SELECT waited, first, last, open, nanos, endpoint FROM longest_stalls"),
                              [("server", 3, None, 1, 100, words(CLIENT)), ("client", 1, 2, 0, 2, words(SERVER))])
             self.assertEqual(machine.ask("SELECT first, nanos FROM open_stalls"), [(3, 100)])
-            asked = "SELECT peer, stalls, open, longest_milliseconds, total_milliseconds FROM stalls_by_peer ORDER BY peer"
-            self.assertEqual(machine.ask(asked), [("10.0.0.1", 1, 1, 1e-4, 1e-4), ("10.0.0.2:80", 1, 0, 2e-6, 2e-6)])
-            self.assertEqual(machine.ask("SELECT waited, stalls, open, milliseconds FROM still_windows ORDER BY waited"),
-                             [("client", 1, 0, 2e-6), ("server", 1, 1, 1e-4)])
+            wanted = "peer, stalls, open, longest_milliseconds, total_milliseconds"
+            self.assertEqual(machine.ask(f"SELECT {wanted} FROM stalls_by_peer ORDER BY peer"), [
+                ("10.0.0.1", 1, 1, 1e-4, 1e-4), ("10.0.0.2:80", 1, 0, 2e-6, 2e-6)])
+            windows = machine.ask("SELECT waited, stalls, open, milliseconds FROM still_windows ORDER BY waited")
+            self.assertEqual(windows, [("client", 1, 0, 2e-6), ("server", 1, 1, 1e-4)])
 
     def test_examples(self) -> None:
         """The open stalls of examples/, whose connections are alone in their captures."""

@@ -80,7 +80,7 @@ def rows_by_hand(report: str) -> dict[str, list[Row]]:
                                          int(stream), int(value), broke))
             case ["stall", side, _, stream, _, first, *end]:
                 position += 1
-                last, nanos = (None, None) if end == ["open"] else (int(end[1]), int(end[3]))  # open ones: see fleet_stalls_test
+                last, nanos = (None, None) if end == ["open"] else (int(end[1]), int(end[3]))
                 rows["stalls"].append(
                     (connection, position, side, int(stream), int(first), last, nanos, OTHER[side]))
             case ["audit", *how]:
@@ -133,6 +133,7 @@ class Tables(unittest.TestCase):
             for table, rows in rows_by_hand("" if sample.status == 3 else sample.report).items():
                 found = self.rows_of(sample, table)
                 if table == "stalls":
+                    # How long an open one lasted no report says: that is for fleet_stalls_test.
                     found = [row if row[5] else (*row[:6], None, row[7]) for row in found]
                 self.assertEqual(found, rows, f"{sample.name}: {table}")
 
@@ -233,7 +234,7 @@ class Course(unittest.TestCase):
         self.assertEqual((len(after), {path: after[path] for path in before}), (40, before))
 
     def test_ended_at_start(self) -> None:
-        """Ctrl-C, or the end of all processes of the run, as the workers begin: one line of error, and nothing is left."""
+        """Ctrl-C, or the end of all processes of the run, as the workers begin: one line, and nothing is left."""
         machine = self.machine(12)
         for number in (signal.SIGINT, signal.SIGTERM):
             child = machine.start("--jobs", "2", "--resume", "captures", start_new_session=True)
@@ -351,6 +352,13 @@ class Words(OneCapture):
                                                                   "file is not a database\n"))
         self.assertEqual(self.machine.database.read_bytes(), b"of no interest")
 
+    def test_dashboard(self) -> None:
+        """With a dashboard dask carries the tasks of this machine."""
+        status, said, error = self.machine.run("--jobs", "1", "--dashboard", "127.0.0.1:0", "captures")
+        self.assertEqual((status, said), (1, f"{summary(self.machine.samples)}\n"))
+        self.assertRegex(error, r"^h2audit-fleet: dashboard at http://127\.0\.0\.1:\d+/status\n$")
+        self.assertEqual(list((self.machine.folder / "temporary").iterdir()), [])
+
     def test_no_program(self) -> None:
         (self.machine.bin / "h2audit").unlink()
         status, said, error = self.machine.run("--jobs", "1", "captures")
@@ -400,8 +408,8 @@ class Writer(OneCapture):
                           ("none/a", "No such file or directory")):
             with self.assertRaisesRegex((database.Unusable, OSError), why):
                 database.Database(str(self.machine.folder / name), True)
-        for change, why in (("PRAGMA user_version = 1", "its schema is 1, of an older h2audit-fleet, and this one writes 2: name"),
-                            ("PRAGMA user_version = 3", "its schema is 3, of a newer h2audit-fleet, and this one"),
+        for change, why in (("PRAGMA user_version = 1", "schema is 1, of an older h2audit-fleet, and this one writes"),
+                            ("PRAGMA user_version = 3", "schema is 3, of a newer h2audit-fleet, and this one writes"),
                             ("PRAGMA application_id = 7", "it is no database of h2audit-fleet")):
             self.machine.database.unlink(missing_ok=True)
             with contextlib.closing(sqlite3.connect(self.machine.database)) as base:
@@ -414,9 +422,7 @@ class Writer(OneCapture):
     def test_changed_while_read(self) -> None:
         """A capture that is written to while it is imported is tried again, and is then entered as such."""
         (self.machine.captures / "a.pcapng").write_bytes(bytes.fromhex("0a0d0d0a") + bytes(40))
-        program = self.machine.bin / "h2audit-any"
-        program.write_text(f"#!/bin/sh\necho more >> {self.machine.captures / 'a.pcapng'}\necho a report\n")
-        program.chmod(0o755)
+        self.machine.script("h2audit-any", f"echo more >> {self.machine.captures / 'a.pcapng'}\necho a report\n")
         self.assertEqual(self.machine.run("--jobs", "1", "captures")[0], 3)
         rows = self.machine.ask("SELECT outcome, reason, tries, report_sha256 FROM captures WHERE path LIKE '%.pcapng'")
         self.assertEqual(rows, [("failed", "changed", 3, None)])

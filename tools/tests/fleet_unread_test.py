@@ -17,10 +17,9 @@ import tempfile
 import unittest
 from unittest import mock
 
-import fleet_imports_test as imports
 import fleet_parts_test as parts
 import tls_talk
-from fleet_captures import TOP, Machine, by_hand, summary
+from fleet_captures import TOP, Machine, beside, by_hand, summary
 
 sys.path.insert(0, str(TOP / "tools"))
 
@@ -55,7 +54,7 @@ class Unread(parts.Beside):
 
     def setUp(self) -> None:
         super().setUp()
-        self.machine.link("h2audit-import", imports.beside("h2audit-import"))
+        self.machine.link("h2audit-import", beside("h2audit-import"))
         self.example = (TOP / "examples" / f"{EXAMPLE}.pcap").read_bytes()
 
     def capture(self, name: str, content: bytes) -> None:
@@ -92,15 +91,20 @@ class Unread(parts.Beside):
         self.capture("cut.pcap.gz", gzip.compress(self.example)[:200])
         self.capture("clean.pcap", (TOP / "examples" / "stream_stalls_nghttpd.pcap").read_bytes())
         self.capture("text.pcap", b"of no interest, and longer than a header\n")
+        self.capture("packed.pcap.xz", b"\xfd7zXZ\x00" + bytes(80))
+        self.capture("unnamed", b"BZh9" + bytes(80))
         status, said, _ = self.machine.run("--jobs", "2", "captures")
         self.assertEqual(status, 3)
-        self.assertRegex(said, r"^7 captures: 0 with faults, 6 in which nothing was audited \(\d refused\)\n$")
+        self.assertRegex(said, r"^9 captures: 0 with faults, 8 in which nothing was audited \(\d refused\)\n$")
         found = self.rows("what, reason", "not_audited")
         self.assertEqual(found["empty.pcap"], ("capture", "empty"))
         self.assertEqual(found["nothing.pcap"], ("capture", "refused: short-header"))
         self.assertEqual(found["text.pcap"], ("capture", "refused: bad-magic"))
         self.assertEqual({found[name][0] for name in ("mpls.pcap", "udp.pcap")}, {"capture"})
-        self.assertEqual(set(found), {"empty.pcap", "nothing.pcap", "mpls.pcap", "udp.pcap", "cut.pcap.gz", "text.pcap"})
+        for name in ("packed.pcap.xz", "unnamed"):
+            self.assertRegex(str(found.pop(name)[1]), "^refused: bad-")
+        wanted = {"empty.pcap", "nothing.pcap", "mpls.pcap", "udp.pcap", "cut.pcap.gz", "text.pcap"}
+        self.assertEqual(set(found), wanted)
         self.assertNotIn(None, {reason for _, reason in found.values()})
         self.assertEqual(self.rows("verdict", "verdicts")["udp.pcap"], ("nothing audited",))
 
@@ -124,10 +128,7 @@ class Unread(parts.Beside):
     def test_import_refused(self) -> None:
         """What h2audit audited stands where an import that might read more is refused."""
         self.capture("both.pcap", self.example + parts.over_ipv6(self.example)[24:])
-        (self.machine.bin / "h2audit-any").unlink()
-        (self.machine.bin / "h2audit-any").write_text(
-            "#!/bin/sh\necho 'h2audit-any: capture refused: address-clash: a' >&2; exit 3\n")
-        (self.machine.bin / "h2audit-any").chmod(0o755)
+        self.machine.script("h2audit-any", "echo 'h2audit-any: capture refused: address-clash: a' >&2; exit 3\n")
         self.assertEqual(self.machine.run("--jobs", "1", "captures"), (
             3, "1 captures: 1 with faults, 0 in which nothing was audited, 1 in part\n", ""))
         self.assertEqual(self.rows("program, outcome, reason"),
@@ -202,14 +203,15 @@ class Said(unittest.TestCase):
             (self.machine.captures / name).symlink_to(target)
         (aside / "back").symlink_to(self.machine.captures)
         self.assertEqual(self.machine.run("captures")[::2], (1, ""))
-        found = {path.removeprefix(f"{self.machine.captures}/") for path, in self.machine.ask("SELECT path FROM captures")}
-        self.assertEqual(found, {f"{EXAMPLE}.pcap", "again/b.pcap", "z/c.pcap"})
+        asked = "SELECT replace(path, ?, '') FROM captures ORDER BY 1"
+        paths = [path for path, in self.machine.ask(asked, f"{self.machine.captures}/")]
+        self.assertEqual(paths, ["again/b.pcap", f"{EXAMPLE}.pcap", "z/c.pcap"])
 
     def test_full_folder(self) -> None:
         """Where the folder for temporary files is full, that is what the reason says."""
         full = self.folder("full")
         surroundings = {"PATH": f"{full}:/usr/bin:/bin", "TMPDIR": str(full)}
-        (full / "h2audit").write_text("#!/bin/sh\necho report\n[ $? = 0 ] || { echo 'h2audit: write failed' >&2; exit 4; }\n")
+        (full / "h2audit").write_text("#!/bin/sh\necho report || { echo 'h2audit: write failed' >&2; exit 4; }\n")
         (full / "h2audit").chmod(0o755)
         order: tasks.Order = {"keys": [], "imports": "never", "timeout": 60.0, "split_above": 0}
         with mock.patch.dict(os.environ, surroundings), mock.patch("tempfile.tempdir", None):

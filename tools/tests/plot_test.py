@@ -239,10 +239,11 @@ class BadInput(unittest.TestCase):
                 status, said = answer(report, "-o", output, *words[1:])
                 self.assertEqual((status, said.replace(f"{folder}/", "")), (2, f"h2audit-plot: {why}\n"))
             self.assertEqual(os.listdir(folder), [])
-            for name, *more, begin in (("a.PNG", b"\x89PNG"), ("a", b"<?xml"), ("a.4711", b"<?xml"),
-                                       ("a.picture", "--format", "png", b"\x89PNG")):
-                draw(pathlib.Path(report), pathlib.Path(folder, name), *more)
+            for name, begin in (("a.PNG", b"\x89PNG"), ("a", b"<?xml"), ("a.4711", b"<?xml")):
+                draw(pathlib.Path(report), pathlib.Path(folder, name))
                 self.assertTrue(pathlib.Path(folder, name).read_bytes().startswith(begin), name)
+            draw(pathlib.Path(report), pathlib.Path(folder, "a.picture"), "--format", "png")
+            self.assertTrue(pathlib.Path(folder, "a.picture").read_bytes().startswith(b"\x89PNG"))
 
     def test_signals(self) -> None:
         """One while it reads, or while it draws, leaves no file and says nothing."""
