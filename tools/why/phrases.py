@@ -17,7 +17,7 @@ TCP_WORDS = {
     "zero-window": "the {other}'s TCP window was 0",
     "resent": "TCP sent bytes of the {side} again",
     "hole": "bytes of the {side} came out of order or again",
-    "within-frame": "a frame of the {side} was begun, and its rest came late",
+    "within-frame": "a frame of the {side} was begun, and its rest came slowly",
 }
 
 

@@ -114,10 +114,17 @@ def imported(asked: argparse.Namespace, importer: str, place: Path, progress: Pr
         words += ["-k", log]
     status, said = run([*words, "--", *(asked.files or ["-"])])
     if status not in IMPORTED:
-        raise Failed(status if status in (2, 3, 4, 5) else IO_FAILED, without_name(said))
+        raise failure(importer, status, said)
     for line in said.splitlines():
         if not any(words in line for words in SAID_HERE):
             print(f"{NAME}: {printable(without_name(line))}", file=sys.stderr)
+
+
+def failure(program: str, status: int, said: str) -> Failed:
+    """What ended a program, in its own words where it had some."""
+    if status < 0:
+        return Failed(IO_FAILED, f"{program}: ended by signal {-status}")
+    return Failed(status if status in (2, 3, 4, 5) else IO_FAILED, without_name(said) if said else f"{program}: failed")
 
 
 def read(asked: argparse.Namespace, place: Path, audit_ends: object, progress: Progress) -> Answer:
@@ -137,7 +144,7 @@ def read(asked: argparse.Namespace, place: Path, audit_ends: object, progress: P
     assert callable(audit_ends)
     status, said = audit_ends()
     if status not in AUDITED:
-        raise Failed(status if status in (3, 4, 5) else IO_FAILED, without_name(said))
+        raise failure("h2audit", status, said)
     with open(place / "report", "rb") as report:
         wanted = Wanted(not asked.no_requests, asked.query, asked.json or asked.json_lines)
         return answer_of(Sources(made, report, origin, courses), wanted, progress.connections)

@@ -19,6 +19,9 @@ from why.spans import Interval, Sent
 from why.streams import Direction, Stream, Told
 
 
+MOST_PLACES = 64
+
+
 @dataclass(slots=True)
 class Announced:
     """The values of one setting that a side announced: the frames of SETTINGS and of their acknowledgements."""
@@ -46,6 +49,7 @@ class Seen:
     connection_windows: dict[int, int] = field(default_factory=dict)  # the most credit of a side's, once asked for
     announced: dict[tuple[int, int], Announced] = field(default_factory=dict)
     unseen: int = NEVER  # the time from which something of it was not seen, or not judged
+    places: dict[int, At] = field(default_factory=dict)
     cut_frames: list[tuple[int, list[Sent]]] = field(default_factory=list)  # by sides
     held: list[list[Held]] = field(default_factory=list)  # by sides
     resent: list[list[Held]] = field(default_factory=list)  # of these without windows of zero, in order of their ends
@@ -66,7 +70,13 @@ class Seen:
         return At(packet, file, self.made.times[record], frame)
 
     def at(self, frame: int) -> At:
-        return self.of_record(self.frames.record(frame), frame)
+        """One object for the same frame, as a request's opening is the first of its client too."""
+        found = self.places.get(frame)
+        if found is None:
+            if len(self.places) == MOST_PLACES:
+                self.places.clear()
+            found = self.places[frame] = self.of_record(self.frames.record(frame), frame)
+        return found
 
     def of_finding(self, finding: Finding) -> At:
         """The packet, frame and time that the report names."""
