@@ -174,6 +174,9 @@ class Phrases:
         side = SIDES[cause.side]
         said = f"not stalled: the {side} sent nothing for {time_of(cause.nanos)}"
         credit = self.credit(request, cause)
+        if credit is not None and credit <= 0:
+            # What goes before content needs no credit.
+            return said + ", no headers either" * (cause.why == "before")
         return said + (f" with {credit:,} bytes of credit" if credit is not None else "")
 
     def credit(self, request: Request, cause: Cause) -> int | None:
