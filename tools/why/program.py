@@ -6,7 +6,7 @@ It imports captures as people have them (TLS with its key log, pcapng, IPv6, sev
 reads the frames and the course of TCP beside the report. Names of requests are shown without their query.
 
 Exit status: 0 if no rule was broken, 1 if one was, 2 for an invalid command line, 3 if a capture is refused, 4 if
-reading or writing failed, 5 if memory or python3-hpack is missing, 6 if nothing was audited.
+reading or writing failed, 5 if there was not enough memory, 6 if nothing was audited, 7 if python3-hpack is missing.
 """
 
 from __future__ import annotations
@@ -19,7 +19,7 @@ import time
 from collections.abc import Iterator
 from pathlib import Path
 
-from report.command import IO_FAILED, MISSING, OK, REFUSED, Words, failed, io_reason, number, printable
+from report.command import IO_FAILED, OK, REFUSED, Words, failed, io_reason, number, printable
 from report.interrupts import Interrupted, end_by, signals_raise
 from report.lines import Refused
 
@@ -28,7 +28,7 @@ from why.answer import Answer
 from why.making import Failed, folder, program_named, run, running, without_name
 
 NAME = "h2audit-why"
-FAULTS, NOTHING_AUDITED = 1, 6
+FAULTS, NO_MEMORY, NOTHING_AUDITED, NOT_INSTALLED = 1, 5, 6, 7
 IMPORTED, AUDITED = (0, 6), (0, 1)
 SECONDS_BEFORE_PROGRESS = 2.0
 # What the import says, and the answer says too.
@@ -124,7 +124,7 @@ def failure(program: str, status: int, said: str) -> Failed:
     """What ended a program, in its own words where it had some."""
     if status < 0:
         return Failed(IO_FAILED, f"{program}: ended by signal {-status}")
-    return Failed(status if status in (2, 3, 4, 5) else IO_FAILED, without_name(said) if said else f"{program}: failed")
+    return Failed(status if status in (2, 3, 4, 5, 7) else IO_FAILED, without_name(said) if said else f"{program}: failed")
 
 
 def read(asked: argparse.Namespace, place: Path, audit_ends: object, progress: Progress) -> Answer:
@@ -198,15 +198,19 @@ def outcome_of(asked: argparse.Namespace) -> int:
     except OSError as why:
         return failed(NAME, IO_FAILED, io_reason(why))
     except MemoryError:
-        return failed(NAME, MISSING, "out of memory")
+        return failed(NAME, NO_MEMORY, "out of memory")
 
 
 def main(words: list[str]) -> int:
-    asked = arguments(words)
+    try:
+        asked = arguments(words)
+        sys.stdout.flush()
+    except OSError as why:  # help or version had nowhere to go
+        return failed(NAME, IO_FAILED, io_reason(why))
     try:
         import hpack  # noqa: F401
     except ImportError:
-        return failed(NAME, MISSING, "hpack is not installed (Debian: apt-get install python3-hpack)")
+        return failed(NAME, NOT_INSTALLED, "hpack is not installed (Debian: apt-get install python3-hpack)")
     try:
         return outcome_of(asked)
     except Interrupted as why:
