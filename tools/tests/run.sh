@@ -143,6 +143,8 @@ try 'install and package' tools/tests/package_test.sh "$program" "$split"
 try_built 'the answer in words: captures' tools/tests/why_test.py "$built"
 try_built 'the answer in words: hostile captures' tools/tests/why_hostile_test.py "$built"
 try_built 'the answer in words: words' tools/tests/why_words_test.py "$built"
+try_built 'the answer in words: damaged captures' tools/tests/why_mutations_test.py "$built"
+try_built 'the answer in words: both ends of a wire' tools/tests/why_place_test.py "$built"
 try_built 'the answer in words: windows of real peers' tools/tests/why_causes_test.py "$built" Windows
 try_built 'the answer in words: real clients and applications' tools/tests/why_causes_test.py "$built" Clients Applications
 try_built 'refused growths, threads, reads and writes' tools/tests/refusals_test.py "$built"

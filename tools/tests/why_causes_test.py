@@ -162,10 +162,10 @@ class Clients(Causes):
             client = self.raw(port)
             for stream in (1, 3):
                 client.get(stream, "/large")
-                client.read_until(lambda _: client.content(stream) >= 16_384)
+                client.read_until(lambda _: client.content(stream) >= 16_384 or client.all_content() >= 65_535, 2)
                 client.write(frame(3, 0, stream, struct.pack(">I", 8)))
             client.get(5, "/small")
-            client.read_until(lambda _: sum(map(client.content, (1, 3, 5))) >= 65535, 1)
+            client.read_until(lambda _: client.all_content() >= 65535, 1)
             client.get(7, "/medium")
             client.read_until(lambda _: False, 1)
             client.close()
@@ -182,7 +182,7 @@ class Clients(Causes):
             words = ("curl", "-s", "-o", "/dev/null", "--http2-prior-knowledge", "--limit-rate", "4M",
                      f"http://127.0.0.1:{port}/huge")  # fmt: skip
             with why_peers.process(*words) as curl:
-                time.sleep(0.6)
+                why_peers.grown(self.capture, 2_000_000)
                 curl.send_signal(signal.SIGSTOP)
                 time.sleep(2)
                 curl.send_signal(signal.SIGCONT)

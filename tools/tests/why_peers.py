@@ -164,6 +164,15 @@ def settle(path: pathlib.Path) -> None:
         time.sleep(0.05)
 
 
+def grown(path: pathlib.Path, size: int) -> None:
+    """Waits until a capture has so many bytes."""
+    until = time.monotonic() + PATIENCE
+    while not path.exists() or path.stat().st_size < size:
+        if time.monotonic() > until:
+            raise AssertionError(f"{path} does not grow")
+        time.sleep(0.02)
+
+
 @contextlib.contextmanager
 def process(*words: str | pathlib.Path, port: int = 0) -> Iterator[subprocess.Popen[bytes]]:
     """A program that runs meanwhile, and answers at a port where one is named."""
@@ -338,6 +347,9 @@ class RawClient:
             if kind == 4 and not flags & 1 and self.answers:
                 with contextlib.suppress(OSError):
                     self.write(frame(4, 1, 0))
+
+    def all_content(self) -> int:
+        return sum(len(payload) for kind, _, _, payload in self.frames if kind == 0)
 
     def content(self, stream: int) -> int:
         return sum(len(payload) for kind, _, of, payload in self.frames if kind == 0 and of == stream)

@@ -20,7 +20,7 @@ from why_tools import TOP, OnCaptures, has_programs, programs_of, ran, said_of
 
 import random_captures
 from why.making import Failed
-from why.spans import IDLE, NAMES, SENDING, STREAM_STALL, UNSEEN, WAITING, Course, Life
+from why.spans import IDLE, NAMES, SENDING, STREAM_STALL, TCP, UNSEEN, WAITING, Course, Life
 
 EXAMPLES = sorted((TOP / "examples").glob("*.pcap"))
 TLS = sorted(path for path in (TOP / "tests" / "tls").iterdir() if path.suffix in (".pcap", ".pcapng"))
@@ -143,11 +143,12 @@ class Shares(unittest.TestCase):
             pause, unseen = source.choice((0, 2, 5, 60)), source.choice((1000, 1000, 30))
             cut = [(one, min(other, unseen)) for one, other in stalls]
             course = Course([(one, min(other, unseen)) for one, other in connection], held, pause, unseen)
+            within = [False, *(source.random() < 0.3 for _ in frames)]
             for has_spans in (True, False):
                 life = Life(begin, end, course, has_spans)
-                life.divide(iter(frames), cut)
+                life.divide(((*frame, is_within) for frame, is_within in zip(frames, within)), cut, within[-1])
                 self.assertEqual(sum(life.shares), end - begin)
-                wanted = brute(begin, end, frames, cut, course)
+                wanted = brute(begin, end, frames, cut, course, within)
                 self.assertEqual(life.shares, wanted, (turn, begin, end, frames, cut, course.marked, pause, unseen))
 
 
@@ -158,8 +159,9 @@ def intervals(source: random.Random) -> list[tuple[int, int]]:
 
 
 def brute(
-    begin: int, end: int, frames: list[tuple[int, int]], stalls: list[tuple[int, int]], course: Course
-) -> list[int]:
+    begin: int, end: int, frames: list[tuple[int, int]], stalls: list[tuple[int, int]], course: Course,
+    within: list[bool],
+) -> list[int]:  # fmt: skip
     """The kind of each nanosecond by the definitions of docs/WHY.md, then the lengths of what is free."""
     kinds = [-1] * (end - begin)
     first = frames[0][0] if frames else end
@@ -183,7 +185,8 @@ def brute(
         while upto < len(kinds) and kinds[upto] < 0 and not (upto > at and begin + upto in borders):
             upto += 1
         length = upto - at
-        long = UNSEEN if begin + at >= course.unseen else IDLE
+        before = sum(last <= begin + at for _, last in frames)
+        long = UNSEEN if begin + at >= course.unseen else TCP if within[before] else IDLE
         kinds[at:upto] = [SENDING if length <= course.pause else long] * length
         at = upto
     return [kinds.count(kind) for kind in range(len(NAMES))]

@@ -106,6 +106,14 @@ class Words(OnCaptures):
         self.assertEqual(ran("--h2audit", "/nothere", self.EXAMPLE).returncode, 4)
         self.assertEqual(ran("--import", "/bin/false", self.EXAMPLE).returncode, 4)
 
+    def test_full(self) -> None:
+        """Where nothing can be written, one line says so."""
+        for words in (["--help"], ["--version"], [str(self.EXAMPLE)], ["--json", str(self.EXAMPLE)]):
+            with open("/dev/full", "wb") as full:
+                run = subprocess.run([TOP / "tools" / "h2audit-why", *words], stdout=full, stderr=subprocess.PIPE)
+            self.assertEqual(run.returncode, 4)
+            self.assertRegex(run.stderr.decode(), "^h2audit-why: .*No space left on device\n$")
+
     def test_proved(self) -> None:
         """It says what rests on the proved report."""
         self.assertIn("proved report", ran(self.EXAMPLE).stdout.decode())

@@ -16,8 +16,8 @@ from why.spans import CONNECTION_STALL, IDLE, SENDING, STREAM_STALL, TCP, UNSEEN
 LEAST_HELD, HELD_SHARE = 1_000_000, 100
 # An application is named where it sent nothing for 10 ms and for a tenth of the request's life, at least.
 LEAST_IDLE, IDLE_SHARE = 10_000_000, 10
-# Of so many stretches in which TCP held a request the first and the last are told.
-MOST_LOOKED_AT = 4096
+# Among so many stretches in which TCP held a request, at either end, the first and the last of a reason are sought.
+MOST_LOOKED_AT = 256
 
 
 class Stretches:
@@ -35,6 +35,9 @@ class Stretches:
     def within(self, begin: int, end: int) -> tuple[int, int]:
         """The first of those that may overlap a stretch of time, and the one after the last."""
         return bisect_right(self.latest_ends, begin), bisect_left(self.begins, end)
+
+    def sum(self, first: int, last: int) -> int:
+        return sum(sums[last] - sums[first] for sums in self.sums.values())
 
     def reason(self, first: int, last: int) -> str:
         """The reason that took most of the time."""
@@ -102,12 +105,15 @@ class Causes:
         said = request.sides[side]
         begin, end = request.opened.time, request.opened.time + said.nanos
         first, last = self.held_times[side].within(begin, end)
+        if 2 * self.held_times[side].sum(first, last) < said.shares[TCP]:
+            return Cause("tcp", "within-frame", side, None, said.shares[TCP], said.first, said.end)
         why = self.held_times[side].reason(first, last)
-        some = [one for one in self.held[side][first:last][:MOST_LOOKED_AT] if one.why == why]
+        held = self.held[side]
+        begins = next((one for one in held[first : min(last, first + MOST_LOOKED_AT)] if one.why == why), held[first])
+        ends = next((one for one in held[max(first, last - MOST_LOOKED_AT) : last][::-1] if one.why == why), begins)
         ask = 1 - side if why == "zero-window" else None
-        begins, ends = some[0].first, some[-1].last
-        at_end = self.seen.of_place(ends) if ends else self.seen.last
-        return Cause("tcp", why, side, ask, said.shares[TCP], self.seen.of_place(begins), at_end)
+        at_end = self.seen.of_place(ends.last) if ends.last else self.seen.last
+        return Cause("tcp", why, side, ask, said.shares[TCP], self.seen.of_place(begins.first), at_end)
 
     def unshown(self, request: Request, side: int) -> Cause | None:
         """A window that is used within each round trip: captured where the bytes arrive, no stall of it shows."""
@@ -177,14 +183,19 @@ class Causes:
 def window_of(seen: Seen, side: int, stream: int) -> int:
     """The most credit that a side had of a window, from before its first content on."""
     column = seen.frames.sides[side]
-    if stream == 0:
-        at = column.kinds.find(kind_of.DATA)
-    else:
-        some = seen.told.streams[stream].sides[side].frames
-        at = next((index for index in some if column.kinds[index] == kind_of.DATA), -1)
+    if stream:
+        frames = seen.told.streams[stream].sides[side].frames
+        return most_credit(seen, side, stream, next((one for one in frames if column.kinds[one] == kind_of.DATA), -1))
+    if side not in seen.connection_windows:
+        found = most_credit(seen, side, 0, column.kinds.find(kind_of.DATA))
+        seen.connection_windows[side] = max(found, FIRST_CREDIT)
+    return seen.connection_windows[side]
+
+
+def most_credit(seen: Seen, side: int, stream: int, first: int) -> int:
+    """By the report, from before the frame of this index on."""
     window = seen.audit.windows.get((side, stream))
-    first = FIRST_CREDIT if stream == 0 else 0
-    return max(first, window.largest_from(column.numbers[at])) if window and at >= 0 else first
+    return window.largest_from(seen.frames.sides[side].numbers[first]) if window and first >= 0 else 0
 
 
 def is_held(nanos: int, request: Request) -> bool:

@@ -16,6 +16,8 @@ CONNECTION_WINDOW = ("connection-overrun", "connection-overflow")
 # The initial value of each setting that a fault may hang on (RFC 9113, 6.5.2).
 FIRST = {ENABLE_PUSH: 1, INITIAL_WINDOW_SIZE: 65535, MAX_FRAME_SIZE: 16384}
 MOST_GRANTS = 8
+# Settings without an acknowledgement that are looked at.
+MOST_PENDING = 64
 
 
 def fault_said(seen: Seen, finding: Finding) -> FaultSaid:
@@ -62,19 +64,11 @@ def other_settings(seen: Seen, finding: Finding) -> str:
 
 def settings_at(seen: Seen, side: int, frame: int, identifier: int) -> tuple[int, int, list[int]]:
     """The value in force for a side at a frame; and the values that the other side had sent, with their last packet."""
-    in_force, pending, packet = FIRST[identifier], list[int](), 0
-    for one in seen.told.settings:
-        if one.frame > frame:
-            break
-        value = one.value(identifier)
-        if one.side == side or value is None:
-            continue
-        if seen.told.acknowledged.get(one.frame, len(seen.frames) + 1) <= frame:
-            in_force, pending = value, []
-        else:
-            pending.append(value)
-            packet = seen.at(one.frame).packet
-    return in_force, packet, pending
+    announced = seen.announced_by(1 - side, identifier)
+    last, waiting = announced.at(frame)
+    in_force = FIRST[identifier] if last is None else announced.values[last]
+    pending = [announced.values[index] for index in waiting[-MOST_PENDING:]]
+    return in_force, seen.at(announced.frames[waiting[-1]]).packet if waiting else 0, pending
 
 
 def set_by_of(seen: Seen, finding: Finding) -> tuple[list[At], str]:
@@ -96,7 +90,7 @@ def set_by_of(seen: Seen, finding: Finding) -> tuple[list[At], str]:
         last = [seen.at(frame) for frame in grants.frames[max(0, upto - MOST_GRANTS) : upto]]
         packets = ("the last in " if upto > MOST_GRANTS else "") + ("packets " if upto > 1 else "packet ")
         packets += ", ".join(str(one.packet) for one in last)
-        words.append(f"{sum(grants.amounts[:upto]):,} granted in {upto:,} WINDOW_UPDATE ({packets})")
+        words.append(f"{grants.upto(finding.frame):,} granted in {upto:,} WINDOW_UPDATE ({packets})")
         places += last
     else:
         words.append("nothing granted")
@@ -105,15 +99,11 @@ def set_by_of(seen: Seen, finding: Finding) -> tuple[list[At], str]:
 
 def initial_window(seen: Seen, side: int, frame: int) -> tuple[list[At], str]:
     """The SETTINGS whose initial window is in force for a side at a frame."""
-    found = None
-    for one in seen.told.settings:
-        answer = seen.told.acknowledged.get(one.frame, 0)
-        if one.side != side and one.value(INITIAL_WINDOW_SIZE) is not None and 0 < answer <= frame:
-            found = one, answer
-    if found is None:
+    announced = seen.announced_by(1 - side, INITIAL_WINDOW_SIZE)
+    last, _ = announced.at(frame)
+    if last is None:
         return [], "initial window 65,535, which no SETTINGS changed"
-    settings, answer = found
-    places = [seen.at(settings.frame), seen.at(answer)]
-    value = settings.value(INITIAL_WINDOW_SIZE)
+    places = [seen.at(announced.frames[last]), seen.at(announced.answers[last])]
+    value = announced.values[last]
     packets = f"packet {places[0].packet}, acknowledged in packet {places[1].packet}"
     return places, f"initial window {value:,} by SETTINGS in {packets}"

@@ -27,7 +27,6 @@ PASSED = {
     "fragments": "IP fragments",
     "refused": "with damaged or cut headers",
 }
-MOST_TOLD = 8
 
 
 def not_audited(answer: Answer, origin: Origin) -> list[NotAudited]:
@@ -54,11 +53,8 @@ def doubts_of(answer: Answer, origin: Origin, courses: Courses) -> list[Warning]
     said = clocks(origin, courses)
     if not answer.audited:
         said.append(Warning("nothing-audited", nothing_words(answer)))
-    said += doubled(courses)
+    said += doubled(courses) + one_direction(answer)
     for one in answer.connections:
-        if one.outcome == "no-handshake" and len(said) < MOST_TOLD:
-            text = "one direction alone was captured: capture on one of the two hosts, or on both paths"
-            said.append(Warning("one-direction", text, one.number, one.opened))
         for side, offset in one.gaps:
             text = f"bytes of the {SIDES[side]} are missing from offset {offset:,} on: what is found behind it "
             text += "may not have happened"
@@ -93,6 +89,16 @@ def clocks(origin: Origin, courses: Courses) -> list[Warning]:
             text += "and of durations may be wrong (reordercap)"
         said.append(Warning(kind, text, None, at))
     return said
+
+
+def one_direction(answer: Answer) -> list[Warning]:
+    some = [one for one in answer.connections if one.outcome == "no-handshake" or one.reason == "no-handshake"]
+    if not some:
+        return []
+    text = (
+        f"one direction alone was captured of {count(len(some), 'connection')}: capture on one of the two hosts, or on "
+    )
+    return [Warning("one-direction", text + "both paths", some[0].number, some[0].opened)]
 
 
 def begins_file(one: Back) -> bool:

@@ -3,7 +3,7 @@
 from __future__ import annotations
 
 from why.answer import Ended, SettingSaid, Signal
-from why.capture import CLIENT, SERVER, SIDES
+from why.capture import SIDES
 from why.names import text_of
 from why.seen import Seen
 from why.streams import INITIAL_WINDOW_SIZE, Settings
@@ -109,12 +109,3 @@ def highest_credit(seen: Seen, side: int, frame: int) -> tuple[int, int]:
         if credit is not None and (best[1] == 0 or credit > best[0]):
             best = credit, number
     return best
-
-
-def sides_that_closed(seen: Seen) -> list[str]:
-    """Sides that closed while streams of theirs went on, without GOAWAY."""
-    said = []
-    for side in (CLIENT, SERVER):
-        if seen.course.rst[side] and not any(one.side == side for one in seen.told.goaways):
-            said.append(SIDES[side])
-    return said

@@ -27,9 +27,7 @@ class Leak:
 
 
 def granted_upto(grants: Grants | None, frame: int, since: int = 0) -> int:
-    if grants is None:
-        return 0
-    return sum(amount for number, amount in zip(grants.frames, grants.amounts) if since <= number <= frame)
+    return grants.upto(frame) - grants.upto(since - 1) if grants else 0
 
 
 def first_content(seen: Seen, side: int) -> int:

@@ -3,6 +3,7 @@
 from __future__ import annotations
 
 import re
+import sys
 from collections.abc import Iterable
 
 from hpack import Decoder
@@ -56,4 +57,5 @@ def wanted(fields: Iterable[tuple[bytes, bytes]]) -> Fields:
 
 
 def text_of(octets: bytes | None) -> str | None:
-    return None if octets is None else octets.decode("utf-8", errors="backslashreplace")
+    """One object for the same text, of which a capture has many."""
+    return None if octets is None else sys.intern(octets.decode("utf-8", errors="backslashreplace"))

@@ -10,12 +10,14 @@ from why.leaks import leak_of
 from why.rounds import NEAR
 from why.seen import Seen
 from why.spans import CONNECTION_STALL, SENDING, STREAM_STALL
+from why.streams import INITIAL_WINDOW_SIZE
 from why.words import count, percent, rate_of, streams_named, time_of
 
 TCP_WORDS = {
     "zero-window": "the {other}'s TCP window was 0",
     "resent": "TCP sent bytes of the {side} again",
     "hole": "bytes of the {side} came out of order or again",
+    "within-frame": "a frame of the {side} was begun, and its rest came slowly",
 }
 
 
@@ -31,6 +33,7 @@ class Phrases:
         for request in said.requests:
             if request.cause.kind == "connection-window":
                 self.behind[request.cause.side].append(request.stream)
+        self.leaking = [one for one in said.stalls if one.why == "cancelled-streams"]
         for one in said.stalls:
             key = one.side, one.stream
             self.longest[key] = max(self.longest.get(key, 0), one.late or one.nanos)
@@ -133,22 +136,20 @@ class Phrases:
             return f"; {streams_named(behind)} waited" if len(behind) > 1 else ""
         if cause.why not in ("round-trip", "granted-nothing"):
             return ""
-        last, begun = None, cause.first.frame if cause.first else 0
-        for one in self.said.settings:
-            if one.side != cause.side and one.acknowledged and one.acknowledged.frame <= begun:
-                last = one
-        if last is None or last.acknowledged is None or last.value == FIRST_CREDIT:
+        announced = self.seen.announced_by(1 - cause.side, INITIAL_WINDOW_SIZE)
+        last, _ = announced.at(cause.first.frame if cause.first else 0)
+        if last is None or announced.values[last] == FIRST_CREDIT:
             return ""
+        sent, answer = self.seen.at(announced.frames[last]), self.seen.at(announced.answers[last])
         return (
-            f" (initial window {last.value:,} by its SETTINGS in packet {last.at.packet}, acknowledged in packet "
-            f"{last.acknowledged.packet})"
+            f" (initial window {announced.values[last]:,} by its SETTINGS in packet {sent.packet}, acknowledged in "
+            f"packet {answer.packet})"
         )
 
     def leak(self, cause: Cause) -> str:
         """The connection's credit went to streams that were cancelled, and was not given back."""
         frame = cause.first.frame if cause.first else 0
-        stall = next((one for one in self.said.stalls if one.side == cause.side and not one.stream
-                      and one.why == "cancelled-streams" and one.begin.frame >= frame), None)  # fmt: skip
+        stall = next((one for one in self.leaking if one.side == cause.side and one.begin.frame >= frame), None)
         if stall is None:
             return "the connection's credit was used by cancelled streams"
         if stall.begin.frame not in self.leaks:
@@ -173,6 +174,9 @@ class Phrases:
         side = SIDES[cause.side]
         said = f"not stalled: the {side} sent nothing for {time_of(cause.nanos)}"
         credit = self.credit(request, cause)
+        if credit is not None and credit <= 0:
+            # What goes before content needs no credit.
+            return said + ", no headers either" * (cause.why == "before")
         return said + (f" with {credit:,} bytes of credit" if credit is not None else "")
 
     def credit(self, request: Request, cause: Cause) -> int | None:

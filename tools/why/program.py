@@ -6,7 +6,7 @@ It imports captures as people have them (TLS with its key log, pcapng, IPv6, sev
 reads the frames and the course of TCP beside the report. Names of requests are shown without their query.
 
 Exit status: 0 if no rule was broken, 1 if one was, 2 for an invalid command line, 3 if a capture is refused, 4 if
-reading or writing failed, 5 if memory or python3-hpack is missing, 6 if nothing was audited.
+reading or writing failed, 5 if there was not enough memory, 6 if nothing was audited, 7 if python3-hpack is missing.
 """
 
 from __future__ import annotations
@@ -114,10 +114,17 @@ def imported(asked: argparse.Namespace, importer: str, place: Path, progress: Pr
         words += ["-k", log]
     status, said = run([*words, "--", *(asked.files or ["-"])])
     if status not in IMPORTED:
-        raise Failed(status if status in (2, 3, 4, 5) else IO_FAILED, without_name(said))
+        raise failure(importer, status, said)
     for line in said.splitlines():
         if not any(words in line for words in SAID_HERE):
             print(f"{NAME}: {printable(without_name(line))}", file=sys.stderr)
+
+
+def failure(program: str, status: int, said: str) -> Failed:
+    """What ended a program, in its own words where it had some."""
+    if status < 0:
+        return Failed(IO_FAILED, f"{program}: ended by signal {-status}")
+    return Failed(status if status in (2, 3, 4, 5, 7) else IO_FAILED, without_name(said) if said else f"{program}: failed")
 
 
 def read(asked: argparse.Namespace, place: Path, audit_ends: object, progress: Progress) -> Answer:
@@ -137,7 +144,7 @@ def read(asked: argparse.Namespace, place: Path, audit_ends: object, progress: P
     assert callable(audit_ends)
     status, said = audit_ends()
     if status not in AUDITED:
-        raise Failed(status if status in (3, 4, 5) else IO_FAILED, without_name(said))
+        raise failure("h2audit", status, said)
     with open(place / "report", "rb") as report:
         wanted = Wanted(not asked.no_requests, asked.query, asked.json or asked.json_lines)
         return answer_of(Sources(made, report, origin, courses), wanted, progress.connections)
@@ -195,7 +202,11 @@ def outcome_of(asked: argparse.Namespace) -> int:
 
 
 def main(words: list[str]) -> int:
-    asked = arguments(words)
+    try:
+        asked = arguments(words)
+        sys.stdout.flush()
+    except OSError as why:  # help or version had nowhere to go
+        return failed(NAME, IO_FAILED, io_reason(why))
     try:
         import hpack  # noqa: F401
     except ImportError:

@@ -3,6 +3,7 @@
 from __future__ import annotations
 
 from dataclasses import dataclass
+from itertools import chain
 
 from why.answer import At, Cause, DirectionSaid, Ended, Request
 from why.capture import CLIENT, SERVER
@@ -104,7 +105,10 @@ def direction_said(
 ) -> DirectionSaid:
     direction = stream.sides[side]
     life = Life(opened.time, end.at.time if end.at else opened.time, course, has_spans)
-    life.divide(seen.intervals(side, direction), seen.stall_times(side, stream.number))
+    cut_stream, packets = seen.cut_frames[side]
+    is_cut = cut_stream == stream.number
+    sent = chain(seen.intervals(side, direction), packets if is_cut else ())
+    life.divide(sent, seen.stall_times(side, stream.number), is_cut)
     said = DirectionSaid(life.end - life.begin, life.shares, life.spans if life.is_told else None, direction.content)
     said.first = seen.frame_at(side, direction, 0)
     said.end = end.at

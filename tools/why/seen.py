@@ -12,11 +12,28 @@ from why.answer import At, Ended, RoundTrip
 from why.audit import Audit, Stalled
 from why.capture import Made, Opened
 from why.course import NEVER, Course, Held, Place
-from why.frames import Frames
+from why.frames import STREAM, Frames
 from why.origin import Origin
 from why.rounds import pause_of
-from why.spans import Interval
+from why.spans import Interval, Sent
 from why.streams import Direction, Stream, Told
+
+
+MOST_PLACES = 64
+
+
+@dataclass(slots=True)
+class Announced:
+    """The values of one setting that a side announced: the frames of SETTINGS and of their acknowledgements."""
+
+    frames: list[int] = field(default_factory=list)
+    answers: list[int] = field(default_factory=list)  # in order, since each takes the oldest that waits
+    values: list[int] = field(default_factory=list)
+
+    def at(self, frame: int) -> tuple[int | None, range]:
+        """The one in force at a frame, and those that were sent by then and wait for an acknowledgement."""
+        answered, sent = bisect_right(self.answers, frame), bisect_right(self.frames, frame)
+        return (answered - 1 if answered else None), range(answered, max(answered, sent))
 
 
 @dataclass(slots=True)
@@ -29,12 +46,17 @@ class Seen:
     course: Course
     origin: Origin
     round_trip: RoundTrip
+    connection_windows: dict[int, int] = field(default_factory=dict)  # the most credit of a side's, once asked for
+    announced: dict[tuple[int, int], Announced] = field(default_factory=dict)
     unseen: int = NEVER  # the time from which something of it was not seen, or not judged
+    places: dict[int, At] = field(default_factory=dict)
+    cut_frames: list[tuple[int, list[Sent]]] = field(default_factory=list)  # by sides
     held: list[list[Held]] = field(default_factory=list)  # by sides
     resent: list[list[Held]] = field(default_factory=list)  # of these without windows of zero, in order of their ends
 
     def __post_init__(self) -> None:
         self.held, self.resent = [[], []], [[], []]
+        self.cut_frames = [self.cut_frame(side) for side in (0, 1)]
         for one in sorted(self.course.held, key=lambda held: held.end):
             self.held[one.side].append(one)
             if one.why != "zero-window":
@@ -48,7 +70,13 @@ class Seen:
         return At(packet, file, self.made.times[record], frame)
 
     def at(self, frame: int) -> At:
-        return self.of_record(self.frames.record(frame), frame)
+        """One object for the same frame, as a request's opening is the first of its client too."""
+        found = self.places.get(frame)
+        if found is None:
+            if len(self.places) == MOST_PLACES:
+                self.places.clear()
+            found = self.places[frame] = self.of_record(self.frames.record(frame), frame)
+        return found
 
     def of_finding(self, finding: Finding) -> At:
         """The packet, frame and time that the report names."""
@@ -70,7 +98,7 @@ class Seen:
                 return Ended(word, side, None, self.of_place(place))
         return Ended("capture", None, None, self.last)
 
-    def intervals(self, side: int, direction: Direction) -> Iterator[Interval]:
+    def intervals(self, side: int, direction: Direction) -> Iterator[Sent]:
         """When the bytes of each frame came that a side sent on a stream: from its first to its last packet.
 
         Of a frame that took longer than a pause, each packet by itself.
@@ -81,11 +109,36 @@ class Seen:
             begun, record = column.begun[index], column.records[index]
             first, last = times[begun], times[record]
             if last - first <= longest:
-                yield first, last
+                yield first, last, False
                 continue
             arrivals = column.flow.records
-            for at in range(bisect_left(arrivals, begun), bisect_right(arrivals, record)):
-                yield times[arrivals[at]], times[arrivals[at]]
+            packets = range(bisect_left(arrivals, begun), bisect_right(arrivals, record))
+            for at in packets:
+                yield times[arrivals[at]], times[arrivals[at]], at > packets[0]
+
+    def cut_frame(self, side: int) -> tuple[int, list[Sent]]:
+        """The stream of the frame whose rest never came, and its packets; 0 where there is none."""
+        column, times = self.frames.sides[side], self.made.times
+        flow = column.flow
+        if column.tail < 9:
+            return 0, []
+        place = len(flow.octets) - column.tail
+        stream = int.from_bytes(flow.octets[place + 5 : place + 9], "big") & STREAM
+        packets = range(bisect_right(flow.ends, place), len(flow.ends))
+        return stream, [(times[flow.records[at]], times[flow.records[at]], at > packets[0]) for at in packets]
+
+    def announced_by(self, side: int, identifier: int) -> Announced:
+        """All values of a setting by a side."""
+        if (side, identifier) not in self.announced:
+            found = self.announced[side, identifier] = Announced()
+            for one in self.told.settings:
+                value = one.value(identifier)
+                if one.side == side and value is not None:
+                    found.frames.append(one.frame)
+                    found.values.append(value)
+                    if one.frame in self.told.acknowledged:
+                        found.answers.append(self.told.acknowledged[one.frame])
+        return self.announced[side, identifier]
 
     def frame_at(self, side: int, direction: Direction, which: int) -> At | None:
         """The first (0) or last (-1) frame of a direction."""

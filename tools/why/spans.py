@@ -17,6 +17,9 @@ NAMES = ("waiting", "sending", "stream_stall", "connection_stall", "tcp", "idle"
 MOST_SPANS = 512
 
 Interval = tuple[int, int]
+# Packets of a frame that came together, or one packet of a frame: first and last time, and whether the frame was begun
+# before.
+Sent = tuple[int, int, bool]
 
 
 class Span(NamedTuple):
@@ -140,12 +143,15 @@ class Life:
         self.spans: list[Span] = []
         self.is_told = has_spans
         self.longest_idle = Span(self.begin, self.begin, IDLE)
+        self.is_within = False  # whether a frame was begun, so that TCP and no application holds back the rest
 
-    def divide(self, frames: Iterable[Interval], stalls: list[Interval]) -> None:
-        """By the times of the frames' first and last bytes, and the stalls of the stream's window, in order."""
+    def divide(self, frames: Iterable[Sent], stalls: list[Interval], is_cut: bool = False) -> None:
+        """By the times of the frames' packets, and the stalls of the stream's window, in order; where the last frame is
+        cut, its rest never came.
+        """
         own = disjoint(stalls)
         at, has_begun, stall, until = self.begin, False, 0, self.end
-        for first, last in frames:
+        for first, last, self.is_within in frames:
             first = at if first < at else first if first < until else until
             last = first if last < first else last if last < until else until
             if has_begun:
@@ -156,6 +162,7 @@ class Life:
             has_begun = True
             self.put(first, last, SENDING)
             at = last
+        self.is_within = is_cut
         if has_begun:
             self.pause(at, until, own, stall)
         else:
@@ -181,20 +188,25 @@ class Life:
         if begin >= end:
             return
         course = self.course
+        long = TCP if self.is_within else IDLE
         if not course.marked and end <= course.unseen:
-            self.put(begin, end, SENDING if end - begin <= course.pause else IDLE)
+            self.put(begin, end, SENDING if end - begin <= course.pause else long)
             return
         seen = min(end, max(begin, course.unseen))
         if self.is_told:
             for span in self.course.spans(begin, seen):
-                self.put(*span)
+                self.put(span.begin, span.end, long if span.kind == IDLE else span.kind)
                 if not self.is_told:  # the rest of this stretch is measured
                     begin = span.end
                     break
             else:
                 begin = seen
         if begin < seen:
-            self.course.measure(begin, seen, self.shares)
+            found = [0] * len(KINDS)
+            self.course.measure(begin, seen, found)
+            if long != IDLE:
+                found[long], found[IDLE] = found[long] + found[IDLE], 0
+            self.shares = [one + other for one, other in zip(self.shares, found)]
         self.put(seen, end, SENDING if end - seen <= self.course.pause else UNSEEN)
 
     def put(self, begin: int, end: int, kind: int) -> None:

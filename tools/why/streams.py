@@ -4,8 +4,10 @@ from __future__ import annotations
 
 import struct
 from array import array
+from bisect import bisect_right
 from collections import deque
 from dataclasses import dataclass, field
+from itertools import accumulate
 from typing import NamedTuple
 
 from why import frames as kind_of
@@ -71,6 +73,13 @@ class Grants:
 
     frames: array[int] = field(default_factory=lambda: array("q"))
     amounts: array[int] = field(default_factory=lambda: array("q"))
+    sums: list[int] = field(default_factory=list)
+
+    def upto(self, frame: int) -> int:
+        """What was granted up to a frame, all in all."""
+        if len(self.sums) != len(self.amounts) + 1:
+            self.sums = [0, *accumulate(self.amounts)]
+        return self.sums[bisect_right(self.frames, frame)]
 
 
 @dataclass(slots=True)

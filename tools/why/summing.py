@@ -51,7 +51,7 @@ def sentences(
     faults = [fault for one in audited for fault in one.faults]
     said = [
         f"{count(len(audited), 'connection')}, {count(len(requests), 'request')}, {time_of(max(nanos, 0))}.",
-        breaches(answer) if faults else "No rule was broken.",
+        breaches(answer) if faults else "No rule was broken" + " in what was audited" * is_partial(answer) + ".",
     ]
     if held:
         hung = sum(one.is_hung for one in held)
@@ -65,6 +65,11 @@ def sentences(
     if tcp:
         said.append(f"TCP held back {count(len(tcp), 'request')}.")
     return said
+
+
+def is_partial(answer: Answer) -> bool:
+    """Whether something was not audited, so that a clean answer is one of a part."""
+    return bool(answer.not_audited) or any(one.gaps for one in answer.audited)
 
 
 def breaches(answer: Answer) -> str:
