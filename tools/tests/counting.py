@@ -1,10 +1,9 @@
 """Runs a program, and counts what it asks of its system (count.c) and its instructions (valgrind's cachegrind).
 
 Nothing here is measured by a clock, so the counts of one program and one capture are the same on a slow machine and on
-a busy one.
+a busy one. The program has no other environment than what is named here, since the C library goes through it.
 """
 
-import os
 import pathlib
 import re
 import resource
@@ -78,7 +77,7 @@ class Counter:
             file.flush()
             ran = subprocess.run(
                 [self.program, *words], stdin=subprocess.DEVNULL, capture_output=True, timeout=self.most_seconds,
-                env=dict(os.environ, LD_PRELOAD=str(self.all_calls), COUNTS=file.name, **surroundings),
+                env={"LD_PRELOAD": str(self.all_calls), "COUNTS": file.name, **surroundings},
                 preexec_fn=bounded(stack, memory),
             )
             file.seek(0)
@@ -91,7 +90,7 @@ class Counter:
         ran = subprocess.run(
             [*valgrind, self.program, *words], stdin=subprocess.DEVNULL, stdout=subprocess.DEVNULL,
             stderr=subprocess.PIPE, text=True, timeout=self.most_seconds,
-            env=dict(os.environ, LD_PRELOAD=str(self.key_alone), KEY=key, GLIBC_TUNABLES=PLAIN),
+            env={"LD_PRELOAD": str(self.key_alone), "KEY": key, "GLIBC_TUNABLES": PLAIN},
         )
         found = re.search(r"I +refs: +([\d,]+)", ran.stderr)
         if found is None:
