@@ -79,6 +79,15 @@ try_built() {
     fi
 }
 
+# A test of the splitter, likewise.
+try_split() {
+    if [[ $split != "$program" ]]; then
+        try "$@"
+    else
+        left_out+=("$1")
+    fi
+}
+
 left_out=()
 install_packages
 if make -q "$built" > /dev/null 2>&1; then
@@ -139,6 +148,7 @@ try_built 'many captures: large imports in parts' tools/tests/fleet_imports_test
 try_built 'many captures: large imports, lost workers' tools/tests/fleet_imports_test.py "$built" Misfortunes
 try_built 'many captures: large imports on a cluster' tools/tests/fleet_imports_test.py "$built" OnCluster
 try 'many captures: without daemons' tools/tests/fleet_collect_test.py "${audits[@]}"
+try_split 'splitter: full parts and disks, names' tools/tests/splitter_test.py "$split"
 try 'install and package' tools/tests/package_test.sh "$program" "$split"
 try_built 'the answer in words: captures' tools/tests/why_test.py "$built"
 try_built 'the answer in words: hostile captures' tools/tests/why_hostile_test.py "$built"

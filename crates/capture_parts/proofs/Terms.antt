@@ -22,7 +22,8 @@ pub use Rattle.byteorder.specs.Numbers.{big_from-append, big_from-take, little_f
 pub use Rattle.pcap_records.specs.Record.{BeginsWithRecord, captured_length, record_at}
 pub use Rattle.capture_parts.specs.Dealt.{IsRecord, full_at, full_from, given, given_from, pair_at, part_at, part_bytes}
 pub use Rattle.capture_parts.specs.Dealt.{part_full, part_numbers}
-pub use Rattle.capture_parts.specs.Files.{IsDealt, order_of}
+pub use Rattle.capture_parts.specs.Files.{order_of}
+pub use Rattle.capture_parts.specs.code.Standing.{IsDealt}
 pub use Rattle.capture_parts.specs.Pair.{endpoint_key, front_of, names_endpoints, pair_in, pair_of, part_of}
 pub use Rattle.capture_parts.specs.Parts.{AllGrow, AreSplit, Grows}
 pub use Rattle.capture_parts.specs.Inputs.{HasHeld, HaveHeld}

@@ -9,7 +9,8 @@ ghost use Rattle.pcap_records.specs.Record.{BeginsWithRecord, captured_length};
 ghost use Rattle.capture_parts.specs.Dealt.{full_at};
 ghost use Rattle.capture_parts.specs.Pair.{front_of};
 ghost use Rattle.capture_parts.specs.Parts.{AreSplit};
-ghost use Rattle.capture_parts.specs.Files.{IsDealt, order_of};
+ghost use Rattle.capture_parts.specs.Files.{order_of};
+ghost use Rattle.capture_parts.specs.code.Standing.{IsDealt};
 ghost use Rattle.capture_parts.specs.code.Dealing.{Deals, HasBegun, HasEntered, OneGrows};
 ghost use Rattle.capture_parts.specs.declared.part.Part.{Part};
 

@@ -4,7 +4,8 @@ ghost use Rattle.std.specs.Prelude.{◌≡◌, ◌-◌, ◌<◌, ◌≤◌, ℕ,
 ghost use Rattle.std.specs.Io.KnownBytes.{Consumes, IsAtEnd};
 ghost use Rattle.pcap_records.specs.FileHeader.{format_of, link_of, number_of};
 ghost use Rattle.pcap_records.specs.Record.{BeginsWithRecord};
-ghost use Rattle.capture_parts.specs.Files.{IsDealt, order_of};
+ghost use Rattle.capture_parts.specs.Files.{order_of};
+ghost use Rattle.capture_parts.specs.code.Standing.{IsDealt};
 ghost use Rattle.capture_parts.specs.code.Dealing.{Deals, EndsSplit, HasTurned};
 
 use crate::dealer::Dealing;

@@ -133,8 +133,9 @@ pub fn finish_parts<R: Files + AllocGlobal + Eprint>(
     folder: &str,
     parts: &mut [FilePart<R>],
 ) -> Result<Ending, Failure>
-    ensures { IfOk result (λ ending. ending ≡ (if has_full (map (λ part. part.full) parts.old) then Ending.PartsRefused
-        else Ending.Split)) }
+    ensures ending { IfOk result (λ ending. ending ≡ (if has_full (map (λ part. part.full) parts.old)
+        then Ending.PartsRefused else Ending.Split)) }
+    ensures flushed { OnOk result (All IsFlushedOrFull parts.new) }
 {
     flush(rt.alloc(), folder, parts)?;
     let mut summary = begin_summary(rt.alloc(), parts.len())?;

@@ -4,9 +4,10 @@ use Rattle.std.specs.Prelude.{None, slice_index_or}
 use Rattle.std.specs.Io.KnownBytes.{Consumes}
 use Rattle.byteorder.specs.Endian.{big_bytes}
 use Rattle.pcap_records.specs.Record.{BeginsWithRecord, captured_length}
-use Rattle.capture_parts.specs.Files.{IsDealt, order_of}
+use Rattle.capture_parts.specs.Files.{order_of}
 use Rattle.capture_parts.specs.Pair.{front_of, pair_of, part_of}
 use Rattle.capture_parts.specs.Parts.{AreSplit, Grows}
+use Rattle.capture_parts.specs.code.Standing.{IsDealt}
 use Rattle.capture_parts.specs.declared.dealer.Dealer.{Dealer}
 use Rattle.capture_parts.specs.declared.part.FullPart.{FullPart}
 use Rattle.capture_parts.specs.declared.part.Part.{Part}
