@@ -22,7 +22,7 @@ from multiprocessing import resource_tracker
 from types import TracebackType
 from typing import Any
 
-from fleet import ends, programs, sniff, tasks
+from fleet import ends, large, programs, sniff, tasks
 from fleet.carrier import Client, Future
 from fleet.workers import LOOK_SECONDS, NoWorkers, first_line
 
@@ -93,7 +93,7 @@ def settle() -> None:
     warnings.simplefilter("ignore")
     logging.disable(logging.CRITICAL)
     os.environ.setdefault("DASK_LOGGING__DISTRIBUTED", "critical")
-    for module in (tasks, programs, sniff, ends, sys.modules[__name__]):
+    for module in (tasks, large, programs, sniff, ends, sys.modules[__name__]):
         cloudpickle.register_pickle_by_value(module)
     dask.config.set({"distributed.scheduler.allowed-failures": 0, "logging.distributed": "critical"})
 

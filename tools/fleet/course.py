@@ -16,7 +16,7 @@ from dataclasses import dataclass, field
 from functools import partial
 from typing import Any
 
-from fleet import tasks
+from fleet import large, tasks
 from fleet.carrier import Client, Future
 from fleet.tasks import Answer, Order
 from fleet.walk import Found
@@ -173,7 +173,7 @@ class Course:
         self.large += 1
         parts = 0 if capture.is_imported else capture.parts
         if self.scratch is None:
-            self.submit(capture, self.after_whole, tasks.in_parts, path, parts, self.order)
+            self.submit(capture, self.after_whole, large.in_parts, path, parts, self.order)
             return
         try:
             capture.folder = tempfile.mkdtemp(dir=self.scratch)
@@ -181,7 +181,7 @@ class Course:
             self.after_whole(capture, {"outcome": "failed", "status": None, "reason": tasks.named(why)})
             return
         if parts:
-            self.submit(capture, self.after_split, tasks.split, path, folder_of_parts(capture), parts, self.order)
+            self.submit(capture, self.after_split, large.split, path, folder_of_parts(capture), parts, self.order)
         else:
             self.import_first(capture)
 
@@ -262,7 +262,7 @@ class Course:
 
     def import_first(self, capture: Capture) -> None:
         capture.is_imported = True
-        self.submit(capture, self.after_import, tasks.import_first, capture.found.path, capture.folder, self.order)
+        self.submit(capture, self.after_import, large.import_first, capture.found.path, capture.folder, self.order)
 
     def after_import(self, capture: Capture, answer: Answer) -> None:
         """Splits what was made where that is large; else it is audited whole."""
@@ -273,7 +273,7 @@ class Course:
         capture.divided = answer
         if parts := tasks.parts_of(answer["made_size"], self.order):
             folder = folder_of_parts(capture)
-            self.submit(capture, self.after_split, tasks.split_made, answer, folder, parts, self.order)
+            self.submit(capture, self.after_split, large.split_made, answer, folder, parts, self.order)
         else:
             self.merge_when_ready(capture)
 
@@ -296,7 +296,7 @@ class Course:
     def submit_part(self, capture: Capture, number: int) -> None:
         capture.part_tries[number] = tries = capture.part_tries.get(number, 0) + 1
         follow = partial(self.after_part, number=number)
-        self.submit(capture, follow, tasks.part, capture.divided["folder"], number, self.order, tries=tries)
+        self.submit(capture, follow, large.part, capture.divided["folder"], number, self.order, tries=tries)
 
     def after_part(self, capture: Capture, answer: Answer, number: int) -> None:
         capture.seconds += answer.get("seconds") or 0.0
@@ -310,11 +310,11 @@ class Course:
         else:
             capture.waiting.clear()
             capture.tries = capture.part_tries[number]
-            self.finish(capture, capture.divided | tasks.of_part(number, answer))
+            self.finish(capture, capture.divided | large.of_part(number, answer))
 
     def merge_when_ready(self, capture: Capture) -> None:
         if not capture.waiting:
-            self.submit(capture, self.after_merge, tasks.merge, capture.found.path, capture.divided, self.order)
+            self.submit(capture, self.after_merge, large.merge, capture.found.path, capture.divided, self.order)
 
     def after_merge(self, capture: Capture, answer: Answer) -> None:
         """The merge may show that the whole has to be imported first: then its parts are not needed."""

@@ -34,7 +34,7 @@ class Task(Future):
     """A task on its way to a worker, or done."""
 
     def __init__(self, work: Callable[..., object], words: tuple[object, ...]) -> None:
-        self.work, self.words = work.__name__, words
+        self.module, self.work, self.words = work.__module__, work.__name__, words
         self.status = WAITS
         self.answer: Any = None
         self.error: Exception | None = None
@@ -83,7 +83,7 @@ class Worker:
     def do(self, task: Task) -> None:
         """Does a task, which ends with what the worker says or, where that is lost, as such."""
         try:
-            self.connection.send((task.work, task.words))
+            self.connection.send((task.module, task.work, task.words))
             answer, error = self.connection.recv()
         except (EOFError, OSError) as why:
             raise WorkerLost(str(why)) from None

@@ -1,9 +1,10 @@
-"""What a process of the pool does: one task of `tasks` after the other, until nobody asks any more."""
+"""What a process of the pool does: one task of `tasks` or `large` after the other, until nobody asks any more."""
 
 from multiprocessing.connection import Connection
 
-from fleet import tasks
+from fleet import large, tasks
 
+MODULES = {module.__name__: module for module in (tasks, large)}
 Said = tuple[object, Exception | None]
 
 
@@ -12,11 +13,11 @@ def serve(descriptor: int) -> None:
     connection = Connection(descriptor)
     while True:
         try:
-            work, words = connection.recv()
+            module, work, words = connection.recv()
         except EOFError:
             return
         try:
-            said: Said = getattr(tasks, work)(*words), None
+            said: Said = getattr(MODULES[module], work)(*words), None
         except Exception as why:  # whatever it is, the course has to hear of it
             said = None, type(why)(*why.args)
         connection.send(said)

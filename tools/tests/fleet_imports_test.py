@@ -26,7 +26,7 @@ from fleet_cluster_test import Cluster
 sys.path[:0] = [str(TOP / "tools"), str(TOP / "bench")]
 
 import generate  # noqa: E402
-from fleet import tasks  # noqa: E402
+from fleet import large, tasks  # noqa: E402
 
 # What two runs may differ in.
 OF_ONE_RUN = {"seconds", "worker", "entered"}
@@ -281,7 +281,7 @@ class OnCluster(Imported):
         order: tasks.Order = {"keys": [], "imports": "auto", "timeout": 60.0, "split_above": 1000000}
         for name, content in (("six.pcap", parts.over_ipv6(self.plain())), ("a.pcapng", self.pcapng().read_bytes())):
             capture = self.capture(name, content)
-            answer = tasks.in_parts(os.fsencode(capture), 3, order)
+            answer = large.in_parts(os.fsencode(capture), 3, order)
             alone = self.any(capture)
             self.assertEqual((answer["outcome"], answer["status"], answer["program"], answer["report_sha256"]),
                              ("audited", alone.returncode, "h2audit-any", hashlib.sha256(alone.stdout).hexdigest()))

@@ -21,7 +21,7 @@ sys.path[:0] = [str(TOP / "tools"), str(TOP / "bench"), str(TOP / "tests")]
 
 import captures as scripts  # noqa: E402
 import generate  # noqa: E402
-from fleet import tasks  # noqa: E402
+from fleet import large as tasks_of_large, tasks  # noqa: E402
 
 SPLIT = TOP / "crates" / "h2audit_split" / "out" / "h2audit_split"
 STAND_IN = TOP / "tools" / "tests" / "split_stand_in"
@@ -147,7 +147,7 @@ class Parts(Beside):
         self.addCleanup(os.environ.__setitem__, "PATH", path)
         os.environ["PATH"] = f"{self.machine.bin}:/usr/bin:/bin"
         order: tasks.Order = {"keys": [], "imports": "auto", "timeout": 60.0, "split_above": 1000000}
-        answer = tasks.in_parts(os.fsencode(large), 3, order)
+        answer = tasks_of_large.in_parts(os.fsencode(large), 3, order)
         self.assertEqual((answer["outcome"], answer["report_sha256"]),
                          ("audited", hashlib.sha256(self.report_of(large).stdout).hexdigest()))
 

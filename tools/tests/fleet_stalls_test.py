@@ -16,7 +16,7 @@ from fleet_captures import TOP, Machine, Sample, by_hand
 
 sys.path.insert(0, str(TOP / "tools"))
 
-from fleet import ends, tasks  # noqa: E402
+from fleet import ends, large, tasks  # noqa: E402
 
 CLIENT, SERVER, OTHER = ("10.0.0.1", 40000), ("10.0.0.2", 80), ("10.0.0.3", 40000)
 HEAD = "capture records 9 segments 9 snapped 0 not-ipv4 0 fragments 0 not-tcp 0 refused 0\n"
@@ -184,7 +184,7 @@ class Rows(unittest.TestCase):
             self.addCleanup(os.environ.__setitem__, "PATH", path)
             divided = {"size": 1, "modified": 1, "sha256": "", "outcome": "split", "folder": folder, "reason": None}
             order: tasks.Order = {"keys": [], "imports": "never", "timeout": 60.0, "split_above": 1}
-            answer = tasks.merge(os.fsencode(whole), divided, order)
+            answer = large.merge(os.fsencode(whole), divided, order)
             self.assertEqual((answer["outcome"], answer["ends"]), ("audited", {1: 9}))
 
 

@@ -46,11 +46,12 @@ PROGRAMS = {name: options_of(name) for name in (*HELP_TEXTS, *(f"h2audit-{end}" 
 
 class Version(unittest.TestCase):
     def test_package(self) -> None:
-        """The package has the version that the program prints."""
+        """The package has the version that the program prints, and so have the programs in Python."""
         source = (TOP / "crates" / "h2audit" / "src" / "command_line" / "command.rt").read_text()
         (version,) = re.findall(r'const VERSION: &str = "(.*)";', source)
         changelog = (TOP / "tools" / "package" / "changelog").read_text()
         self.assertTrue(changelog.startswith(f"h2audit ({version}) "))
+        self.assertIn(f'VERSION = "{version}"\n', (TOP / "tools" / "report" / "__init__.py").read_text())
 
 
 class Man(unittest.TestCase):
