@@ -24,7 +24,8 @@ needed+=(librust-{atty,bzip2,flate2,itoa,lexopt,memchr,once-cell,openssl,rlimit,
 # Of many captures and their tests.
 needed+=(python3-distributed sqlite3 parallel iproute2)
 # Of the answer in words and its tests: real servers and clients.
-needed+=(python3-hpack python3-jsonschema python3-grpcio nginx-light nghttp2-client nghttp2-server h2o caddy nodejs curl)
+needed+=(python3-hpack python3-jsonschema python3-grpcio)
+needed+=(nginx-light nghttp2-client nghttp2-server h2o caddy nodejs curl)
 built=crates/h2audit_cli/out/h2audit_cli
 split=crates/h2audit_split/out/h2audit_split
 work=$(mktemp -d)
@@ -156,7 +157,8 @@ try_built 'the answer in words: words' tools/tests/why_words_test.py "$built"
 try_built 'the answer in words: damaged captures' tools/tests/why_mutations_test.py "$built"
 try_built 'the answer in words: both ends of a wire' tools/tests/why_place_test.py "$built"
 try_built 'the answer in words: windows of real peers' tools/tests/why_causes_test.py "$built" Windows
-try_built 'the answer in words: real clients and applications' tools/tests/why_causes_test.py "$built" Clients Applications
+try_built 'the answer in words: real clients' tools/tests/why_causes_test.py "$built" Clients
+try_built 'the answer in words: real applications' tools/tests/why_causes_test.py "$built" Applications
 try_built 'refused growths, threads, reads and writes' tools/tests/refusals_test.py "$built"
 try_built 'threads that are started' tools/tests/threads_test.py "$built"
 try_built 'random bytes, and reads of any length' tools/tests/calls_test.py "$built"

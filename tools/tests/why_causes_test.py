@@ -33,7 +33,8 @@ from why_peers import (
 )
 from why_tools import Json, answer, by_port, has_programs, programs_of, request_of, text
 
-ROUND_TRIP = 0.06
+# Far longer than a machine under load takes for an answer at once.
+ROUND_TRIP = 0.24
 
 
 @unittest.skipUnless(can_capture, "tcpdump on loopback needs root")
@@ -84,6 +85,18 @@ class Windows(Causes):
 
     def test_h2o(self) -> None:
         self.at_either_end(h2o)
+
+    def test_upload(self) -> None:
+        """The other way round: what a client sends waits for the server's window, and the server is asked."""
+        with ExitStack() as stack:
+            port = stack.enter_context(nghttpd(self.folder))
+            near = stack.enter_context(proxy_to(port, ROUND_TRIP))
+            stack.enter_context(captured(self.capture, port, near))
+            ran("nghttp", "-n", "-d", self.folder / "large", f"http://127.0.0.1:{near}/small")
+        found = answer(self.capture)
+        self.sums(found)
+        self.check(request_of(by_port(found, near), "/small"), "stream-window", ("round-trip",), "server")
+        self.check(request_of(by_port(found, port), "/small"), "stream-window", ("unshown",), "server")
 
     def test_connection_window(self) -> None:
         """The stream has all the window it needs, and the connection has not."""

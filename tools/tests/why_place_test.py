@@ -17,7 +17,7 @@ from why_peers import Peers, can_capture, process
 from why_tools import Json, answer, has_programs, programs_of, request_of
 from why_wire import SERVER, Loses, captured_at, wire
 
-ROUND_TRIP = 0.08
+ROUND_TRIP = 0.16
 PORT = 8080
 
 
@@ -52,7 +52,7 @@ class Ends(Peers):
             self.assertGreater(one["round_trip"]["nanos"], 0.95 * ROUND_TRIP * 1e9)
         cause = request_of(there, "/large")["cause"]
         self.assertEqual((cause["why"], cause["ask"], cause["proved"]), ("round-trip", "client", True))
-        self.assertEqual(request_of(here, "/large")["cause"]["why"], "unshown")
+        self.assertEqual(request_of(here, "/large")["cause"]["why"], "unshown", request_of(here, "/large"))
         self.assertIn("captured at the client: a stall of the server may not show", here["limits"][0])
 
     def test_loss(self) -> None:

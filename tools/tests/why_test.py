@@ -61,6 +61,16 @@ class Stored(OnCaptures):
             for line in lines:
                 validator.validate(line)
 
+    def test_both_ends(self) -> None:
+        """The stall that shows at the sender is found at the receiver too, where none shows."""
+        found = []
+        for end in ("client", "server"):
+            (connection,) = said_of(str(TOP / "examples" / f"round_trip_{end}_side.pcap"))["connections"]
+            (request,) = connection["requests"]
+            self.assertEqual((connection["captured_at"], request["cause"]["ask"]), (end, "client"))
+            found.append(request["cause"]["nanos"])
+        self.assertAlmostEqual(found[0] / found[1], 1, delta=0.05)
+
     def test_same_bytes(self) -> None:
         for form in ((), ("--json",), ("--json-lines",), ("--all",)):
             one, other = (ran(*form, EXAMPLES[1]) for _ in range(2))

@@ -6,7 +6,10 @@
 
 from __future__ import annotations
 
+import contextlib
 import os
+import pty
+import re
 import struct
 import subprocess
 import sys
@@ -36,6 +39,23 @@ class Words(OnCaptures):
         coloured = ran("--color", "always", self.EXAMPLE).stdout
         self.assertIn(b"\x1b[33m", coloured)
         self.assertEqual(ran("--color", "never", self.EXAMPLE).stdout, plain)
+
+    def test_terminal(self) -> None:
+        """On a terminal there are colours, without NO_COLOR, and lines fold at its width."""
+        for more, has_colours in (({"TERM": "xterm"}, True), ({"NO_COLOR": "1"}, False)):
+            leader, follower = pty.openpty()
+            surroundings = {name: word for name, word in os.environ.items() if name != "NO_COLOR"}
+            words = [TOP / "tools" / "h2audit-why", self.EXAMPLE]
+            with subprocess.Popen(words, stdout=follower, env={**surroundings, "COLUMNS": "70", **more}) as child:
+                os.close(follower)
+                text = b""
+                with contextlib.suppress(OSError):  # the terminal ends with its last writer
+                    while octets := os.read(leader, 4096):
+                        text += octets
+            os.close(leader)
+            self.assertEqual((child.returncode, b"\x1b[" in text), (0, has_colours))
+            lines = re.sub(r"\x1b\[\d+m", "", text.decode()).splitlines()
+            self.assertLessEqual(max(map(len, lines)), 70)
 
     def test_width(self) -> None:
         lines = ran("--width", "60", self.EXAMPLE).stdout.decode().splitlines()

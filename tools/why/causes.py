@@ -10,7 +10,8 @@ from why.answer import At, Cause, DirectionSaid, Request, StallSaid
 from why.audit import FIRST_CREDIT
 from why.capture import CLIENT, SERVER, SIDES
 from why.seen import Seen
-from why.spans import CONNECTION_STALL, IDLE, SENDING, STREAM_STALL, TCP, UNSEEN, WAITING
+from why.spans import CONNECTION_STALL, STREAM_STALL, TCP, UNSEEN, WAITING
+from why.unshown import unshown_stalls
 
 # Flow control or TCP held a request back where it did so for 1 ms and for 1 % of its life, at least.
 LEAST_HELD, HELD_SHARE = 1_000_000, 100
@@ -57,6 +58,7 @@ class Causes:
         self.times = {
             key: Stretches([(one.begin.time, one.until, one.why) for one in some]) for key, some in self.stalls.items()
         }
+        self.unshown_stalls: dict[int, Stretches] = {}
         held = [sorted(some) for some in seen.held]
         self.held = held
         last = seen.last.time
@@ -116,20 +118,21 @@ class Causes:
         return Cause("tcp", why, side, ask, said.shares[TCP], self.seen.of_place(begins.first), at_end)
 
     def unshown(self, request: Request, side: int) -> Cause | None:
-        """A window that is used within each round trip: captured where the bytes arrive, no stall of it shows."""
-        said, round_trip = request.sides[side], self.seen.round_trip.nanos
-        if self.captured_at != SIDES[1 - side] or not round_trip or said.end is None:
+        """A window that is used up within a round trip: captured where the bytes arrive, no stall of it shows."""
+        said = request.sides[side]
+        if self.captured_at != SIDES[1 - side] or said.end is None or not said.content:
             return None
         if is_held(said.shares[STREAM_STALL] + said.shares[CONNECTION_STALL], request):
             return None
-        sending = said.shares[SENDING] + said.shares[IDLE]
-        for kind, stream in (("stream-window", request.stream), ("connection-window", 0)):
-            window = window_of(self.seen, side, stream)
-            trips = said.content // max(window, 1)
-            # Of n windows the last needs no round trip more; what is left over takes a part of one.
-            if trips >= 2 and sending and 0.6 < (trips - 1) * round_trip / sending <= 1.2:
-                return Cause(kind, "unshown", side, 1 - side, sending, said.first, said.end)
-        return None
+        stream = Stretches([(*one, "") for one in unshown_stalls(self.seen, side, request.stream)])
+        if side not in self.unshown_stalls:
+            self.unshown_stalls[side] = Stretches([(*one, "") for one in unshown_stalls(self.seen, side, 0)])
+        found = []
+        for kind, times in (("stream-window", stream), ("connection-window", self.unshown_stalls[side])):
+            nanos = times.sum(*times.within(request.opened.time, request.opened.time + said.nanos))
+            if is_held(nanos, request):
+                found.append(Cause(kind, "unshown", side, 1 - side, min(nanos, said.nanos), said.first, said.end))
+        return max(found, key=lambda cause: cause.nanos) if found else None
 
     def of_application(self, request: Request) -> list[Cause]:
         """A side that sent nothing though it had credit: between two frames, or before its first."""

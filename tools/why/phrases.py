@@ -104,10 +104,14 @@ class Phrases:
     def round_trip(self, request: Request, cause: Cause, times: int) -> str:
         """The window is below what a round trip carries, and which one would do."""
         window, nanos = self.window(request, cause), self.seen.round_trip.nanos or 0
-        whose = "on the connection " if cause.kind == "connection-window" else ""
+        ask, whose = SIDES[1 - cause.side], " on the connection" if cause.kind == "connection-window" else ""
         if nanos < NEAR:
-            return f"a window {whose}of {window:,} bytes, used up {count(times, 'time')} and granted again at once"
-        said = f"{window:,} bytes {whose}a round trip of {time_of(nanos)}, so {rate_of(window, nanos)} at most"
+            often = count(times, "time")
+            return f"the {ask}'s window{whose} of {window:,} bytes was used up {often} and granted again at once"
+        said = (
+            f"the {ask} grants {window:,} bytes{whose} a round trip of {time_of(nanos)}, so {rate_of(window, nanos)} "
+        )
+        said += "at most"
         return said + self.which_would_do(request, cause, window, nanos)
 
     def which_would_do(self, request: Request, cause: Cause, window: int, nanos: int) -> str:
@@ -123,10 +127,10 @@ class Phrases:
     def unshown(self, request: Request, cause: Cause) -> str:
         """Where bytes arrive no stall shows, though each window is used within a round trip."""
         window, nanos = self.window(request, cause), self.seen.round_trip.nanos or 1
-        whose = "on the connection " if cause.kind == "connection-window" else ""
+        ask, whose = SIDES[1 - cause.side], " on the connection" if cause.kind == "connection-window" else ""
         return (
-            f"no stall shows here, at the {SIDES[1 - cause.side]}, but {window:,} bytes {whose}are used within each "
-            f"round trip of {time_of(nanos)}: {rate_of(window, nanos)} at most"
+            f"no stall shows here, at the {ask}, but its window{whose} of {window:,} bytes is used up within a round "
+            f"trip of {time_of(nanos)}, for {time_of(cause.nanos)} in all: {rate_of(window, nanos)} at most"
         )
 
     def whose(self, request: Request, cause: Cause) -> str:

@@ -124,7 +124,9 @@ def failure(program: str, status: int, said: str) -> Failed:
     """What ended a program, in its own words where it had some."""
     if status < 0:
         return Failed(IO_FAILED, f"{program}: ended by signal {-status}")
-    return Failed(status if status in (2, 3, 4, 5, 7) else IO_FAILED, without_name(said) if said else f"{program}: failed")
+    return Failed(
+        status if status in (2, 3, 4, 5, 7) else IO_FAILED, without_name(said) if said else f"{program}: failed"
+    )
 
 
 def read(asked: argparse.Namespace, place: Path, audit_ends: object, progress: Progress) -> Answer:
