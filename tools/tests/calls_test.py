@@ -37,15 +37,17 @@ class Calls(unittest.TestCase):
         return str(path)
 
     def test_random_bytes(self) -> None:
-        """They are drawn once, and decide where pairs stand in a table, so how many steps it takes to find them."""
-        words = ["--workers=1", self.capture("one_server_below")]
-        ran = self.counter.run(words)
-        self.assertEqual((0, b"", 1), (ran.status, ran.said, ran.counts.drawn))
-        for key in ("1", "2", ""):
-            self.assertEqual(ran.text, self.counter.run(words, KEY=key).text)
-        # Under one key the steps differ by 30 at most.
-        steps = [self.counter.instructions(words, key) for key in "12345"]
-        self.assertLess(1000, max(steps) - min(steps))
+        """They are drawn once, and decide where pairs and streams stand in a table, and so how fast they are found."""
+        for name, status in (("one_server_below", 0), ("shuffled_streams", 1)):
+            with self.subTest(name):
+                words = ["--workers=1", self.capture(name)]
+                ran = self.counter.run(words)
+                self.assertEqual((status, b"", 1), (ran.status, ran.said, ran.counts.drawn))
+                for key in ("1", "2", ""):
+                    self.assertEqual(ran.text, self.counter.run(words, KEY=key).text)
+                # Under one key the numbers of instructions differ by 30 at most.
+                steps = [self.counter.instructions(words, key) for key in "12345"]
+                self.assertLess(1000, max(steps) - min(steps))
 
     def test_lengths_of_reads(self) -> None:
         path = self.capture("bulk")

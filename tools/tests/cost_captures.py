@@ -77,6 +77,17 @@ def loud_stream() -> Capture:
     return capture
 
 
+def shuffled_streams() -> Capture:
+    """20,010 streams that are met out of order, after a finding, so that a table holds them."""
+    capture = opened(UNMATCHED)
+    # 20,011 is a prime, so each number comes once.
+    streams = [2 * (7919 * number % 20_011) + 1 for number in range(1, 20_011)]
+    frames = [frame_of(["PRIORITY", str(stream), "5"]) for stream in streams]
+    for start in range(0, len(frames), 90):
+        capture.send("C", b"".join(frames[start:start + 90]))
+    return capture
+
+
 def loud_connections() -> Capture:
     """2,500 connections, each with a finding."""
     capture = Capture()
@@ -142,8 +153,8 @@ def one_server_above() -> Capture:
 
 
 OWN: tuple[Callable[[], Capture], ...] = (
-    loud_turns, loud_crowd, loud_stream, loud_connections, short_connections, larger_windows, far_streams,
-    one_server_below, one_server_above,
+    loud_turns, loud_crowd, loud_stream, shuffled_streams, loud_connections, short_connections, larger_windows,
+    far_streams, one_server_below, one_server_above,
 )
 # Those of bench/generate.py, with their size in megabytes.
 GENERATED = {

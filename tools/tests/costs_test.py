@@ -64,7 +64,13 @@ def stored() -> dict[str, Figures]:
 
 
 def store(found: dict[str, Figures]) -> None:
-    rows = [("capture", *FIGURES), *((name, *map(str, figures)) for name, figures in found.items())]
+    """Stores figures anew. One that hardly moved stays, so that a commit shows what changed."""
+    rows: list[tuple[str, ...]] = [("capture", *FIGURES)]
+    before = stored()
+    for name, figures in found.items():
+        kept = (was if abs(now - was) <= margin * was / 20 else now
+                for was, now, margin in zip(before.get(name, figures), figures, MARGINS))
+        rows.append((name, *map(str, kept)))
     STORED.write_text("".join("\t".join(row) + "\n" for row in rows))
 
 
