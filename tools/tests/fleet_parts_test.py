@@ -175,7 +175,8 @@ class Parts(Beside):
         asked = "SELECT outcome, reason, tries FROM captures"
         self.assertEqual(self.machine.ask(asked), [("failed", "part 2: out-of-memory", 2)])
         (self.machine.bin / "h2audit-split").unlink()
-        (self.machine.bin / "h2audit-split").write_text("#!/bin/sh\necho \"h2audit-split: cannot write: $4/part-001.pcap\" >&2; exit 4\n")
+        (self.machine.bin / "h2audit-split").write_text(
+            "#!/bin/sh\necho \"h2audit-split: cannot write: $4/part-001.pcap\" >&2; exit 4\n")
         (self.machine.bin / "h2audit-split").chmod(0o755)
         words = ("--jobs", "2", "--retries", "0", "--resume", "--split-above", "1", "captures")
         self.assertEqual(self.machine.run(*words)[0], 3)
