@@ -238,7 +238,8 @@ class Names(Splits):
         """What a terminal would act on is told by its code, and letters of any script are not."""
         for name, told in (
             ("a\x1b[31mb", "a\\x1b[31mb"), ("a\nb\tc\rd", "a\\nb\\tc\\rd"), ("a\x7fb\x9bc", "a\\x7fb\\x9bc"),
-            ("a\u202eb", "a\\u202eb"), ("a\U000e0041b", "a\\U000e0041b"), ("Zürich 東京 'x' \\ \"", "Zürich 東京 'x' \\ \""),
+            ("a\u202eb", "a\\u202eb"), ("a\U000e0041b", "a\\U000e0041b"),
+            ("Zürich 東京 'x' \\ \"", "Zürich 東京 'x' \\ \""),
         ):
             with self.subTest(told):
                 self.assertEqual(self.split("--parts", 1, "-o", "out", name),

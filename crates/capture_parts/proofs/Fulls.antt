@@ -1,8 +1,10 @@
 -- By which record a part is full, as more of the records is known.
 use Rattle.capture_parts.proofs.Terms.{FullPart, List, None, Option, Pair, Some, [], ap, ap₂, append-nil, arith}
-use Rattle.capture_parts.proofs.Terms.{cases_eq, cases_lt, cond-false, cond-true, eq-eqb, false, full_at, full_from, given, given_from}
-use Rattle.capture_parts.proofs.Terms.{if◌then◌else◌, inl, inr, le-ltb, length, nat_lt, length-append, lt-ltb, ne_eqb, none-some, option_or}
-use Rattle.capture_parts.proofs.Terms.{option_or-none, option_or_assoc, pair_at, part_at, refl, sym, true, ℕ, ◌++◌, ◌+◌}
+use Rattle.capture_parts.proofs.Terms.{cases_eq, cases_lt, cond-false, cond-true, eq-eqb, false, full_at, full_from}
+use Rattle.capture_parts.proofs.Terms.{given, given_from}
+use Rattle.capture_parts.proofs.Terms.{if◌then◌else◌, inl, inr, le-ltb, length, nat_lt, length-append, lt-ltb, ne_eqb}
+use Rattle.capture_parts.proofs.Terms.{none-some, option_or}
+use Rattle.capture_parts.proofs.Terms.{option_or-none, option_or_assoc, pair_at, refl, sym, true, ℕ, ◌++◌, ◌+◌}
 use Rattle.capture_parts.proofs.Terms.{◌<◌, ◌==◌, ◌^◌, ◌∙◌, ◌∷◌, ◌≡◌, ◌≤◌}
 use Rattle.capture_parts.proofs.Given.{given_from-snoc}
 
@@ -82,7 +84,8 @@ module _ (link parts i : ℕ) where
   -- one record in place of another behind the same records, of which part i got the same or more
   full_last : (size : ℕ) (records : List (List ℕ)) (was now : List ℕ) (later : Option FullPart) → size < 2 ^ 31
       → (size + length (all 1 records) < 2 ^ 31
-      → option_or (full_at (size + length (all 1 records)) (length (one (1 + length records) was)) (pair_at link was)) later
+      → option_or (full_at (size + length (all 1 records)) (length (one (1 + length records) was)) (pair_at link was))
+      later
       ≡ full_at (size + length (all 1 records)) (length (one (1 + length records) now)) (pair_at link now))
       → option_or (full size 1 (records ++ was ∷ [])) later ≡ full size 1 (records ++ now ∷ [])
   full_last size records was now later small same =

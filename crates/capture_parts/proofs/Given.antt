@@ -1,7 +1,8 @@
 -- What parts get of records, one after the other.
 use Rattle.capture_parts.proofs.Terms.{Bool, List, [], ap, append-nil, append_assoc, arith, cond-false, drop}
 use Rattle.capture_parts.proofs.Terms.{drop-append-le, false, front_of, given, given_from, if◌then◌else◌}
-use Rattle.capture_parts.proofs.Terms.{length, length-append, length-drop, length-take, min, ne_eqb, pair_at, pair_of, part_at}
+use Rattle.capture_parts.proofs.Terms.{length, length-append, length-drop, length-take, min, ne_eqb, pair_at, pair_of}
+use Rattle.capture_parts.proofs.Terms.{part_at}
 use Rattle.capture_parts.proofs.Terms.{part_of, refl, sym, take, take-append-le, take-take, take_all, true, ℕ, ◌++◌}
 use Rattle.capture_parts.proofs.Terms.{◌+◌, ◌<◌, ◌==◌, ◌∙◌, ◌∷◌, ◌≡◌, ◌≤◌}
 
@@ -31,7 +32,8 @@ module _ (link parts : ℕ) (taken : ℕ → List ℕ → List ℕ) (i : ℕ) wh
   all = given_from link parts taken i
 
   -- one record more behind others
-  pub given_from-snoc : (n : ℕ) (rs : List (List ℕ)) (r : List ℕ) → all n (rs ++ r ∷ []) ≡ all n rs ++ one (n + length rs) r
+  pub given_from-snoc : (n : ℕ) (rs : List (List ℕ)) (r : List ℕ)
+      → all n (rs ++ r ∷ []) ≡ all n rs ++ one (n + length rs) r
   given_from-snoc n [] r = append-nil (one n r) ∙ ap (λ (m : ℕ). one m r) (omega arith)
   given_from-snoc n (x ∷ rs) r =
       let at : n + 1 + length rs ≡ n + length (x ∷ rs) = omega arith in

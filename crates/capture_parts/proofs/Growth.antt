@@ -33,8 +33,10 @@ module _ {W : Type 0} (contents : W → Option (List ℕ)) where
   Grows-trans a b c x y m n first second later same p q =
       let before = stood b.full c.full q.stays in
       record {
-        packets = λ h. Appends-trans (contents a.packets) (contents b.packets) (contents c.packets) x y (p.packets (before h)) (q.packets h);
-        numbering = λ h. Appends-trans (contents a.numbers) (contents b.numbers) (contents c.numbers) m n (p.numbering (before h)) (q.numbering h);
+        packets = λ h. Appends-trans (contents a.packets) (contents b.packets) (contents c.packets) x y
+            (p.packets (before h)) (q.packets h);
+        numbering = λ h. Appends-trans (contents a.numbers) (contents b.numbers) (contents c.numbers) m n
+            (p.numbering (before h)) (q.numbering h);
         size = λ h. omega (arith, p.size (before h), q.size h, length-append x y);
         stays = stays-trans a.full b.full c.full p.stays q.stays;
         fills = λ h. fills-trans b.full c.full first second later (λ e. same e h) (p.fills h) q.stays q.fills;
@@ -43,7 +45,8 @@ module _ {W : Type 0} (contents : W → Option (List ℕ)) where
   -- one part grows, and is put back in its place
   pub OneGrows-put : (parts : List (Part W)) (i : ℕ) (was new : Part W) (bytes numbers : List ℕ)
       (full : ℕ → Option FullPart) → i < length parts
-      → was ≡ get_or parts i was → Grows contents (get_or parts i was) new bytes numbers (full (get_or parts i was).size)
+      → was ≡ get_or parts i was
+      → Grows contents (get_or parts i was) new bytes numbers (full (get_or parts i was).size)
       → OneGrows contents parts (set parts i new) i bytes numbers full
   OneGrows-put parts i was new bytes numbers full within is grows = record {
     count = length-set parts i new;

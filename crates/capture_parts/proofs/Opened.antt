@@ -1,5 +1,6 @@
 -- Files that were opened, read to their ends and dealt.
-use Rattle.capture_parts.proofs.Terms.{Consumes, Dealer, Deals, EndsSplit, HasHeld, HaveHeld, IfOk, IfSome, IsAtEnd, List}
+use Rattle.capture_parts.proofs.Terms.{Consumes, Dealer, Deals, EndsSplit, HasHeld, HaveHeld, IfOk, IfSome, IsAtEnd}
+use Rattle.capture_parts.proofs.Terms.{List}
 use Rattle.capture_parts.proofs.Terms.{None, Ok, OnOk, Option, Part, Result, Some, String, [], Err, append-nil}
 use Rattle.capture_parts.proofs.Terms.{append_assoc, length, refl, string_bytes, ℕ, ◌++◌, ◌∷◌, ◌≡◌}
 use Rattle.std.specs.Global.{Global}

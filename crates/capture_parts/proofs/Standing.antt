@@ -168,7 +168,8 @@ module _ {W : Type 0} (contents : W → Option (List ℕ)) where
           ∙ captured-more d.is_little chunk (drop n unread) long in
           let (are, next, at, parts) = begun e none (omega (arith, long)) (rw whole entered) one was in
           settled (record e { left = e.left - n }) first new was.records chunk (bytes ++ chunk) are
-          (rw little was.stands.whole) next at (rw whole entered.pair) (λ more. omega (arith, more, size, count, left, enough)) long
+          (rw little was.stands.whole) next at (rw whole entered.pair)
+          (λ more. omega (arith, more, size, count, left, enough)) long
           (rw little (omega (arith, size, count, left, captured))) parts
 
   -- the end of a capture, where no bytes are left

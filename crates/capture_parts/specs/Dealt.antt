@@ -55,8 +55,8 @@ module _ (link parts : ℕ) where
   abbrev pub part_numbers : ℕ → List (List ℕ) → List ℕ → List ℕ
   part_numbers i records rest = given_from (λ n bytes. big_bytes 8 n) i 1 (records ++ rest ∷ [])
 
-  -- by which of these records part i is full, if by any, the first of which is record n: the first of its own with which
-  -- the part, of this size before, would reach 2^31 bytes. It is full by that record's endpoints
+  -- by which of these records part i is full, if by any; the first of them is record n. It is the first of the part's
+  -- own with which the part, of this size before, would reach 2^31 bytes, and is told by its endpoints
   abbrev pub full_from : (i size : ℕ) → ℕ → List (List ℕ) → Option FullPart
   full_from i size n [] = None
   full_from i size n (r ∷ rs) =

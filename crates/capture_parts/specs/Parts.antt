@@ -18,7 +18,7 @@ module _ {W : Type 0} (contents : W → Option (List ℕ)) where
     pub stays : IsSome old.full → new.full ≡ old.full
     pub fills : IsNone old.full → new.full ≡ full
 
-  -- each part grows by the bytes and the numbers that are its own, and is full as `full` says of its number and its size
+  -- each part grows by the bytes and the numbers that are its own, and is full as `full` says of its number and size
   pub record AllGrow (old new : List (Part W)) (bytes numbers : ℕ → List ℕ)
       (full : ℕ → ℕ → Option FullPart) : Type 0 where
     pub count : length new ≡ length old

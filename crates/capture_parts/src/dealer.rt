@@ -1,6 +1,7 @@
 //! Which bytes go to which part.
 
-ghost use Rattle.std.specs.Prelude.{◌≡◌, ◌+◌, ◌-◌, ◌<◌, ◌≤◌, ◌^◌, ℕ, List, [], ◌++◌, false, length, min, take, drop, None};
+ghost use Rattle.std.specs.Prelude.{◌≡◌, ◌+◌, ◌-◌, ◌<◌, ◌≤◌, ◌^◌, ℕ, List, [], ◌++◌, false, length, min, take, drop};
+ghost use Rattle.std.specs.Prelude.{None};
 ghost use Rattle.std.specs.Prelude.{vec_len, IfOk, IfSome, OnOk, IsTrue};
 ghost use Rattle.std.specs.Bool.{Decides};
 ghost use Rattle.byteorder.specs.Endian.{big_bytes};

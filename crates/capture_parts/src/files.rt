@@ -16,8 +16,8 @@ use pcap_records::{FILE_HEADER, refusal};
 use std::io;
 use std::io::{Read, Write};
 
-/// Splits a capture that has this file header, which refuses nothing, from behind it on: what is left of its first file,
-/// and then the files of these names, which are opened in turn.
+/// Splits a capture that has this file header, which refuses nothing, from behind it on: what is left of its first
+/// file, and then the files of these names, which are opened in turn.
 ///
 /// Where the readers tell their bytes, these are the capture's. Each part that is not full then holds exactly its own
 /// records, in order, and their numbers; and which part is full, by which record, its own records tell. Fails where a

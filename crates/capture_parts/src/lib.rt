@@ -13,9 +13,9 @@
 //! - The contract of `split_capture` (`AreSplit` of `specs/Parts.antt`) says this of any readers and any writers that
 //!   tell their bytes: the readers gave some bytes to their ends, in the order of the files (`HaveHeld` of
 //!   `specs/Inputs.antt`), and each part that is not full grew by its own of these. A part that would reach 2^31 bytes
-//!   is full: it gets nothing more. `part_full` of `specs/Dealt.antt` says which one is, by the first of its own records
-//!   that it has no room for, and [`Part::full`] gives the endpoints that this record names. Of a file no contract can
-//!   say what it gives or takes.
+//!   is full: it gets nothing more. `part_full` of `specs/Dealt.antt` says which one is: by the first of its own
+//!   records that it has no room for. [`Part::full`] gives the endpoints that this record names. Of a file no contract
+//!   can say what it gives or takes.
 //! - After [`flush_parts`] no byte of a part that is not full waits in a buffer. [`refuse_full`] has each full one
 //!   refused, and answers whether there is one.
 //! - There are as many parts as were asked for ([`part_count`]), and the buffer is long enough for a packet's front
@@ -24,8 +24,10 @@
 //!   endpoints in its front; either order of two endpoints goes to the same part; the records are those that the reader
 //!   of the whole capture finds.
 //! - Refused by the prover: a pair of a sender alone, a part that gets another part's bytes, one number for all
-//!   records, a full part that goes on; no parts, a buffer that is too short.
-//! - Tested, in `tests/` at the root: the parts of whole captures, beside a model; reports of parts, merged.
+//!   records, a full part that names no endpoints; another number of parts; another file than the one that is named; a
+//!   flush that failed and is not told, or is left out.
+//! - Tested, in `tests/` at the root: the parts of whole captures, beside a model; reports of parts, merged. In
+//!   `tools/tests/splitter_test.py`: that no part is called full, and no capture too long, before its time.
 #![tactic(auto)]
 
 mod dealer;

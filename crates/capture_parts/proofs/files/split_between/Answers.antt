@@ -1,5 +1,6 @@
-use Rattle.capture_parts.proofs.Terms.{List, String, add-one, append-nil, refl, take, take-suc, ℕ, ◌+◌, ◌++◌, ◌<◌, ◌∷◌, ◌≡◌}
-use Rattle.capture_parts.proofs.Terms.{[], length, arith}
+use Rattle.capture_parts.proofs.Terms.{List, String, add-one, refl, take, take-suc, ℕ, ◌+◌, ◌++◌, ◌<◌, ◌∷◌}
+use Rattle.capture_parts.proofs.Terms.{◌≡◌}
+use Rattle.capture_parts.proofs.Terms.{[], length}
 use Rattle.std.specs.Global.{Global}
 use Rattle.capture_parts.proofs.Opened.{HaveHeld-snoc}
 use Rattle.capture_parts.proofs.Turns.{Deals-trans}
@@ -16,6 +17,7 @@ loop-index-preserved g c =
     let more : take (i + 1) paths ≡ take i paths ++ path ∷ [] =
     rw (add-one, take-suc paths i path, ← c.index-between-index.is) refl in (
       given ++ own,
-      rw more (HaveHeld-snoc _ g.F.Read.remaining (take i paths) path given own held (rw c.as_str.ensures.value at one)),
+      rw more (HaveHeld-snoc _ g.F.Read.remaining (take i paths) path given own held
+          (rw c.as_str.ensures.value at one)),
       Deals-trans g.W.Write.contents _ _ _ _ _ _ given own deals dealt,
     )

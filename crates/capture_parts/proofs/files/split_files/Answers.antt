@@ -17,8 +17,9 @@ returns g c =
       more ++ last,
       consumed,
       end,
-      rw c.in-Some.ensures.cases.0 (HaveHeld-snoc _ g.F.Read.remaining c.in-Some.between.now c.in-Some.last.now more last
-          held (rw c.as_str.ensures.value at one)),
+      rw c.in-Some.ensures.cases.0
+          (HaveHeld-snoc _ g.F.Read.remaining c.in-Some.between.now c.in-Some.last.now more last held
+          (rw c.as_str.ensures.value at one)),
       EndsSplit-behind g.W.Write.contents _ _ _ _ _ given (more ++ last) deals
           (EndsSplit-behind g.W.Write.contents _ _ _ _ _ more last dealt ends),
     )) c.split_end.ensures

@@ -1,4 +1,4 @@
-use Rattle.capture_parts.proofs.Terms.{FullPart, Option, Part, arith, length, cases_eq, get_or, get_or-set_other}
+use Rattle.capture_parts.proofs.Terms.{FullPart, Option, Part, arith, length, cases_eq, get_or-set_other}
 use Rattle.capture_parts.proofs.Terms.{get_or-set_same, inl, inr, map-set_same, ℕ, ◌<◌, ◌∙◌}
 use Rattle.std.specs.Global.{Global}
 use Rattle.std.specs.declared.io.buffered.BufWriter.{BufWriter}

@@ -1,4 +1,5 @@
-use Rattle.capture_parts.proofs.Terms.{Bool, List, None, Part, Some, ap, at_drop_more, drop, false, of_calls, refl, sym, true, ◌||◌, ℕ, ◌+◌, ◌∙◌, ◌∷◌, ◌≡◌}
+use Rattle.capture_parts.proofs.Terms.{Bool, List, None, Part, Some, ap, at_drop_more, drop, false, of_calls, refl, sym}
+use Rattle.capture_parts.proofs.Terms.{true, ◌||◌, ℕ, ◌+◌, ◌∙◌, ◌∷◌, ◌≡◌}
 use Rattle.capture_parts.proofs.finishing.refuse_full.Goals as goal
 use Rattle.capture_parts.proofs.finishing.refuse_full.Goals.{in-Some+in_ok-refuse, in_default}
 
