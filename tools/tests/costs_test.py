@@ -37,7 +37,7 @@ Figures = tuple[int, ...]
 
 def counts_of(counter: Counter, words: list[str]) -> Counts:
     """What a run counts that ends as it should."""
-    ran = counter.run(words, stack=STACK, KEY=KEY, SETTLE="1")
+    ran = counter.run(words, MOST_STACK=STACK, KEY=KEY, SETTLE=1)
     if ran.status not in (0, 1) or ran.said:
         raise ValueError(f"{words[0]}: ends with status {ran.status} and says {ran.said.decode()!r}")
     if ran.counts.joined < ran.counts.started:
