@@ -57,7 +57,7 @@ class Calls(unittest.TestCase):
             self.assertEqual((0, b""), (whole.status, whole.said))
             for most in LENGTHS:
                 with self.subTest(workers=workers, most=most):
-                    ran = self.counter.run(words, READ_MOST=str(most))
+                    ran = self.counter.run(words, READ_MOST=most)
                     self.assertEqual(whole[:3], ran[:3])
 
 

@@ -120,6 +120,21 @@ def larger_windows() -> Capture:
     return capture
 
 
+def stalls() -> Capture:
+    """A server that lets each stream send one byte at a time, so that each frame of 100 streams begins a stall."""
+    capture = opened()
+    capture.send("S", frame_of(["SETTINGS", "4", "1"]))
+    streams = range(1, 201, 2)
+    headers(capture, streams)
+    capture.send("C", SETTINGS_ACK)
+    granted = frame_of(["WINDOW_UPDATE", "0", "1"])
+    for _ in range(50):
+        for stream in streams:
+            capture.send("C", frame_of(["DATA", str(stream), "1"]))
+            capture.send("S", frame_of(["WINDOW_UPDATE", str(stream), "1"]) + granted)
+    return capture
+
+
 def far_streams() -> Capture:
     """A client that opens every eighth stream, so that none but the first stands where it is looked for first."""
     capture = opened()
@@ -154,7 +169,7 @@ def one_server_above() -> Capture:
 
 OWN: tuple[Callable[[], Capture], ...] = (
     loud_turns, loud_crowd, loud_stream, shuffled_streams, loud_connections, short_connections, larger_windows,
-    far_streams, one_server_below, one_server_above,
+    stalls, far_streams, one_server_below, one_server_above,
 )
 # Those of bench/generate.py, with their size in megabytes.
 GENERATED = {

@@ -27,9 +27,11 @@ from counting import KEY, Counter, Counts
 
 STORED = pathlib.Path(__file__).with_name("costs.tsv")
 FIGURES = ("instructions", "memory of one worker", "memory of several", "threads of several")
-# By how much of the stored one a figure may differ. Of twenty runs on one to four processors, of which all did other
-# work too, the figures of one worker and the threads were the same, and the memory of several differed by 6 % at most.
+# By how much of the stored one a figure may differ, and by how much it may differ from run to run. Of twenty runs, on
+# one to four processors with other work, instructions differed by 30 at most, the memory of one worker and the threads
+# not at all, and the memory of several by 6 %.
 MARGINS = (0.02, 0.02, 0.1, 0.0)
+NOISE = (0.001, 0.001, 0.06, 0.0)
 STACK, LEFT = 512 << 10, 64 << 10
 
 Figures = tuple[int, ...]
@@ -37,7 +39,7 @@ Figures = tuple[int, ...]
 
 def counts_of(counter: Counter, words: list[str]) -> Counts:
     """What a run counts that ends as it should."""
-    ran = counter.run(words, stack=STACK, KEY=KEY, SETTLE="1")
+    ran = counter.run(words, MOST_STACK=STACK, KEY=KEY, SETTLE=1)
     if ran.status not in (0, 1) or ran.said:
         raise ValueError(f"{words[0]}: ends with status {ran.status} and says {ran.said.decode()!r}")
     if ran.counts.joined < ran.counts.started:
@@ -68,8 +70,8 @@ def store(found: dict[str, Figures]) -> None:
     rows: list[tuple[str, ...]] = [("capture", *FIGURES)]
     before = stored()
     for name, figures in found.items():
-        kept = (was if abs(now - was) <= margin * was / 20 else now
-                for was, now, margin in zip(before.get(name, figures), figures, MARGINS))
+        kept = (was if abs(now - was) <= noise * was else now
+                for was, now, noise in zip(before.get(name, figures), figures, NOISE))
         rows.append((name, *map(str, kept)))
     STORED.write_text("".join("\t".join(row) + "\n" for row in rows))
 

@@ -2,9 +2,10 @@
  * in which the counts stand in the order of `struct counts`, even where the program is killed.
  *
  * KEY, a number, gives the random bytes, and an empty one refuses them; without it the system gives them. READ_MOST is
- * how many bytes a read gives at most. With SETTLE each read waits until all threads that were started have ended, so
- * that what threads do beside reads is divided in the same way in each run; and there are four processors. Compiled
- * with KEY_ALONE it does what KEY asks for and nothing else, so that it adds nothing to instructions that are counted.
+ * how many bytes a read gives at most; MOST_STACK and MOST_MEMORY limit the process, in bytes. With SETTLE each read
+ * waits until all threads that were started have ended, so that what threads do beside reads is divided in the same way
+ * in each run; and there are four processors. Compiled with KEY_ALONE it does what KEY asks for and nothing else, so
+ * that it adds nothing to instructions that are counted.
  */
 #define _GNU_SOURCE
 #include <dlfcn.h>
@@ -18,6 +19,7 @@
 #include <stdlib.h>
 #include <string.h>
 #include <sys/mman.h>
+#include <sys/resource.h>
 #include <unistd.h>
 
 #define REAL(name) ((__typeof__(&name))dlsym(RTLD_NEXT, #name))
@@ -57,6 +59,13 @@ static void find_real(void) {
     real_free = REAL(free);
 }
 
+static void limit(__rlimit_resource_t which, const char *bytes) {
+    if (bytes) {
+        rlim_t most = strtoul(bytes, NULL, 10);
+        setrlimit(which, &(struct rlimit){most, most});
+    }
+}
+
 __attribute__((constructor)) static void begin(void) {
     const char *path = getenv("COUNTS"), *most = getenv("READ_MOST");
     int file = path ? open(path, O_RDWR) : -1;
@@ -65,6 +74,8 @@ __attribute__((constructor)) static void begin(void) {
         counts = shared;
     if (file >= 0)
         close(file);
+    limit(RLIMIT_STACK, getenv("MOST_STACK"));
+    limit(RLIMIT_AS, getenv("MOST_MEMORY"));
     settles = getenv("SETTLE") != NULL;
     if (most)
         read_most = strtoul(most, NULL, 10);

@@ -6,11 +6,9 @@ a busy one. The program has no other environment than what is named here, since 
 
 import pathlib
 import re
-import resource
 import struct
 import subprocess
 import tempfile
-from collections.abc import Callable
 from typing import NamedTuple
 
 SOURCE = pathlib.Path(__file__).with_name("count.c")
@@ -40,18 +38,6 @@ class Ran(NamedTuple):
     counts: Counts
 
 
-def bounded(stack: int | None, memory: int | None) -> Callable[[], None]:
-    """Sets limits, in bytes, of the process that calls it."""
-    limits = [(resource.RLIMIT_STACK, stack), (resource.RLIMIT_AS, memory)]
-
-    def bound() -> None:
-        for which, most in limits:
-            if most:
-                resource.setrlimit(which, (most, most))
-
-    return bound
-
-
 class Counter:
     """Counts the calls and the instructions of runs. Files lie in a folder that is there for as long."""
 
@@ -64,21 +50,15 @@ class Counter:
         subprocess.run(["cc", "-O2", "-shared", "-fPIC", *flags, "-o", library, SOURCE], check=True)
         return library
 
-    def run(
-        self,
-        words: list[str],
-        stack: int | None = None,
-        memory: int | None = None,
-        **surroundings: str,
-    ) -> Ran:
-        """A run with its counts. The surroundings are those of count.c."""
+    def run(self, words: list[str], **asked: str | int) -> Ran:
+        """A run with its counts. What may be asked for is in count.c."""
+        surroundings = {name: str(value) for name, value in asked.items()}
         with tempfile.NamedTemporaryFile(dir=self.folder) as file:
             file.write(bytes(8 * len(Counts._fields)))
             file.flush()
             ran = subprocess.run(
                 [self.program, *words], stdin=subprocess.DEVNULL, capture_output=True, timeout=self.most_seconds,
                 env={"LD_PRELOAD": str(self.all_calls), "COUNTS": file.name, **surroundings},
-                preexec_fn=bounded(stack, memory),
             )
             file.seek(0)
             counts = Counts(*struct.unpack(f"{len(Counts._fields)}q", file.read()))

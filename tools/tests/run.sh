@@ -1,7 +1,7 @@
 #!/usr/bin/env bash
 # Tests what stands around the program: imports, comments, pages, pictures, many captures, man pages, completions,
 # recipes, the Debian package and the example of the library. And what the program answers where memory, threads,
-# reads and writes are refused.
+# reads and writes are refused, and what audits cost.
 #
 # It proves nothing, and builds the library's example alone. Where the program is not built, or is older than its
 # sources, the recipes read the stored reports of examples/, and install and package have another program in its place;
@@ -10,8 +10,9 @@
 set -euo pipefail
 cd "$(dirname "$0")/../.."
 
-needed=(python3-matplotlib mandoc lintian zsh fish gawk mawk original-awk tshark binutils gcc libc6-dev
-    valgrind)
+needed=(python3-matplotlib mandoc lintian zsh fish gawk mawk original-awk tshark binutils gcc libc6-dev)
+# Of costs.
+needed+=(valgrind)
 # Of types.
 needed+=(mypy)
 # Of the page and its tests.

@@ -138,7 +138,7 @@ class Sizes(unittest.TestCase):
             counter = Counter(PROGRAM, folder, most_seconds=60)
             for workers, most in ((1, most_of_one), (4, most_of_one * 5 // 4)):
                 with self.subTest(workers=workers):
-                    ran = counter.run([f"--workers={workers}", str(path)], memory=1536 * MIB, SETTLE="1")
+                    ran = counter.run([f"--workers={workers}", str(path)], MOST_MEMORY=1536 * MIB, SETTLE=1)
                     self.assertEqual((1, b""), (ran.status, ran.said))
                     self.assertTrue(ran.text == wanted, "another report")
                     self.assertLess(ran.counts.peak, most)

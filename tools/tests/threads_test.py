@@ -106,7 +106,7 @@ class Threads(unittest.TestCase):
     def started(self, words: str, capture: bytes) -> int:
         """How many threads a run starts. The capture is a file, which a read gives as much of as it asks for."""
         self.capture.write_bytes(capture)
-        return self.counter.run([*words.split(), str(self.capture)], SETTLE="1").counts.started
+        return self.counter.run([*words.split(), str(self.capture)], SETTLE=1).counts.started
 
     def test_each_way(self) -> None:
         for words, capture, ways in ROWS:
