@@ -233,7 +233,7 @@ impl PacketHead {
 }
 
 /// The text of a key log of TLS in the body of a Decryption Secrets Block; none where its secrets are others.
-fn secrets_of<'a>(order: Order, body: &'a [u8]) -> Result<Option<&'a [u8]>, Error> {
+fn secrets_of(order: Order, body: &[u8]) -> Result<Option<&[u8]>, Error> {
     if body.len() < 8 {
         return Err(Error::refused("bad-block"));
     }
