@@ -132,9 +132,9 @@ def json_of(
     used = sorted({places[id(window.connection)] for window in windows})
     new = {place: number for number, place in enumerate(used)}
     kinds = sorted({fault[1] for one in series for fault in one.faults})
-    times = [list(onward(time - window.connection.start for time in one.times)) for window, one in zip(windows, series)]
+    times = [list(onward(time - window.connection.zero for time in one.times)) for window, one in zip(windows, series)]
     waits = [max(window.waits, default=0) for window in windows]
-    others = [(new[places[id(one)]], finding.frame, one.since_start(finding)) for one, finding in elsewhere]
+    others = [(new[places[id(one)]], finding.frame, one.since_zero(finding)) for one, finding in elsewhere]
     unit = gcd(*waits, *(other[2] for other in others), *(time for column in times for time in column)) or 1
     openings = [audit.connections[place].opening for place in used]
     said = {
@@ -151,6 +151,7 @@ def json_of(
         "faulty": [len(one.faults) for one in series],
         "waits": [wait // unit for wait in waits],
         "unit": unit,
+        "from": "SYN" if audit.answer else "first finding",
         "frames": list(columns(one.frames for one in series)),
         "times": [time // unit for time in columns(times)],
         "credits": [step for one in series for step in steps(one.credits)],

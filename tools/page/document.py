@@ -10,7 +10,8 @@ from page.chart_data import Packed, packed
 from page.library import Library
 from page.markup import Markup, element, markup
 from page.model import Audit
-from page.tables import Choice, chosen, connections, left_out, others, section, summary, thinning
+from page.summary import summary
+from page.tables import Choice, chosen, connections, left_out, others, section, thinning
 
 MOST_BYTES = 4_950_000
 # How many times their least size the tables may have, the first that fits.
@@ -77,7 +78,7 @@ def head(title: str, rules: str, styles: list[str]) -> Markup:
 def body(audit: Audit, title: str, charts: Packed | None, choice: Choice) -> Markup:
     shown = [section(one, choice) for one in audit.connections if id(one) in choice.sections]
     main = [
-        summary(audit, choice),
+        summary(audit, choice.notes),
         left_out(choice, audit.lines, charts),
         chart_section(audit, charts),
         connections(audit, choice),

@@ -1,6 +1,6 @@
 // Puts the charts into the page, those with trouble first, and draws each when it comes into sight.
 
-const AT_ONCE = 6, MORE = 12, MOST_LINES = 500, MOST_PRINTED = 24;
+const AT_ONCE = 6, MORE = 12, MOST_LINES = 500;
 const KEYS = {
   "+": chart => chart.zoom(0.5), "=": chart => chart.zoom(0.5), "-": chart => chart.zoom(2),
   ArrowLeft: chart => chart.move(-0.25), ArrowRight: chart => chart.move(0.25), "0": chart => chart.graph.resetZoom(),
@@ -22,7 +22,8 @@ function make(name, content = "", more = {}) {
 }
 
 function figureOf(one) {
-  const figure = make("figure", "", { id: `chart-${one.number}`, className: "window", tabIndex: 0 });
+  const figure = make("figure", "", { id: `chart-${one.number}`, tabIndex: 0 });
+  figure.className = one.faults || one.stalls ? "window" : "window calm";
   const caption = make("figcaption");
   const trouble = troubleOf(one);
   caption.append(make("h3", nameOf(one)), make("p", `${trouble}. Client ${one.client}, server ${one.server}.`));
@@ -138,9 +139,15 @@ function listen() {
     if (row && !String(getSelection()) && go(row)) event.preventDefault();
   });
   matchMedia("(prefers-color-scheme: dark)").addEventListener("change", () => drawn.forEach(chart => chart.draw()));
-  addEventListener("beforeprint", () => document.querySelectorAll("figure.window").forEach((figure, number) => {
-    if (number < MOST_PRINTED) draw(figure);
-  }));
+  addEventListener("beforeprint", () => print(true));
+  addEventListener("afterprint", () => print(false));
+}
+
+// On paper all charts that are listed stand drawn, in light colours, and as wide as any paper is.
+function print(isPrinted) {
+  document.documentElement.toggleAttribute("data-printing", isPrinted);
+  if (isPrinted) document.querySelectorAll("figure.window").forEach(draw);
+  drawn.forEach(chart => chart.fit(isPrinted));
 }
 
 async function start() {
