@@ -51,10 +51,11 @@ class Packed:
     left_out: list[Window]
 
 
-def packed(audit: Audit) -> Packed:
+def packed(audit: Audit, taken: int = 0) -> Packed:
+    """All charts, below a size of which some may be taken."""
     windows = [window for window in audit.windows if window.frames]
     whole = [series_of(window) for window in windows]
-    series, elsewhere, compressed = fitting(audit, windows, whole)
+    series, elsewhere, compressed = fitting(audit, windows, whole, MOST_BYTES - taken)
     return Packed(
         base64.b64encode(compressed).decode(),
         sum(len(one.frames) for one in series),
@@ -75,20 +76,20 @@ class Fitting(NamedTuple):
     packed: bytes
 
 
-def fitting(audit: Audit, windows: list[Window], whole: list[Series]) -> Fitting:
+def fitting(audit: Audit, windows: list[Window], whole: list[Series], most: int) -> Fitting:
     """The first that is small enough: all points, fewer points, fewer marks, and at last fewer windows."""
     size = 0
     for level in LEVELS:
         series = [thinned(one, *level) for one in whole]
         size = estimated(audit, windows, series)
-        if size <= MOST_BYTES * DOUBT:
+        if size <= most * DOUBT:
             found = cut(audit, windows, series)
             size = len(found.packed)
-            if size <= MOST_BYTES:
+            if size <= most:
                 return found
     number = len(windows)
-    while size > MOST_BYTES:
-        number = min(number - 1, int(number * MARGIN * MOST_BYTES / size))
+    while size > most:
+        number = min(number - 1, int(number * MARGIN * most / size))
         found = cut(audit, windows[:number], series[:number])
         size = len(found.packed)
     return found

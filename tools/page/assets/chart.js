@@ -44,7 +44,6 @@ class Chart {
 
   fit(isPrinted) {
     this.box.classList.toggle("printed", isPrinted);
-    this.graph.resize();
     this.draw();
   }
 
@@ -70,7 +69,7 @@ class Chart {
       series: { fault: FAULTS },
       axes: {
         x: { axisLabelFormatter: grouped, axisLabelWidth: 100 },
-        y: { axisLabelFormatter: grouped, axisLabelWidth: 124 },
+        y: { axisLabelFormatter: grouped, axisLabelWidth: 124, pixelsPerLabel: 24 },
       },
       underlayCallback: (canvas, area, graph) => this.shade(canvas, area, graph, colour),
       highlightCallback: (event, x, points, row) => this.tell(row),

@@ -60,7 +60,7 @@ function offerKinds(charts) {
 }
 
 function filterRows(want) {
-  const rows = [...document.querySelectorAll("tr[data-kind]")];
+  const rows = [...document.querySelectorAll("section.connection tr[data-kind]")];
   rows.forEach(row => { row.hidden = !isRowAsked(row, want); });
   return rows.filter(row => !row.hidden).length;
 }

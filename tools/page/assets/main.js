@@ -21,8 +21,10 @@ function make(name, content = "", more = {}) {
   return Object.assign(document.createElement(name), { textContent: content, ...more });
 }
 
-function figureOf(one) {
-  const figure = make("figure", "", { id: `chart-${one.number}`, tabIndex: 0 });
+// The figure of a window; the windows of a request have another one, whose name begins by its place.
+function figureOf(one, place = "") {
+  const figure = make("figure", "", { id: `${place}chart-${one.number}`, tabIndex: 0 });
+  figure.dataset.window = one.number;
   figure.className = one.faults || one.stalls ? "window" : "window calm";
   const caption = make("figcaption");
   const trouble = troubleOf(one);
@@ -48,7 +50,7 @@ function press(figure, key) {
 // The chart of a figure, which is drawn now if it was not.
 function draw(figure) {
   if (!drawn.has(figure.id)) {
-    const one = charts.windows[Number(figure.id.slice("chart-".length))];
+    const one = charts.windows[Number(figure.dataset.window)];
     const chart = new Chart(figure.querySelector(".plot"), one, seriesOf(charts, one), faultLines(one), isByFrame());
     drawn.set(figure.id, chart);
   }
@@ -74,6 +76,7 @@ function faultLines(one) {
 function list() {
   const want = asked();
   listed = JSON.stringify(want);
+  falls?.list(want);
   shown = charts.windows.filter(one => isWindowAsked(one, want));
   const rows = filterRows(want);
   const windows = `${grouped(shown.length)} of ${grouped(charts.windows.length)} windows`;
@@ -82,12 +85,20 @@ function list() {
   place();
 }
 
+// Of the charts whose names begin so.
+function forget(place) {
+  for (const [id, chart] of drawn) {
+    if (!id.startsWith(place)) continue;
+    chart.graph.destroy();
+    drawn.delete(id);
+  }
+}
+
 // Shows the first of the windows that were asked for, and a button for more of them.
 function place() {
   sight.disconnect();
-  drawn.forEach(chart => chart.graph.destroy());
-  drawn.clear();
-  const figures = shown.slice(0, limit).map(figureOf);
+  forget("chart-");
+  const figures = shown.slice(0, limit).map(one => figureOf(one));
   const rest = shown.length - figures.length;
   const more = rest > 0 ? [make("button", `Show ${Math.min(rest, MORE)} of ${grouped(rest)} windows more`,
     { type: "button", id: "more", onclick: showMore })] : [];
@@ -97,7 +108,7 @@ function place() {
 
 function showMore() {
   const rest = shown.length - limit;
-  const added = shown.slice(limit, limit + MORE).map(figureOf);
+  const added = shown.slice(limit, limit + MORE).map(one => figureOf(one));
   limit += MORE;
   field("more").before(...added);
   added.forEach(figure => sight.observe(figure));
@@ -148,10 +159,12 @@ function print(isPrinted) {
   document.documentElement.toggleAttribute("data-printing", isPrinted);
   if (isPrinted) document.querySelectorAll("figure.window").forEach(draw);
   drawn.forEach(chart => chart.fit(isPrinted));
+  falls?.print(isPrinted);
 }
 
 async function start() {
   charts = await unpackedCharts();
+  await startWaterfall();
   offerKinds(charts);
   field("no-charts").hidden = true;
   field("filters").hidden = field("help").hidden = false;
