@@ -19,7 +19,7 @@ from page.answer import Json
 from page.markup import Content, Markup, element, markup, row, table
 from page.model import Audit
 
-MOST_BYTES = 600_000
+MOST_BYTES = 900_000
 # Spans of a direction at most, and then so many requests.
 SPANS = (512, 64, 16, 4)
 MOST_NAME, MOST_TEXT = 200, 500
@@ -52,14 +52,20 @@ def waterfall(audit: Audit) -> Waterfall | None:
     faults = faults_of(audit)
     ranked = sorted(found, key=lambda pair: trouble(pair[0], pair[1], faults))
     number = len(ranked)
-    for most in SPANS:
+    for most in sizes(ranked):
         text = packed(audit, ranked, faults, most)
         if len(text) <= MOST_BYTES:
             break
     while len(text) > MOST_BYTES:
         number = int(number * MARGIN * MOST_BYTES / len(text))
-        text = packed(audit, ranked[:number], faults, SPANS[-1])
+        text = packed(audit, ranked[:number], faults, most)
     return Waterfall(base64.b64encode(text).decode(), number, len(ranked), ranked)
+
+
+def sizes(found: list[Found]) -> list[int]:
+    """How many spans of a direction there may be: all, and then fewer than there are."""
+    longest = max(len(request[side]["spans"] or ()) for _, request in found for side in ("client", "server"))
+    return [SPANS[0], *(most for most in SPANS[1:] if most < longest)]
 
 
 Faults = dict[tuple[int, int], list[Json]]

@@ -80,7 +80,7 @@ function list() {
   shown = charts.windows.filter(one => isWindowAsked(one, want));
   const rows = filterRows(want);
   const windows = `${grouped(shown.length)} of ${grouped(charts.windows.length)} windows`;
-  field("found").textContent = `${windows}, ${grouped(rows)} findings`;
+  field("found").textContent = `${windows}, ${grouped(rows)} finding${rows === 1 ? "" : "s"}`;
   limit = AT_ONCE;
   place();
 }

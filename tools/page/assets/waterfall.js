@@ -62,11 +62,12 @@ class Waterfall {
 
   // The curve of how many requests were under way: what dygraphs zooms, and what the bars are measured by.
   overview(found) {
-    const end = Math.max(1, ...this.listed.map(one => this.begin(one) + one.nanos));
+    const end = this.listed.reduce((most, one) => Math.max(most, this.begin(one) + one.nanos), 1);
     [this.unit, this.size] = UNITS.find(([, size]) => end >= size) ?? UNITS[3];
     const colour = colours(), from = { own: "its opening", capture: "the first SYN" }[field("scale").value];
     const label = `${this.unit} since ${from ?? "the SYN of the connection"}`;
-    this.isNarrow = this.box.clientWidth < NARROW;
+    this.wide = this.box.clientWidth;
+    this.isNarrow = this.wide < NARROW;
     this.graph?.destroy();
     this.graph = new Dygraph(field("overview"), underWay(found, one => this.begin(one), end, this.size), {
       labels: [label, "under way"], colors: [colour.line], stepPlot: true, fillGraph: true, xlabel: label,
@@ -75,7 +76,7 @@ class Waterfall {
       axes: {
         x: { axisLabelFormatter: grouped, axisLabelWidth: 90 },
         y: { axisLabelFormatter: value => Number.isInteger(value) ? grouped(value) : "", drawGrid: false,
-          axisLabelWidth: this.isNarrow ? 40 : Math.round(this.box.clientWidth * 0.36) },
+          axisLabelWidth: this.isNarrow ? 40 : Math.round(this.wide * 0.36) },
       },
       drawCallback: (graph, isFirst) => { if (!isFirst) this.redraw(); },
     });
@@ -111,8 +112,8 @@ class Waterfall {
   }
 
   resized() {
-    if (!this.graph || this.wide === this.box.clientWidth || !this.box.clientWidth) return;
-    this.wide = this.box.clientWidth;
+    const isPrinted = document.documentElement.hasAttribute("data-printing");
+    if (!this.graph || isPrinted || this.wide === this.box.clientWidth || !this.box.clientWidth) return;
     this.list(asked());
   }
 
@@ -143,7 +144,7 @@ class Waterfall {
     const button = make("button", "", { type: "button", tabIndex: at === this.chosen ? 0 : -1, ariaLabel: wordsOfRow(one) });
     button.style.width = `${this.isNarrow ? this.box.clientWidth : area.x - 6}px`;
     button.append(make("span", titleOf(one), { className: "title" }), make("span", underTitle(one), { className: "facts" }));
-    const drawing = svg("svg", { width: area.w, height: 26, "aria-hidden": "true" }, row);
+    const drawing = svg("svg", { width: Math.max(area.w, 1), height: 26, "aria-hidden": "true" }, row);
     drawing.style.left = `${area.x}px`;
     this.bars(drawing, one, area);
     row.prepend(button);
