@@ -17,7 +17,7 @@ from page.waterfall import Waterfall, waterfall, waterfall_section
 MOST_BYTES = 4_950_000
 # How many times their least size the tables may have, the first that fits.
 ROWS = (4, 2, 1, 0.5, 0.1, 0.02)
-SCRIPTS = ("data.js", "chart.js", "filters.js", "waterfall.js", "main.js")
+SCRIPTS = ("data.js", "chart.js", "filters.js", "waterfall.js", "tables.js", "main.js")
 
 
 def asset(name: str) -> str:

@@ -1,7 +1,7 @@
 #!/usr/bin/python3
 """Tests of the page in a real headless Chromium: its waterfall of requests, three widths, and paper.
 
-    tools/tests/page_waterfall_test.py [Waterfall | Widths | Paper | Searches | Many]
+    tools/tests/page_waterfall_test.py [Waterfall | Widths | Paper | Searches | Lists | Many]
 """
 
 import base64
@@ -291,6 +291,27 @@ class Searches(OfAnswers):
                 f"{windows} of 2 windows, {findings} finding" + "s" * (findings != 1),
                 words,
             )
+
+
+class Lists(OfAnswers):
+    def test_connections_are_sorted_by_a_head(self) -> None:
+        """By numbers, and not by letters: connection 9 stands before connection 10."""
+        report = HEAD + "".join(
+            opening(number, 5000 - number) + FLOWS + finding(2, number, "client", "connection-credit", 0, 9)
+            for number in range(1, 13)
+        )
+        self.open(page_of(report))
+        cells = "return [...document.querySelectorAll('#connections td:first-child')].map(cell => cell.textContent)"
+        ordered = [f"connection {number}" for number in range(1, 13)]
+        frames = self.find("#connections th:nth-child(5) button")
+        frames.click()
+        self.assertEqual(self.browser.run(cells), ordered[::-1])
+        self.assertEqual(self.find("#connections th:nth-child(5)").get_attribute("aria-sort"), "ascending")
+        frames.click()
+        self.assertEqual(self.browser.run(cells), ordered)
+        self.find("#connections th:nth-child(1) button").send_keys(Keys.ENTER)
+        self.assertEqual(self.browser.run(cells), ordered)
+        self.assertEqual(self.browser.run(ACCESSIBLE + "return faults();"), [])
 
 
 class Many(OfAnswers):

@@ -166,6 +166,7 @@ async function start() {
   charts = await unpackedCharts();
   await startWaterfall();
   offerKinds(charts);
+  document.querySelectorAll("#connections table").forEach(makeSortable);
   field("no-charts").hidden = true;
   field("filters").hidden = field("help").hidden = false;
   listen();
