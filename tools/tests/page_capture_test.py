@@ -14,8 +14,13 @@ import subprocess
 import sys
 import tempfile
 import unittest
+from unittest import mock
 
 from why_tools import TOP, answer, has_programs, programs_of
+
+from page.program import arguments
+from page.sources import audit_of
+from page.top import asked
 
 PAGE = TOP / "tools" / "h2audit-page"
 EXAMPLES = sorted((TOP / "examples").glob("*.pcap"))
@@ -49,6 +54,18 @@ class Examples(unittest.TestCase):
                         self.assertIn(f"\n{request['name'] or 'request'}\n", shown)
                     for fault in one["faults"]:
                         self.assertIn(f"\n{fault['text']}\n", shown)
+
+    def test_sums_hold_the_longest(self) -> None:
+        """Of each row of whom to ask: the time of all is no less than that of its longest request."""
+        made = {
+            "H2AUDIT_WHY": str(TOP / "tools" / "h2audit-why"),
+            "H2AUDIT_ANY": str(TOP / "companions" / "target" / "release" / "h2audit-any"),
+        }
+        self.enterContext(mock.patch.dict(os.environ, made))
+        for capture in EXAMPLES:
+            audit = audit_of(arguments([str(capture), "-o", "-"]))
+            for one in asked(audit):
+                self.assertGreaterEqual(one.nanos, one.longest, capture.name)
 
     def test_no_requests(self) -> None:
         capture = TOP / "examples" / "leaked_connection_credit_nginx.pcap"
