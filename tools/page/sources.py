@@ -31,8 +31,10 @@ def audit_of(asked: Namespace) -> Audit:
     first = asked.files[0]
     with opened(first) as file:
         if is_text(file):
-            if len(asked.files) > 1 or asked.key_log or asked.no_requests or asked.sort:
-                raise Failed(WRONG_WORDS, f"{first} is no capture, and a report stands alone")
+            if len(asked.files) > 1:
+                raise Failed(WRONG_WORDS, f"{first} is a report, and stands alone, without {asked.files[1]}")
+            if asked.key_log or asked.no_requests or asked.sort:
+                raise Failed(WRONG_WORDS, f"{first} is a report, and -k, --sort and --no-requests are for captures")
             return read_audit(file)
         return of_captures(asked, file)
 
