@@ -22,7 +22,7 @@ from fleet_captures import PATIENCE, PROGRAM, TOP, Machine, Row, Sample, by_hand
 
 sys.path.insert(0, str(TOP / "tools"))
 
-from fleet import database, names, programs, tasks  # noqa: E402
+from fleet import database, names, pool, programs, tasks  # noqa: E402
 
 CAPTURES = 200
 OTHER = {"client": "server", "server": "client"}
@@ -438,6 +438,44 @@ class Writer(OneCapture):
         os.close(file)
         answer = tasks.verdict(programs.Run(0, "", 1.0, True))
         self.assertEqual((answer["outcome"], answer["reason"]), ("failed", "timeout"))
+
+
+class Workers(unittest.TestCase):
+    """The pool of this machine."""
+
+    ORDER: ClassVar[tasks.Order] = {"keys": [], "imports": "never", "timeout": 60.0, "split_above": 5}
+
+    def done(self, task: pool.Task) -> pool.Task:
+        until(lambda: task.status != pool.WAITS)
+        return task
+
+    def test_answers(self) -> None:
+        """A task answers, or raises what it raised; one whose worker is gone is lost, and the next has another."""
+        with pool.Pool(1) as workers:
+            self.assertEqual(self.done(workers.submit(tasks.parts_of, 10, self.ORDER, priority=0)).result(0), 4)
+            with self.assertRaisesRegex(TypeError, "NoneType"):
+                self.done(workers.submit(tasks.audit, None, self.ORDER, priority=0)).result(0)
+            (before,) = workers.workers
+            before.process.kill()
+            with self.assertRaises(workers.lost):
+                self.done(workers.submit(tasks.parts_of, 10, self.ORDER, priority=0)).result(0)
+            self.assertEqual(self.done(workers.submit(tasks.parts_of, 10, self.ORDER, priority=0)).result(0), 4)
+            (after,) = workers.workers
+        self.assertNotEqual(before.process.pid, after.process.pid)
+        self.assertEqual([one.process.poll() for one in (before, after)], [-signal.SIGKILL] * 2)
+
+    def test_order(self) -> None:
+        """The most urgent goes first, and what was given up is not done."""
+        workers = pool.Pool(1)
+        asked = [workers.submit(tasks.parts_of, size, self.ORDER, priority=priority)
+                 for size, priority in ((10, -1), (20, 0), (30, 5), (40, 0))]
+        ended: list[object] = []
+        for task in asked:
+            task.add_done_callback(ended.append)
+        workers.cancel([asked[1]])
+        with workers:
+            until(lambda: len(ended) == 3)
+        self.assertEqual(ended, [asked[2], asked[3], asked[0]])
 
 
 class Schema(unittest.TestCase):

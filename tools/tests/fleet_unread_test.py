@@ -158,6 +158,8 @@ class Said(unittest.TestCase):
         self.assertEqual(self.machine.run("empty"), (3, nothing, empty))
         self.assertEqual(self.machine.run("--list", "list"),
                          (3, nothing, "h2audit-fleet: list: this list names nothing\n"))
+        self.assertEqual(self.machine.run("--list", "-"),
+                         (3, nothing, "h2audit-fleet: standard input: this list names nothing\n"))
         self.assertEqual(self.machine.run("empty", "captures"), (3, self.summary, empty))
         self.assertEqual(self.machine.run("--resume", "captures/stream_overrun_go.pcap", "captures"),
                          (1, f"{self.summary[:-1]}; 1 were there\n", ""))
