@@ -103,7 +103,7 @@ def audited(asked: Asked, interruption: Interruption) -> int:
             captures = missing_in(database, walk, version, options)
             return run(asked, client, database, walk, captures, {"version": version, "options": options}, interruption)
     except (NoWorkers, Lost) as why:
-        return interruption.ended(GOES_ON) if interruption.signal else failed(NAME, IO_FAILED, str(why))
+        return interruption.ended(GOES_ON) if interruption.signal else failed(NAME, MISSING, str(why))
     finally:
         database.close()
 

@@ -15,9 +15,10 @@ exit status:
   1    the same, and some connection shows a fault
   2    the command line is invalid
   3    some capture was refused or failed, which its row says; all others stand. Also where a folder or a list
-       brings no capture, with --require-http2 where nothing was audited in one, and where dask is not installed
-  4    reading or writing failed: a PATH, the database, the scheduler; or a worker has no h2audit
+       brings no capture, and with --require-http2 where nothing was audited in one
+  4    reading or writing failed: a PATH, the database
   5    there was not enough memory
+  7    there are no workers: dask is missing, no scheduler answers, h2audit is missing on a worker
   130  ended by Ctrl-C (143 by SIGTERM, 129 by SIGHUP): --resume goes on
 """
 

@@ -5,9 +5,9 @@
 The page says in words what was audited, who broke which rule and how long the longest stalls were, and has each
 finding of each connection. With the credit lines of --frames it also has a chart for each window.
 
-Exit status: 0 if the page was written, 2 for an invalid command line, 3 if the report is refused or the plotting
-library is not installed, 4 if reading or writing failed, 5 for want of memory. What went wrong is one line on standard
-error.
+Exit status: 0 if the page was written, 2 for an invalid command line, 3 if the report is refused, 4 if reading or
+writing failed, 5 for want of memory, 7 if the plotting library is not installed. What went wrong is one line on
+standard error.
 """
 
 from __future__ import annotations

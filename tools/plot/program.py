@@ -8,8 +8,8 @@ Each window has a panel: its credit over time, one dot for each credit line, all
 faults stand as red lines, named with their frame and the side that broke the rule. Where there are more windows than
 --panels, those with faults are drawn, and then those with the longest stalls.
 
-Exit status: 0 if the picture was written, 2 for an invalid command line, 3 if the report is refused or matplotlib is
-not installed, 4 if reading or writing failed, 5 for want of memory. What went wrong is one line on standard error.
+Exit status: 0 if the picture was written, 2 for an invalid command line, 3 if the report is refused, 4 if reading or
+writing failed, 5 for want of memory, 7 if matplotlib is not installed. What went wrong is one line on standard error.
 """
 
 import argparse

@@ -14,9 +14,8 @@ from typing import IO, BinaryIO, NoReturn
 from report import VERSION
 from report.interrupts import Waiting
 
-OK, WRONG_WORDS, REFUSED, IO_FAILED, NO_MEMORY = 0, 2, 3, 4, 5
-# Of a library that is missing, by its package's name. 5 is for want of memory alone, in all programs.
-MISSING = REFUSED
+# 5 is want of memory alone, 6 that nothing could be read, and 7 that a library, a program or a worker is missing.
+OK, WRONG_WORDS, REFUSED, IO_FAILED, NO_MEMORY, MISSING = 0, 2, 3, 4, 5, 7
 # No number of a command line has more digits.
 DIGITS = r"\d{1,20}"
 # So many bytes are read at a time.

@@ -454,7 +454,7 @@ class BadInput(InFolder):
         with mock.patch.dict(sys.modules, {"zstandard": None}), contextlib.redirect_stderr(io.StringIO()) as said:
             status = main([str(capture), str(CAPTURE_REPORT), "-o", str(self.out)])
         why = "h2audit-comment: zstandard is not installed (Debian: apt-get install python3-zstandard)\n"
-        self.assertEqual((status, said.getvalue(), self.out.exists()), (3, why, False))
+        self.assertEqual((status, said.getvalue(), self.out.exists()), (5, why, False))
 
     def test_reports(self) -> None:
         good = CAPTURE_REPORT.read_text()

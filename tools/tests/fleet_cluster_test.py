@@ -129,13 +129,13 @@ class Tls(unittest.TestCase):
         self.cluster.certify("stranger")
         for name, authority in (("stranger", "authority"), ("client", "stranger")):
             status, said, error = self.machine.run("--resume", *self.words(name, authority))
-            self.assertEqual((status, said, error.count("\n")), (4, "", 1), error)
+            self.assertEqual((status, said, error.count("\n")), (7, "", 1), error)
 
     def test_without_tls(self) -> None:
         """Who asks without TLS is not let in."""
         address = self.cluster.address.replace("tls://", "tcp://")
         status, said, error = self.machine.run("--scheduler", address, "--unencrypted", "captures")
-        self.assertEqual((status, said, error.count("\n")), (4, "", 1), error)
+        self.assertEqual((status, said, error.count("\n")), (7, "", 1), error)
 
     def test_scheduler_goes(self) -> None:
         """The scheduler ends in mid-run: what was entered stands, and one line says so."""
@@ -144,7 +144,7 @@ class Tls(unittest.TestCase):
         until(lambda: self.machine.database.exists() and count(self.machine) >= 3)
         self.cluster.children[0].kill()
         said, error = child.communicate(timeout=PATIENCE)
-        self.assertEqual((child.returncode, said, error), (4, "", "h2audit-fleet: the scheduler went away\n"))
+        self.assertEqual((child.returncode, said, error), (7, "", "h2audit-fleet: the scheduler went away\n"))
         self.assertTrue(3 <= len(self.machine.ask("SELECT path FROM captures WHERE outcome = 'audited'")) < 20)
         self.assertEqual(self.machine.ask("PRAGMA integrity_check"), [("ok",)])
 

@@ -339,7 +339,7 @@ class Words(OneCapture):
             ("No such file or directory", 4, ("--list", "not-there")),
             ("No such file or directory", 4, ("-k", "not-there", "captures")),
             ("not a folder", 4, ("--collect", "not-there")),
-            ("127.0.0.1:1: ", 4, ("--scheduler", "tcp://127.0.0.1:1", "--unencrypted", "captures")),
+            ("127.0.0.1:1: ", 7, ("--scheduler", "tcp://127.0.0.1:1", "--unencrypted", "captures")),
         ):
             found = self.machine.run(*words)
             self.assertEqual((found[0], found[1], found[2].count("\n")), (status, "", 1), words)
@@ -362,7 +362,7 @@ class Words(OneCapture):
     def test_no_program(self) -> None:
         (self.machine.bin / "h2audit").unlink()
         status, said, error = self.machine.run("--jobs", "1", "captures")
-        self.assertEqual((status, said), (4, ""))
+        self.assertEqual((status, said), (7, ""))
         self.assertRegex(error, r"^h2audit-fleet: this machine has no program h2audit\n$")
 
 
