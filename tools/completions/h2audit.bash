@@ -41,7 +41,7 @@ _h2audit_plot() {
 _h2audit_comment() {
     local word=${COMP_WORDS[COMP_CWORD]}
     case $word in
-    -*) _h2audit_offer -W '--output --map --credit --help -o -m -h' -- "$word" ;;
+    -*) _h2audit_offer -W '--output --map --credit --help --version -o -m -h -V' -- "$word" ;;
     *) _h2audit_offer -f -- "$word" ;;
     esac
 }
@@ -61,7 +61,7 @@ _h2audit_page() {
 
 _h2audit_import() {
     local word=${COMP_WORDS[COMP_CWORD]} before=${COMP_WORDS[COMP_CWORD - 1]}
-    local options='--key-log -k --jobs -j --output -o --map -m --help -h --version -V'
+    local options='--key-log -k --jobs -j --sort --output -o --map -m --course --help -h --version -V'
     [[ $word == = ]] && word=
     [[ $before == = ]] && before=${COMP_WORDS[COMP_CWORD - 2]}
     case $before in
@@ -77,7 +77,7 @@ _h2audit_import() {
 
 _h2audit_any() {
     local word=${COMP_WORDS[COMP_CWORD]} before=${COMP_WORDS[COMP_CWORD - 1]}
-    local options='--key-log -k --jobs -j --workers --groups --block --frames --parts --map --h2audit'
+    local options='--key-log -k --jobs -j --sort --workers --groups --block --frames --parts --map --h2audit'
     options+=' --help -h --version -V'
     [[ $before == = ]] && before=${COMP_WORDS[COMP_CWORD - 2]}
     case $before in
@@ -131,7 +131,7 @@ _h2audit_split() {
 _h2audit_merge() {
     local word=${COMP_WORDS[COMP_CWORD]}
     case $word in
-    -*) _h2audit_offer -W '--standing --help --version -h' -- "$word" ;;
+    -*) _h2audit_offer -W '--standing --help --version -h -V' -- "$word" ;;
     *) _h2audit_offer -d -- "$word" ;;
     esac
 }

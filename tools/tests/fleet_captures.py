@@ -23,6 +23,7 @@ sys.path[:0] = [str(TOP / "tests"), str(TOP / "bench")]
 import captures as scripts  # noqa: E402
 import generate  # noqa: E402
 import reports_test  # noqa: E402
+from companions import companion  # noqa: E402
 
 FLEET = TOP / "tools" / "h2audit-fleet"
 # The first word of a test may name h2audit.
@@ -58,7 +59,7 @@ class Sample:
 def beside(name: str) -> pathlib.Path:
     """A program of the repository beside h2audit, by its name: in Python, or built."""
     script = TOP / "tools" / name
-    return script if script.exists() else TOP / "companions" / "target" / "release" / name
+    return script if script.exists() else companion(name)
 
 
 def summary(samples: list[Sample]) -> str:

@@ -5,8 +5,8 @@
 
 A command is a block ```sh that a block ```text follows. It is run by bash at the top of the repository, where it has
 an awk once with each that is installed. The name h2audit is that of PROGRAM, and those of the programs beside it are
-of tools/. Without PROGRAM, h2audit is a stand-in that prints the stored reports of examples/, and commands that
-import or capture are left out.
+of tools/ and companions/. Without PROGRAM, h2audit is a stand-in that prints the stored reports of examples/, and
+commands that import or capture are left out.
 """
 
 import os
@@ -17,6 +17,8 @@ import subprocess
 import sys
 import tempfile
 from collections.abc import Iterator
+
+from companions import companion
 
 TOP = pathlib.Path(__file__).resolve().parents[2]
 PAIR = re.compile(r"^```sh\n(.*?)^```\n+```text\n(.*?)^```$", re.M | re.S)
@@ -52,8 +54,9 @@ def tools_folder(folder: str, program: pathlib.Path, awk: str) -> pathlib.Path:
     bin_of = pathlib.Path(folder, awk)
     bin_of.mkdir()
     (bin_of / "h2audit").symlink_to(program)
-    for name in ("h2audit-any", "h2audit-comment", "h2audit-fleet", "h2audit-import", "h2audit-page", "h2audit-plot"):
-        (bin_of / name).symlink_to(TOP / "tools" / name)
+    for name in ("any", "comment", "fleet", "import", "merge", "page", "plot"):
+        script = TOP / "tools" / f"h2audit-{name}"
+        (bin_of / script.name).symlink_to(script if script.exists() else companion(script.name))
     (bin_of / "awk").symlink_to(AWKS[awk])
     return bin_of
 

@@ -17,6 +17,9 @@ needed+=(mypy)
 needed+=(libjs-dygraphs chromium chromium-driver python3-selenium)
 # Of imports and their tests.
 needed+=(python3-cryptography python3-zstandard zstd tcpdump openssl)
+# Of the programs in Rust.
+needed+=(cargo rustc rustfmt rust-clippy clang pkg-config libssl-dev libzstd-dev liblzma-dev libbz2-dev)
+needed+=(librust-{atty,bzip2,flate2,itoa,lexopt,memchr,once-cell,openssl,rlimit,signal-hook,tempfile,xz2,zstd}-dev)
 # Of many captures and their tests.
 needed+=(python3-distributed sqlite3 parallel iproute2)
 built=crates/h2audit_cli/out/h2audit_cli
@@ -87,6 +90,9 @@ else
     echo "what needs it does not run: build it by 'make build' or 'make test'"
 fi
 make -q "$split" > /dev/null 2>&1 || split=$program
+PATH=/usr/bin:/bin make --no-print-directory companions || fail 'the programs in Rust could not be built'
+try 'programs in Rust: form' tools/tests/rust_test.sh form
+try 'programs in Rust: their own tests' tools/tests/rust_test.sh tests
 try 'types of Python, and lines' tools/tests/sources_test.py
 try 'man pages and completions' tools/tests/words_test.py
 try 'definitions to believe' tools/tests/believed_test.py
