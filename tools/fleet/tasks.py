@@ -10,6 +10,7 @@ A worker needs this module, which is sent to it: it imports the standard library
 
 import errno
 import os
+import re
 import stat
 import subprocess
 import tempfile
@@ -245,8 +246,9 @@ def nothing_read(said: str) -> str | None:
 
 
 def io_failed(said: str) -> str:
-    """What failed, by the last words of a program."""
-    return WRITE_FAILED if said.endswith(": write failed") or os.strerror(errno.ENOSPC) in said else "read-failed"
+    """What failed, by the last words of a program, or by those before a file's name."""
+    unwritten = re.search(r": write failed$|: cannot (?:write|create|make folder): ", said)
+    return WRITE_FAILED if unwritten or os.strerror(errno.ENOSPC) in said else "read-failed"
 
 
 def no_room() -> str:
