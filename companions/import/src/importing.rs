@@ -229,7 +229,7 @@ impl<'a, 'b, 'c> Importer<'a, 'b, 'c> {
         if let Some(course) = self.course {
             match belongs {
                 Belongs::Opens => course.opened(arrival, &segment),
-                Belongs::Side(_) => course.segment(arrival, &segment),
+                Belongs::Last => course.segment(arrival, &segment),
                 Belongs::Stray => {}
             }
         }

@@ -34,8 +34,8 @@ enum State {
 pub enum Belongs {
     /// To a new one.
     Opens,
-    /// To the last one of its pair, of this side.
-    Side(usize),
+    /// To the last one of its pair.
+    Last,
     /// To none.
     Stray,
 }
@@ -102,7 +102,7 @@ impl Table {
             State::Over { passes: true, .. } => sink.emit(arrival, segment.original, segment.datagram()),
             State::Over { passes: false, .. } => {}
         }
-        Belongs::Side(side)
+        Belongs::Last
     }
 
     fn take_open(
