@@ -74,7 +74,7 @@ class Statuses(unittest.TestCase):
         self.assertEqual((run.returncode, run.stderr), (5, b"h2audit-page: out of memory\n"))
 
     def test_missing_library(self) -> None:
-        """A library that is missing is named by its package, with status 3."""
+        """A library that is missing is named by its package, with status 7."""
         with tempfile.TemporaryDirectory() as folder:
             for name in ("matplotlib", "distributed"):
                 pathlib.Path(folder, f"{name}.py").write_text(f"raise ModuleNotFoundError('none', name='{name}')\n")
@@ -86,7 +86,7 @@ class Statuses(unittest.TestCase):
                  "distributed is not installed (Debian: apt-get install python3-distributed)"),
             ):
                 run = ran('"$@"', TOOLS / words[0], *words[1:], PYTHONPATH=folder)
-                self.assertEqual((run.returncode, run.stderr.decode()), (3, f"{words[0]}: {why}\n"))
+                self.assertEqual((run.returncode, run.stderr.decode()), (7, f"{words[0]}: {why}\n"))
 
 
 class Names(unittest.TestCase):

@@ -140,7 +140,7 @@ try 'many captures: tables' tools/tests/fleet_test.py "${audits[@]}" Tables
 try 'many captures: lost workers, memory, time' tools/tests/fleet_test.py \
     Course.test_{killed_worker,worker_killed_each_time,memory_and_time}
 try 'many captures: Ctrl-C and resumption' tools/tests/fleet_test.py Course.test_{interrupted,ended_at_start,resumed}
-try 'many captures: names and refusals' tools/tests/fleet_test.py Words Schema
+try 'many captures: names and refusals' tools/tests/fleet_test.py Words Schema Workers FlowsOfTls
 try 'many captures: the database and its writer' tools/tests/fleet_test.py Writer
 try 'many captures: open stalls' tools/tests/fleet_stalls_test.py
 try 'many captures: folders and lists that bring nothing' tools/tests/fleet_unread_test.py Said
