@@ -7,16 +7,21 @@ PROGRAM = crates/h2audit_cli/out/h2audit_cli
 SPLIT = crates/h2audit_split/out/h2audit_split
 # The capture whose report "make believed" computes from the definitions.
 RUN ?= examples/negative_window.pcap
-# Programs in Python beside these, and the packages that they share.
-PYTHON_PROGRAMS = h2audit-any h2audit-comment h2audit-fleet h2audit-import h2audit-merge h2audit-page h2audit-plot h2audit-why
-PYTHON_PACKAGES = comment fleet import/h2audit_import page page/assets plot report split why
-BESIDE = $(PYTHON_PROGRAMS) h2audit-split
+# Programs in Rust beside these, and how they are built: of Debian's crates alone.
+RUST_PROGRAMS = h2audit-any h2audit-comment h2audit-import h2audit-merge
+RUST_BUILT = companions/target/release
+CARGO ?= cargo
+# Programs in Python, and the packages that they share.
+PYTHON_PROGRAMS = h2audit-fleet h2audit-page h2audit-plot h2audit-why
+PYTHON_PACKAGES = fleet page page/assets plot report why
+BESIDE = $(RUST_PROGRAMS) $(PYTHON_PROGRAMS) h2audit-split
 FIRST = examples/negative_window_tomcat.pcap examples/stream_overrun_go.pcap
 # The parts of "make check", the longest first.
 CHECKS = tests split sources layout believed storeys
+RUST_SOURCES := $(shell find companions -name target -prune -o -type f -print)
 SOURCES := crates.txt $(shell find crates -name out -prune -o -name '*.rt' -print -o -name '*.antt' -print)
 
-.PHONY: run build install deb check $(CHECKS:%=check-%) test test-tools bench believed pictures
+.PHONY: run build companions install deb check $(CHECKS:%=check-%) test test-tools bench believed pictures
 
 # Shows two reports at once, from a build without proof: of a connection with stalls and a window below zero, and of one
 # with an overrun, whose status of 1 is the program's answer.
@@ -27,8 +32,16 @@ run:
 	@echo 'Nothing of this build was proved. "make build" proves the program and builds it (some 20 minutes on four processors),'
 	@echo 'and "make install" puts it in place as h2audit.'
 
-# Proves all that the programs stand on, builds them, and leaves them as PROGRAM and SPLIT.
-build: $(PROGRAM) $(SPLIT)
+# Proves all that the programs stand on, builds them, and leaves them as PROGRAM and SPLIT; and builds those in Rust.
+build: $(PROGRAM) $(SPLIT) companions
+
+# Builds the programs in Rust, with no network: their crates are Debian's (librust-*-dev).
+companions: $(RUST_BUILT)/built
+
+$(RUST_BUILT)/built: $(RUST_SOURCES)
+	@cd companions && $(CARGO) build --quiet --release --locked
+	@touch $@
+	@echo 'built: $(RUST_PROGRAMS:%=$(RUST_BUILT)/%)' >&2
 
 $(PROGRAM): $(SOURCES)
 	@$(MAKE) --no-print-directory --jobs=$(RT_JOBS) proved-h2audit_cli
@@ -59,12 +72,12 @@ proved-h2audit_split:
 # The toolchain's own libraries come proved.
 proved-%: ;
 
-# Puts the programs in place as h2audit and h2audit-split, with those in Python, man pages and completions.
+# Puts the programs in place as h2audit and h2audit-split, with those beside them, man pages and completions.
 install: share = $(DESTDIR)$(PREFIX)/share
-install: $(PROGRAM) $(SPLIT)
+install: $(PROGRAM) $(SPLIT) $(RUST_BUILT)/built
 	install -D -m 755 $(PROGRAM) $(DESTDIR)$(PREFIX)/bin/h2audit
 	install -D -m 755 $(SPLIT) $(DESTDIR)$(PREFIX)/bin/h2audit-split
-	install -D -m 755 -t $(DESTDIR)$(PREFIX)/bin $(PYTHON_PROGRAMS:%=tools/%)
+	install -D -m 755 -t $(DESTDIR)$(PREFIX)/bin $(RUST_PROGRAMS:%=$(RUST_BUILT)/%) $(PYTHON_PROGRAMS:%=tools/%)
 	$(foreach folder,$(PYTHON_PACKAGES),install -D -m 644 -t $(share)/h2audit/$(folder) \
 		$(filter-out %/__pycache__,$(wildcard tools/$(folder)/*.*)) &&) true
 	install -D -m 644 -t $(share)/man/man1 tools/man/h2audit.1 $(BESIDE:%=tools/man/%.1)
@@ -75,7 +88,7 @@ install: $(PROGRAM) $(SPLIT)
 		$(BESIDE:%=tools/completions/%.fish)
 
 # Builds a Debian package of what is installed, in the folder PACKAGES.
-deb: $(PROGRAM) $(SPLIT)
+deb: $(PROGRAM) $(SPLIT) $(RUST_BUILT)/built
 	@stage=$$(mktemp -d) && trap 'rm -r "$$stage"' EXIT && chmod 755 "$$stage" && mkdir -p $(PACKAGES) && \
 		$(MAKE) --no-print-directory install DESTDIR="$$stage" PREFIX=/usr \
 		ZSHDIR=/usr/share/zsh/vendor-completions > /dev/null && \
@@ -112,8 +125,8 @@ test:
 	tests/reports_test.py $(PROGRAM) $(PROGRAM).by-rattle
 	tests/split_test.py $(PROGRAM) $(SPLIT) $(SPLIT).by-rattle
 
-# Tests what stands around the core: the programs in Python, man pages, completions, recipes and package. It proves
-# nothing.
+# Tests what stands around the core: the programs in Rust and in Python, man pages, completions, recipes and package. It
+# proves nothing.
 test-tools:
 	tools/tests/run.sh
 
@@ -124,9 +137,11 @@ pictures:
 	tools/tests/wireshark_picture.sh docs/pictures/wireshark_comments.png
 
 # Measures time and memory on generated captures, beside cat. BENCH has more words for bench/measure.py, as
-# make bench BENCH='--peer PROGRAM --shapes bulk,chatty 40'.
+# make bench BENCH='--peer PROGRAM --shapes bulk,chatty 40'. Then h2audit-fleet beside xargs, over sets of captures that
+# BENCH_FLEET names, as BENCH_FLEET='1000 0.05 20 20'.
 bench: $(PROGRAM)
 	python3 bench/measure.py $(PROGRAM) $(BENCH)
+	python3 bench/measure_fleet.py $(PROGRAM) $(BENCH_FLEET)
 
 # Lists the definitions that a reader has to believe, with their lines, and marks those that the report of a capture
 # used.

@@ -59,7 +59,7 @@ def measure_page(browser: Browser, shape: str, report: pathlib.Path) -> None:
 
 def measure_comment(shape: str, capture: pathlib.Path, report: pathlib.Path) -> None:
     out = str(capture.with_suffix(".pcapng"))
-    comment = [str(TOP / "tools" / "h2audit-comment"), "-", str(report), "-o", out]
+    comment = [str(TOP / "companions" / "target" / "release" / "h2audit-comment"), "-", str(report), "-o", out]
     for name, words in (("h2audit-comment", comment), ("editcap -a", ["editcap", "-a", "1:one", "-", out])):
         wall, cpu, peak = once(words, capture)
         print(

@@ -1,11 +1,11 @@
 #!/usr/bin/env python3
-"""Measures h2audit-fleet beside a loop of the shell: measure_fleet.py H2AUDIT [CAPTURES MEGABYTES]..
+"""Measures h2audit-fleet beside the shell: measure_fleet.py H2AUDIT [CAPTURES MEGABYTES]..
 
-For each set, of so many captures of so many megabytes each, in turn all usual shapes of generate.py: captures and
-megabytes a second of a loop of the shell that runs H2AUDIT with one worker on each and keeps its report, and of
-h2audit-fleet with 1, 2 and 4 workers. "All" is the whole run; "audits" is without what a run over one capture takes,
-most of it to start dask. "Processor" is user and system time of all processes. Without sets these are 1000 of 0.05
-megabytes, and 20 of 20.
+For each set, of so many captures of so many megabytes each, in turn all usual shapes of generate.py: the whole of a run
+of `xargs -P 4` that has H2AUDIT audit each with one worker and keeps its report, and the whole of h2audit-fleet with 1,
+2 and 4 workers, with its database. Each is the least of three, in turn. "Processor" is user and system time of all
+processes. The last line says whether four workers took at most 1.5 times as long as xargs, and three seconds to begin.
+Without sets these are 1000 of 0.05 megabytes, and 20 of 20.
 """
 import os
 import pathlib
@@ -19,7 +19,10 @@ from generate import SHAPES, USUAL, Capture
 
 Seconds = tuple[float, float]  # of a clock on the wall, of the processors
 FLEET = pathlib.Path(__file__).resolve().parents[1] / "tools" / "h2audit-fleet"
-LOOP = 'for capture in captures/*; do h2audit --workers 1 "$capture" > "reports/${capture##*/}.report"; done'
+XARGS = "ls captures | xargs -P 4 -I {} sh -c 'h2audit --workers 1 captures/{} > reports/{}.report || [ $? = 1 ]'"
+JOBS = (1, 2, 4)
+RUNS = 3
+TIMES, BEGIN_SECONDS = 1.5, 3.0
 
 
 def seconds_of(words: list[str | pathlib.Path], folder: pathlib.Path, program: pathlib.Path) -> Seconds:
@@ -35,16 +38,16 @@ def processor_seconds() -> float:
     return usage.ru_utime + usage.ru_stime
 
 
-def fleet_seconds(folder: pathlib.Path, program: pathlib.Path, jobs: int, captures: str) -> Seconds:
+def fleet_seconds(folder: pathlib.Path, program: pathlib.Path, jobs: int) -> Seconds:
     (folder / "a.sqlite").unlink(missing_ok=True)
-    return seconds_of([FLEET, "--db", "a.sqlite", "--import", "never", "--jobs", str(jobs), captures], folder, program)
+    words: list[str | pathlib.Path] = [FLEET, "--db", "a.sqlite", "--import", "never", "--jobs", str(jobs), "captures"]
+    return seconds_of(words, folder, program)
 
 
-def line(name: str, number: int, size: float, run: Seconds, start: Seconds = (0, 0)) -> None:
-    seconds, audits, processor = run[0], max(run[0] - start[0], 0.01), max(run[1] - start[1], 0.01)
+def line(name: str, number: int, size: float, run: Seconds) -> None:
+    seconds, processor = run
     print(
-        f"{name:22} {seconds:8.2f} {number / seconds:10.1f} {size / seconds:7.1f} {number / audits:12.1f} "
-        f"{size / audits:8.1f} {1000 * processor / number:12.2f}",
+        f"{name:24} {seconds:8.2f} {number / seconds:11.1f} {size / seconds:7.1f} {1000 * processor / number:14.2f}",
         flush=True,
     )
 
@@ -59,13 +62,25 @@ def measure(program: pathlib.Path, number: int, megabytes: float) -> None:
             with open(folder / "captures" / f"{place:05d}.pcap", "wb") as file:
                 SHAPES[USUAL[place % len(USUAL)].__name__](Capture(file), int(megabytes * 1000000) + place)
         size = sum(path.stat().st_size for path in (folder / "captures").iterdir()) / 1000000
-        program = folder / "bin" / "h2audit"
-        print(f"\n{number} captures of {megabytes} MB            all                  audits            processor\n"
-              "                        seconds captures/s    MB/s   captures/s     MB/s   ms a capture")
-        line("a loop of the shell", number, size, seconds_of(["sh", "-c", LOOP], folder, program))
-        for jobs in (1, 2, 4):
-            start = fleet_seconds(folder, program, jobs, "captures/00000.pcap")
-            line(f"h2audit-fleet --jobs {jobs}", number, size, fleet_seconds(folder, program, jobs, "captures"), start)
+        print(f"\n{number} captures of {megabytes} MB\n"
+              "                          seconds  captures/s    MB/s  processor, ms a capture")
+        report(folder, folder / "bin" / "h2audit", number, size)
+
+
+def report(folder: pathlib.Path, program: pathlib.Path, number: int, size: float) -> None:
+    """Runs each in turn, and prints the least of its times."""
+    shell: list[Seconds] = []
+    fleets: dict[int, list[Seconds]] = {jobs: [] for jobs in JOBS}
+    for _ in range(RUNS):
+        shell.append(seconds_of(["sh", "-c", XARGS], folder, program))
+        for jobs, runs in fleets.items():
+            runs.append(fleet_seconds(folder, program, jobs))
+    line("xargs -P 4", number, size, min(shell))
+    for jobs, runs in fleets.items():
+        line(f"h2audit-fleet --jobs {jobs}", number, size, min(runs))
+    most, took = TIMES * min(shell)[0] + BEGIN_SECONDS, min(fleets[JOBS[-1]])[0]
+    print(f"{took:.2f} s of {most:.2f}, which is {TIMES} times xargs and {BEGIN_SECONDS:.0f} seconds to begin: "
+          f"{'within' if took <= most else 'ABOVE'}", flush=True)
 
 
 def main() -> None:

@@ -17,7 +17,7 @@ import time
 from generate import SHAPES
 
 HERE = pathlib.Path(__file__).resolve().parent
-MERGE = HERE.parent / "tools" / "h2audit-merge"
+MERGE = HERE.parent / "companions" / "target" / "release" / "h2audit-merge"
 
 
 def timed(step: str, size: float, words: list[object], output: str | pathlib.Path) -> int:

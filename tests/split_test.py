@@ -19,7 +19,10 @@ from collections.abc import Iterator
 from parts import parts_of, records_of
 
 TOP = pathlib.Path(__file__).resolve().parents[1]
-MERGE = TOP / "tools" / "h2audit-merge"
+sys.path.append(str(TOP / "tools" / "tests"))
+from companions import companion
+
+MERGE = companion("h2audit-merge")
 HELP = (pathlib.Path(__file__).parent / "split_help.txt").read_text()
 PREFACE = b"PRI * HTTP/2.0\r\n\r\nSM\r\n\r\n" + bytes.fromhex("000000 04 00 00000000")
 DATA = bytes.fromhex("000005 00 00 00000001") + b"hello"
@@ -218,6 +221,7 @@ def refusals(program: pathlib.Path) -> list[str]:
         ("--parts 2 -o out version", 3, "h2audit-split: capture refused: bad-version\n"),
         ("--parts 2 -o out cooked", 3, "h2audit-split: capture refused: link-type\n"),
         ("--parts 2 -o out missing", 4, "h2audit-split: cannot open: missing\n"),
+        ("--parts 2 -o out .", 4, "h2audit-split: cannot read: .\n"),
         ("--parts 2 -o good good", 4, "h2audit-split: cannot make folder: good\n"),
         ("--parts 2 -o none/out good", 4, "h2audit-split: cannot make folder: none/out\n"),
         ("--parts 0 -o out good", 2, None), ("--parts 501 -o out good", 2, None), ("--parts 2 good", 2, None),
@@ -233,8 +237,8 @@ def refusals(program: pathlib.Path) -> list[str]:
             said = ran.stderr + ran.stdout
             if ran.returncode != status or (said != text if text is not None else not ran.stderr.startswith("error: ")):
                 wrong.append(f"{words}: {ran.returncode} {said!r}")
-            if status and (pathlib.Path(folder) / "out" / "split.txt").exists():
-                wrong.append(f"{words}: a summary of a split that did not end")
+            if status and {path.name for path in pathlib.Path(folder).iterdir()} != set(files):
+                wrong.append(f"{words}: something is left of a split that did not end")
     return wrong
 
 
@@ -276,7 +280,9 @@ def damages_of(parts: pathlib.Path) -> list[tuple[str, bytes | None, str]]:
 
 
 def merge_endings(audit: pathlib.Path, program: pathlib.Path) -> list[str]:
-    """How h2audit-merge ends where its standard output is closed, and by Ctrl-C in the middle of its work."""
+    """How h2audit-merge ends where its standard output takes nothing, and by Ctrl-C in the middle of its work; and what
+    it says of itself.
+    """
     capture = (TOP / "examples" / "negative_window.pcap").read_bytes()
     with tempfile.TemporaryDirectory() as made:
         parts = split(program, pathlib.Path(made), 1, capture, [])
@@ -284,7 +290,10 @@ def merge_endings(audit: pathlib.Path, program: pathlib.Path) -> list[str]:
         report = parts / "part-001.report"
         head, connection = report.read_bytes().split(b"\n", 1)
         report.write_bytes(head + b"\n" + connection * 2000)  # more than a pipe holds
-        closed = run("sh", "-c", '"$0" "$1" >&-', MERGE, parts)
+        full = run("sh", "-c", '"$0" "$1" > /dev/full', MERGE, parts)
+        closed = run("bash", "-c", '"$0" "$1" | true; exit "${PIPESTATUS[0]}"', MERGE, parts)
+        helped = [run("sh", "-c", f'"$0" {word} > /dev/full', MERGE) for word in ("--help", "--version", "-V")]
+        named = run(MERGE, parts / "re\x1b[31md")
         # What a shell runs in the background ignores Ctrl-C, and so would its child.
         signal.signal(signal.SIGINT, signal.default_int_handler)
         with subprocess.Popen([MERGE, parts], stdout=subprocess.PIPE, stderr=subprocess.PIPE) as child:
@@ -292,8 +301,17 @@ def merge_endings(audit: pathlib.Path, program: pathlib.Path) -> list[str]:
             child.stdout.read(1)
             child.send_signal(signal.SIGINT)
             interrupted = child.wait(120), child.stderr.read()
-    wanted = (4, b"", b"h2audit-merge: Bad file descriptor: standard output\n"), (-signal.SIGINT, b"")
-    return [] if (closed, interrupted) == wanted else [f"merge ends so: {closed}, {interrupted}"]
+    found = full, closed, *helped, interrupted
+    no_space = b"No space left on device"
+    wanted = (
+        (4, b"", b"h2audit-merge: %b: standard output\n" % no_space),
+        (4, b"", b"h2audit-merge: write failed\n"),
+        *[(4, b"", b"h2audit-merge: standard output: %b\n" % no_space)] * 3,
+        (-signal.SIGINT, b""),
+    )
+    if found != wanted or named[0] != 3 or b"\x1b" in named[2]:
+        return [f"merge ends so: {found}, {named}"]
+    return []
 
 
 def main(audit: pathlib.Path, programs: list[pathlib.Path]) -> int:

@@ -7,6 +7,9 @@ calls, and then what those of the splitter rest on beside them.
     python3 tools/believed.py --check    fails where these two say something else
     python3 tools/believed.py --used     marks the modules that standard input names in lines (by-definition --modules)
 
+The exit status is 1 where a name cannot be followed, or a document says something else; 2 for wrong words, 4 where
+reading or writing failed, and 5 for want of memory.
+
 It begins at the names in the contracts of the calls that the programs make (CALLS, SPLITTER_CALLS) and in the views of
 the types that these contracts show (VIEWS), and follows each name to its definition, by the imports of the file in
 which it stands. So exactly the definitions that are reached are listed, whatever else their files hold. A crate comes
@@ -16,10 +19,13 @@ calls names has its statement listed, by its module of specs/laws/. The structs 
 are named at the end, by the files that declare them, and so are the toolchain's modules; neither is counted.
 """
 
+import argparse
 import pathlib
 import re
 import sys
 from dataclasses import dataclass, field
+
+from report.command import IO_FAILED, Words, failed, io_reason, run
 
 CALLS = {
     "h2audit/src/auditing.rt": ["audit"],
@@ -29,8 +35,11 @@ CALLS = {
     "h2audit/src/command_line/words.rt": ["parse"],
 }
 SPLITTER_CALLS = {
-    "capture_parts/src/splitting.rt": ["split_capture", "split_file", "split_last"],
+    "capture_parts/src/files.rt": ["split_capture"],
+    "capture_parts/src/finishing.rt": ["flush_parts", "refuse_full"],
     "capture_parts/src/laws.rt": ["one_part", "segments_name", "either_order", "same_records"],
+    "h2audit_split/src/outputs.rt": ["finish_parts"],
+    "h2audit_split/src/failure.rt": ["end"],
 }
 VIEWS = {"input_output/src/kept_bytes.rt": ["KeptBytes"]}
 # The folders of specs/ that hold what is not believed.
@@ -370,21 +379,36 @@ def check(rows: str, sums: str, more: str) -> int:
     return 0
 
 
-def main() -> int:
+def wanted(words: list[str]) -> argparse.Namespace:
+    parser = Words(prog="believed.py", description=__doc__, formatter_class=argparse.RawDescriptionHelpFormatter)
+    one = parser.add_mutually_exclusive_group()
+    for option in ("--write", "--check", "--used"):
+        one.add_argument(option, action="store_true")
+    parser.add_version()
+    return parser.parse_args(words)
+
+
+def main(words: list[str]) -> int:
+    asked = wanted(words)
     try:
         reading = read(TOP / "crates", CALLS | VIEWS)
         rows = reading.by_crate()
         added = read(TOP / "crates", SPLITTER_CALLS, reading).by_crate()
+        return answered(asked, reading, rows, added)
     except Astray as reason:
-        print(f"believed.py: {reason}", file=sys.stderr)
-        return 1
+        return failed("believed.py", 1, str(reason))
+    except OSError as why:
+        return failed("believed.py", IO_FAILED, io_reason(why))
+
+
+def answered(asked: argparse.Namespace, reading: Reading, rows: Rows, added: Rows) -> int:
     lines, modules = sums_of(rows)
     lines_added, modules_added = sums_of(added)
     sums = f"{lines:,} lines in {modules} modules"
     more = f"{lines_added:,} lines more in {modules_added} modules"
-    if sys.argv[1:] in (["--write"], ["--check"]):
-        return (write if sys.argv[1] == "--write" else check)(table(rows, added), sums, more)
-    used = set(sys.stdin.read().split()) if sys.argv[1:] == ["--used"] else set()
+    if asked.write or asked.check:
+        return (write if asked.write else check)(table(rows, added), sums, more)
+    used = set(sys.stdin.read().split()) if asked.used else set()
     for _, found in rows:
         print_modules(found, used)
     if used:
@@ -400,4 +424,4 @@ def main() -> int:
 
 
 if __name__ == "__main__":
-    sys.exit(main())
+    run(main)

@@ -3,6 +3,7 @@
 complete -c h2audit-fleet -l db -r -d 'The database'
 complete -c h2audit-fleet -l list -r -d 'A list of captures and folders'
 complete -c h2audit-fleet -l resume -d 'Do what is missing, failed or has changed'
+complete -c h2audit-fleet -l require-http2 -d 'Status 3 where nothing was audited in a capture'
 complete -c h2audit-fleet -l reports -x -a '(__fish_complete_directories)' -d 'Keep each report there'
 complete -c h2audit-fleet -l collect -x -a '(__fish_complete_directories)' -d 'Enter the reports of a folder'
 complete -c h2audit-fleet -s k -l keys -r -d 'A key log of TLS'

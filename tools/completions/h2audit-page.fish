@@ -2,4 +2,5 @@
 
 complete -c h2audit-page -s o -l output -r -d 'Where the page goes'
 complete -c h2audit-page -s t -l title -x -d 'The heading of the page'
+complete -c h2audit-page -s V -l version -d 'Print the version, and nothing else'
 complete -c h2audit-page -s h -l help -d 'Print the usage, and nothing else'

@@ -25,10 +25,10 @@ _h2audit() {
 
 _h2audit_plot() {
     local word=${COMP_WORDS[COMP_CWORD]} before=${COMP_WORDS[COMP_CWORD - 1]}
-    local options='--output --format --connection --stream --panels --by-frame --help -o -h'
+    local options='--output --format --connection --stream --panels --by-frame --title --help --version -o -t -h -V'
     case $before in
     --format) _h2audit_offer -W 'svg png' -- "$word" ;;
-    --connection | --stream | --panels) COMPREPLY=() ;;
+    --connection | --stream | --panels | --title | -t) COMPREPLY=() ;;
     *)
         case $word in
         -*) _h2audit_offer -W "$options" -- "$word" ;;
@@ -41,7 +41,7 @@ _h2audit_plot() {
 _h2audit_comment() {
     local word=${COMP_WORDS[COMP_CWORD]}
     case $word in
-    -*) _h2audit_offer -W '--output --map --credit --help -o -m -h' -- "$word" ;;
+    -*) _h2audit_offer -W '--output --map --credit --help --version -o -m -h -V' -- "$word" ;;
     *) _h2audit_offer -f -- "$word" ;;
     esac
 }
@@ -52,7 +52,7 @@ _h2audit_page() {
     --title | -t) COMPREPLY=() ;;
     *)
         case $word in
-        -*) _h2audit_offer -W '--output --title --help -o -t -h' -- "$word" ;;
+        -*) _h2audit_offer -W '--output --title --help --version -o -t -h -V' -- "$word" ;;
         *) _h2audit_offer -f -- "$word" ;;
         esac
         ;;
@@ -61,7 +61,7 @@ _h2audit_page() {
 
 _h2audit_import() {
     local word=${COMP_WORDS[COMP_CWORD]} before=${COMP_WORDS[COMP_CWORD - 1]}
-    local options='--key-log -k --jobs -j --output -o --map -m --help -h --version -V'
+    local options='--key-log -k --jobs -j --sort --output -o --map -m --course --help -h --version -V'
     [[ $word == = ]] && word=
     [[ $before == = ]] && before=${COMP_WORDS[COMP_CWORD - 2]}
     case $before in
@@ -77,7 +77,7 @@ _h2audit_import() {
 
 _h2audit_any() {
     local word=${COMP_WORDS[COMP_CWORD]} before=${COMP_WORDS[COMP_CWORD - 1]}
-    local options='--key-log -k --jobs -j --workers --groups --block --frames --parts --map --h2audit'
+    local options='--key-log -k --jobs -j --sort --workers --groups --block --frames --parts --map --h2audit'
     options+=' --help -h --version -V'
     [[ $before == = ]] && before=${COMP_WORDS[COMP_CWORD - 2]}
     case $before in
@@ -113,8 +113,9 @@ _h2audit_why() {
 
 _h2audit_fleet() {
     local word=${COMP_WORDS[COMP_CWORD]} before=${COMP_WORDS[COMP_CWORD - 1]}
-    local options='--db --list --resume --reports --collect --keys --import --timeout --retries --split-above --scratch --jobs'
-    options+=' --dashboard --scheduler --tls-ca --tls-cert --tls-key --unencrypted --version --help -k -j -V -h'
+    local options='--db --list --resume --require-http2 --reports --collect --keys --import --timeout --retries --split-above'
+    options+=' --scratch --jobs --dashboard --scheduler --tls-ca --tls-cert --tls-key --unencrypted --version --help'
+    options+=' -k -j -V -h'
     case $before in
     --import) _h2audit_offer -W 'auto always never' -- "$word" ;;
     --split-above) _h2audit_offer -W '0 256 512 1024' -- "$word" ;;
@@ -148,7 +149,7 @@ _h2audit_split() {
 _h2audit_merge() {
     local word=${COMP_WORDS[COMP_CWORD]}
     case $word in
-    -*) _h2audit_offer -W '--standing --help --version -h' -- "$word" ;;
+    -*) _h2audit_offer -W '--standing --help --version -h -V' -- "$word" ;;
     *) _h2audit_offer -d -- "$word" ;;
     esac
 }

@@ -1,16 +1,8 @@
-"""What is asked of dask, which carries tasks to workers. It has no types of its own, so they are said here."""
+"""What carries tasks to workers, and says what became of them: the pool of this machine, or dask's scheduler."""
 
 from collections.abc import Callable, Sequence
 from contextlib import AbstractContextManager
-from importlib import import_module
 from typing import Any, Protocol
-
-cloudpickle: Any = import_module("cloudpickle")
-dask: Any = import_module("dask")
-distributed: Any = import_module("distributed")
-security: Any = import_module("distributed.security")
-
-KilledWorker: type[Exception] = distributed.KilledWorker
 
 
 class Future(Protocol):
@@ -26,21 +18,20 @@ class Future(Protocol):
 
 
 class Client(AbstractContextManager["Client"], Protocol):
-    """A scheduler with its workers."""
+    """Workers, to which tasks are given."""
 
+    # Where a page shows them, if any does; and what a task raises whose worker is lost.
     dashboard_link: str
+    lost: type[Exception]
 
-    def submit(self, work: Callable[..., object], *words: object, pure: bool, priority: int) -> Future:
+    def submit(self, work: Callable[..., object], *words: object, priority: int) -> Future:
         """Has a worker call this."""
 
     def cancel(self, futures: Sequence[Future]) -> None:
         """Gives up tasks."""
 
-    def nthreads(self) -> dict[str, int]:
-        """Each worker's threads."""
+    def threads(self) -> int:
+        """How many tasks run at once."""
 
     def run(self, work: Callable[[], str]) -> dict[str, str]:
-        """What each worker answers to a call."""
-
-    def register_worker_plugin(self, plugin: object) -> None:
-        """Has each worker set this up as it begins."""
+        """What each worker answers to a call, by its name."""

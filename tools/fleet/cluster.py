@@ -1,4 +1,4 @@
-"""The workers: processes of this machine, or those of a scheduler that is named by its address.
+"""The workers of a scheduler of dask that is named by its address; and those of this machine, with dask's dashboard.
 
 Whoever reaches a scheduler of dask without TLS may run programs as its workers. So a local cluster has certificates of
 its own, made anew and held in memory, serves this machine alone, and a scheduler without TLS is refused unless it is
@@ -14,25 +14,28 @@ import sys
 import tempfile
 import time
 import warnings
-from collections.abc import Callable, Iterator
+from collections.abc import Callable, Iterator, Sequence
 from contextlib import contextmanager, suppress
 from dataclasses import dataclass
+from importlib import import_module
 from multiprocessing import resource_tracker
-from typing import Any, cast
+from types import TracebackType
+from typing import Any
 
-from fleet import programs, sniff, tasks
-from fleet.carrier import Client, cloudpickle, dask, distributed, security
+from fleet import ends, large, programs, sniff, tasks
+from fleet.carrier import Client, Future
+from fleet.workers import LOOK_SECONDS, NoWorkers, first_line
+
+# They have no types of their own.
+cloudpickle: Any = import_module("cloudpickle")
+dask: Any = import_module("dask")
+distributed: Any = import_module("distributed")
+security: Any = import_module("distributed.security")
 
 CONNECT_SECONDS = 30
-WORKER_SECONDS = 120
 CLOSE_SECONDS = 10
-LOOK_SECONDS = 0.1
 HERE = "127.0.0.1"
 OF_TERMINAL = (signal.SIGINT, signal.SIGHUP)
-
-
-class NoCluster(Exception):
-    """Why there are no workers."""
 
 
 @dataclass(frozen=True)
@@ -42,6 +45,33 @@ class Certificates:
     authority: str
     certificate: str
     key: str
+
+
+class Dask(Client):
+    """A client of dask, and its workers."""
+
+    lost = distributed.KilledWorker
+
+    def __init__(self, scheduler: Any, **more: Any) -> None:
+        self.client: Any = distributed.Client(scheduler, **more)
+        self.dashboard_link = str(self.client.dashboard_link)
+
+    def __exit__(self, kind: type[BaseException] | None, error: BaseException | None,
+                 trace: TracebackType | None) -> None:
+        self.client.close()
+
+    def submit(self, work: Callable[..., object], *words: object, priority: int) -> Future:
+        future: Future = self.client.submit(work, *words, pure=False, priority=priority)
+        return future
+
+    def cancel(self, futures: Sequence[Future]) -> None:
+        self.client.cancel(list(futures))
+
+    def threads(self) -> int:
+        return sum(self.client.nthreads().values())
+
+    def run(self, work: Callable[[], str]) -> dict[str, str]:
+        return {f"worker {worker}": said for worker, said in self.client.run(work).items()}
 
 
 class Quiet(distributed.WorkerPlugin):  # type: ignore[misc]  # dask says no type of it
@@ -63,7 +93,7 @@ def settle() -> None:
     warnings.simplefilter("ignore")
     logging.disable(logging.CRITICAL)
     os.environ.setdefault("DASK_LOGGING__DISTRIBUTED", "critical")
-    for module in (tasks, programs, sniff, sys.modules[__name__]):
+    for module in (tasks, large, programs, sniff, ends, sys.modules[__name__]):
         cloudpickle.register_pickle_by_value(module)
     dask.config.set({"distributed.scheduler.allowed-failures": 0, "logging.distributed": "critical"})
 
@@ -81,29 +111,19 @@ def deaf() -> Iterator[None]:
 
 
 @contextmanager
-def local(jobs: int, dashboard: str | None) -> Iterator[Client]:
-    """Workers of this machine, one process each, which may still be on their way.
-
-    Without a dashboard their web servers answer nothing.
-    """
+def local(jobs: int, dashboard: str) -> Iterator[Client]:
+    """Workers of this machine with a dashboard, one process each, which may still be on their way."""
     settle()
-    if dashboard is None:
-        no_routes: list[str] = []
-        dask.config.set({f"distributed.{what}.http.routes": no_routes for what in ("scheduler", "worker")})
     with tempfile.TemporaryDirectory(prefix="h2audit-fleet-", ignore_cleanup_errors=True) as folder:
         cluster = local_cluster(dashboard, folder)
         try:
-            with client_of(cluster) as client:
-                client.register_worker_plugin(Quiet())
+            client = Dask(cluster)
+            with client:
+                client.client.register_worker_plugin(Quiet())
                 cluster.scale(jobs)
                 yield client
         finally:
             close(cluster)
-
-
-def client_of(scheduler: Any, **more: Any) -> Client:
-    """A client of a local cluster, or of a scheduler by its address."""
-    return cast(Client, distributed.Client(scheduler, **more))
 
 
 def close(cluster: Any) -> None:
@@ -120,15 +140,14 @@ def close(cluster: Any) -> None:
             child.join()
 
 
-def local_cluster(dashboard: str | None, folder: str) -> Any:
+def local_cluster(dashboard: str, folder: str) -> Any:
     try:
         with deaf():
             return distributed.LocalCluster(
                 n_workers=0, threads_per_worker=1, host=HERE, security=security.Security.temporary(), silence_logs=50,
-                local_directory=folder, dashboard_address=dashboard or f"{HERE}:0",
-                worker_dashboard_address=f"{HERE}:0")
+                local_directory=folder, dashboard_address=dashboard, worker_dashboard_address=f"{HERE}:0")
     except (OSError, ImportError, RuntimeError) as why:
-        raise NoCluster(f"the workers cannot be started: {first_line(why)}") from None
+        raise NoWorkers(f"the workers cannot be started: {first_line(why)}") from None
 
 
 @contextmanager
@@ -137,9 +156,9 @@ def remote(address: str, certificates: Certificates | None) -> Iterator[Client]:
     settle()
     address = address if "://" in address else f"tls://{address}"
     try:
-        client = client_of(address, security=security_of(certificates), timeout=CONNECT_SECONDS, set_as_default=False)
+        client = Dask(address, security=security_of(certificates), timeout=CONNECT_SECONDS, set_as_default=False)
     except (OSError, TimeoutError, ssl.SSLError, ValueError, RuntimeError) as why:
-        raise NoCluster(f"{address}: {first_line(why)}") from None
+        raise NoWorkers(f"{address}: {first_line(why)}") from None
     with client:
         yield client
 
@@ -154,40 +173,3 @@ def security_of(certificates: Certificates | None) -> Any:
     return security.Security(
         require_encryption=True, tls_ca_file=certificates.authority, tls_client_cert=certificates.certificate,
         tls_client_key=certificates.key)
-
-
-def first_line(why: BaseException) -> str:
-    return (str(why).splitlines() or [type(why).__name__])[0]
-
-
-def threads_of(client: Client) -> int:
-    """How many tasks run at once."""
-    return sum(client.nthreads().values())
-
-
-def has_worker(client: Client, is_ended: Callable[[], bool]) -> bool:
-    """Waits for the first worker; False where the program is to end before."""
-    latest = time.monotonic() + WORKER_SECONDS
-    while not is_ended():
-        with suppress(OSError):
-            if threads_of(client):
-                return True
-        if time.monotonic() > latest:
-            raise NoCluster(f"no worker came within {WORKER_SECONDS} seconds")
-        time.sleep(LOOK_SECONDS)
-    return False
-
-
-def version_of(client: Client) -> str:
-    """What h2audit says of itself on all workers, which have to have the same: else reports might differ."""
-    try:
-        versions = client.run(tasks.version)
-    except (OSError, TimeoutError) as why:
-        raise NoCluster(f"the workers do not answer: {first_line(why)}") from None
-    for worker, version in sorted(versions.items()):
-        if not version:
-            raise NoCluster(f"worker {worker} has no program {tasks.AUDIT}")
-    if len(set(versions.values())) > 1:
-        each = ", ".join(f"{worker} {version}" for worker, version in sorted(versions.items()))
-        raise NoCluster(f"the workers have different versions: {each}")
-    return str(next(iter(versions.values())))

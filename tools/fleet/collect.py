@@ -7,6 +7,7 @@ A folder has for each capture, under one name of any kind:
     NAME.sha256   the digest of its bytes; may be missing
     NAME.report   the report
     NAME.error    what was said on standard error
+    NAME.course   where a stall is open, the course that h2audit-import wrote; may be missing
     NAME.status   the status and the seconds that it took; written last, so what has none did not come to its end
 """
 
@@ -15,8 +16,9 @@ import re
 from collections.abc import Iterator
 from contextlib import suppress
 from pathlib import Path
+from typing import BinaryIO
 
-from fleet import programs, tasks
+from fleet import ends, programs, tasks
 from fleet.tasks import Answer
 
 # timeout(1) ends with this status; a shell has those of signals above 128.
@@ -39,8 +41,15 @@ def read_job(named: Path, version: str) -> tuple[bytes, Answer] | None:
     answer |= {"seconds": float(status[2])} | file_of(named) | tasks.verdict(run_of(int(status[1]), named))
     if answer["outcome"] == "audited":
         with open(named.with_suffix(".report"), "rb") as report:
-            answer |= tasks.kept(report)
+            answer |= tasks.kept(report) | ends_of(named, report)
     return os.path.abspath(path), answer
+
+
+def ends_of(named: Path, report: BinaryIO) -> Answer:
+    """When connections with an open stall had their last packets, as far as the course tells."""
+    with suppress(OSError), open(named.with_suffix(".course"), "rb") as course:
+        return {"ends": ends.by_course(course, ends.with_open_stalls(report))}
+    return {}
 
 
 def run_of(status: int, named: Path) -> programs.Run:

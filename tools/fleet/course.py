@@ -16,9 +16,8 @@ from dataclasses import dataclass, field
 from functools import partial
 from typing import Any
 
-from fleet import tasks
-from fleet.carrier import Client, Future, KilledWorker
-from fleet.cluster import threads_of
+from fleet import large, tasks
+from fleet.carrier import Client, Future
 from fleet.tasks import Answer, Order
 from fleet.walk import Found
 
@@ -96,6 +95,8 @@ class Course:
         self.waiting.extend(Capture(found, tasks.parts_of(found.size, self.order)) for found in captures)
         if self.limits.scratch is not None:
             self.scratch = tempfile.mkdtemp(prefix="h2audit-fleet-", dir=self.limits.scratch)
+            self.order = self.order.copy()
+            self.order["scratch"] = self.scratch
         try:
             while tick():
                 self.fill()
@@ -146,7 +147,7 @@ class Course:
             return self.threads
         self.threads, self.next_look = 0, now + LOOK_SECONDS
         with suppress(OSError):
-            self.threads = threads_of(self.client)
+            self.threads = self.client.threads()
         if self.threads:
             self.last_seen = now
         elif now - self.last_seen > NO_WORKER_SECONDS:
@@ -160,7 +161,7 @@ class Course:
         for capture in captures:
             capture.tries += 1
         paths = [capture.found.path for capture in captures]
-        future = self.client.submit(tasks.audit_all, paths, self.order, pure=False, priority=USUAL)
+        future = self.client.submit(tasks.audit_all, paths, self.order, priority=USUAL)
         self.fly(future, partial(self.after_all, captures))
 
     def begin(self, capture: Capture) -> None:
@@ -172,7 +173,7 @@ class Course:
         self.large += 1
         parts = 0 if capture.is_imported else capture.parts
         if self.scratch is None:
-            self.submit(capture, self.after_whole, tasks.in_parts, path, parts, self.order)
+            self.submit(capture, self.after_whole, large.in_parts, path, parts, self.order)
             return
         try:
             capture.folder = tempfile.mkdtemp(dir=self.scratch)
@@ -180,14 +181,14 @@ class Course:
             self.after_whole(capture, {"outcome": "failed", "status": None, "reason": tasks.named(why)})
             return
         if parts:
-            self.submit(capture, self.after_split, tasks.split, path, folder_of_parts(capture), parts, self.order)
+            self.submit(capture, self.after_split, large.split, path, folder_of_parts(capture), parts, self.order)
         else:
             self.import_first(capture)
 
     def submit(self, capture: Capture, after: Callable[[Capture, Answer], None], work: Callable[..., Answer],
                *words: Any, tries: int = 1) -> None:
         priority = LAST if max(capture.tries, tries) > 1 else FIRST if capture.is_large else USUAL
-        future = self.client.submit(work, *words, pure=False, priority=priority)
+        future = self.client.submit(work, *words, priority=priority)
         capture.futures.add(future)
         self.fly(future, partial(after, capture))
 
@@ -216,10 +217,10 @@ class Course:
             # The worker that held the result is gone, and another makes it anew.
             future.add_done_callback(self.done.put)
             return
-        except KilledWorker:
-            answer = {"outcome": "failed", "reason": WORKER_LOST}
         except Exception as why:  # whatever a worker raised, also where its Python is another
-            answer = {"outcome": "failed", "reason": f"worker-failed {type(why).__name__}"}
+            is_lost = isinstance(why, self.client.lost)
+            reason = WORKER_LOST if is_lost else f"worker-failed {type(why).__name__}"
+            answer = {"outcome": "failed", "reason": reason}
         self.flying.pop(future)(answer)
 
     # What follows a task
@@ -261,7 +262,7 @@ class Course:
 
     def import_first(self, capture: Capture) -> None:
         capture.is_imported = True
-        self.submit(capture, self.after_import, tasks.import_first, capture.found.path, capture.folder, self.order)
+        self.submit(capture, self.after_import, large.import_first, capture.found.path, capture.folder, self.order)
 
     def after_import(self, capture: Capture, answer: Answer) -> None:
         """Splits what was made where that is large; else it is audited whole."""
@@ -272,7 +273,7 @@ class Course:
         capture.divided = answer
         if parts := tasks.parts_of(answer["made_size"], self.order):
             folder = folder_of_parts(capture)
-            self.submit(capture, self.after_split, tasks.split_made, answer, folder, parts, self.order)
+            self.submit(capture, self.after_split, large.split_made, answer, folder, parts, self.order)
         else:
             self.merge_when_ready(capture)
 
@@ -295,7 +296,7 @@ class Course:
     def submit_part(self, capture: Capture, number: int) -> None:
         capture.part_tries[number] = tries = capture.part_tries.get(number, 0) + 1
         follow = partial(self.after_part, number=number)
-        self.submit(capture, follow, tasks.part, capture.divided["folder"], number, self.order, tries=tries)
+        self.submit(capture, follow, large.part, capture.divided["folder"], number, self.order, tries=tries)
 
     def after_part(self, capture: Capture, answer: Answer, number: int) -> None:
         capture.seconds += answer.get("seconds") or 0.0
@@ -309,11 +310,11 @@ class Course:
         else:
             capture.waiting.clear()
             capture.tries = capture.part_tries[number]
-            self.finish(capture, capture.divided | tasks.of_part(number, answer))
+            self.finish(capture, capture.divided | large.of_part(number, answer))
 
     def merge_when_ready(self, capture: Capture) -> None:
         if not capture.waiting:
-            self.submit(capture, self.after_merge, tasks.merge, capture.found.path, capture.divided, self.order)
+            self.submit(capture, self.after_merge, large.merge, capture.found.path, capture.divided, self.order)
 
     def after_merge(self, capture: Capture, answer: Answer) -> None:
         """The merge may show that the whole has to be imported first: then its parts are not needed."""

@@ -17,18 +17,24 @@ from pathlib import Path
 from typing import Any
 
 from fleet import names
-from fleet.rows import Row, Rows, rows_of, unpacked
+from fleet.rows import HTTP2, Row, Rows, rows_of, unpacked
+from fleet.verdicts import Verdicts
 from report.blame import KINDS
 from report.lines import Refused
 
 SCHEMA = Path(__file__).with_name("schema.sql")
-SCHEMA_VERSION = 1
+SCHEMA_VERSION = 2
 APPLICATION = 1748123206
 TABLES = ("passed_over", "unopened", "findings", "stalls", "connections")
 HEADS = ("records", "segments", "snapped", "not_ipv4", "fragments", "not_tcp", "refused")
 COLUMNS = ("path", "size", "modified", "sha256", "outcome", "status", "reason", "program", "version", "options",
            "tries", "seconds", "worker", "entered", "report_sha256", "report_bytes", *HEADS)
 ROWS_AT_ONCE = 10000
+VERDICTS = f"""
+    SELECT outcome, status, EXISTS (SELECT 1 FROM connections WHERE capture = id AND holds = '{HTTP2}') AS has_http2,
+           COUNT(*)
+    FROM named CROSS JOIN captures USING (path)
+    GROUP BY outcome, status, has_http2"""
 
 
 class Unusable(Exception):
@@ -60,7 +66,9 @@ class Database:
         if self.pragma("application_id") != APPLICATION:
             raise Unusable("it is no database of h2audit-fleet")
         if (version := self.pragma("user_version")) != SCHEMA_VERSION:
-            raise Unusable(f"its schema is {version}, and this program writes {SCHEMA_VERSION}")
+            whose = "an older" if version < SCHEMA_VERSION else "a newer"
+            raise Unusable(f"its schema is {version}, of {whose} h2audit-fleet, and this one writes {SCHEMA_VERSION}: "
+                           "name a new file")
 
     def pragma(self, name: str) -> int:
         return int(self.base.execute(f"PRAGMA {name}").fetchone()[0])
@@ -82,16 +90,28 @@ class Database:
         for path, *more in self.base.execute(f"SELECT {wanted} FROM captures"):
             yield path, tuple(more)
 
-    def outcomes(self, paths: Iterable[str]) -> set[tuple[str, int | None]]:
-        """The outcomes of these captures, each with its status."""
-        wanted = "SELECT outcome, status FROM captures WHERE path = ?"
-        return {(outcome, status) for path in paths for outcome, status in self.base.execute(wanted, (path,))}
+    def verdicts(self, paths: Iterable[bytes]) -> Verdicts:
+        """The verdicts on all of these captures that stand."""
+        found = Verdicts()
+        with self.transaction():
+            self.base.execute("CREATE TEMP TABLE named (path TEXT PRIMARY KEY) WITHOUT ROWID")
+            self.base.executemany("INSERT OR IGNORE INTO named VALUES (?)", ((names.word_of(path),) for path in paths))
+            for outcome, status, has_http2, number in self.base.execute(VERDICTS):
+                found.add(outcome, status, bool(has_http2), number)
+            self.base.execute("DROP TABLE named")
+        return found
+
+    def forget(self, paths: Iterable[bytes]) -> None:
+        """Takes captures away: folders that could not be read once, and now were."""
+        with self.transaction():
+            words = [(names.word_of(path),) for path in paths]
+            self.base.executemany("DELETE FROM captures WHERE path = ? AND outcome = 'failed'", words)
 
     def enter(self, path: bytes, answer: dict[str, Any]) -> dict[str, Any]:
         """Enters a capture with all that its report says; what was there of it goes. Answers with the row."""
         row = {column: answer.get(column) for column in COLUMNS}
         row |= {"path": names.word_of(path), "entered": now()}
-        rows = Rows()
+        rows = Rows(answer.get("ends"))
         packed = answer.get("report")
         try:
             if packed is not None and self.reports:
@@ -100,11 +120,14 @@ class Database:
                 self.put_rows(self.put(row), rows_of(unpacked(packed), rows) if packed is not None else ())
                 row |= dict(zip(HEADS, rows.heads))
                 self.put(row)
-        except (Refused, sqlite3.IntegrityError) as why:
+        except (Refused, sqlite3.IntegrityError, OverflowError) as why:
+            # SQLite holds numbers below 2^63.
+            why = Refused("a number of the report is too large") if isinstance(why, OverflowError) else why
             row |= {"outcome": "failed", "reason": f"bad-report: {why}"} | dict.fromkeys(HEADS)
             with self.transaction():
                 self.put_rows(self.put(row), ())
-        return row
+            rows.http2 = 0
+        return row | {"has_http2": rows.http2 > 0}
 
     @contextmanager
     def transaction(self) -> Iterator[None]:

@@ -7,20 +7,22 @@ import sqlite3
 import sys
 import tempfile
 from collections.abc import Iterator
-from contextlib import AbstractContextManager, contextmanager
+from contextlib import contextmanager
 from types import FrameType
-from typing import Any
 
 from fleet import collect, names, tasks
+from fleet.carrier import Client
+from fleet.course import Capture, Course, Limits, Lost
 from fleet.database import Database, Unusable
 from fleet.progress import Progress
+from fleet.verdicts import FAULTS, Verdicts
 from fleet.walk import Found, NotThere, Walk, found_in
 from fleet.words import MEGABYTE, Asked, read_words
+from fleet.workers import NoWorkers, has_worker, version_of, workers_of
 from report.command import IO_FAILED, MISSING, OK, REFUSED, failed, io_reason
 from report.interrupts import SIGNALS
 
 NAME = "h2audit-fleet"
-FAULTS = 1
 SIGNALLED = 128
 GOES_ON = "--resume goes on with the database"
 
@@ -81,40 +83,33 @@ def main(words: list[str]) -> int:
 def audited(asked: Asked, interruption: Interruption) -> int:
     walk = found_in([os.fsencode(path) for path in asked.paths], asked.lists)
     options = options_of(asked)
+    for line in walk.empty:
+        failed(NAME, REFUSED, line)
+    if not walk.captures:
+        print(Verdicts().summary() + passed_over(walk), flush=True)
+        return REFUSED
     try:
-        from fleet import cluster, course
+        workers = workers_of(asked, len(os.sched_getaffinity(0)))
     except ImportError as missing:
-        return failed(NAME, MISSING, f"{missing.name} is not installed: apt install python3-distributed")
+        return failed(NAME, MISSING, f"{missing.name} is not installed (Debian: apt-get install python3-distributed)")
     database = Database(asked.db, asked.resume, asked.reports)
     try:
         interruption.is_asked_for = True
-        with workers_of(asked) as client:
-            if not cluster.has_worker(client, lambda: bool(interruption.signal)):
+        database.forget(walk.folders.values())
+        with workers as client:
+            if not has_worker(client, lambda: bool(interruption.signal)):
                 return interruption.ended(GOES_ON)
-            version = cluster.version_of(client)
+            version = version_of(client)
             captures = missing_in(database, walk, version, options)
             return run(asked, client, database, walk, captures, {"version": version, "options": options}, interruption)
-    except (cluster.NoCluster, course.Lost) as why:
+    except (NoWorkers, Lost) as why:
         return interruption.ended(GOES_ON) if interruption.signal else failed(NAME, MISSING, str(why))
     finally:
         database.close()
 
 
-def workers_of(asked: Asked) -> AbstractContextManager[Any]:
-    from fleet import cluster
-
-    if asked.scheduler is None:
-        return cluster.local(asked.jobs or len(os.sched_getaffinity(0)), asked.dashboard)
-    certificates = None
-    if asked.tls_ca and asked.tls_cert and asked.tls_key:
-        certificates = cluster.Certificates(asked.tls_ca, asked.tls_cert, asked.tls_key)
-    return cluster.remote(asked.scheduler, certificates)
-
-
-def run(asked: Asked, client: Any, database: Database, walk: Walk, captures: list[Found], more: dict[str, str],
+def run(asked: Asked, client: Client, database: Database, walk: Walk, captures: list[Found], more: dict[str, str],
         interruption: Interruption) -> int:
-    from fleet.course import Capture, Course, Limits
-
     progress = Progress(len(captures), sum(found.size or 0 for found in captures))
 
     def enter(capture: Capture, answer: tasks.Answer) -> None:
@@ -133,10 +128,14 @@ def run(asked: Asked, client: Any, database: Database, walk: Walk, captures: lis
     course = Course(client, order, limits, enter)
     is_whole = course.run(captures, tick)
     progress.clear()
-    print(progress.summary(len(walk.captures) - len(captures), walk.others), flush=True)
-    if not is_whole:
-        return interruption.ended(GOES_ON)
-    return status_of(database, walk)
+    verdicts = database.verdicts(walk.captures)
+    standing = len(walk.captures) - len(captures)
+    print(verdicts.summary() + f"; {standing:,} were there" * bool(standing) + passed_over(walk), flush=True)
+    return status_of(verdicts, walk, asked) if is_whole else interruption.ended(GOES_ON)
+
+
+def passed_over(walk: Walk) -> str:
+    return f"; {walk.others:,} other files passed over" * bool(walk.others)
 
 
 def options_of(asked: Asked) -> str:
@@ -159,12 +158,11 @@ def missing_in(database: Database, walk: Walk, version: str, options: str) -> li
     return [found for found in walk.in_order() if not stands(found)]
 
 
-def status_of(database: Database, walk: Walk) -> int:
-    """The verdict on all captures that were named, those that stood already too."""
-    outcomes = database.outcomes([names.word_of(path) for path in walk.captures])
-    if any(outcome != "audited" for outcome, _ in outcomes):
+def status_of(verdicts: Verdicts, walk: Walk, asked: Asked) -> int:
+    """The status by the verdicts on all captures that were named, those that stood already too."""
+    if walk.empty or not verdicts.is_whole or (asked.require_http2 and verdicts.nothing):
         return REFUSED
-    return FAULTS if ("audited", 1) in outcomes else OK
+    return FAULTS if verdicts.faults else OK
 
 
 # Without workers
@@ -177,6 +175,9 @@ def collected(asked: Asked, interruption: Interruption) -> int:
     database = Database(asked.db, asked.resume, asked.reports)
     jobs = collect.jobs_in(asked.collect)
     progress, unfinished, walk = Progress(len(jobs), 0), 0, Walk()
+    if not jobs:
+        walk.empty.append(f"{asked.collect}: no job is in this folder")
+        failed(NAME, REFUSED, walk.empty[0])
     try:
         interruption.is_asked_for = True
         for job in collect.answers_in(asked.collect, "unknown"):
@@ -189,7 +190,8 @@ def collected(asked: Asked, interruption: Interruption) -> int:
             progress.count(database.enter(*job), 0)
             progress.show()
         progress.clear()
-        print(progress.summary(0, 0) + f"; {unfinished} did not come to their end" * bool(unfinished), flush=True)
-        return REFUSED if unfinished else status_of(database, walk)
+        verdicts = database.verdicts(walk.captures)
+        print(verdicts.summary() + f"; {unfinished} did not come to their end" * bool(unfinished), flush=True)
+        return REFUSED if unfinished else status_of(verdicts, walk, asked)
     finally:
         database.close()

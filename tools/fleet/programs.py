@@ -22,6 +22,8 @@ from dataclasses import dataclass
 from typing import IO
 
 PIECE = 1 << 20
+# A piece of so many bytes is still in the processor's cache when it goes on.
+IN_CACHE = 1 << 18
 MOST_SAID = 4096
 
 
@@ -57,7 +59,7 @@ def is_there(program: str) -> bool:
 def run(words: Sequence[str], source: int | None, output: IO[bytes], seconds: float, is_fed: bool = True) -> Run:
     """Runs a program for so many seconds at most.
 
-    It is fed with an open file on its standard input, or is handed the file itself.
+    It is fed with an open file on its standard input, or is handed the file itself. The digest is taken meanwhile.
     """
     if not is_there(words[0]):
         raise NoProgram(words[0])
@@ -66,9 +68,16 @@ def run(words: Sequence[str], source: int | None, output: IO[bytes], seconds: fl
     handed = () if source is None or is_fed else (source,)
     with tempfile.TemporaryFile() as said, child_of(words, has_input, handed, output, said) as child:
         with time_limit(child, seconds) as is_late:
-            size, digest = feed(source, child.stdin, is_late) if source is not None and child.stdin else (0, "")
+            size, digest = 0, ""
+            if source is not None:
+                size, digest = feed(source, child.stdin, is_late) if child.stdin else digest_of(source, is_late)
             status = child.wait()
         return Run(status, last_line(said), time.monotonic() - begin, is_late.is_set(), size, digest)
+
+
+def tied() -> list[str]:
+    """The words before a command whose process ends with the thread that begins it, however that ends."""
+    return ["setpriv", "--pdeathsig", "KILL", "--"] if shutil.which("setpriv") else []
 
 
 @contextmanager
@@ -79,10 +88,9 @@ def child_of(words: Sequence[str], has_input: bool, handed: tuple[int, ...], out
     It does not outlive its worker for long: one that is fed comes to the end of its capture, and any other is tied to
     the worker.
     """
-    tied = [] if has_input or not shutil.which("setpriv") else ["setpriv", "--pdeathsig", "KILL", "--"]
     child = subprocess.Popen(
-        [*tied, *words], stdin=subprocess.PIPE if has_input else subprocess.DEVNULL, stdout=output, stderr=said,
-        bufsize=0, pass_fds=handed, start_new_session=True)
+        [*([] if has_input else tied()), *words], stdin=subprocess.PIPE if has_input else subprocess.DEVNULL,
+        stdout=output, stderr=said, bufsize=0, pass_fds=handed, start_new_session=True)
     try:
         yield child
     finally:
@@ -123,27 +131,26 @@ def feed(source: int, pipe: IO[bytes], is_late: threading.Event) -> tuple[int, s
     """
     with suppress(OSError):
         fcntl.fcntl(pipe.fileno(), fcntl.F_SETPIPE_SZ, PIECE)
-    digest, size, has_reader = hashlib.sha256(), 0, True
-    while not is_late.is_set() and (piece := os.read(source, PIECE)):
-        digest.update(piece)
-        size += len(piece)
+    digest, size, has_reader, room = hashlib.sha256(), 0, True, bytearray(IN_CACHE)
+    while not is_late.is_set() and (length := os.readv(source, [room])):
+        piece = memoryview(room)[:length]
         has_reader = has_reader and is_written(pipe, piece)
+        digest.update(piece)
+        size += length
     pipe.close()
     return (0, "") if is_late.is_set() else (size, digest.hexdigest())
 
 
-def digest_of(source: int) -> tuple[int, str]:
-    """The number and the digest of a file's bytes."""
-    os.lseek(source, 0, os.SEEK_SET)
-    digest, size = hashlib.sha256(), 0
-    while piece := os.read(source, PIECE):
-        digest.update(piece)
-        size += len(piece)
-    return size, digest.hexdigest()
+def digest_of(source: int, is_late: threading.Event) -> tuple[int, str]:
+    """The number and the digest of a file's bytes, which a program reads at its own place; none when time is up."""
+    digest, size, room = hashlib.sha256(), 0, bytearray(IN_CACHE)
+    while not is_late.is_set() and (length := os.preadv(source, [room], size)):
+        digest.update(memoryview(room)[:length])
+        size += length
+    return (0, "") if is_late.is_set() else (size, digest.hexdigest())
 
 
-def is_written(pipe: IO[bytes], piece: bytes) -> bool:
-    rest = memoryview(piece)
+def is_written(pipe: IO[bytes], rest: memoryview) -> bool:
     try:
         while rest:
             rest = rest[pipe.write(rest):]

@@ -1,6 +1,6 @@
 -- The database of h2audit-fleet. docs/FLEET.md says what each column means.
 PRAGMA application_id = 1748123206;
-PRAGMA user_version = 1;
+PRAGMA user_version = 2;
 
 CREATE TABLE captures (
     id INTEGER PRIMARY KEY,
@@ -129,10 +129,11 @@ SELECT CASE broke WHEN 'client' THEN rtrim(rtrim(endpoint, '0123456789'), ':') E
 FROM faults
 GROUP BY peer, role, kind;
 
--- The stalls that ended, the longest first: who waited, and whom to ask.
+-- The stalls, the longest first: who waited, and whom to ask. One that did not end lasts up to the connection's last
+-- packet.
 CREATE VIEW longest_stalls AS
-SELECT captures.path, stalls.connection, stalls.side AS waited, stalls.stream, stalls.first, stalls.last, stalls.nanos,
-       stalls.nanos / 1e6 AS milliseconds, stalls.ask,
+SELECT captures.path, stalls.connection, stalls.side AS waited, stalls.stream, stalls.first, stalls.last,
+       stalls.last IS NULL AS open, stalls.nanos, stalls.nanos / 1e6 AS milliseconds, stalls.ask,
        CASE stalls.ask WHEN 'client' THEN connections.client ELSE connections.server END AS endpoint
 FROM stalls
 JOIN captures ON captures.id = stalls.capture
@@ -142,7 +143,8 @@ ORDER BY stalls.nanos DESC;
 
 -- The stalls that did not end.
 CREATE VIEW open_stalls AS
-SELECT captures.path, stalls.connection, stalls.side AS waited, stalls.stream, stalls.first, stalls.ask,
+SELECT captures.path, stalls.connection, stalls.side AS waited, stalls.stream, stalls.first, stalls.nanos,
+       stalls.nanos / 1e6 AS milliseconds, stalls.ask,
        CASE stalls.ask WHEN 'client' THEN connections.client ELSE connections.server END AS endpoint
 FROM stalls
 JOIN captures ON captures.id = stalls.capture
@@ -165,26 +167,48 @@ GROUP BY peer, role;
 -- How long each window stood still.
 CREATE VIEW still_windows AS
 SELECT captures.path, stalls.connection, stalls.side AS waited, stalls.stream, COUNT(*) AS stalls,
-       SUM(stalls.nanos) / 1e6 AS milliseconds
+       SUM(stalls.last IS NULL) AS open, SUM(stalls.nanos) / 1e6 AS milliseconds
 FROM stalls
 JOIN captures ON captures.id = stalls.capture
 WHERE stalls.nanos IS NOT NULL
 GROUP BY stalls.capture, stalls.connection, stalls.side, stalls.stream;
 
--- What was not audited: whole captures, connections, and segments whose connection began before the capture.
+-- What was not audited, and why: whole captures, those without a connection too, connections, segments whose connection
+-- began before the capture, and records that were passed over.
 CREATE VIEW not_audited AS
 SELECT path, 'capture' AS what, NULL AS sender, NULL AS receiver, outcome || ': ' || reason AS reason
 FROM captures
 WHERE outcome <> 'audited'
 UNION ALL
-SELECT captures.path, 'connection ' || connections.number, connections.client, connections.server, connections.holds
+SELECT path, 'capture', NULL, NULL,
+       CASE
+           WHEN reason IS NOT NULL THEN reason
+           WHEN records = 0 THEN 'empty'
+           WHEN segments > 0 THEN 'no-connection'
+           WHEN not_tcp > 0 AND not_tcp >= not_ipv4 THEN 'not-tcp'
+           WHEN not_ipv4 > 0 THEN 'not-ipv4'
+           ELSE 'no-connection'
+       END
+FROM captures
+WHERE outcome = 'audited'
+      AND NOT EXISTS (SELECT 1 FROM connections WHERE capture = captures.id)
+      AND (reason IS NOT NULL OR NOT EXISTS (SELECT 1 FROM unopened WHERE capture = captures.id))
+UNION ALL
+SELECT captures.path, 'connection ' || connections.number, connections.client, connections.server,
+       CASE WHEN connections.holds LIKE 'refused %' THEN substr(connections.holds, 9) ELSE connections.holds END
 FROM connections
 JOIN captures ON captures.id = connections.capture
 WHERE connections.holds <> 'http2'
 UNION ALL
 SELECT captures.path, 'segments ' || unopened.segments, unopened.sender, unopened.receiver, 'unopened'
 FROM unopened
-JOIN captures ON captures.id = unopened.capture;
+JOIN captures ON captures.id = unopened.capture
+UNION ALL
+SELECT captures.path, CASE COUNT(*) WHEN 1 THEN 'record ' || MIN(record) ELSE 'records ' || COUNT(*) END, NULL, NULL,
+       CASE WHEN passed_over.reason LIKE 'refused %' THEN substr(passed_over.reason, 9) ELSE passed_over.reason END
+FROM passed_over
+JOIN captures ON captures.id = passed_over.capture
+GROUP BY captures.id, passed_over.reason;
 
 -- The flows in which the capture lost bytes: their findings are to be read with care.
 CREATE VIEW lost_bytes AS
@@ -204,7 +228,7 @@ SELECT captures.path,
        CASE
            WHEN captures.outcome IN ('refused', 'failed') THEN captures.outcome
            WHEN captures.status = 1 THEN 'faults'
-           WHEN http2.connections IS NULL THEN 'no HTTP/2 connection'
+           WHEN http2.connections IS NULL THEN 'nothing audited'
            ELSE 'clean'
        END AS verdict,
        COALESCE(http2.connections, 0) AS http2_connections,

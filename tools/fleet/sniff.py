@@ -1,4 +1,4 @@
-"""What the bytes of a capture say before it is audited: which program reads it, and whether it holds IPv6.
+"""What the bytes of a capture say of it: which program reads it, and whether an import may read more of it.
 
 A worker needs this module, which is sent to it: it imports the standard library alone.
 """
@@ -13,14 +13,18 @@ CLASSIC = {
     b"\xd4\xc3\xb2\xa1": "<", b"\x4d\x3c\xb2\xa1": "<",
     b"\xa1\xb2\xc3\xd4": ">", b"\xa1\xb2\x3c\x4d": ">",
 }
-# gzip, Zstandard; and pcapng.
-PACKED = (b"\x1f\x8b", b"\x28\xb5\x2f\xfd")
+# gzip, Zstandard, xz, lz4, bzip2; and pcapng.
+PACKED = (b"\x1f\x8b", b"\x28\xb5\x2f\xfd", b"\xfd7zXZ\x00", b"\x04\x22\x4d\x18", b"BZh")
 ELSE = (b"\x0a\x0d\x0d\x0a", *PACKED)
 ETHERNET, RAW_IP = 1, 101
 FILE_HEADER, RECORD_HEADER = 24, 16
-IPV6, VLAN_TAGS = 0x86DD, (0x8100, 0x88A8)
-IPV6_HEADER = 40
-UDP, ICMP6 = 17, 58
+# Of an Ethernet frame. h2audit reads one tag, of the first kind.
+TYPE_AT, IPV4, IPV6, VLAN_TAG = 12, b"\x08\x00", b"\x86\xdd", b"\x81\x00"
+VLAN_TAGS = (VLAN_TAG, b"\x88\xa8", b"\x91\x00")
+IPV4_HEADER, IPV6_HEADER = 20, 40
+TCP, UDP, ICMP6 = 6, 17, 58
+# So much of a packet holds its headers, behind more tags than there are.
+FRONT = 96
 
 
 def kind_of(head: bytes) -> str:
@@ -34,10 +38,10 @@ def kind_of(head: bytes) -> str:
     return PLAIN if link_type in (ETHERNET, RAW_IP) else OTHER
 
 
-def holds_ipv6(capture: BinaryIO) -> bool:
-    """Whether a plain capture has a packet of IPv6 that is neither of UDP nor of ICMPv6.
+def holds_more(capture: BinaryIO) -> bool:
+    """Whether a plain capture has a packet that h2audit passes over as not IPv4, and an import may read.
 
-    By ICMPv6 neighbours look for each other.
+    Those are IPv6, but for UDP and ICMPv6, by which neighbours look for each other; and TCP behind further VLAN tags.
     """
     head = capture.read(FILE_HEADER)
     order = CLASSIC.get(head[:4])
@@ -47,24 +51,24 @@ def holds_ipv6(capture: BinaryIO) -> bool:
     lengths = struct.Struct(order + "8xI4x")
     while len(record := capture.read(RECORD_HEADER)) == RECORD_HEADER:
         (length,) = lengths.unpack(record)
-        packet = capture.read(min(length, 64))
-        if next_header(packet if is_raw else packet[network_of(packet):]) not in (None, UDP, ICMP6):
+        packet = capture.read(min(length, FRONT))
+        if may_be_read(packet if is_raw else behind_tags(packet)):
             return True
-        capture.seek(max(length - 64, 0), 1)
+        capture.seek(max(length - FRONT, 0), 1)
     return False
 
 
-def network_of(packet: bytes) -> int:
-    """Where the network layer of an Ethernet frame begins, behind VLAN tags; behind all where it is not IPv6."""
-    at = 12
-    while len(packet) >= at + 2:
-        ether_type = struct.unpack_from(">H", packet, at)[0]
-        if ether_type not in VLAN_TAGS:
-            return at + 2 if ether_type == IPV6 else len(packet)
+def behind_tags(packet: bytes) -> bytes:
+    """The datagram of an Ethernet frame behind VLAN tags; nothing where it is none of IP, or h2audit reads it."""
+    at = TYPE_AT
+    while (ether_type := packet[at:at + 2]) in VLAN_TAGS:
         at += 4
-    return len(packet)
+    is_read = ether_type == IPV4 and (at == TYPE_AT or at == TYPE_AT + 4 and packet[TYPE_AT:at - 2] == VLAN_TAG)
+    return packet[at + 2:] if ether_type in (IPV4, IPV6) and not is_read else b""
 
 
-def next_header(packet: bytes) -> int | None:
-    """The next header of an IPv6 packet (RFC 8200, 3)."""
-    return packet[6] if len(packet) >= IPV6_HEADER and packet[0] >> 4 == 6 else None
+def may_be_read(datagram: bytes) -> bool:
+    """Whether it is TCP over IPv4, or over IPv6 what may be TCP (RFC 8200, 3)."""
+    if len(datagram) >= IPV6_HEADER and datagram[0] >> 4 == 6:
+        return datagram[6] not in (UDP, ICMP6)
+    return len(datagram) >= IPV4_HEADER and datagram[0] >> 4 == 4 and datagram[9] == TCP

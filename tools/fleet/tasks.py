@@ -1,32 +1,25 @@
-"""What a worker does with a capture. Each task answers with a dictionary of plain values, also where it fails.
+"""What a worker does with a capture: audits it, by h2audit or by an import. `large` has the tasks of large ones.
 
-    audit         one capture by one program, as h2audit alone audits it
-    audit_all     several small ones, with an answer for each
-    import_first  the import of a capture that may be large, into a folder that all workers share
-    split         a large capture into parts, in such a folder
-    split_made    the same, of what an import made
-    part          the audit of one part
-    merge         the reports of the parts into that of the whole, and of an import back to that of the original
-    in_parts      all of them, where workers share no folder
-
-An answer that is the last of a capture has an `outcome`: `audited`, `partial` (a part of a large capture was refused),
-`refused` (the capture cannot be audited, and never will be) or `failed` (it might be another time), with a `reason`.
-Others are `import` (it has to be imported first), `imported` and `split`.
+Each task answers with a dictionary of plain values, also where it fails. An answer that is the last of a capture has an
+`outcome`: `audited`, `partial` (a part of a large capture, or an import that may read more, was refused), `refused`
+(the capture cannot be audited, and never will be) or `failed` (it might be another time), with a `reason`. Others are
+`import` (it has to be imported first), `imported` and `split`.
 
 A worker needs this module, which is sent to it: it imports the standard library, and what is sent beside it.
 """
 
 import errno
 import os
-import shutil
+import re
 import stat
 import subprocess
 import tempfile
 import time
 from collections.abc import Callable
-from typing import IO, Any, TypedDict
+from contextlib import suppress
+from typing import IO, Any, BinaryIO, NotRequired, TypedDict
 
-from fleet import programs, sniff
+from fleet import ends, programs, sniff
 
 Answer = dict[str, Any]
 
@@ -38,17 +31,24 @@ MOST_PARTS = 500
 # How large a compressed capture is shows as it is read. One that would be large, grown so much, is imported first.
 USUAL_GROWTH = 10
 TOO_LARGE = "too-large"
+# Refusals of h2audit where an import may read the file, or says better what it is.
+OF_ANOTHER_FORM = ("bad-magic", "bad-version", "link-type")
+WRITE_FAILED = "write-failed"
+NOTHING_COULD_BE_READ = "no connection could be read"
+# What stands in no other line of a report than that of such a connection, or of such a stall.
+HTTP2, NOT_HTTP2, OPEN_STALL = b" http2 frames ", b" not-http2\n", b" open\n"
 
 
 class Order(TypedDict):
-    """How captures are to be audited: files of keys, when to import, seconds for each run of a program, and above how
-    many bytes a capture is split, 0 for none.
+    """How captures are to be audited: files of keys, when to import, seconds for each run of a program, above how many
+    bytes a capture is split, 0 for none, and in which folder files may stand that the end of the run takes away.
     """
 
     keys: list[str]
     imports: str
     timeout: float
     split_above: int
+    scratch: NotRequired[str | None]
 
 
 class Unread(Exception):
@@ -88,6 +88,8 @@ def named(why: Exception) -> str:
     """The name of what went wrong."""
     if isinstance(why, programs.NoProgram):
         return f"no-program {why}"
+    if isinstance(why, OSError) and why.errno in (errno.ENOSPC, errno.EDQUOT):
+        return no_room()
     return f"io-failed {errno.errorcode.get(why.errno or 0, 'EIO')}" if isinstance(why, OSError) else str(why)
 
 
@@ -109,7 +111,17 @@ def audit_file(file: int, order: Order) -> Answer:
     if is_imported(file, order):
         return {"outcome": "import"} if may_be_large(file, order) else by_import(file, order)
     answer = by_program([AUDIT, "--workers", "1"], file, order)
-    return by_import(file, order) if answer["outcome"] == "audited" and hides_ipv6(file, order, answer) else answer
+    if not has_more(file, order, answer):
+        return answer
+    imported = by_import(file, order)
+    return beside(answer, imported) if imported["outcome"] == "refused" else imported
+
+
+def beside(answer: Answer, imported: Answer) -> Answer:
+    """What h2audit audited stands, where an import that might have read more is refused."""
+    if answer["outcome"] != "audited" or not answer["has_http2"]:
+        return imported
+    return answer | {"outcome": "partial", "reason": f"import refused: {imported['reason']}"}
 
 
 def is_imported(file: int, order: Order) -> bool:
@@ -119,13 +131,30 @@ def is_imported(file: int, order: Order) -> bool:
     return bool(order["keys"]) or sniff.kind_of(os.pread(file, sniff.FILE_HEADER, 0)) == sniff.OTHER
 
 
-def hides_ipv6(file: int, order: Order, answer: Answer) -> bool:
-    """Whether packets that h2audit passed over as not IPv4 are of IPv6, and an import may be asked for them."""
-    if order["imports"] != "auto" or not answer["not_ipv4"] or not programs.is_there(IMPORT):
+def has_more(file: int, order: Order, answer: Answer) -> bool:
+    """Whether an import may read more of a capture than h2audit did.
+
+    It may where h2audit found a connection that is none of HTTP/2, which may be TLS, or no connection at all; and where
+    it passed over packets that an import reads.
+    """
+    if order["imports"] != "auto" or not programs.is_there(IMPORT):
         return False
-    with os.fdopen(os.dup(file), "rb") as capture:
-        capture.seek(0)
-        return sniff.holds_ipv6(capture)
+    if answer["outcome"] == "refused":
+        return answer["reason"] in OF_ANOTHER_FORM
+    if answer["outcome"] != "audited":
+        return False
+    if answer["has_others"] or not answer["has_http2"] and (answer["not_ipv4"] or answer["not_tcp"]):
+        return True
+    if not answer["not_ipv4"]:
+        return False
+    with capture_of(file) as capture:
+        return sniff.holds_more(capture)
+
+
+def capture_of(file: int) -> BinaryIO:
+    """An open capture from its beginning."""
+    os.lseek(file, 0, os.SEEK_SET)
+    return os.fdopen(os.dup(file), "rb", buffering=programs.PIECE)
 
 
 def may_be_large(file: int, order: Order) -> bool:
@@ -174,15 +203,18 @@ def by_program(words: list[str], file: int, order: Order, is_fed: bool = True) -
     """A program's answer to an open capture, with its report."""
     with tempfile.TemporaryFile() as output:
         answer = run_on(words, file, output, order, is_fed)
-        return answer | (kept(output) if answer["outcome"] == "audited" else {})
+        if answer["outcome"] == "audited":
+            answer |= kept(output) | ends_of(file, answer["program"], output, order)
+        elif answer["reason"] == WRITE_FAILED:
+            answer["reason"] = no_room()
+        return answer
 
 
 def run_on(words: list[str], file: int, output: IO[bytes], order: Order, is_fed: bool = True) -> Answer:
     """What a program's end says of an open capture, which it is given from the beginning."""
-    digested = None if is_fed else programs.digest_of(file)
     os.lseek(file, 0, os.SEEK_SET)
     run = programs.run(words, file, output, order["timeout"], is_fed)
-    return verdict(run) | {"program": words[0]} | bytes_of(*(digested or (run.size, run.digest)))
+    return verdict(run) | {"program": words[0]} | bytes_of(run.size, run.digest)
 
 
 def bytes_of(size: int, digest: str) -> Answer:
@@ -194,8 +226,10 @@ def verdict(run: programs.Run) -> Answer:
     """What a run's end says of its capture. Statuses are those of h2audit."""
     if run.is_late:
         return {"outcome": "failed", "status": None, "reason": "timeout"}
-    if run.status in (NO_FAULT, FAULTS, NOTHING_READ):
+    if run.status in (NO_FAULT, FAULTS):
         return {"outcome": "audited", "status": run.status, "reason": None}
+    if run.status == NOTHING_READ:
+        return {"outcome": "audited", "status": run.status, "reason": nothing_read(run.said)}
     if run.status < 0:
         return {"outcome": "failed", "status": None, "reason": f"signal {-run.status}"}
     if run.status == REFUSED:
@@ -205,17 +239,42 @@ def verdict(run: programs.Run) -> Answer:
     return {"outcome": "failed", "status": run.status, "reason": reason}
 
 
+def nothing_read(said: str) -> str | None:
+    """What an import says of a capture without a connection that it could read, where it says more than that."""
+    more = said.partition(NOTHING_COULD_BE_READ)[2].lstrip(":,; ")
+    return more or None
+
+
 def io_failed(said: str) -> str:
-    """What failed, by the last words of a program."""
-    return "write-failed" if said.endswith(": write failed") or os.strerror(errno.ENOSPC) in said else "read-failed"
+    """What failed, by the last words of a program, or by those before a file's name."""
+    unwritten = re.search(r": write failed$|: cannot (?:write|create|make folder): ", said)
+    return WRITE_FAILED if unwritten or os.strerror(errno.ENOSPC) in said else "read-failed"
+
+
+def no_room() -> str:
+    """The reason where the folder for temporary files is full, in which reports stand until they are entered."""
+    return f"no-room {tempfile.gettempdir()}"
 
 
 def kept(output: Any) -> Answer:
-    """A report on its way to the writer."""
+    """A report on its way to the writer, and what decides how it goes on."""
     report = programs.report_of(output)
     output.seek(0)
+    first = output.readline(4096)
     return {"report": report.packed, "report_sha256": report.digest, "report_bytes": report.size,
-            "not_ipv4": number_after(output.readline(4096), b"not-ipv4")}
+            "not_ipv4": number_after(first, b"not-ipv4"), "not_tcp": number_after(first, b"not-tcp"),
+            "has_http2": holds(output, HTTP2), "has_others": holds(output, NOT_HTTP2)}
+
+
+def holds(output: IO[bytes], words: bytes) -> bool:
+    """Whether these words stand in a report."""
+    output.seek(0)
+    rest = b""
+    while piece := output.read(programs.PIECE):
+        if words in rest + piece:
+            return True
+        rest = piece[-len(words):]
+    return False
 
 
 def number_after(line: bytes, word: bytes) -> int:
@@ -224,163 +283,30 @@ def number_after(line: bytes, word: bytes) -> int:
     return int(number[0]) if number and number[0].isdigit() else 0
 
 
-# Large captures
+# Open stalls
 
 
-def import_first(path: bytes, folder: str, order: Order) -> Answer:
-    """Imports a capture, for an answer with what was made and its map, which stand in a folder."""
-    return on_capture(path, lambda file, _: while_unchanged(file, lambda name: import_file(file, name, folder, order)))
+def ends_of(file: int, program: str, report: IO[bytes], order: Order) -> Answer:
+    """When the connections that have an open stall had their last packets, where the report has such a stall."""
+    if not holds(report, OPEN_STALL):
+        return {}
+    opened = ends.with_open_stalls(report)
+    if program != IMPORT:
+        with capture_of(file) as capture:
+            return {"ends": ends.by_walk(capture, opened)}
+    return {"ends": ends_by_import(file, opened, order)}
 
 
-def import_file(file: int, name: str, folder: str, order: Order) -> Answer:
-    made, map_file = (os.path.join(folder, f"imported.{kind}") for kind in ("pcap", "map"))
-    words = [IMPORT_ALONE, *words_of_keys(order), "-o", made, "-m", map_file, name]
-    with tempfile.TemporaryFile() as output:
-        answer = run_on(words, file, output, order, is_fed=False) | {"program": IMPORT}
-    if answer["outcome"] != "audited":
-        return answer
-    return answer | {"outcome": "imported", "made": made, "made_size": os.path.getsize(made), "map": map_file}
-
-
-def split(path: bytes, folder: str, parts: int, order: Order) -> Answer:
-    """Splits a capture, for an answer with the parts that stand; or says that it has to be imported first."""
-    return on_capture(path, lambda file, _: split_file(file, folder, parts, order))
-
-
-def split_made(imported: Answer, folder: str, parts: int, order: Order) -> Answer:
-    """Splits what an import made, for an answer about the original."""
-    as_it_is: Order = {"keys": [], "imports": "never", "timeout": order["timeout"], "split_above": order["split_above"]}
-    answer = split(os.fsencode(imported["made"]), folder, parts, as_it_is)
-    if answer["reason"] == "not-there":
-        answer["reason"] = "io-failed ENOENT"
-    return answer | {key: imported[key] for key in ("size", "modified", "sha256", "program", "map")}
-
-
-def split_file(file: int, folder: str, parts: int, order: Order) -> Answer:
-    if is_imported(file, order):
-        return {"outcome": "import"}
-    with tempfile.TemporaryFile() as output:
-        answer = run_on([SPLIT, "--parts", str(parts), "-o", folder], file, output, order)
-    refused = refused_parts(folder)
-    if refused is None or answer["outcome"] == "failed":
-        return answer | ({"outcome": "failed", "reason": "no-parts"} if answer["outcome"] == "audited" else {})
-    standing = [part for part in range(1, parts + 1) if part not in refused]
-    reason = "; ".join(refused.values()) or None
-    return answer | {"outcome": "split", "folder": folder, "standing": standing, "reason": reason}
-
-
-def refused_parts(folder: str) -> dict[int, str] | None:
-    """The parts that were refused, each with its reason; nothing where the split did not come to its end."""
-    try:
-        with open(os.path.join(folder, "split.txt"), encoding="ascii") as file:
-            lines = [line.split() for line in file]
-    except (OSError, ValueError):
-        return None
-    return {int(words[1]): " ".join(words[3:]) for words in lines if words[0] == "part" and words[2] == "refused"}
-
-
-def part(folder: str, number: int, order: Order) -> Answer:
-    """The audit of one part, whose report stands beside it afterwards."""
-    name = os.path.join(folder, f"part-{number:03d}")
-    answer: Answer = {"outcome": "failed", "status": None, "worker": worker_name()}
-    try:
-        with open(name + ".report", "w+b") as output:
-            run = programs.run([AUDIT, "--workers", "1", name + ".pcap"], None, output, order["timeout"])
-    except (programs.NoProgram, OSError) as why:
-        return answer | {"reason": named(why)}
-    return answer | verdict(run) | {"seconds": run.seconds}
-
-
-def merge(path: bytes, divided: Answer, order: Order) -> Answer:
-    """The report of the whole, of the answer of a split, or of an import that needed none.
-
-    What was passed over as not IPv4 may ask for an import instead.
-    """
-    begin = time.monotonic()
-    whole = {key: divided[key] for key in ("size", "modified", "sha256")}
-    whole |= {"program": IMPORT if "map" in divided else MERGE, "worker": worker_name()}
-    answer: Answer = {"outcome": "failed", "status": None}
-    try:
-        with tempfile.TemporaryFile() as output:
-            answer |= verdict(programs.run(words_of_merge(divided), None, output, order["timeout"]))
-            if answer["outcome"] == "audited":
-                answer |= of_original(divided["map"], output, order) if "map" in divided else kept(output)
-    except (programs.NoProgram, OSError) as why:
-        answer |= {"outcome": "failed", "status": None, "reason": named(why)}
-    if answer["outcome"] == "audited":
-        answer |= after_merge(path, divided, order, answer)
-    return whole | answer | {"seconds": time.monotonic() - begin}
-
-
-def words_of_merge(divided: Answer) -> list[str]:
-    """What gives the report: the merge of the parts that stand, or the audit of what an import made."""
-    if divided["outcome"] == "imported":
-        return [AUDIT, "--workers", "1", divided["made"]]
-    return [MERGE, *["--standing"] * bool(divided["reason"]), divided["folder"]]
-
-
-def of_original(map_file: str, report: IO[bytes], order: Order) -> Answer:
-    """The report of what an import made, as one about the original."""
-    os.lseek(report.fileno(), 0, os.SEEK_SET)
-    with tempfile.TemporaryFile() as output:
-        run = programs.run([IMPORT, "--map", map_file], report.fileno(), output, order["timeout"])
-        answer = verdict(run)
-        return answer | (kept(output) if answer["outcome"] == "audited" else {})
-
-
-def after_merge(path: bytes, divided: Answer, order: Order, answer: Answer) -> Answer:
-    """What follows from packets and parts that are not in a report. An import has no packets of IPv6 left."""
-    if "map" in divided:
-        return {"outcome": "partial", "status": REFUSED, "reason": divided["reason"]} if divided["reason"] else {}
-    file = opened(path)
-    try:
-        if hides_ipv6(file, order, answer):
-            return {"outcome": "import"}
-    finally:
-        os.close(file)
-    return {"outcome": "partial", "reason": divided["reason"]} if divided["reason"] else {}
-
-
-def in_parts(path: bytes, parts: int, order: Order) -> Answer:
-    """A large capture on one worker, in a folder of its own. Without parts it is known that it is imported first."""
-    begin = time.monotonic()
-    with tempfile.TemporaryDirectory(prefix="h2audit-fleet-") as scratch:
-        folder = os.path.join(scratch, "parts")
-        answer: Answer = {"outcome": "import"}
-        if parts:
-            answer = in_its_parts(path, split(path, folder, parts, order), order)
-        if answer["outcome"] == "import":
-            shutil.rmtree(folder, ignore_errors=True)
-            answer = in_its_parts(path, imported_in_parts(path, scratch, folder, order), order)
-    return answer | {"seconds": time.monotonic() - begin}
-
-
-def imported_in_parts(path: bytes, scratch: str, folder: str, order: Order) -> Answer:
-    """The answer of an import, or of the split of what was made where that is large."""
-    answer = import_first(path, scratch, order)
-    parts = parts_of(answer.get("made_size"), order)
-    if not parts:
-        return answer
-    divided = split_made(answer, folder, parts, order)
-    if divided["outcome"] == "split":
-        os.unlink(answer["made"])
-    return divided
-
-
-def in_its_parts(path: bytes, divided: Answer, order: Order) -> Answer:
-    """The audits of the parts, one after the other, and the merge."""
-    if divided["outcome"] not in ("imported", "split"):
-        return divided
-    for number in divided.get("standing", ()):
-        one = part(divided["folder"], number, order)
-        if one["outcome"] != "audited":
-            return divided | of_part(number, one)
-    return merge(path, divided, order)
-
-
-def of_part(number: int, answer: Answer) -> Answer:
-    """What the failure of a part says of the whole."""
-    return {"outcome": "failed", "status": answer["status"], "reason": f"part {number}: {answer['reason']}"}
+def ends_by_import(file: int, opened: list[ends.Opened], order: Order) -> ends.Ends:
+    """The same by the course of an import; nothing where the program that imports writes none."""
+    with tempfile.TemporaryDirectory(prefix="h2audit-fleet-", dir=order.get("scratch")) as folder:
+        course = os.path.join(folder, "course")
+        words = [IMPORT_ALONE, *words_of_keys(order), "-o", os.devnull, "--course", course, f"/dev/fd/{file}"]
+        with suppress(programs.NoProgram, OSError), tempfile.TemporaryFile() as output:
+            programs.run(words, file, output, order["timeout"], is_fed=False)
+            with open(course, "rb") as lines:
+                return ends.by_course(lines, opened)
+    return {}
 
 
 def version() -> str:

@@ -6,13 +6,14 @@ Nothing that is named is lost: a file that cannot be read is tried all the same.
 import os
 import re
 import stat
+from collections import deque
 from collections.abc import Iterable, Iterator
 from dataclasses import dataclass, field
 
 from fleet import sniff
 
 # Names that captures have, with the numbers that rotation adds: a.pcap, a.pcap3, a.pcapng.gz, a.cap.
-USUAL_NAME = re.compile(rb"\.(?:pcap|pcapng|cap|ntar|dmp)[0-9]*(?:\.(?:gz|zst))?$")
+USUAL_NAME = re.compile(rb"\.(?:pcap|pcapng|cap|ntar|dmp)[0-9]*(?:\.(?:gz|zst|xz|lz4|bz2))?$")
 
 
 class NotThere(Exception):
@@ -30,30 +31,72 @@ class Found:
 
 @dataclass
 class Walk:
-    """The captures that were found, and how many files of folders are none."""
+    """The captures that were found, how many files of folders are none, and what was named and holds no capture.
+
+    `met` counts captures and folders each time that they are met.
+    """
 
     captures: dict[bytes, Found] = field(default_factory=dict)
     others: int = 0
+    met: int = 0
+    empty: list[str] = field(default_factory=list)
+    # The folders that were read, each by its device and number there.
+    folders: dict[tuple[int, int], bytes] = field(default_factory=dict)
 
     def named(self, path: bytes) -> None:
         """A PATH of the command line or of a list: a folder with all that is in it, or one capture, whatever it is."""
-        if os.path.isdir(path):
-            self.folder(os.path.abspath(path))
-        else:
+        if not os.path.isdir(path):
             self.add(os.path.abspath(path))
+            return
+        before = self.met
+        self.folder(os.path.abspath(path))
+        if self.met == before:
+            self.empty.append(f"{os.fsdecode(path)}: no capture is in this folder")
+
+    def listed(self, name: str) -> None:
+        """The PATHs of a list."""
+        paths = list(names_in(name))
+        for path in paths:
+            self.named(path)
+        if not paths:
+            self.empty.append(f"{name}: this list names nothing")
 
     def folder(self, top: bytes) -> None:
-        """All captures below a folder. Links to folders are not followed; one that cannot be read ends the walk."""
-        for folder, folders, files in os.walk(top, onerror=stop):
-            folders.sort()
-            for name in sorted(files):
-                path = os.path.join(folder, name)
-                if is_capture(path):
-                    self.add(path)
-                else:
-                    self.others += 1
+        """All captures below a folder. One that cannot be read is entered as it is, and the others go on.
+
+        Links to folders are followed when all else was walked, so a folder is read once, and by its own name.
+        """
+        left = deque([top])
+        while left:
+            for folder, folders, files in os.walk(left.popleft(), onerror=self.unread):
+                if self.is_read(folder):
+                    self.met += 1
+                    folders.clear()
+                    continue
+                folders.sort()
+                left.extend(path for name in folders if os.path.islink(path := os.path.join(folder, name)))
+                for name in sorted(files):
+                    self.file(os.path.join(folder, name))
+
+    def is_read(self, folder: bytes) -> bool:
+        """Whether a folder was read by another name; from now on it was."""
+        try:
+            state = os.stat(folder)
+        except OSError:
+            return False
+        return self.folders.setdefault((state.st_dev, state.st_ino), folder) != folder
+
+    def unread(self, error: OSError) -> None:
+        self.add(error.filename)
+
+    def file(self, path: bytes) -> None:
+        if is_capture(path):
+            self.add(path)
+        else:
+            self.others += 1
 
     def add(self, path: bytes) -> None:
+        self.met += 1
         try:
             found = os.stat(path)
         except OSError:
@@ -64,10 +107,6 @@ class Walk:
     def in_order(self) -> list[Found]:
         """The largest first, so that none is begun when the others are done."""
         return sorted(self.captures.values(), key=lambda found: (-(found.size or 0), found.path))
-
-
-def stop(error: OSError) -> None:
-    raise NotThere(f"{os.fsdecode(error.filename)}: {error.strerror}")
 
 
 def is_capture(path: bytes) -> bool:
@@ -90,8 +129,7 @@ def found_in(paths: Iterable[bytes], lists: Iterable[str]) -> Walk:
             raise NotThere(f"{os.fsdecode(path)}: No such file or directory")
         walk.named(path)
     for name in lists:
-        for path in names_in(name):
-            walk.named(path)
+        walk.listed(name)
     return walk
 
 

@@ -3,7 +3,6 @@
 import argparse
 from dataclasses import dataclass
 
-from fleet import VERSION
 from report.command import Words, number
 
 MEGABYTE = 1000000
@@ -15,9 +14,11 @@ exit status:
   0    every capture stands in the database, and none shows a fault
   1    the same, and some connection shows a fault
   2    the command line is invalid
-  3    some capture was refused or failed, which its row says; all others stand
+  3    some capture was refused or failed, which its row says; all others stand. Also where a folder or a list
+       brings no capture, and with --require-http2 where nothing was audited in one
   4    reading or writing failed: a PATH, the database
-  5    there are no workers: dask is missing, no scheduler answers, h2audit is missing on a worker
+  5    there was not enough memory
+  7    there are no workers: dask is missing, no scheduler answers, h2audit is missing on a worker
   130  ended by Ctrl-C (143 by SIGTERM, 129 by SIGHUP): --resume goes on
 """
 
@@ -42,6 +43,7 @@ class Asked:
     scratch: str | None
     reports: str | None
     resume: bool
+    require_http2: bool
     lists: list[str]
     collect: str | None
     paths: list[str]
@@ -56,13 +58,14 @@ def parser() -> Words:
                        help="a list of PATHs, one a line or each ended by a zero byte; - is standard input")
     words.add_argument("--resume", action="store_true",
                        help="go on with a database: do what is missing, failed or has changed")
+    words.add_argument("--require-http2", action="store_true",
+                       help="status 3 where a capture has no HTTP/2 connection that was audited")
     words.add_argument("--reports", metavar="DIR", help="keep each report as DIR/SHA256.report")
     words.add_argument("--collect", metavar="DIR",
                        help="enter the reports that h2audit-any left in DIR, and audit nothing")
     add_audit(words)
     add_workers(words)
-    words.add_argument("-V", "--version", action="version", version=f"h2audit-fleet {VERSION}",
-                       help="print the version")
+    words.add_version()
     return words
 
 
@@ -70,7 +73,7 @@ def add_audit(words: Words) -> None:
     words.add_argument("-k", "--keys", metavar="FILE", action="append", default=[],
                        help="a key log of TLS; all captures are imported then")
     words.add_argument("--import", dest="imports", choices=("auto", "always", "never"), default="auto",
-                       help="import captures that h2audit cannot read, or that hold IPv6 (auto), all, or none")
+                       help="import captures that an import may read more of (auto), all, or none")
     words.add_argument("--timeout", metavar="SECONDS", type=number(1, 10**6), default=3600,
                        help="end a program that takes longer (default: 3600)")
     words.add_argument("--retries", metavar="N", type=number(0, 100), default=2,

@@ -14,9 +14,17 @@ package=$folder/h2audit_${version}_$architecture.deb
 SOURCE_DATE_EPOCH=$(date -d "$(sed -n 's/^ -- .*>  //p' changelog)" +%s)
 export SOURCE_DATE_EPOCH
 
-# The newest version of the C library whose names the program asks for.
+# The newest version of the C library whose names the programs ask for.
 libc_of() {
-    objdump -T "$1" 2>/dev/null | sed -n 's/.*GLIBC_\([0-9.]*\).*/\1/p' | sort -V | tail -n 1
+    objdump -T "$@" 2>/dev/null | sed -n 's/.*GLIBC_\([0-9.]*\).*/\1/p' | sort -V | tail -n 1
+}
+
+# The packages of the other libraries that the programs ask for, each with a comma before it.
+libraries_of() {
+    local path
+    ldd "$@" | sed -n 's/.* => \(\/[^ ]*\) .*/\1/p' | sort -u | while read -r path; do
+        dpkg-query -S "$path" 2> /dev/null || dpkg-query -S "/usr$path" || dpkg-query -S "${path#/usr}"
+    done | sed 's/:.*//' | sort -u | sed -n '/^libc6$/!s/^/, /p' | tr -d '\n'
 }
 
 # Documents, as Debian wants them: compressed, with licence and changelog.
@@ -29,17 +37,19 @@ documents() {
 }
 
 control() {
-    local libc size
-    libc=$(libc_of "$stage/usr/bin/h2audit")
+    local libc libraries size
+    libc=$(libc_of "${programs[@]}")
+    libraries=$(libraries_of "${programs[@]}")
     size=$(du -k -s --apparent-size "$stage/usr" | cut -f 1)
     install -d "$stage/DEBIAN"
     install -m 755 postinst prerm "$stage/DEBIAN"
     sed -e "s/@VERSION@/$version/" -e "s/@ARCHITECTURE@/$architecture/" -e "s/@SIZE@/$size/" \
-        -e "s/@LIBC@/${libc:+ (>= $libc)}/" control > "$stage/DEBIAN/control"
+        -e "s/@LIBC@/${libc:+ (>= $libc)}/" -e "s/@LIBRARIES@/$libraries/" control > "$stage/DEBIAN/control"
     (cd "$stage" && find usr -type f -print0 | LC_ALL=C sort -z | xargs -0 md5sum > DEBIAN/md5sums)
 }
 
-strip --strip-unneeded --remove-section=.comment --remove-section=.note "$stage"/usr/bin/h2audit{,-split}
+programs=("$stage"/usr/bin/h2audit{,-any,-comment,-import,-merge,-split})
+strip --strip-unneeded --remove-section=.comment --remove-section=.note "${programs[@]}"
 documents
 control
 find "$stage" -exec touch --no-dereference --date="@$SOURCE_DATE_EPOCH" {} +

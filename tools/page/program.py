@@ -6,7 +6,8 @@ The page says in words what was audited, who broke which rule and how long the l
 finding of each connection. With the credit lines of --frames it also has a chart for each window.
 
 Exit status: 0 if the page was written, 2 for an invalid command line, 3 if the report is refused, 4 if reading or
-writing failed, 5 if the plotting library is not installed. What went wrong is one line on standard error.
+writing failed, 5 for want of memory, 7 if the plotting library is not installed. What went wrong is one line on
+standard error.
 """
 
 from __future__ import annotations
@@ -32,6 +33,7 @@ def arguments(words: list[str]) -> argparse.Namespace:
     parser.add_argument(
         "-t", "--title", metavar="TITLE", help="the heading of the page; without it the name of the report"
     )
+    parser.add_version()
     return parser.parse_args(words)
 
 

@@ -16,8 +16,10 @@ LARGEST_WINDOW = 2**31 - 1
 FIRST_CONNECTION_CREDIT = 65535
 # A panel names so many of its faults.
 MOST_LABELS = 6
-# A panel is logarithmic where its greatest credit is so many times the one in the middle.
+# The scale is logarithmic where the greatest credit is so many times the one in the middle of a window.
 MUCH_GREATER = 10
+# Of stalls.
+SHADE, SHADE_EDGE = "#ffd8b0", "tab:orange"
 # Faults whose value is a credit, and so a height in the picture.
 AT_A_CREDIT = (*OVERFLOWS, "connection-overrun", "stream-overrun")
 
@@ -45,19 +47,22 @@ class Axis:
         return f"time in {self.unit} since {self.start // 10**9}.{self.start % 10**9:09} s"
 
 
-def draw(windows: list[Window], left_out: int, by_frame: bool) -> "Figure":
-    """The picture: one panel for each window, all over the same x axis."""
+def draw(windows: list[Window], left_out: int, by_frame: bool, title: str = "") -> "Figure":
+    """The picture: one panel for each window, all over the same axes, so that heights tell of each other."""
     from matplotlib.figure import Figure
 
-    axis = Axis(windows, by_frame)
-    figure = Figure(figsize=(8, 0.9 + 1.4 * len(windows)), layout="constrained")
-    panels: Sequence["Axes"] = figure.subplots(len(windows), 1, sharex=True, squeeze=False)[:, 0]
+    axis, is_wide = Axis(windows, by_frame), spans_orders(windows)
+    figure = Figure(figsize=(8, 0.9 + 1.4 * len(windows) + 0.3 * bool(title)), layout="constrained")
+    panels: Sequence["Axes"] = figure.subplots(len(windows), 1, sharex=True, sharey=True, squeeze=False)[:, 0]
     connections = [None, *(window.connection for window in windows)]
     for panel, window, before in zip(panels, windows, connections):
         is_first = window.connection is not before
-        draw_window(panel, window, axis)
+        draw_window(panel, window, axis, is_wide)
         draw_faults(panel, window, window.faults + window.connection.other_faults * is_first, axis)
         panel.set_title(connection_name(window.connection) * is_first + window.name, loc="left", fontsize=9)
+    if title:
+        figure.suptitle(title.replace("$", r"\$"), fontsize=11)
+    draw_legend(panels[0], windows)
     note = f"\n{left_out} more windows: choose with --connection, --stream or --panels" if left_out else ""
     panels[-1].set_xlabel(axis.label + note, fontsize=8)
     return figure
@@ -67,12 +72,26 @@ def connection_name(one: Connection) -> str:
     return f"connection {one.number}: client {one.client}, server {one.server}\n"
 
 
-def draw_window(panel: "Axes", window: Window, axis: Axis) -> None:
+def draw_legend(panel: "Axes", windows: list[Window]) -> None:
+    """Says above the first panel what shades and lines mean, of those that the picture has."""
+    from matplotlib.lines import Line2D
+    from matplotlib.patches import Patch
+
+    marks: list[Line2D | Patch] = [Line2D([], [], color="tab:blue", marker=".", markersize=4, label="credit")]
+    if any(window.stalls for window in windows):
+        marks.append(Patch(facecolor=SHADE, edgecolor=SHADE_EDGE, linewidth=0.5, label="stalled: credit used up"))
+    if any(window.connection.faults for window in windows):
+        marks.append(Line2D([], [], color="tab:red", linewidth=0.8, linestyle="--", label="fault"))
+    legend = panel.legend(handles=marks, loc="lower right", bbox_to_anchor=(1, 1), ncol=len(marks), fontsize=7,
+                          frameon=False, borderaxespad=0.2)
+    legend.set_gid("legend")
+
+
+def draw_window(panel: "Axes", window: Window, axis: Axis, is_wide: bool) -> None:
     """Credit, stalls and scale of a window."""
     draw_stalls(panel, window, axis)
     draw_credit(panel, window, axis)
     panel.axhline(0, color="black", linewidth=0.6)
-    is_wide = spans_orders(window)
     if is_wide:
         panel.set_yscale("symlog", linthresh=1000)
         panel.yaxis.get_major_locator().set_params(numticks=6)
@@ -82,10 +101,14 @@ def draw_window(panel: "Axes", window: Window, axis: Axis) -> None:
     panel.margins(y=0.15)
 
 
-def spans_orders(window: Window) -> bool:
-    """Whether credits are so far apart that small ones could not be read beside the greatest."""
-    sizes = sorted(abs(finding.value) for finding in heights(window) if finding.value)
-    return bool(sizes) and sizes[-1] > MUCH_GREATER * sizes[(len(sizes) - 1) // 2]
+def spans_orders(windows: list[Window]) -> bool:
+    """Whether credits are so far apart that small ones could not be read beside the greatest.
+
+    Each window counts by the size that is in its middle, since one may have many more credits than the others.
+    """
+    sizes = [sorted(abs(finding.value) for finding in heights(window) if finding.value) for window in windows]
+    middles = [size[(len(size) - 1) // 2] for size in sizes if size]
+    return bool(middles) and max(size[-1] for size in sizes if size) > MUCH_GREATER * min(middles)
 
 
 def heights(window: Window) -> list[Finding]:
@@ -117,7 +140,7 @@ def draw_stalls(panel: "Axes", window: Window, axis: Axis) -> None:
     ends = [(axis.at(begin), axis.at(end or window.connection.findings[-1])) for begin, end in window.stalls]
     if ends:
         panel.broken_barh([(left, right - left) for left, right in ends], (0, 1), transform=panel.get_xaxis_transform(),
-                          facecolor="#ffd8b0", edgecolor="tab:orange", linewidth=0.5, gid=gid("stalls", window))
+                          facecolor=SHADE, edgecolor=SHADE_EDGE, linewidth=0.5, gid=gid("stalls", window))
 
 
 def draw_faults(panel: "Axes", window: Window, named: list[Finding], axis: Axis) -> None:

@@ -1,11 +1,12 @@
 """Who is to blame for each kind of finding, by which section of RFC 9113, and the sentence that says it.
 
-The one place of these facts for the programs beside h2audit. A test holds the table against docs/REPORT_FORMAT.md (who
-broke the rule) and docs/AUDIT_RULES.md (the sections).
+The table of kinds is kinds.txt, which the programs in Rust are built with (companions/reports). A test holds it against
+docs/REPORT_FORMAT.md (who broke the rule) and docs/AUDIT_RULES.md (the sections).
 """
 
 from __future__ import annotations
 
+import pathlib
 from dataclasses import dataclass
 from typing import TYPE_CHECKING
 
@@ -32,65 +33,24 @@ SETTINGS = {2: "ENABLE_PUSH", 4: "INITIAL_WINDOW_SIZE", 5: "MAX_FRAME_SIZE"}
 
 @dataclass(frozen=True)
 class Kind:
-    """Who broke the rule, the sections that docs/AUDIT_RULES.md names, and what happened.
-
-    The sentence is over these words: {side} and {other}, {window} as "on stream 1" or "of the connection", {stream},
-    {value} and its size without a sign, {amount}; and a frame's type by the value, {type}.
-    """
+    """A row of kinds.txt, which says what its columns mean."""
 
     blame: str
     sections: str
     sentence: str
 
 
-LIMIT = "{side} sent a frame of {amount} bytes, longer than the limit in force"
-OVERRUN = "{side} sent {amount} bytes past its credit {window}"
-OVERFLOW = "{other} granted too much: {side}'s credit {window} rose to {value}, above 2^31 - 1"
-ENDED = "{side}'s stall {window} ended"
-BEGAN = "{side} used up its credit {window}"
-CREDIT = "{side} has a credit of {value} bytes {window}"
+KINDS_FILE = pathlib.Path(__file__).with_name("kinds.txt")
 
-KINDS = {
-    "bad-preface": Kind(NAMED, "3.4", "{side} began with {type}, and not with its SETTINGS"),
-    "broken-block": Kind(NAMED, "4.3, 6.10", "{side} sent {type} on stream {stream}, which breaks a field block"),
-    "too-long": Kind(NAMED, "4.2", LIMIT),
-    "wrong-stream": Kind(NAMED, "6.1 to 6.10", "{side} sent {type} on stream {stream}, where it may not stand"),
-    "wrong-size": Kind(
-        NAMED, "4.2, 6.1 to 6.9", "{side} sent a frame of {amount} bytes, which its type does not allow"
-    ),
-    "bad-padding": Kind(
-        NAMED, "4.2, 6.1 to 6.9", "{side} sent a frame with {amount} bytes of padding, which it cannot hold"
-    ),
-    "bad-setting": Kind(NAMED, "6.5.2", "{side} announced a value of {setting} out of its range"),
-    "push": Kind(NAMED, "6.5.2, 8.4", "{side} sent a PUSH_PROMISE that it may not send"),
-    "not-opened": Kind(NAMED, "5.1, 6.6", "{side} sent {type} on stream {stream}, which was not opened for it"),
-    "id-not-greater": Kind(
-        NAMED,
-        "5.1.1, 6.6",
-        "{side} opened or promised stream {stream}, " "which is not above its stream {amount}, or not of its kind",
-    ),
-    "zero-connection-grant": Kind(NAMED, "6.9", "{side} granted 0 bytes for the connection"),
-    "connection-overflow": Kind(OTHER, "6.9.1", OVERFLOW),
-    "setting-overflow": Kind(
-        OTHER, "6.9.2", "{other} sent settings that take {side}'s credit {window} to {value}, " "above 2^31 - 1"
-    ),
-    "long-frame": Kind(NAMED, "4.2", LIMIT),
-    "after-end": Kind(NAMED, "5.1", "{side} sent {type} on stream {stream} after it had ended its side of it"),
-    "connection-overrun": Kind(NAMED, "6.9.1", OVERRUN),
-    "stream-overrun": Kind(NAMED, "6.9.1", OVERRUN),
-    "zero-stream-grant": Kind(NAMED, "6.9", "{side} granted 0 bytes on stream {stream}"),
-    "stream-overflow": Kind(OTHER, "6.9.1", OVERFLOW),
-    "unmatched-ack": Kind(NAMED, "6.5.3", "{side} acknowledged settings that {other} had not sent"),
-    "bad-priority": Kind(NAMED, "6.3", "{side} sent a PRIORITY frame of {amount} bytes, and not of 5"),
-    "connection-stall-end": Kind(NOBODY, "", ENDED),
-    "connection-stall-begin": Kind(NOBODY, "", BEGAN),
-    "stream-stall-end": Kind(NOBODY, "", ENDED),
-    "stream-stall-begin": Kind(NOBODY, "", BEGAN),
-    "connection-credit": Kind(NOBODY, "", CREDIT),
-    "stream-credit": Kind(NOBODY, "", CREDIT),
-}
-# A kind that a newer h2audit may have: every kind but those above is a frame of the named side.
-UNKNOWN = Kind(NAMED, "", "{side} sent a frame that breaks a rule, on stream {stream}")
+
+def read_kinds(text: str) -> dict[str, Kind]:
+    """The rows of the table, by their names."""
+    rows = [[cell.strip() for cell in row.split("|")] for row in text.splitlines() if not row.startswith("#")]
+    return {name: Kind(blame, sections, sentence) for name, blame, sections, sentence in rows}
+
+
+KINDS = read_kinds(KINDS_FILE.read_text(encoding="ascii"))
+UNKNOWN = KINDS.pop("")
 CREDIT_KINDS = ("connection-credit", "stream-credit")
 STALL_BEGIN = ("connection-stall-begin", "stream-stall-begin")
 STALL_END = ("connection-stall-end", "stream-stall-end")

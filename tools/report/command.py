@@ -9,11 +9,13 @@ import os
 import re
 import sys
 from collections.abc import Callable, Iterator
-from typing import BinaryIO, NoReturn
+from typing import IO, BinaryIO, NoReturn
 
+from report import VERSION
 from report.interrupts import Waiting
 
-OK, WRONG_WORDS, REFUSED, IO_FAILED, MISSING = 0, 2, 3, 4, 5
+# 5 is want of memory alone, and 6 that nothing could be read; 7 is that a library or a program is missing.
+OK, WRONG_WORDS, REFUSED, IO_FAILED, NO_MEMORY, MISSING = 0, 2, 3, 4, 5, 7
 # No number of a command line has more digits.
 DIGITS = r"\d{1,20}"
 # So many bytes are read at a time.
@@ -22,6 +24,17 @@ BUFFER = 2**18
 
 class Words(argparse.ArgumentParser):
     """A command line of which one line says what is wrong with it."""
+
+    def add_version(self) -> None:
+        """The option that all programs have beside --help."""
+        self.add_argument(
+            "-V", "--version", action="version", version=f"{self.prog} {VERSION}", help="print the version"
+        )
+
+    def _print_message(self, message: str, file: IO[str] | None = None) -> None:
+        """Where help or version cannot be written, that is an error: later versions of argparse pass over it."""
+        if message:
+            (file or sys.stderr).write(message)
 
     def error(self, message: str) -> NoReturn:
         self.exit(WRONG_WORDS, f"{self.prog}: {printable(message)}\n")
@@ -44,7 +57,8 @@ def printable(text: str) -> str:
 
 
 def failed(program: str, status: int, why: str) -> int:
-    print(f"{program}: {printable(why)}", file=sys.stderr)
+    with contextlib.suppress(OSError):
+        print(f"{program}: {printable(why)}", file=sys.stderr)
     return status
 
 
@@ -73,16 +87,27 @@ def hold_standard_files() -> None:
 
 
 def run(main: Callable[[list[str]], int]) -> NoReturn:
-    """Runs a program by its words."""
+    """Runs a program by its words, and ends with its status; help and version have one too."""
     hold_standard_files()
-    leave(main(sys.argv[1:]))
+    program = os.path.basename(sys.argv[0])
+    try:
+        status = main(sys.argv[1:])
+    except SystemExit as ended:
+        status = ended.code if isinstance(ended.code, int) else OK
+    except MemoryError:
+        status = failed(program, NO_MEMORY, "out of memory")
+    except OSError as why:  # help, version, or what a program prints
+        status = failed(program, IO_FAILED, f"{why.filename or 'standard output'}: {why.strerror}")
+    leave(status, program)
 
 
-def leave(status: int) -> NoReturn:
-    """Ends without a second complaint where standard output is a closed pipe."""
+def leave(status: int, program: str = "") -> NoReturn:
+    """Ends once all is written. Where it cannot be, one line says so, but none where the program has said it."""
     try:
         sys.stdout.flush()
-    except OSError:
+    except OSError as why:
         os.dup2(os.open(os.devnull, os.O_WRONLY), 1)
+        if program and status != IO_FAILED:
+            failed(program, IO_FAILED, f"standard output: {why.strerror}")
         status = IO_FAILED
     sys.exit(status)

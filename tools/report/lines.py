@@ -1,5 +1,7 @@
 """Reads a report of h2audit, line by line, as docs/REPORT_FORMAT.md has them.
 
+The programs in Rust read by companions/reports; tests/report_lines.txt has lines that both are held against.
+
 A report may be large, so its lines are handed on one by one, and none is read that is longer than any line of a report.
 """
 
@@ -26,7 +28,8 @@ CONNECTION = re.compile(
     rf"connection ({NUMBER}) client (\S+) server (\S+) record ({NUMBER}) "
     rf"(?:(http2) frames ({NUMBER})|(not-http2|no-preface|no-handshake|refused [a-z0-9-]+(?: [a-z0-9-]+)?))"
 )
-FLOW = re.compile(rf"flow {SIDE} bytes ({NUMBER}) gap (none|{NUMBER}) tail ({NUMBER})")
+FLOW = re.compile(rf"flow {SIDE} bytes ({NUMBER}) gap (none|{NUMBER}) tail ({NUMBER})(?: end ([a-z0-9-]+))?")
+FRAGMENTS = re.compile(rf"fragments ({NUMBER})")
 FINDING = re.compile(
     rf"frame ({NUMBER}) record ({NUMBER}) time ({NUMBER}) {SIDE} ([a-z-]+) stream ({NUMBER}) value (-?{NUMBER})"
 )
@@ -77,6 +80,13 @@ class Flow(NamedTuple):
     bytes: int
     gap: int | None
     tail: int
+    end: str | None = None  # why the plaintext of TLS ends there, where it is no loss of bytes
+
+
+class Fragments(NamedTuple):
+    """IP fragments of a connection that were passed over."""
+
+    packets: int
 
 
 class Finding(NamedTuple):
@@ -116,6 +126,7 @@ class Audited(NamedTuple):
 
 
 Line = Capture | PassedOver | Unopened | Opening | Flow | Finding | Stall | Audited
+ReadLine = Line | Fragments
 
 
 # Takes the frame, the side, the stream and the value of a line of credit.
@@ -141,12 +152,13 @@ def read_lines(report: BinaryIO, take_credit: TakesCredit | None = None) -> Iter
         if said is None or not (has_connection or type(said) not in PARTS_OF_CONNECTION):
             raise Refused(f"line {number} is no line of a report")
         has_connection = has_connection or type(said) is Opening
-        yield said
+        if not isinstance(said, Fragments):  # it is for people
+            yield said
     if not number:
         raise Refused("not a report of h2audit")
 
 
-PARTS_OF_CONNECTION = (Flow, Finding, Stall, Audited)
+PARTS_OF_CONNECTION = (Flow, Fragments, Finding, Stall, Audited)
 
 
 def text_of(raw: bytes) -> str:
@@ -162,7 +174,7 @@ def first_line(text: str) -> Capture:
     raise Refused("not a report of h2audit")
 
 
-def read_line(text: str) -> Line | None:
+def read_line(text: str) -> ReadLine | None:
     """What a line after the first says, or None where it is none."""
     if said := FINDING.fullmatch(text):
         frame, record, time, side, kind, stream, value = said.groups()
@@ -176,9 +188,11 @@ def read_line(text: str) -> Line | None:
     return rare_line(text)
 
 
-def rare_line(text: str) -> Line | None:
+def rare_line(text: str) -> ReadLine | None:
     if said := FLOW.fullmatch(text):
-        return Flow(said[1], int(said[2]), None if said[3] == "none" else int(said[3]), int(said[4]))
+        return Flow(said[1], int(said[2]), None if said[3] == "none" else int(said[3]), int(said[4]), said[5])
+    if said := FRAGMENTS.fullmatch(text):
+        return Fragments(int(said[1]))
     if said := AUDIT.fullmatch(text):
         return Audited(number_or_none(said[1]))
     if said := PASSED_OVER.fullmatch(text):

@@ -1,5 +1,7 @@
 #!/usr/bin/python3
-"""Tests bench/measure.py with programs that stand in for those that it measures: tools/tests/bench_test.py"""
+"""Tests bench/measure.py and measure_fleet.py with programs that stand in for those that they measure:
+tools/tests/bench_test.py
+"""
 
 import os
 import pathlib
@@ -12,6 +14,12 @@ MEASURE = pathlib.Path(__file__).resolve().parents[2] / "bench" / "measure.py"
 COUNTS = "#!/bin/sh\nwc -c\n"
 OTHER = "#!/bin/sh\ncksum\n"
 GENERATES = '#!/bin/sh\n[ "$1" = flat ] && head -c "${2}000" /dev/zero\n'
+# Answers for h2audit, with the capture by its name or on standard input.
+AUDITS = """#!/bin/sh
+[ "$1" = --version ] && exec echo h2audit 1.0.0
+[ $# = 2 ] && cat > /dev/null
+echo capture records 0 segments 0 snapped 0 not-ipv4 0 fragments 0 not-tcp 0 refused 0
+"""
 
 
 class Measure(unittest.TestCase):
@@ -59,6 +67,23 @@ class Measure(unittest.TestCase):
     def test_no_capture(self) -> None:
         self.refused("{0}/generates makes no capture of shape round with 1 MB", "counts", "--generator", "generates",
                      "--shapes", "round", "1")
+
+
+class Fleet(unittest.TestCase):
+    def test_side_by_side(self) -> None:
+        """xargs and h2audit-fleet, with 1, 2 and 4 workers, and whether the bound holds."""
+        with tempfile.TemporaryDirectory() as folder:
+            program = pathlib.Path(folder, "h2audit")
+            program.write_text(AUDITS)
+            program.chmod(0o755)
+            measure = MEASURE.with_name("measure_fleet.py")
+            run = subprocess.run([sys.executable, measure, program, "5", "0.01"], capture_output=True, text=True)
+        self.assertEqual((0, ""), (run.returncode, run.stderr))
+        _, _, _, *lines, last = run.stdout.splitlines()
+        names = ["xargs -P 4", *(f"h2audit-fleet --jobs {jobs}" for jobs in (1, 2, 4))]
+        self.assertEqual([line[:24].strip() for line in lines], names)
+        self.assertEqual([4] * 4, [len(line[24:].split()) for line in lines])
+        self.assertRegex(last, r"^\d+\.\d\d s of \d+\.\d\d, which is .*: (within|ABOVE)$")
 
 
 if __name__ == "__main__":

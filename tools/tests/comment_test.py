@@ -5,9 +5,7 @@
     tools/tests/comment_test.py PROGRAM [CLASS..]     with h2audit, which audits what an import made of TLS
 """
 
-import contextlib
 import gzip
-import io
 import os
 import pathlib
 import random
@@ -17,20 +15,12 @@ import subprocess
 import sys
 import tempfile
 import unittest
-from unittest import mock
 
-TOP = pathlib.Path(__file__).resolve().parents[2]
-PROGRAM = TOP / "tools" / "h2audit-comment"
-IMPORT = TOP / "tools" / "h2audit-import"
-TLS = TOP / "tests" / "tls"
-AUDIT = pathlib.Path(sys.argv.pop(1)).resolve() if len(sys.argv) > 1 and "/" in sys.argv[1] else None
-EXAMPLES = TOP / "examples"
-sys.path[:0] = [str(TOP / "tools"), str(TOP / "tools" / "tests")]
 sys.dont_write_bytecode = True
 
 import zstandard
 
-from comment.program import main
+from companions import companion
 from pcapng_blocks import (
     block,
     classic,
@@ -45,6 +35,12 @@ from pcapng_blocks import (
 )
 from signals import SIGNALS, hidden_in, signalled
 
+TOP = pathlib.Path(__file__).resolve().parents[2]
+PROGRAM = companion("h2audit-comment")
+IMPORT = companion("h2audit-import")
+TLS = TOP / "tests" / "tls"
+AUDIT = pathlib.Path(sys.argv.pop(1)).resolve() if len(sys.argv) > 1 and "/" in sys.argv[1] else None
+EXAMPLES = TOP / "examples"
 # What a packet is: all that tshark shows of its place, time, interface and bytes.
 FIELDS = [
     "frame.number",
@@ -63,10 +59,12 @@ FIELDS = [
 ]
 # Written by hand, from the example's README and its packets.
 SAID_OF_GO = {
-    12: "h2audit: client used up its credit on stream 1, and waited 764 µs, up to packet 14 (stream-stall-begin); "
-    "nobody broke a rule: ask the server why it granted nothing,"
-    "h2audit: client sent 5,000 bytes past its credit on stream 1 (stream-overrun); the client broke RFC 9113, 6.9.1",
-    14: "h2audit: client's stall on stream 1 ended, 764 µs after packet 12 (stream-stall-end); nobody broke a rule",
+    12: "h2audit: HTTP/2 frame 6: client used up its credit on stream 1, and waited 764 µs, up to packet 14 "
+    "(stream-stall-begin); nobody broke a rule: ask the server why it granted nothing,"
+    "h2audit: HTTP/2 frame 7: client sent 5,000 bytes past its credit on stream 1 (stream-overrun); "
+    "the client broke RFC 9113, 6.9.1",
+    14: "h2audit: HTTP/2 frame 8: client's stall on stream 1 ended, 764 µs after packet 12 (stream-stall-end); "
+    "nobody broke a rule",
 }
 FINDING = re.compile(r"^frame \d+ record (\d+) .* (client|server) ([a-z-]+) stream", re.M)
 
@@ -141,7 +139,34 @@ class Examples(InFolder):
         self.assertEqual([int(number) for number, in found], [9, 10])
         expert = subprocess.run(["tshark", "-r", self.out, "-q", "-z", "expert"], capture_output=True, text=True).stdout
         self.assertRegex(expert, r"Comments \(2\)")
-        self.assertIn("h2audit: server sent WINDOW_UPDATE on stream 7", expert)
+        self.assertIn("h2audit: HTTP/2 frame 8: server sent WINDOW_UPDATE on stream 7", expert)
+
+    def test_filter_of_breaches(self) -> None:
+        """It finds the packets with a breach of the standard, and no stall."""
+        for name in ("stream_overrun_go", "negative_window", "use_after_reset"):
+            report = EXAMPLES / f"{name}.report"
+            self.comment(EXAMPLES / f"{name}.pcap", report)
+            found = shown(self.out, ["frame.number"], "-Y", 'frame.comment contains "broke RFC"')
+            wanted = {
+                int(record)
+                for record, _, kind in FINDING.findall(report.read_text())
+                if not kind.endswith(("-stall-begin", "-stall-end"))
+            }
+            self.assertEqual({int(number) for (number,) in found}, wanted, name)
+
+    def test_packets_that_set_a_window(self) -> None:
+        """Of an overrun, where the report has credit lines: the packet of the opening, and those of grants."""
+        report = EXAMPLES / "stream_overrun_go.frames.report"
+        said = comments(self.comment(EXAMPLES / "stream_overrun_go.pcap", report))[12]
+        self.assertIn("5,000 bytes past its credit on stream 1, a window that packet 12 set (stream-overrun)", said)
+        line = "frame 6 record 12 time 1795331726079320000 client stream-stall-begin"
+        grants = "".join(
+            f"frame 5 record {record} time 1795331726079320000 client stream-credit stream 1 value {value}\n"
+            for record, value in ((13, 10001), (15, 10002), (16, 10003), (17, 10004), (18, 10000))
+        )
+        text = report.read_text().replace(line, grants + line)
+        said = comments(self.comment(EXAMPLES / "stream_overrun_go.pcap", self.write("report", text.encode())))[12]
+        self.assertIn("a window that 6 packets set, last 16, 17 and 18 (stream-overrun)", said)
 
     def test_credit(self) -> None:
         """Credit lines are passed over, unless they are asked for."""
@@ -432,29 +457,20 @@ class BadInput(InFolder):
         self.refuses("capture refused: short-header", self.data(good[:23]))
         self.refuses("capture refused: bad-magic", self.data(b"no capture at all"))
         self.refuses("capture refused: bad-version", self.data(good[:4] + b"\3\0" + good[6:]))
-        self.refuses(
-            "capture refused: packet-too-long", self.data(good[:24] + struct.pack("<IIII", 0, 0, 2**32 - 1, 0))
-        )
-        self.refuses("capture refused: bad-gzip", self.data(b"\x1f\x8b\x08" + b"\xff" * 40))
+        self.refuses("capture refused: bad-gzip", self.data(b"\x1f\x8b\x08\0" + b"\xff" * 40))
         self.refuses("capture refused: bad-zstd", self.data(b"\x28\xb5\x2f\xfd" + b"\xff" * 40))
         self.refuses("capture refused: short-header", self.data(zstandard.compress(good)[:20]))
         head = section() + interface("<", link)
         self.refuses("capture refused: bad-block", self.data(head + struct.pack("<II", 6, 13) + bytes(100)))
-        self.refuses("capture refused: bad-block", self.data(head + struct.pack("<II", 6, 2**32 - 4) + bytes(100)))
+        long = struct.pack("<II", 6, 2**32 - 4) + bytes(100)
+        self.refuses("capture refused: too-long-block", self.data(head + long))
         self.refuses("capture refused: bad-block", self.data(head + struct.pack("<II", 6, 32) + bytes(20) + b"abcd"))
-        self.refuses("capture refused: bad-magic", self.data(b"\n\r\r\n" + bytes(40)))
+        self.refuses("capture refused: bad-block", self.data(b"\n\r\r\n" + bytes(40)))
         self.refuses("capture refused: no-interface", self.data(section() + packet("<", 0, 1, records[0])))
         simple = head + b"".join(simple_packet("<", one) for one in records)
         self.refuses("capture refused: simple-packet-block", self.data(simple))
         bad = b"".join(packet("<", 0, micros(one), one, b"\1\0\xff\0") for one in records)
         self.refuses("capture refused: bad-options", self.data(head + bad))
-
-    def test_no_zstandard(self) -> None:
-        capture = self.data(zstandard.compress(self.CAPTURE.read_bytes()))
-        with mock.patch.dict(sys.modules, {"zstandard": None}), contextlib.redirect_stderr(io.StringIO()) as said:
-            status = main([str(capture), str(CAPTURE_REPORT), "-o", str(self.out)])
-        why = "h2audit-comment: zstandard is not installed (Debian: apt-get install python3-zstandard)\n"
-        self.assertEqual((status, said.getvalue(), self.out.exists()), (5, why, False))
 
     def test_reports(self) -> None:
         good = CAPTURE_REPORT.read_text()
@@ -483,6 +499,16 @@ class BadInput(InFolder):
                 (0, b"h2audit-comment: the capture ends within packet 22, which is left out\n"),
             )
             self.assertEqual(len(shown(self.out, ["frame.number"])), 21)
+
+    def test_bytes_that_are_no_packet(self) -> None:
+        """As h2audit reads them: they begin a record that the capture's end cuts."""
+        good = self.CAPTURE.read_bytes()
+        for behind in (struct.pack("<IIII", 0, 0, 2**32 - 1, 0), b"\xff" * 500, b"x"):
+            done = run(self.data(good + behind), CAPTURE_REPORT, "-o", self.out)
+            said = b"h2audit-comment: the capture ends within packet 23, which is left out\n"
+            self.assertEqual((done.returncode, done.stderr), (0, said))
+            self.assertEqual(len(shown(self.out, ["frame.number"])), 22)
+            self.assertEqual(comments(self.out), SAID_OF_GO)
 
     def test_files(self) -> None:
         missing = "/nowhere/at all"
@@ -533,15 +559,10 @@ class BadInput(InFolder):
                         (0, 1, 255, 10, 48, chance.randrange(256))
                     )
                 is_report = good[:7] == b"capture"
-                words = (
-                    [str(self.CAPTURE), str(self.data(data))]
-                    if is_report
-                    else [str(self.data(data)), str(CAPTURE_REPORT)]
-                )
-                with contextlib.redirect_stderr(io.StringIO()) as said:
-                    status = main([*words, "-o", str(self.out)])
-                self.assertIn(status, (0, 3))
-                self.assertLessEqual(said.getvalue().count("\n"), 1)
+                words = (self.CAPTURE, self.data(data)) if is_report else (self.data(data), CAPTURE_REPORT)
+                done = run(*words, "-o", self.out)
+                self.assertIn(done.returncode, (0, 3))
+                self.assertLessEqual(done.stderr.count(b"\n"), 1)
 
     def test_signals(self) -> None:
         """One in the middle of the work leaves no file and says nothing, also where others follow."""
@@ -554,22 +575,30 @@ class BadInput(InFolder):
                 self.assertEqual((said, os.listdir(self.folder)), (b"", []))
 
     def test_closed_files(self) -> None:
-        for words in (("-", CAPTURE_REPORT, "-o", self.out), (self.CAPTURE, CAPTURE_REPORT, "-o", "-")):
+        """Standard files that are closed are empty, and take everything."""
+        rows = ((("-", CAPTURE_REPORT, "-o", self.out), 3), ((self.CAPTURE, CAPTURE_REPORT, "-o", "-"), 0))
+        for words, status in rows:
             closed = ["bash", "-c", '"$0" "$@" <&- >&-', str(PROGRAM), *map(str, words)]
             done = subprocess.run(closed, capture_output=True)
-            self.assertEqual(
-                (done.returncode, done.stderr), (4, b"h2audit-comment: input or output: Bad file descriptor\n")
-            )
+            said = b"h2audit-comment: capture refused: short-header\n" if status else b""
+            self.assertEqual((done.returncode, done.stderr), (status, said))
         self.assertEqual(os.listdir(self.folder), [])
 
-    def test_closed_pipe(self) -> None:
-        words = [PROGRAM, self.CAPTURE, CAPTURE_REPORT]
-        done = subprocess.run(
-            ["bash", "-c", 'set -o pipefail; "$0" "$1" "$2" -o - | true', *words], capture_output=True
-        )
-        self.assertIn(
-            (done.returncode, done.stderr), [(0, b""), (4, b"h2audit-comment: input or output: Broken pipe\n")]
-        )
+    def test_output_that_takes_nothing(self) -> None:
+        """A closed pipe or a full disk is named, and so for the help text and the version."""
+        comment = f"{self.CAPTURE} {CAPTURE_REPORT} -o -"
+        for words in (comment, "--help", "--version", "-V"):
+            for output, why in (("> /dev/full", "No space left on device"), ("| true", "Broken pipe")):
+                shell = f'( sleep 0.2; exec "$0" {words} ) {output}; echo "${{PIPESTATUS[0]}}"'
+                done = subprocess.run(["bash", "-c", shell, PROGRAM], capture_output=True, text=True)
+                said = f"h2audit-comment: standard output: {why}\n"
+                self.assertEqual((done.stdout, done.stderr), ("4\n", said), words)
+
+    def test_names_are_escaped(self) -> None:
+        """What a terminal would act on does not reach it."""
+        done = run("/nowhere/re\x1b[31md\n", CAPTURE_REPORT, "-o", self.out)
+        said = "h2audit-comment: /nowhere/re\\x1b[31md\\n: No such file or directory\n"
+        self.assertEqual((done.returncode, done.stderr.decode()), (4, said))
 
 
 if __name__ == "__main__":

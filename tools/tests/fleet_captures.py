@@ -17,6 +17,8 @@ from collections.abc import Callable
 from dataclasses import dataclass, field
 from typing import Any
 
+from companions import companion
+
 TOP = pathlib.Path(__file__).resolve().parents[2]
 sys.path[:0] = [str(TOP / "tests"), str(TOP / "bench")]
 
@@ -49,6 +51,25 @@ class Sample:
     @property
     def digest(self) -> str:
         return hashlib.sha256(self.capture).hexdigest()
+
+    @property
+    def has_http2(self) -> bool:
+        return " http2 frames " in self.report
+
+
+def beside(name: str) -> pathlib.Path:
+    """A program of the repository beside h2audit, by its name: in Python, or built."""
+    script = TOP / "tools" / name
+    return script if script.exists() else companion(name)
+
+
+def summary(samples: list[Sample]) -> str:
+    """The last line on these captures, each of which was audited or refused."""
+    faults = sum(sample.status == 1 for sample in samples)
+    nothing = sum(not sample.has_http2 for sample in samples)
+    refused = sum(sample.status == 3 for sample in samples)
+    said = f"{len(samples)} captures: {faults} with faults, {nothing} in which nothing was audited"
+    return said + f" ({refused} refused)" * bool(refused)
 
 
 def until(is_done: Callable[[], bool], what: Callable[[], str] = str) -> None:
@@ -108,13 +129,25 @@ class Machine:
         self.folder = pathlib.Path(self.held.name)
         for name in ("bin", "captures", "notes", "temporary"):
             (self.folder / name).mkdir()
-        (self.bin / "h2audit").symlink_to(STAND_IN)
+        for name in ("h2audit", "h2audit-any"):
+            self.link(name, STAND_IN)
         for sample in self.samples:
             (self.captures / f"{sample.name}.pcap").write_bytes(sample.capture)
         return self
 
     def __exit__(self, *_: object) -> None:
         self.held.cleanup()
+
+    def link(self, name: str, program: str | pathlib.Path) -> None:
+        """Puts a program in the path, by this name."""
+        (self.bin / name).unlink(missing_ok=True)
+        (self.bin / name).symlink_to(program)
+
+    def script(self, name: str, text: str) -> None:
+        """Puts commands of a shell in the path, by this name."""
+        (self.bin / name).unlink(missing_ok=True)
+        (self.bin / name).write_text(f"#!/bin/sh\n{text}")
+        (self.bin / name).chmod(0o755)
 
     @property
     def bin(self) -> pathlib.Path:

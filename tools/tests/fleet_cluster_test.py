@@ -13,7 +13,7 @@ import signal
 import subprocess
 import unittest
 
-from fleet_captures import PATIENCE, Machine, by_hand, count, until
+from fleet_captures import PATIENCE, Machine, by_hand, count, summary, until
 
 # What is started ends with this program, however that ends.
 TIED = ("setpriv", "--pdeathsig", "KILL", "--")
@@ -122,22 +122,20 @@ class Tls(unittest.TestCase):
     def test_by_address(self) -> None:
         """All captures are audited over TLS, by both workers; who has no certificate of the authority is not let in."""
         self.machine.acts = {sample.digest: ["meet", 2] for sample in self.machine.samples}
-        faults = sum(sample.status == 1 for sample in self.machine.samples)
-        wanted = f"20 captures: {faults} with faults, 0 refused, 0 failed\n"
-        self.assertEqual(self.machine.run(*self.words()), (1, wanted, ""))
+        self.assertEqual(self.machine.run(*self.words()), (1, f"{summary(self.machine.samples)}\n", ""))
         rows = self.machine.ask("SELECT sha256, status, report_sha256 IS NOT NULL FROM captures")
         self.assertEqual(sorted(rows), sorted((sample.digest, sample.status, 1) for sample in self.machine.samples))
         self.assertEqual(len({worker for worker, in self.machine.ask("SELECT DISTINCT worker FROM captures")}), 2)
         self.cluster.certify("stranger")
         for name, authority in (("stranger", "authority"), ("client", "stranger")):
             status, said, error = self.machine.run("--resume", *self.words(name, authority))
-            self.assertEqual((status, said, error.count("\n")), (5, "", 1), error)
+            self.assertEqual((status, said, error.count("\n")), (7, "", 1), error)
 
     def test_without_tls(self) -> None:
         """Who asks without TLS is not let in."""
         address = self.cluster.address.replace("tls://", "tcp://")
         status, said, error = self.machine.run("--scheduler", address, "--unencrypted", "captures")
-        self.assertEqual((status, said, error.count("\n")), (5, "", 1), error)
+        self.assertEqual((status, said, error.count("\n")), (7, "", 1), error)
 
     def test_scheduler_goes(self) -> None:
         """The scheduler ends in mid-run: what was entered stands, and one line says so."""
@@ -146,7 +144,7 @@ class Tls(unittest.TestCase):
         until(lambda: self.machine.database.exists() and count(self.machine) >= 3)
         self.cluster.children[0].kill()
         said, error = child.communicate(timeout=PATIENCE)
-        self.assertEqual((child.returncode, said, error), (5, "", "h2audit-fleet: the scheduler went away\n"))
+        self.assertEqual((child.returncode, said, error), (7, "", "h2audit-fleet: the scheduler went away\n"))
         self.assertTrue(3 <= len(self.machine.ask("SELECT path FROM captures WHERE outcome = 'audited'")) < 20)
         self.assertEqual(self.machine.ask("PRAGMA integrity_check"), [("ok",)])
 

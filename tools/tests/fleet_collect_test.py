@@ -11,7 +11,7 @@ import subprocess
 import sys
 import unittest
 
-from fleet_captures import PATIENCE, PROGRAM, STAND_IN, TOP, Machine, by_hand
+from fleet_captures import PATIENCE, PROGRAM, TOP, Machine, beside, by_hand
 from fleet_test import rows_by_hand
 
 sys.path.insert(0, str(TOP / "tools"))
@@ -20,7 +20,9 @@ from fleet import names  # noqa: E402
 
 BLOCK = re.compile(r"^```\n(.*?)^```$", re.M | re.S)
 EXAMPLES = ("stream_overrun_go", "use_after_reset", "connection_overflow_nginx", "lost_segment",
-            "stream_stalls_nghttpd")
+            "stream_stalls_nghttpd", "zero_increment_nginx")
+# How long the last of them had a stall that did not end.
+OPEN_NANOS = 201057000
 PATHS = "replace(replace(path, '/captures/', ''), '.pcap', '')"
 
 
@@ -35,10 +37,10 @@ class Collected(unittest.TestCase):
         self.machine.__enter__()
         self.addCleanup(self.machine.__exit__)
         if PROGRAM:
-            (self.machine.bin / "h2audit").unlink()
-            (self.machine.bin / "h2audit").symlink_to(PROGRAM)
-        (self.machine.bin / "h2audit-any").symlink_to(TOP / "tools" / "h2audit-any" if PROGRAM else STAND_IN)
-        (self.machine.bin / "h2audit-fleet").symlink_to(TOP / "tools" / "h2audit-fleet")
+            self.machine.link("h2audit", PROGRAM)
+            self.machine.link("h2audit-any", beside("h2audit-any"))
+            self.machine.link("h2audit-import", beside("h2audit-import"))
+        self.machine.link("h2audit-fleet", TOP / "tools" / "h2audit-fleet")
         first = self.machine.samples[0]
         (self.machine.captures / f"{first.name}.pcap").rename(self.machine.captures / "a\n'b $(c).pcap")
         self.jobs = self.machine.folder / "jobs"
@@ -60,17 +62,26 @@ class Collected(unittest.TestCase):
         row = self.machine.ask(asked, self.name_of(place))
         self.assertEqual([one[1:] for one in row], [(len(sample.capture), sample.digest, "audited", sample.status)])
         for table, rows in rows_by_hand(sample.report).items():
-            found = self.machine.ask(f"SELECT * FROM {table} WHERE capture = ?", row[0][0])
-            self.assertEqual([one[1:] for one in found], rows, f"{sample.name}: {table}")
+            found = [one[1:] for one in self.machine.ask(f"SELECT * FROM {table} WHERE capture = ?", row[0][0])]
+            if table == "stalls":
+                found = [one if one[5] else (*one[:6], None, one[7]) for one in found]
+            self.assertEqual(found, rows, f"{sample.name}: {table}")
+
+    def open_nanos(self) -> int | None:
+        """How long the open stall lasted, where the import writes a course that tells it."""
+        asked = subprocess.run([beside("h2audit-import"), "--help"], capture_output=True)
+        tells = PROGRAM and b"--course" in asked.stdout
+        return OPEN_NANOS if tells else None
 
     def test_parallel(self) -> None:
         """GNU parallel, and then the same tables; what is changed and audited anew is collected anew."""
         commands = block("h2audit_job()") + block("export -f")
         ran = self.bash(commands.replace("--db audits.sqlite", f"--db {self.machine.database}"))
-        wanted = "5 captures: 3 with faults, 0 refused, 0 failed\n"
+        wanted = "6 captures: 4 with faults, 0 in which nothing was audited\n"
         self.assertEqual((ran.returncode, ran.stdout), (1, wanted), ran.stderr)
-        for place in range(5):
+        for place in range(6):
             self.check(place)
+        self.assertIn((self.open_nanos(),), self.machine.ask("SELECT nanos FROM open_stalls"))
         again = self.machine.run("--collect", "jobs")
         self.assertEqual((again[0], again[2].count("\n")), (4, 1))
         self.assertEqual(self.machine.run("--collect", "jobs", "--resume")[:2], (1, ran.stdout))
@@ -108,7 +119,8 @@ class Collected(unittest.TestCase):
         self.job("unended", None)
         self.job("unread", "no status\n")
         status, said, error = self.machine.run("--collect", "jobs")
-        wanted = "7 captures: 0 with faults, 1 refused, 6 failed; 2 did not come to their end\n"
+        wanted = ("7 captures: 0 with faults, 7 in which nothing was audited (1 refused, 6 failed); "
+                  "2 did not come to their end\n")
         self.assertEqual((status, said, error), (3, wanted, ""))
         rows = self.machine.ask(f"SELECT {PATHS}, outcome || ' ' || reason FROM captures")
         found = {name: why for name, why in rows}

@@ -20,13 +20,13 @@ import unittest
 import fleet_parts_test as parts
 import pcapng_blocks
 import tls_talk
-from fleet_captures import PATIENCE, PROGRAM, TOP, until
+from fleet_captures import PATIENCE, PROGRAM, TOP, beside, until
 from fleet_cluster_test import Cluster
 
 sys.path[:0] = [str(TOP / "tools"), str(TOP / "bench")]
 
 import generate  # noqa: E402
-from fleet import tasks  # noqa: E402
+from fleet import large, tasks  # noqa: E402
 
 # What two runs may differ in.
 OF_ONE_RUN = {"seconds", "worker", "entered"}
@@ -68,7 +68,7 @@ class Imported(parts.Beside):
 
     def setUp(self) -> None:
         super().setUp()
-        (self.machine.bin / "h2audit-import").symlink_to(TOP / "tools" / "h2audit-import")
+        self.machine.link("h2audit-import", beside("h2audit-import"))
 
     def capture(self, name: str, content: bytes) -> pathlib.Path:
         path = self.machine.captures / name
@@ -90,9 +90,7 @@ class Imported(parts.Beside):
 
     def instead(self, name: str, program: object, script: str) -> None:
         """A shell goes through a script before the program."""
-        (self.machine.bin / name).unlink()
-        (self.machine.bin / name).write_text(f"#!/bin/sh\ncd {self.machine.folder}\n{script}\nexec {program} \"$@\"\n")
-        (self.machine.bin / name).chmod(0o755)
+        self.machine.script(name, f"cd {self.machine.folder}\n{script}\nexec {program} \"$@\"\n")
 
     def everything(self, name: str = "audits.sqlite", but: tuple[str, ...] = ()) -> dict[str, list[tuple[object, ...]]]:
         """All rows of a database, but for what is of one run alone."""
@@ -145,7 +143,7 @@ class Forms(Imported):
         self.by_one_worker()
         (self.machine.folder / "runs").unlink()
         status, said, error = self.machine.run("--jobs", "2", *SPLIT, "captures")
-        self.assertEqual((status, said, error), (1, "3 captures: 3 with faults, 0 refused, 0 failed\n", ""))
+        self.assertEqual((status, said, error), (1, "3 captures: 3 with faults, 0 in which nothing was audited\n", ""))
         self.check_rows()
         runs = (self.machine.folder / "runs").read_text().splitlines()
         audits = [run for run in runs if run.startswith("--workers ")]
@@ -165,7 +163,7 @@ class Forms(Imported):
         self.pcapng()
         self.by_one_worker()
         too_large = "case $* in *--map*) ;; *) echo 'h2audit: capture refused: too-large' >&2; exit 3 ;; esac"
-        self.instead("h2audit-any", TOP / "tools" / "h2audit-any", too_large)
+        self.instead("h2audit-any", beside("h2audit-any"), too_large)
         self.assertEqual(self.machine.run("--jobs", "1", "captures")[::2], (1, ""))
         self.check_rows()
         self.machine.database.unlink()
@@ -189,7 +187,7 @@ class Misfortunes(Imported):
         self.pcapng()
         self.by_one_worker()
         kill = "[ -e {0} ] || {{ : > {0}; kill -9 $PPID; sleep 60; }}"
-        self.instead("h2audit-import", TOP / "tools" / "h2audit-import", kill.format("import-was-killed"))
+        self.instead("h2audit-import", beside("h2audit-import"), kill.format("import-was-killed"))
         self.instead("h2audit", PROGRAM, f"case $* in *part-002*) {kill.format('part-was-killed')} ;; esac")
         status, said, error = self.machine.run("--jobs", "2", *SPLIT, "captures")
         self.assertEqual((status, error), (1, ""), said)
@@ -202,7 +200,7 @@ class Misfortunes(Imported):
         """Ctrl-C during an import, and during the audit of parts: nothing is entered or left, and --resume does it."""
         self.pcapng()
         self.by_one_worker()
-        for name, program in (("h2audit-import", TOP / "tools" / "h2audit-import"), ("h2audit", PROGRAM)):
+        for name, program in (("h2audit-import", beside("h2audit-import")), ("h2audit", PROGRAM)):
             wait = f"[ -e go-{name} ] || {{ : > at-{name}; sleep 90; }}"
             self.instead(name, program, f"case $* in *imported*|*part*) {wait} ;; esac")
         for name in ("h2audit-import", "h2audit"):
@@ -231,8 +229,7 @@ class Misfortunes(Imported):
     def test_too_large(self) -> None:
         """A part of an import that would be too large is named, and the row is that of h2audit-any --parts."""
         path = self.pcapng()
-        (self.machine.bin / "h2audit-split").unlink()
-        (self.machine.bin / "h2audit-split").symlink_to(parts.STAND_IN)
+        self.machine.link("h2audit-split", parts.STAND_IN)
         os.environ["FLEET_MOST"] = "450000"
         self.addCleanup(os.environ.pop, "FLEET_MOST")
         self.assertEqual(self.machine.run("--jobs", "2", *SPLIT, "captures")[0], 3)
@@ -246,11 +243,11 @@ class Misfortunes(Imported):
         self.assertEqual(row[4], hashlib.sha256(alone.stdout).hexdigest())
 
     def test_no_program(self) -> None:
-        """Without the program that imports one row says so, at once."""
+        """Without the program that splits one row says so, at once."""
         self.pcapng()
-        (self.machine.bin / "h2audit-import").unlink()
+        (self.machine.bin / "h2audit-split").unlink()
         self.assertEqual(self.machine.run("--jobs", "1", *SPLIT, "captures")[0], 3)
-        self.assertEqual(self.machine.ask("SELECT reason, tries FROM captures"), [("no-program h2audit-import", 1)])
+        self.assertEqual(self.machine.ask("SELECT reason, tries FROM captures"), [("no-program h2audit-split", 1)])
 
 
 class OnCluster(Imported):
@@ -284,7 +281,7 @@ class OnCluster(Imported):
         order: tasks.Order = {"keys": [], "imports": "auto", "timeout": 60.0, "split_above": 1000000}
         for name, content in (("six.pcap", parts.over_ipv6(self.plain())), ("a.pcapng", self.pcapng().read_bytes())):
             capture = self.capture(name, content)
-            answer = tasks.in_parts(os.fsencode(capture), 3, order)
+            answer = large.in_parts(os.fsencode(capture), 3, order)
             alone = self.any(capture)
             self.assertEqual((answer["outcome"], answer["status"], answer["program"], answer["report_sha256"]),
                              ("audited", alone.returncode, "h2audit-any", hashlib.sha256(alone.stdout).hexdigest()))

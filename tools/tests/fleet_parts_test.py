@@ -13,18 +13,18 @@ import struct
 import subprocess
 import sys
 import unittest
+from unittest import mock
 
-from fleet_captures import PATIENCE, PROGRAM, TOP, Machine, Ran, by_hand
+from fleet_captures import PATIENCE, PROGRAM, TOP, Machine, Ran, beside, by_hand
 
 sys.path[:0] = [str(TOP / "tools"), str(TOP / "bench"), str(TOP / "tests")]
 
 import captures as scripts  # noqa: E402
 import generate  # noqa: E402
-from fleet import tasks  # noqa: E402
+from fleet import large as tasks_of_large, tasks  # noqa: E402
 
 SPLIT = TOP / "crates" / "h2audit_split" / "out" / "h2audit_split"
 STAND_IN = TOP / "tools" / "tests" / "split_stand_in"
-MERGE = TOP / "tools" / "h2audit-merge"
 
 
 def over_ipv6(capture: bytes) -> bytes:
@@ -50,12 +50,11 @@ class Beside(unittest.TestCase):
         self.machine = Machine([], None)
         self.machine.__enter__()
         self.addCleanup(self.machine.__exit__)
-        (self.machine.bin / "h2audit").unlink()
         programs: dict[str, str | pathlib.Path] = {
-            "h2audit": str(PROGRAM), "h2audit-any": TOP / "tools" / "h2audit-any", "h2audit-merge": MERGE,
+            "h2audit": str(PROGRAM), "h2audit-any": beside("h2audit-any"), "h2audit-merge": beside("h2audit-merge"),
             "h2audit-split": SPLIT if SPLIT.exists() else STAND_IN}
         for name, program in programs.items():
-            (self.machine.bin / name).symlink_to(program)
+            self.machine.link(name, program)
 
     def large(self) -> pathlib.Path:
         path = self.machine.captures / "large.pcap"
@@ -72,7 +71,7 @@ class Beside(unittest.TestCase):
         return subprocess.run([str(PROGRAM), *map(str, words)], capture_output=True)
 
     def any(self, *words: object, **more: str) -> Ran:
-        line = [TOP / "tools" / "h2audit-any", "--h2audit", PROGRAM, *words]
+        line = [beside("h2audit-any"), "--h2audit", PROGRAM, *words]
         return subprocess.run(list(map(str, line)), capture_output=True, timeout=PATIENCE,
                               env={**self.machine.surroundings, **more})
 
@@ -88,7 +87,7 @@ class Imports(Beside):
         script = (TOP / "examples" / "use_after_reset.script").read_text()
         (self.machine.captures / "six.pcap").write_bytes(over_ipv6(scripts.capture_of(script)))
         status, said, error = self.machine.run("--jobs", "2", "--reports", "reports", "captures")
-        self.assertEqual((status, said, error), (1, "3 captures: 3 with faults, 0 refused, 0 failed\n", ""))
+        self.assertEqual((status, said, error), (1, "3 captures: 3 with faults, 0 in which nothing was audited\n", ""))
         six = wanted["use_after_reset"].report
         for side in "12":
             six = six.replace(f"10.0.0.{side}:", f"[2001:db8::{side}]:")
@@ -103,11 +102,16 @@ class Imports(Beside):
                          [("[2001:db8::1]",), ("[2001:db8::2]:80",)])
 
     def test_no_import(self) -> None:
-        (self.machine.captures / "a.pcapng").write_bytes(bytes.fromhex("0a0d0d0a") + bytes(40))
+        """A program that the path does not have is found beside this one; where it is nowhere, the row says so."""
+        capture = self.machine.captures / "a.pcapng"
+        capture.write_bytes(bytes.fromhex("0a0d0d0a") + bytes(40))
         (self.machine.bin / "h2audit-any").unlink()
         self.assertEqual(self.machine.run("--jobs", "1", "captures")[0], 3)
-        rows = self.machine.ask("SELECT outcome, reason FROM captures")
-        self.assertEqual(rows, [("failed", "no-program h2audit-any")])
+        self.assertEqual(self.machine.ask("SELECT outcome, reason FROM captures"), [("refused", "bad-block")])
+        order: tasks.Order = {"keys": [], "imports": "auto", "timeout": 60.0, "split_above": 0}
+        with mock.patch.dict(os.environ, self.machine.surroundings):
+            answer = tasks.audit(os.fsencode(capture), order)
+        self.assertEqual((answer["outcome"], answer["reason"]), ("failed", "no-program h2audit-any"))
         self.assertEqual(self.machine.run("--jobs", "1", "--resume", "--import", "never", "captures")[0], 3)
         self.assertEqual(self.machine.ask("SELECT outcome, reason FROM captures"), [("refused", "bad-magic")])
 
@@ -143,14 +147,13 @@ class Parts(Beside):
         self.addCleanup(os.environ.__setitem__, "PATH", path)
         os.environ["PATH"] = f"{self.machine.bin}:/usr/bin:/bin"
         order: tasks.Order = {"keys": [], "imports": "auto", "timeout": 60.0, "split_above": 1000000}
-        answer = tasks.in_parts(os.fsencode(large), 3, order)
+        answer = tasks_of_large.in_parts(os.fsencode(large), 3, order)
         self.assertEqual((answer["outcome"], answer["report_sha256"]),
                          ("audited", hashlib.sha256(self.report_of(large).stdout).hexdigest()))
 
     def test_too_large(self) -> None:
         """A part that would be too large is named, and the other parts stand."""
-        (self.machine.bin / "h2audit-split").unlink()
-        (self.machine.bin / "h2audit-split").symlink_to(STAND_IN)
+        self.machine.link("h2audit-split", STAND_IN)
         large = self.large()
         os.environ["FLEET_MOST"] = "450000"
         self.addCleanup(os.environ.pop, "FLEET_MOST")
@@ -167,16 +170,12 @@ class Parts(Beside):
     def test_misfortunes(self) -> None:
         """A part that runs out of memory, a splitter that fails: the capture is entered as failed, nothing is left."""
         self.large()
-        (self.machine.bin / "h2audit").unlink()
-        (self.machine.bin / "h2audit").write_text(
-            f"#!/bin/sh\ncase $* in *part-002*) exit 5 ;; esac\nexec {PROGRAM} \"$@\"\n")
-        (self.machine.bin / "h2audit").chmod(0o755)
+        self.machine.script("h2audit", f"case $* in *part-002*) exit 5 ;; esac\nexec {PROGRAM} \"$@\"\n")
         self.assertEqual(self.machine.run("--jobs", "2", "--retries", "1", "--split-above", "1", "captures")[0], 3)
         asked = "SELECT outcome, reason, tries FROM captures"
         self.assertEqual(self.machine.ask(asked), [("failed", "part 2: out-of-memory", 2)])
-        (self.machine.bin / "h2audit-split").unlink()
-        (self.machine.bin / "h2audit-split").write_text("#!/bin/sh\necho 'h2audit-split: write failed' >&2; exit 4\n")
-        (self.machine.bin / "h2audit-split").chmod(0o755)
+        cannot = "echo \"h2audit-split: cannot write: $4/part-001.pcap\" >&2; exit 4\n"
+        self.machine.script("h2audit-split", cannot)
         words = ("--jobs", "2", "--retries", "0", "--resume", "--split-above", "1", "captures")
         self.assertEqual(self.machine.run(*words)[0], 3)
         self.assertEqual(self.machine.ask(asked), [("failed", "write-failed", 1)])

@@ -7,7 +7,6 @@ them. With PROGRAM more captures are generated, and their answers are those of P
 
 import contextlib
 import hashlib
-import http.client
 import os
 import re
 import shutil
@@ -17,10 +16,9 @@ import subprocess
 import sys
 import threading
 import unittest
-import urllib.request
 from typing import ClassVar
 
-from fleet_captures import PATIENCE, PROGRAM, TOP, Machine, Row, Sample, by_hand, count, generated, until
+from fleet_captures import PATIENCE, PROGRAM, TOP, Machine, Row, Sample, by_hand, count, generated, summary, until
 
 sys.path.insert(0, str(TOP / "tools"))
 
@@ -112,9 +110,7 @@ class Tables(unittest.TestCase):
 
     def test_all_stand(self) -> None:
         self.assertEqual(len(self.samples), CAPTURES)
-        refused = sum(sample.status == 3 for sample in self.samples)
-        faults = sum(sample.status == 1 for sample in self.samples)
-        self.assertEqual(self.answer, (3, f"200 captures: {faults} with faults, {refused} refused, 0 failed\n", ""))
+        self.assertEqual(self.answer, (3, f"{summary(self.samples)}\n", ""))
 
     def test_captures(self) -> None:
         for sample in self.samples:
@@ -135,7 +131,11 @@ class Tables(unittest.TestCase):
     def test_rows(self) -> None:
         for sample in self.samples:
             for table, rows in rows_by_hand("" if sample.status == 3 else sample.report).items():
-                self.assertEqual(self.rows_of(sample, table), rows, f"{sample.name}: {table}")
+                found = self.rows_of(sample, table)
+                if table == "stalls":
+                    # How long an open one lasted no report says: that is for fleet_stalls_test.
+                    found = [row if row[5] else (*row[:6], None, row[7]) for row in found]
+                self.assertEqual(found, rows, f"{sample.name}: {table}")
 
     def test_reports(self) -> None:
         kept = {path.name: path.read_bytes() for path in (self.machine.folder / "reports").iterdir()}
@@ -189,7 +189,7 @@ class Course(unittest.TestCase):
         machine.acts[deadly.digest] = ["kill", 100]
         status, said, error = machine.run("--jobs", "2", "--retries", "1", "captures")
         self.assertEqual((status, error), (3, ""))
-        self.assertIn(", 1 failed", said)
+        self.assertIn(" (1 failed)\n", said)
         outcomes = self.outcomes(machine)
         self.assertEqual(outcomes.pop(deadly.digest), ("failed", "worker-lost", 2))
         self.assertEqual({outcome[:2] for outcome in outcomes.values()}, {("audited", None)})
@@ -216,14 +216,11 @@ class Course(unittest.TestCase):
         machine.acts = {sample.digest: ["sleep", 0.5] for sample in machine.samples}
         child = machine.start("--jobs", "2", "captures", start_new_session=True)
         until(lambda: machine.database.exists() and count(machine) >= 5)
-        addresses = listening(child.pid)
-        self.assertTrue(addresses)
-        self.assertEqual({address.rpartition(":")[0] for address in addresses}, {"127.0.0.1"})
-        self.assertEqual([address for address in addresses if answers_http(address)], [])
+        self.assertEqual(listening(child.pid), [])
         os.killpg(child.pid, signal.SIGINT)
         _, error = child.communicate(timeout=PATIENCE)
         said = "h2audit-fleet: ended early: --resume goes on with the database\n"
-        self.assertEqual((child.returncode, error), (130, said))
+        self.assertEqual((child.returncode, error), (130, said), error)
         before = {path: when for path, when in machine.ask("SELECT path, entered FROM captures")}
         self.assertTrue(5 <= len(before) < 40)
         self.assertEqual(machine.ask("PRAGMA integrity_check"), [("ok",)])
@@ -232,21 +229,20 @@ class Course(unittest.TestCase):
         machine.acts = {}
         status, said, error = machine.run("--jobs", "4", "--resume", "captures")
         self.assertEqual((status, error), (1, ""))
-        self.assertIn(f"{40 - len(before)} captures: ", said)
-        self.assertIn(f"; {len(before)} were there\n", said)
+        self.assertEqual(said, f"{summary(machine.samples)}; {len(before)} were there\n")
         after = {path: when for path, when in machine.ask("SELECT path, entered FROM captures")}
         self.assertEqual((len(after), {path: after[path] for path in before}), (40, before))
 
     def test_ended_at_start(self) -> None:
-        """Ctrl-C, or the end of all processes of the run, while the workers begin: one line, and nothing is left."""
+        """Ctrl-C, or the end of all processes of the run, as the workers begin: one line, and nothing is left."""
         machine = self.machine(12)
         for number in (signal.SIGINT, signal.SIGTERM):
             child = machine.start("--jobs", "2", "--resume", "captures", start_new_session=True)
             until(lambda: machine.database.exists() and any((machine.folder / "temporary").iterdir()))
             os.killpg(child.pid, number)
-            said, error = child.communicate(timeout=PATIENCE)
-            self.assertEqual((child.returncode, said, error),
-                             (128 + number, "", "h2audit-fleet: ended early: --resume goes on with the database\n"))
+            _, error = child.communicate(timeout=PATIENCE)
+            self.assertEqual((child.returncode, error),
+                             (128 + number, "h2audit-fleet: ended early: --resume goes on with the database\n"))
             self.assertEqual(list((machine.folder / "temporary").iterdir()), [])
         self.assertEqual(machine.run("--jobs", "2", "--resume", "captures")[0], 1)
 
@@ -294,7 +290,7 @@ class Words(OneCapture):
             with open(os.path.join(os.fsencode(self.machine.captures), name), "wb") as file:
                 file.write(self.capture)
         status, said, error = self.machine.run("--jobs", "2", "captures")
-        self.assertEqual((status, said, error), (1, "9 captures: 9 with faults, 0 refused, 0 failed\n", ""))
+        self.assertEqual((status, said, error), (1, "9 captures: 9 with faults, 0 in which nothing was audited\n", ""))
         paths = [path for path, in self.machine.ask("SELECT path FROM captures WHERE outcome = 'audited'")]
         found = {os.path.basename(names.path_of(path)) for path in paths}
         self.assertEqual(found, {b"stream_overrun_go.pcap", *hostile})
@@ -310,7 +306,7 @@ class Words(OneCapture):
         listed.write_bytes(odd + b"\0" + os.fsencode(self.machine.captures) + b"\0")
         (self.machine.folder / "lines").write_bytes(os.fsencode(self.machine.captures) + b"\n/not/there.pcap\n")
         status, said, _ = self.machine.run("--jobs", "1", "--list", "listed", "--list", "lines", "captures")
-        self.assertEqual((status, said), (3, "3 captures: 2 with faults, 0 refused, 1 failed\n"))
+        self.assertEqual((status, said), (3, "3 captures: 2 with faults, 1 in which nothing was audited (1 failed)\n"))
         failed = self.machine.ask("SELECT path, reason, tries FROM captures WHERE outcome = 'failed'")
         self.assertEqual(failed, [("/not/there.pcap", "not-there", 1)])
 
@@ -324,7 +320,8 @@ class Words(OneCapture):
         self.machine.samples.append(next(sample for sample in by_hand() if sample.error.endswith("short-header\n")))
         (self.machine.captures / "ring.pcap12").write_bytes(self.machine.samples[1].capture)
         status, said, _ = self.machine.run("--jobs", "1", "captures")
-        wanted = "3 captures: 2 with faults, 1 refused, 0 failed; 2 other files passed over\n"
+        wanted = ("3 captures: 2 with faults, 1 in which nothing was audited (1 refused); "
+                  "2 other files passed over\n")
         self.assertEqual((status, said), (3, wanted))
 
     def test_refused(self) -> None:
@@ -342,7 +339,7 @@ class Words(OneCapture):
             ("No such file or directory", 4, ("--list", "not-there")),
             ("No such file or directory", 4, ("-k", "not-there", "captures")),
             ("not a folder", 4, ("--collect", "not-there")),
-            ("127.0.0.1:1: ", 5, ("--scheduler", "tcp://127.0.0.1:1", "--unencrypted", "captures")),
+            ("127.0.0.1:1: ", 7, ("--scheduler", "tcp://127.0.0.1:1", "--unencrypted", "captures")),
         ):
             found = self.machine.run(*words)
             self.assertEqual((found[0], found[1], found[2].count("\n")), (status, "", 1), words)
@@ -355,11 +352,18 @@ class Words(OneCapture):
                                                                   "file is not a database\n"))
         self.assertEqual(self.machine.database.read_bytes(), b"of no interest")
 
+    def test_dashboard(self) -> None:
+        """With a dashboard dask carries the tasks of this machine."""
+        status, said, error = self.machine.run("--jobs", "1", "--dashboard", "127.0.0.1:0", "captures")
+        self.assertEqual((status, said), (1, f"{summary(self.machine.samples)}\n"))
+        self.assertRegex(error, r"^h2audit-fleet: dashboard at http://127\.0\.0\.1:\d+/status\n$")
+        self.assertEqual(list((self.machine.folder / "temporary").iterdir()), [])
+
     def test_no_program(self) -> None:
         (self.machine.bin / "h2audit").unlink()
         status, said, error = self.machine.run("--jobs", "1", "captures")
-        self.assertEqual((status, said), (5, ""))
-        self.assertRegex(error, r"^h2audit-fleet: worker tls://\S+ has no program h2audit\n$")
+        self.assertEqual((status, said), (7, ""))
+        self.assertRegex(error, r"^h2audit-fleet: this machine has no program h2audit\n$")
 
 
 class Writer(OneCapture):
@@ -404,7 +408,8 @@ class Writer(OneCapture):
                           ("none/a", "No such file or directory")):
             with self.assertRaisesRegex((database.Unusable, OSError), why):
                 database.Database(str(self.machine.folder / name), True)
-        for change, why in (("PRAGMA user_version = 2", "its schema is 2, and this program writes 1"),
+        for change, why in (("PRAGMA user_version = 1", "schema is 1, of an older h2audit-fleet, and this one writes"),
+                            ("PRAGMA user_version = 3", "schema is 3, of a newer h2audit-fleet, and this one writes"),
                             ("PRAGMA application_id = 7", "it is no database of h2audit-fleet")):
             self.machine.database.unlink(missing_ok=True)
             with contextlib.closing(sqlite3.connect(self.machine.database)) as base:
@@ -417,9 +422,7 @@ class Writer(OneCapture):
     def test_changed_while_read(self) -> None:
         """A capture that is written to while it is imported is tried again, and is then entered as such."""
         (self.machine.captures / "a.pcapng").write_bytes(bytes.fromhex("0a0d0d0a") + bytes(40))
-        program = self.machine.bin / "h2audit-any"
-        program.write_text(f"#!/bin/sh\necho more >> {self.machine.captures / 'a.pcapng'}\necho a report\n")
-        program.chmod(0o755)
+        self.machine.script("h2audit-any", f"echo more >> {self.machine.captures / 'a.pcapng'}\necho a report\n")
         self.assertEqual(self.machine.run("--jobs", "1", "captures")[0], 3)
         rows = self.machine.ask("SELECT outcome, reason, tries, report_sha256 FROM captures WHERE path LIKE '%.pcapng'")
         self.assertEqual(rows, [("failed", "changed", 3, None)])
@@ -452,23 +455,16 @@ class Schema(unittest.TestCase):
         self.assertIn(f"is {base.execute('PRAGMA application_id').fetchone()[0]}.", text)
 
 
-def listening(session: int) -> list[str]:
-    """The addresses at which processes of a session wait for others."""
+def listening(process: int) -> list[str]:
+    """The addresses at which a process, or one that it started, waits for others."""
+    started = subprocess.run(["pgrep", "-P", str(process)], capture_output=True, text=True, check=True).stdout.split()
+    sessions = {process, *map(int, started)}
     found = []
     for line in subprocess.run(["ss", "-Hltnp"], capture_output=True, text=True, check=True).stdout.splitlines():
-        process = re.search(r"pid=(\d+)", line)
-        if process and os.path.exists(f"/proc/{process[1]}") and os.getsid(int(process[1])) == session:
+        at = re.search(r"pid=(\d+)", line)
+        if at and os.path.exists(f"/proc/{at[1]}") and os.getsid(int(at[1])) in sessions:
             found.append(line.split()[3])
     return found
-
-
-def answers_http(address: str) -> bool:
-    """Whether a web server shows anything there to whoever asks."""
-    try:
-        with urllib.request.urlopen(f"http://{address}/health", timeout=5) as answer:
-            return bool(answer.status == 200)
-    except (OSError, http.client.HTTPException):
-        return False
 
 
 if __name__ == "__main__":

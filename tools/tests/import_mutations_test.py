@@ -1,62 +1,35 @@
 #!/usr/bin/python3
-"""Mutated captures and key logs: no exception, no hang, every fault named, and no plaintext but the original's.
+"""Mutated captures and key logs: no panic, no hang, every fault named, and no plaintext but the original's.
 
     tools/tests/import_mutations_test.py [COUNT [SEED [PROCESSES]]]
 
 A few hundred by default, by one process. The seed is printed: a count and that seed make the same mutations again, by
-however many processes, and number N of them alone with COUNT as N:N+1. Mutations go through the program's own entry in
-these processes, so that thousands are tried in minutes. The last line says how many ended how.
+however many processes, and number N of them alone with COUNT as N:N+1. The last line says how many ended how. Many
+more, without a look at their plaintext, are tried by companions/import/tests/mutations.rs.
 """
 
 import collections
-import contextlib
-import gc
-import io
 import multiprocessing
 import os
 import pathlib
 import random
-import signal
+import subprocess
 import sys
 import tempfile
-from collections.abc import Iterator
 
 import import_tools as tools
 
-sys.path[:0] = [str(tools.TOP / "tools" / "import"), str(tools.TOP / "tools")]
-
-from h2audit_import import command, programs  # noqa: E402
-
-PROCESSOR_SECONDS, SECONDS = 20, 300  # for one mutation
+SECONDS = 100  # for one mutation
+CAPTURE_REFUSED, NOTHING_READ = 3, 6
 NAMES = (
     "nghttp-nghttpd-13", "small-window-v6", "curl-nginx-12-any-cooked", "curl-apache-upload", "mixed", "secrets-inside",
     "snapped-96", "zstd",
 )  # fmt: skip
-STATUSES = (0, programs.CAPTURE_REFUSED, programs.NOTHING_READ)
+STATUSES = (0, CAPTURE_REFUSED, NOTHING_READ)
 PART = 50
+WARNINGS = ("of the key logs", "times go back", "bytes behind the end")
 KNOWN: set[bytes] = set()  # each 16 bytes of the originals' plaintext
 INTERESTING = (b"\x00", b"\xff", b"\x7f\xff", b"\x80\x00", b"\x16\x03\x03", b"\xff\xff\xff\xff", b"\x00\x00\x00\x00")
-
-
-class Hangs(BaseException):
-    """It takes too long. No handler of errors takes it for one of its own."""
-
-
-def hangs(*_: object) -> None:
-    raise Hangs
-
-
-@contextlib.contextmanager
-def time_limits() -> Iterator[None]:
-    for one in (signal.SIGPROF, signal.SIGALRM):
-        signal.signal(one, hangs)
-    signal.setitimer(signal.ITIMER_PROF, PROCESSOR_SECONDS)
-    signal.alarm(SECONDS)
-    try:
-        yield
-    finally:
-        signal.setitimer(signal.ITIMER_PROF, 0)
-        signal.alarm(0)
 
 
 def changed(data: bytes, dice: random.Random) -> bytes:
@@ -84,15 +57,9 @@ def changed(data: bytes, dice: random.Random) -> bytes:
 
 
 def run(words: list[tools.Word]) -> tuple[int, str]:
-    """Status and standard error of h2audit-import in this process."""
-    said = io.StringIO()
-    sys.argv = ["h2audit-import", *map(str, words)]
-    with contextlib.redirect_stderr(said):
-        try:
-            command.main()
-        except SystemExit as end:
-            return int(end.code or 0), said.getvalue()
-    raise AssertionError("it ends by an exit")
+    """Status and standard error of h2audit-import."""
+    run = subprocess.run([tools.IMPORT, *words], capture_output=True, text=True, timeout=SECONDS)
+    return run.returncode, run.stderr
 
 
 def known_plaintext(folder: pathlib.Path) -> set[bytes]:
@@ -158,17 +125,16 @@ def one(folder: pathlib.Path, seed: int, known: set[bytes], number: int) -> str:
     out, map_path = folder / "out", folder / "map"
     for path in (out, map_path):
         path.unlink(missing_ok=True)
-    with time_limits():
-        status, said = run(["-k", keys, "-o", out, "-m", map_path, capture])
+    status, said = run(["-k", keys, "-o", out, "-m", map_path, capture])
     assert status in STATUSES, (status, said)
-    assert (status == 0) <= all("of the key logs" in line for line in said.splitlines()), said
+    assert (status == 0) <= all(any(word in line for word in WARNINGS) for line in said.splitlines()), said
     assert status == 0 or said.startswith("h2audit-import: "), said
-    assert out.exists() == (status != programs.CAPTURE_REFUSED), status
+    assert out.exists() == (status != CAPTURE_REFUSED), status
     written = said.encode() + (map_path.read_bytes() if map_path.exists() else b"")
     assert not any(secret in written for secret in text.split() if len(secret) > 40)
     if out.exists():
         check(out, map_path, known, (number, name))
-    return "capture refused" if status == programs.CAPTURE_REFUSED else "nothing read" if status else "read"
+    return "capture refused" if status == CAPTURE_REFUSED else "nothing read" if status else "read"
 
 
 def tried(words: tuple[int, range]) -> list[tuple[int, str]]:
@@ -179,9 +145,8 @@ def tried(words: tuple[int, range]) -> list[tuple[int, str]]:
         for number in numbers:
             try:
                 ended.append((number, one(pathlib.Path(name), seed, KNOWN, number)))
-            except (Exception, Hangs) as why:
+            except Exception as why:
                 ended.append((number, f"FAILED {type(why).__name__} {why}"))
-    gc.collect()  # which the program turns off
     return ended
 
 

@@ -8,10 +8,12 @@ import tempfile
 from collections.abc import Iterable, Iterator
 from typing import Any, NamedTuple
 
+from companions import companion
+
 TOP = pathlib.Path(__file__).resolve().parents[2]
 CAPTURES = TOP / "tests" / "tls"
 EXAMPLES = TOP / "examples"
-IMPORT, ANY = TOP / "tools" / "h2audit-import", TOP / "tools" / "h2audit-any"
+IMPORT, ANY = companion("h2audit-import"), companion("h2audit-any")
 CLIENT, SERVER = 0, 1
 
 Word = str | pathlib.Path  # of a command line

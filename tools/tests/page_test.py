@@ -343,7 +343,7 @@ class Refusals(unittest.TestCase):
             library("/nowhere")
         with mock.patch("page.program.library", lambda: library("/nowhere")):
             status, said = answer(HEAD)
-        self.assertEqual((status, said.count("\n")), (5, 1))
+        self.assertEqual((status, said.count("\n")), (7, 1))
 
     def test_another_library(self) -> None:
         with tempfile.TemporaryDirectory() as folder:

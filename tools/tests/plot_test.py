@@ -20,7 +20,7 @@ TOP = pathlib.Path(__file__).resolve().parents[2]
 sys.path.insert(0, str(TOP / "tools"))
 sys.dont_write_bytecode = True
 
-from plot import program  # noqa: E402
+from plot import drawing, program  # noqa: E402
 from plot.windows import chosen, connections_of, windows_of  # noqa: E402
 from signals import SIGNALS, hidden_in, signalled  # noqa: E402
 
@@ -148,6 +148,44 @@ class Choices(unittest.TestCase):
             self.assertTrue(run.stdout.startswith(begin))
 
 
+class Reading(unittest.TestCase):
+    """What helps to read a picture."""
+
+    REPORT = EXAMPLES / "negative_window_tomcat.frames.report"
+
+    def drawn(self, report: pathlib.Path, *words: str) -> str:
+        with tempfile.TemporaryDirectory() as folder:
+            draw(report, pathlib.Path(folder, "picture.svg"), *words)
+            return pathlib.Path(folder, "picture.svg").read_text()
+
+    def test_title(self) -> None:
+        """The heading stands in the picture as it is, with what an SVG or a formula would take for more."""
+        title = "Ticket <4711> & $x$\nof today"
+        texts = [text.text for text in xml.fromstring(self.drawn(self.REPORT, "--title", title)).iter() if text.text]
+        self.assertIn("Ticket <4711> & $x$ of today", texts)
+        self.assertNotIn("Ticket", self.drawn(self.REPORT))
+
+    def test_legend(self) -> None:
+        """Shades of stalls are named, and faults, where there are some."""
+        marks = {"credit": True, "stalled: credit used up": True, "fault": False}
+        for report, faults in ((self.REPORT, False), (EXAMPLES / "stream_overrun_go.frames.report", True)):
+            picture = self.drawn(report)
+            self.assertIn('<g id="legend">', picture)
+            for name, is_there in (marks | {"fault": faults}).items():
+                self.assertEqual(f">{name}</text>" in picture, is_there, (report.name, name))
+
+    def test_one_scale(self) -> None:
+        """All panels have the same scale, so that heights tell of each other."""
+        for report in reports():
+            with report.open("rb") as file:
+                windows, left_out = chosen(connections_of(file), program.arguments([str(report)]))
+            axes = drawing.draw(windows, left_out, True).axes
+            self.assertEqual(len({(axis.get_ylim(), axis.get_yscale()) for axis in axes}), 1, report.name)
+            least, most = axes[0].get_ylim()
+            values = [finding.value for window in windows for finding in drawing.heights(window)]
+            self.assertTrue(least <= min(values) and max(values) <= most, report.name)
+
+
 class BadInput(unittest.TestCase):
     """Each gives one line on standard error, and its status."""
 
@@ -189,6 +227,23 @@ class BadInput(unittest.TestCase):
                       ["--panels", "65"], ["--panels", "9" * 5000]):
             status, said = answer(*words)
             self.assertEqual((status, said.count("\n"), said.startswith("h2audit-plot: ")), (2, 1, True), words)
+
+    def test_names(self) -> None:
+        """The name of a picture says what it is: another ending is refused, and no file is left."""
+        report = str(EXAMPLES / "stream_overrun_go.frames.report")
+        with tempfile.TemporaryDirectory() as folder:
+            for words, why in ((["a.jpg"], "a.jpg: no jpg is drawn, but svg or png"),
+                               (["a.PDF"], "a.PDF: no pdf is drawn, but svg or png"),
+                               (["a.png", "--format", "svg"], "a.png: its name says png, and --format svg")):
+                output = str(pathlib.Path(folder, words[0]))
+                status, said = answer(report, "-o", output, *words[1:])
+                self.assertEqual((status, said.replace(f"{folder}/", "")), (2, f"h2audit-plot: {why}\n"))
+            self.assertEqual(os.listdir(folder), [])
+            for name, begin in (("a.PNG", b"\x89PNG"), ("a", b"<?xml"), ("a.4711", b"<?xml")):
+                draw(pathlib.Path(report), pathlib.Path(folder, name))
+                self.assertTrue(pathlib.Path(folder, name).read_bytes().startswith(begin), name)
+            draw(pathlib.Path(report), pathlib.Path(folder, "a.picture"), "--format", "png")
+            self.assertTrue(pathlib.Path(folder, "a.picture").read_bytes().startswith(b"\x89PNG"))
 
     def test_signals(self) -> None:
         """One while it reads, or while it draws, leaves no file and says nothing."""

@@ -5,8 +5,8 @@
 
 A command is a block ```sh that a block ```text follows. It is run by bash at the top of the repository, where it has
 an awk once with each that is installed. The name h2audit is that of PROGRAM, and those of the programs beside it are
-of tools/. Without PROGRAM, h2audit is a stand-in that prints the stored reports of examples/, and commands that
-import are left out.
+of tools/ and companions/. Without PROGRAM, h2audit is a stand-in that prints the stored reports of examples/, and
+commands that import or capture are left out.
 """
 
 import os
@@ -18,10 +18,13 @@ import sys
 import tempfile
 from collections.abc import Iterator
 
+from companions import companion
+
 TOP = pathlib.Path(__file__).resolve().parents[2]
 PAIR = re.compile(r"^```sh\n(.*?)^```\n+```text\n(.*?)^```$", re.M | re.S)
 LINK = re.compile(r"\]\(([^)#:]+)(?:#[^)]*)?\)")
-IMPORTS = re.compile("h2audit-(any|import|why) ")
+# What the stand-in has no report for.
+NEEDS_PROGRAM = re.compile("h2audit-(any|import|why) |tcpdump -i ")
 AWKS = {awk: path for awk in ("mawk", "gawk", "original-awk") if (path := shutil.which(awk))}
 
 
@@ -51,9 +54,10 @@ def tools_folder(folder: str, program: pathlib.Path, awk: str) -> pathlib.Path:
     bin_of = pathlib.Path(folder, awk)
     bin_of.mkdir()
     (bin_of / "h2audit").symlink_to(program)
-    for name in ("h2audit-any", "h2audit-comment", "h2audit-fleet", "h2audit-import", "h2audit-page", "h2audit-plot",
-                 "h2audit-why"):
+    for name in ("h2audit-fleet", "h2audit-page", "h2audit-plot", "h2audit-why"):
         (bin_of / name).symlink_to(TOP / "tools" / name)
+    for name in ("h2audit-any", "h2audit-comment", "h2audit-import", "h2audit-merge"):
+        (bin_of / name).symlink_to(companion(name))
     (bin_of / "awk").symlink_to(AWKS[awk])
     return bin_of
 
@@ -76,7 +80,7 @@ def main(words: list[str]) -> int:
         for awk in AWKS:
             bin_of = tools_folder(folder, program, awk)
             for place, command, wanted in recipes():
-                if awk != next(iter(AWKS)) and "awk" not in command or not words and IMPORTS.search(command):
+                if awk != next(iter(AWKS)) and "awk" not in command or not words and NEEDS_PROGRAM.search(command):
                     continue
                 number += 1
                 found = printed(command, bin_of)

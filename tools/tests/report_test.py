@@ -170,6 +170,23 @@ class Lines(unittest.TestCase):
         self.assertEqual(found, [tuple(line) for line in read if isinstance(line, lines.Stall)])
         self.assertFalse([note for note in begins if "stall" not in sentence(note)])
 
+    def test_each_line(self) -> None:
+        """The lines that the reader in Rust is held against too."""
+        kinds = {
+            "passed-over": lines.PassedOver,
+            "unopened": lines.Unopened,
+            "opening": lines.Opening,
+            "flow": lines.Flow,
+            "fragments": lines.Fragments,
+            "finding": lines.Finding,
+            "stall": lines.Stall,
+            "audited": lines.Audited,
+            "none": type(None),
+        }
+        rows = [row for row in (TOP / "tests" / "report_lines.txt").read_text().splitlines() if row[0] != "#"]
+        for kind, text in (row.split("|", 1) for row in rows):
+            self.assertIs(type(lines.read_line(text.removeprefix(" "))), kinds[kind.strip()], text)
+
     def test_reports_of_imports(self) -> None:
         """Addresses of IPv6, and connections that were not decrypted."""
         line = "connection 1 client [2001:db8::1]:40000 server [2001:db8::2]:443 record 1 "

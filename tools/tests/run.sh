@@ -10,13 +10,17 @@
 set -euo pipefail
 cd "$(dirname "$0")/../.."
 
-needed=(python3-matplotlib mandoc lintian zsh fish gawk mawk original-awk tshark binutils gcc libc6-dev)
+needed=(python3-matplotlib mandoc lintian zsh fish gawk mawk original-awk tshark binutils gcc libc6-dev
+    valgrind)
 # Of types.
 needed+=(mypy)
 # Of the page and its tests.
 needed+=(libjs-dygraphs chromium chromium-driver python3-selenium)
 # Of imports and their tests.
 needed+=(python3-cryptography python3-zstandard zstd tcpdump openssl)
+# Of the programs in Rust.
+needed+=(cargo rustc rustfmt rust-clippy clang pkg-config libssl-dev libzstd-dev liblzma-dev libbz2-dev)
+needed+=(librust-{atty,bzip2,flate2,itoa,lexopt,memchr,once-cell,openssl,rlimit,signal-hook,tempfile,xz2,zstd}-dev)
 # Of many captures and their tests.
 needed+=(python3-distributed sqlite3 parallel iproute2)
 # Of the answer in words and its tests: real servers and clients.
@@ -76,6 +80,15 @@ try_built() {
     fi
 }
 
+# A test of the splitter, likewise.
+try_split() {
+    if [[ $split != "$program" ]]; then
+        try "$@"
+    else
+        left_out+=("$1")
+    fi
+}
+
 left_out=()
 install_packages
 if make -q "$built" > /dev/null 2>&1; then
@@ -90,6 +103,9 @@ else
     echo "what needs it does not run: build it by 'make build' or 'make test'"
 fi
 make -q "$split" > /dev/null 2>&1 || split=$program
+PATH=/usr/bin:/bin make --no-print-directory companions || fail 'the programs in Rust could not be built'
+try 'programs in Rust: form' tools/tests/rust_test.sh form
+try 'programs in Rust: their own tests' tools/tests/rust_test.sh tests
 try 'types of Python, and lines' tools/tests/sources_test.py
 try 'man pages and completions' tools/tests/words_test.py
 try 'definitions to believe' tools/tests/believed_test.py
@@ -102,6 +118,7 @@ try_built 'random captures by definition' tools/tests/definitions_test.py "$buil
 try_built 'random connections by definition' tools/tests/definitions_test.py "$built" connections
 try 'pictures' tools/tests/plot_test.py
 try 'lines of reports, and who is to blame' tools/tests/report_test.py
+try 'command lines of programs in Python' tools/tests/commands_test.py
 try 'comments of packets: examples' tools/tests/comment_test.py Examples
 try 'comments of packets: forms of captures' tools/tests/comment_test.py Forms
 try 'comments of packets: maps and bad input' tools/tests/comment_test.py Maps BadInput
@@ -122,6 +139,9 @@ try 'many captures: lost workers, memory, time' tools/tests/fleet_test.py \
 try 'many captures: Ctrl-C and resumption' tools/tests/fleet_test.py Course.test_{interrupted,ended_at_start,resumed}
 try 'many captures: names and refusals' tools/tests/fleet_test.py Words Schema
 try 'many captures: the database and its writer' tools/tests/fleet_test.py Writer
+try 'many captures: open stalls' tools/tests/fleet_stalls_test.py
+try 'many captures: folders and lists that bring nothing' tools/tests/fleet_unread_test.py Said
+try_built 'many captures: what is not audited' tools/tests/fleet_unread_test.py "$built" Unread
 try 'many captures: a cluster' tools/tests/fleet_cluster_test.py Tls
 try 'many captures: two machines' tools/tests/fleet_cluster_test.py TwoMachines
 try_built 'many captures: imports and parts' tools/tests/fleet_parts_test.py "$built"
@@ -129,6 +149,7 @@ try_built 'many captures: large imports in parts' tools/tests/fleet_imports_test
 try_built 'many captures: large imports, lost workers' tools/tests/fleet_imports_test.py "$built" Misfortunes
 try_built 'many captures: large imports on a cluster' tools/tests/fleet_imports_test.py "$built" OnCluster
 try 'many captures: without daemons' tools/tests/fleet_collect_test.py "${audits[@]}"
+try_split 'splitter: full parts and disks, names' tools/tests/splitter_test.py "$split"
 try 'install and package' tools/tests/package_test.sh "$program" "$split"
 try_built 'the answer in words: captures' tools/tests/why_test.py "$built"
 try_built 'the answer in words: hostile captures' tools/tests/why_hostile_test.py "$built"
@@ -140,5 +161,8 @@ try_built 'the answer in words: real clients' tools/tests/why_causes_test.py "$b
 try_built 'the answer in words: real applications' tools/tests/why_causes_test.py "$built" Applications
 try_built 'refused growths, threads, reads and writes' tools/tests/refusals_test.py "$built"
 try_built 'threads that are started' tools/tests/threads_test.py "$built"
+try_built 'random bytes, and reads of any length' tools/tests/calls_test.py "$built"
+try_built 'costs: instructions, memory, threads' tools/tests/costs_test.py "$built"
+try_built 'large captures' tools/tests/sizes_test.py "$built"
 [[ ${#left_out[@]} -eq 0 ]] || fail "did not run, for want of the program: $(printf '%s; ' "${left_out[@]}")"
 echo 'test-tools: all passed'

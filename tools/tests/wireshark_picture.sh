@@ -21,7 +21,8 @@ until_window() {
     return 1
 }
 
-tools/h2audit-comment examples/stream_overrun_go.pcap examples/stream_overrun_go.report -o "$work/commented.pcapng"
+example=examples/stream_overrun_go
+companions/target/release/h2audit-comment "$example.pcap" "$example.report" -o "$work/commented.pcapng"
 Xvfb $display -screen 0 1180x680x24 -nolisten tcp > /dev/null 2>&1 &
 xvfb=$!
 mkdir -p "$work/home/.config/wireshark"

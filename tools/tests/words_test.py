@@ -2,7 +2,7 @@
 """Tests of the man pages and of the completions, each by its own program: all of them name the programs' options.
 
 The options of h2audit and h2audit-split are those of their help texts, which tests of the gate pin; those of the
-programs in Python are in their --help.
+programs beside them are in their --help.
 """
 
 import os
@@ -15,11 +15,14 @@ import time
 import unittest
 from collections.abc import Callable
 
+from companions import companion
+
 TOP = pathlib.Path(__file__).resolve().parents[2]
 MAN = TOP / "tools" / "man"
 COMPLETIONS = TOP / "tools" / "completions"
 HELP_TEXTS = {"h2audit": TOP / "tests" / "help.txt", "h2audit-split": TOP / "tests" / "split_help.txt"}
-IN_PYTHON = ("any", "comment", "fleet", "import", "merge", "page", "plot", "why")
+IN_PYTHON = ("fleet", "page", "plot", "why")
+IN_RUST = ("any", "comment", "import", "merge")
 OPTION = re.compile(r"(?<![\w-])(--[a-z][a-z0-9-]*)")
 
 
@@ -33,20 +36,22 @@ def options_of(name: str) -> list[str]:
     if name in HELP_TEXTS:
         text = HELP_TEXTS[name].read_text()
     else:
-        text = output_of(TOP / "tools" / name, "--help").split("\noptions:\n")[1]
+        in_python = name.removeprefix("h2audit-") in IN_PYTHON
+        text = output_of(TOP / "tools" / name if in_python else companion(name), "--help").split("\noptions:\n")[1]
     return sorted(set(OPTION.findall(text)))
 
 
-PROGRAMS = {name: options_of(name) for name in (*HELP_TEXTS, *(f"h2audit-{end}" for end in IN_PYTHON))}
+PROGRAMS = {name: options_of(name) for name in (*HELP_TEXTS, *(f"h2audit-{end}" for end in IN_PYTHON + IN_RUST))}
 
 
 class Version(unittest.TestCase):
     def test_package(self) -> None:
-        """The package has the version that the program prints."""
+        """The package has the version that the program prints, and so have the programs in Python."""
         source = (TOP / "crates" / "h2audit" / "src" / "command_line" / "command.rt").read_text()
         (version,) = re.findall(r'const VERSION: &str = "(.*)";', source)
         changelog = (TOP / "tools" / "package" / "changelog").read_text()
         self.assertTrue(changelog.startswith(f"h2audit ({version}) "))
+        self.assertIn(f'VERSION = "{version}"\n', (TOP / "tools" / "report" / "__init__.py").read_text())
 
 
 class Man(unittest.TestCase):

@@ -19,7 +19,7 @@ import time
 from collections.abc import Iterator
 from pathlib import Path
 
-from report.command import IO_FAILED, OK, REFUSED, Words, failed, io_reason, number, printable
+from report.command import IO_FAILED, MISSING, NO_MEMORY, OK, REFUSED, Words, failed, io_reason, number, printable
 from report.interrupts import Interrupted, end_by, signals_raise
 from report.lines import Refused
 
@@ -28,7 +28,7 @@ from why.answer import Answer
 from why.making import Failed, folder, program_named, run, running, without_name
 
 NAME = "h2audit-why"
-FAULTS, NO_MEMORY, NOTHING_AUDITED, NOT_INSTALLED = 1, 5, 6, 7
+FAULTS, NOTHING_AUDITED = 1, 6
 IMPORTED, AUDITED = (0, 6), (0, 1)
 SECONDS_BEFORE_PROGRESS = 2.0
 # What the import says, and the answer says too.
@@ -212,7 +212,7 @@ def main(words: list[str]) -> int:
     try:
         import hpack  # noqa: F401
     except ImportError:
-        return failed(NAME, NOT_INSTALLED, "hpack is not installed (Debian: apt-get install python3-hpack)")
+        return failed(NAME, MISSING, "hpack is not installed (Debian: apt-get install python3-hpack)")
     try:
         return outcome_of(asked)
     except Interrupted as why:

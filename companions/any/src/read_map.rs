@@ -1,0 +1,191 @@
+//! Reads a map back (docs/MAP.md), for a report of what was imported with it: h2audit-any --map.
+
+use std::io::{BufRead, BufReader};
+use std::path::Path;
+
+use programs::{printable, Failure, Input};
+use reports::maps::{MapError, MapLine, MapReader};
+use reports::Capture;
+
+use crate::original::{Became, Connection, Original, Other, SideRead};
+
+const BUFFER: usize = 1 << 18;
+
+/// What a map says of the one file that was imported.
+pub fn read_map(path: &Path) -> Result<Original, Failure> {
+    let no_map = |why: &str| Failure::Io(format!("{}: {why}", printable(path)));
+    let input = BufReader::with_capacity(BUFFER, Input::open(path)?);
+    let mut reading = Reading::default();
+    match reading.read(input) {
+        Ok(()) => {}
+        Err(Broken::Io(error)) => return Err(Failure::of_file(path, &error)),
+        Err(Broken::NoMap) => return Err(no_map("no map of h2audit-import, version 1")),
+    }
+    match reading.files {
+        1 => Ok(reading.original),
+        _ => Err(no_map("a map of several files, whose packets it does not number through")),
+    }
+}
+
+enum Broken {
+    NoMap,
+    Io(std::io::Error),
+}
+
+impl From<MapError> for Broken {
+    fn from(error: MapError) -> Broken {
+        match error {
+            MapError::Io(error) => Broken::Io(error),
+            _ => Broken::NoMap,
+        }
+    }
+}
+
+/// The lines of a map as they come. What a report does not show is left out.
+#[derive(Default)]
+struct Reading {
+    original: Original,
+    files: u64,
+    has_counts: bool,
+    /// The connection whose lines come, with the flows that it has so far.
+    connection: Option<(u64, Began, Vec<SideRead>, u64)>,
+}
+
+enum Began {
+    Clear,
+    Refused(String),
+    Tls,
+}
+
+impl Reading {
+    /// Takes all lines; an error where they are no map, or not all of one.
+    fn read(&mut self, input: impl BufRead) -> Result<(), Broken> {
+        let mut reader = MapReader::new(input)?;
+        let mut is_whole = true;
+        while let Some(line) = reader.next_line()? {
+            match line {
+                MapLine::Record { number, packet, .. } if number == self.original.records() + 1 => {
+                    self.original.add_record(packet);
+                }
+                MapLine::Record { .. } => return Err(Broken::NoMap),
+                MapLine::File { .. } => self.files += 1,
+                MapLine::Other(text) => self.other(text).ok_or(Broken::NoMap)??,
+            }
+            is_whole = reader.is_whole();
+        }
+        self.enter().ok_or(Broken::NoMap)?;
+        match is_whole && self.has_counts {
+            true => Ok(()),
+            false => Err(Broken::NoMap),
+        }
+    }
+
+    /// None where the line is broken; an error where something could not be noted.
+    fn other(&mut self, text: &str) -> Option<Result<(), Broken>> {
+        let words: Vec<&str> = text.split(' ').collect();
+        let number = |place: usize| words.get(place)?.parse::<u64>().ok();
+        match *words.first()? {
+            "address" => {
+                let stand_in: std::net::Ipv4Addr = words.get(1)?.parse().ok()?;
+                self.original.add_address(stand_in.octets(), words.get(2)?.to_string());
+            }
+            "passed" => {
+                let why = words.get(5..)?.join(" ");
+                return Some(self.original.add_passed(number(4)?, &why).map_err(Broken::Io));
+            }
+            "capture" => {
+                self.original.capture = Capture::of(text)?;
+                self.has_counts = true;
+            }
+            "connection" => {
+                self.enter()?;
+                let began = match *words.get(9)? {
+                    "clear" => Began::Clear,
+                    "tls" => Began::Tls,
+                    "refused" => Began::Refused(words.get(10..)?.join(" ")),
+                    _ => return None,
+                };
+                self.connection = Some((number(8)?, began, Vec::new(), 0));
+            }
+            "flow" => {
+                let end = words.get(9)?.to_string();
+                let side = SideRead { has_gap: *words.get(5)? != "none", tail: number(7)?, end };
+                self.connection.as_mut()?.2.push(side);
+            }
+            "fragments" => self.connection.as_mut()?.3 = number(1)?,
+            "back" => self.original.back = Some(number(4)?),
+            "other" => {
+                let name = words.get(3)?.to_string();
+                self.original.others.push(Other { name, packets: number(5)? });
+            }
+            _ => {}
+        }
+        Some(Ok(()))
+    }
+
+    /// The connection whose lines came is whole: of TLS its client's flow comes first, and both are there.
+    fn enter(&mut self) -> Option<()> {
+        if let Some((opening, began, sides, fragments)) = self.connection.take() {
+            let became = match began {
+                Began::Clear => Became::Clear,
+                Began::Refused(reason) => Became::Refused(reason),
+                Began::Tls => Became::Read(sides.try_into().ok()?),
+            };
+            self.original.add_connection(opening, Connection { became, fragments });
+        }
+        Some(())
+    }
+}
+
+#[cfg(test)]
+mod tests {
+    use mutations::changed;
+
+    use super::Reading;
+    use crate::report::bring_back;
+
+    const INTERESTING: [&[u8]; 8] =
+        [b"\n", b" ", b"18446744073709551615", b"connection ", b"frame ", b"\xff", b"refused", b"flow client "];
+    const MAP: &[u8] = b"h2audit-map 1\nfile 1 a.pcap\naddress 240.0.0.1 2001:db8::1\nrecord 1 file 1 packet 1\n\
+        record 2 file 1 packet 4\nrecord 3 file 1 packet 9\npassed file 1 packet 3 fragment\n\
+        capture records 9 segments 8 snapped 0 not-ipv4 0 fragments 1 not-tcp 0 refused 0\n\
+        connection client [2001:db8::1]:1 server 10.0.0.2:2 file 1 packet 1 tls 1.3 SUITE alpn h2 records 7\n\
+        flow client bytes 9 gap none tail 5 end cut\nflow server bytes 7 gap 7 tail 0 end no-key\nfragments 1\n\
+        connection client 10.0.0.1:1 server 10.0.0.2:2 file 1 packet 4 refused no-key\n";
+    const REPORT: &[u8] = b"capture records 3 segments 3 snapped 0 not-ipv4 0 fragments 0 not-tcp 0 refused 0\n\
+        unopened 240.0.0.1:9 10.0.0.2:2 segments 4\n\
+        connection 1 client 240.0.0.1:1 server 10.0.0.2:2 record 1 http2 frames 2\n\
+        flow client bytes 9 gap none tail 1\nflow server bytes 7 gap 7 tail 0\n\
+        frame 1 record 3 time 5 client stream-overrun stream 1 value -5\naudit of all frames\n\
+        connection 2 client 10.0.0.1:1 server 10.0.0.2:2 record 2 no-preface\nflow client bytes 0 gap none tail 0\n";
+    const WANTED: &str = "capture records 9 segments 8 snapped 0 not-ipv4 0 fragments 1 not-tcp 0 refused 0\n\
+        record 3 fragment\nunopened [2001:db8::1]:9 10.0.0.2:2 segments 4\n\
+        connection 1 client [2001:db8::1]:1 server 10.0.0.2:2 record 1 http2 frames 2\nfragments 1\n\
+        flow client bytes 9 gap none tail 6\nflow server bytes 7 gap 7 tail 0 end no-key\n\
+        frame 1 record 9 time 5 client stream-overrun stream 1 value -5\naudit of all frames\n\
+        connection 2 client 10.0.0.1:1 server 10.0.0.2:2 record 4 refused no-key\n";
+
+    /// The report of the original, where map and report are some.
+    fn brought_back(map: &[u8], report: &[u8]) -> Option<Vec<u8>> {
+        let (mut reading, mut out) = (Reading::default(), Vec::new());
+        reading.read(map).ok()?;
+        bring_back(report, &mut reading.original, &mut out).ok()?;
+        Some(out)
+    }
+
+    #[test]
+    fn each_line_is_about_the_original() {
+        assert_eq!(brought_back(MAP, REPORT).as_deref(), Some(WANTED.as_bytes()));
+    }
+
+    #[test]
+    fn mutated_maps_and_reports() {
+        mutations::each(20_000, |dice| {
+            let (map, report) = match dice.below(2) {
+                0 => (changed(MAP, dice, &INTERESTING), REPORT.to_vec()),
+                _ => (MAP.to_vec(), changed(REPORT, dice, &INTERESTING)),
+            };
+            brought_back(&map, &report);
+        });
+    }
+}

@@ -1,0 +1,67 @@
+//! What a capture gives: packets, secrets, and its end.
+
+use crate::error::Error;
+use crate::pcap;
+use crate::pcapng;
+use crate::source::Source;
+
+/// No capture has packets of more bytes; of one that claims to, none is kept.
+pub const MOST_CAPTURED: usize = 1 << 24;
+
+/// A captured packet. Its link type is none where a block of pcapng is numbered and is no packet, and where a packet has
+/// more than [`MOST_CAPTURED`] bytes.
+#[derive(Clone, Copy, Debug)]
+pub struct Packet<'a> {
+    /// Since 1970; a time that no 64 bits hold is the nearest one that they do.
+    pub nanos: i64,
+    pub link: Option<u16>,
+    pub data: &'a [u8],
+    /// How many bytes it had on its link.
+    pub original: u32,
+}
+
+#[derive(Clone, Copy, Debug)]
+pub enum Item<'a> {
+    Packet(Packet<'a>),
+    /// The text of a Decryption Secrets Block with a key log.
+    Secrets(&'a [u8]),
+    /// The last item of a file that ends within a packet, or of a compressed one that ends too early.
+    Cut,
+}
+
+/// The items of a capture of either format.
+pub enum Reader {
+    Pcap(pcap::Reader),
+    Pcapng(Box<pcapng::Reader>),
+}
+
+impl Reader {
+    /// By the magic of the file.
+    pub fn new(mut source: Source) -> Result<Reader, Error> {
+        let magic = source.fill(4)?;
+        if magic == pcapng::MAGIC {
+            return Ok(Reader::Pcapng(Box::new(pcapng::Reader::new(source))));
+        }
+        match magic.len() {
+            4 if pcap::format_of(magic).is_some() => Ok(Reader::Pcap(pcap::Reader::new(source)?)),
+            4 => Err(Error::refused("bad-magic")),
+            _ => Err(Error::refused("short-header")),
+        }
+    }
+
+    /// The next item; none at the end.
+    #[allow(clippy::should_implement_trait)] // an item borrows from the reader, which no Iterator's may
+    pub fn next(&mut self) -> Result<Option<Item<'_>>, Error> {
+        match self {
+            Reader::Pcap(reader) => reader.next(),
+            Reader::Pcapng(reader) => reader.next(),
+        }
+    }
+
+    pub fn source(&self) -> &Source {
+        match self {
+            Reader::Pcap(reader) => reader.source(),
+            Reader::Pcapng(reader) => reader.source(),
+        }
+    }
+}

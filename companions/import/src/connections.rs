@@ -1,0 +1,460 @@
+//! A connection of the capture, by h2audit's rules (docs/AUDIT_RULES.md, 3), and what is written of it.
+//!
+//! It is undecided until the first bytes of a side are there: what begins like TLS is read as TLS, all else goes through
+//! as it stands. Of a TLS connection its openings are written, and a segment for the plaintext of each record. What a
+//! proxy put before the bytes is left out.
+
+use captures::{flags, swapped, Arrival, Ends, Flow, HeldSegment, Segment, END_OF_OFFSETS, MOST_HELD};
+use tls::{looks_like_tls, Emit, Known, Shared, CLIENT, SERVER, TLS_1_2};
+
+use crate::outcomes::{Became, End, Outcome, Read, SideRead};
+use crate::preamble::{look, Found, Preamble};
+use crate::shifted::Shift;
+use crate::sink::Sink;
+
+const HEADERS_LENGTH: usize = 40;
+const PUSH_AND_ACK: u8 = 0x18;
+
+/// A segment that is kept, the packet that brought it, and the side that sent it.
+struct Arrived {
+    arrival: Arrival,
+    side: usize,
+    segment: HeldSegment,
+}
+
+/// What is known of a connection's bytes.
+enum Mode {
+    Undecided(Option<Box<Undecided>>),
+    Clear,
+    /// In the clear, behind a preamble.
+    Behind(Box<Shift>),
+    Tls(Box<tls::Connection>),
+}
+
+/// All segments behind the openings, until the first bytes tell.
+#[derive(Default)]
+struct Undecided {
+    flows: [Flow; 2],
+    begun: [Vec<u8>; 2],
+    held: Vec<Arrived>,
+    cost: usize,
+}
+
+enum Verdict {
+    Wait,
+    Clear,
+    Tls,
+}
+
+/// Ends and numbers of a connection, of which the plaintext that is written has its own.
+struct Numbers {
+    ends: [Ends; 2],
+    initial: [Option<u32>; 2],
+    sent: [u32; 2],
+}
+
+/// An opening with all segments that belong to it.
+pub struct Connection {
+    pub opening: u64,
+    numbers: Numbers,
+    mode: Mode,
+    preamble: Option<Preamble>,
+    /// In TLS, the segments of a server without its SYN ACK.
+    held: Vec<Arrived>,
+    cost: usize,
+    is_snapped: bool,
+    /// The offset of each side's FIN.
+    ends_at: [Option<u32>; 2],
+    has_client_ended: bool,
+    /// Whether the table knows that it waits for a key.
+    pub is_listed: bool,
+}
+
+impl Connection {
+    pub fn new(arrival: Arrival, segment: &Segment<'_>) -> Connection {
+        Connection {
+            opening: arrival.packet,
+            numbers: Numbers {
+                ends: [segment.ends, swapped(&segment.ends)],
+                initial: [Some(segment.sequence), None],
+                sent: [0; 2],
+            },
+            mode: Mode::Undecided(None),
+            preamble: None,
+            held: Vec::new(),
+            cost: 0,
+            is_snapped: false,
+            ends_at: [None; 2],
+            has_client_ended: false,
+            is_listed: false,
+        }
+    }
+
+    /// Of what its client sends.
+    pub fn ends(&self) -> &Ends {
+        &self.numbers.ends[CLIENT]
+    }
+
+    /// The number of the SYN that opened it.
+    pub fn initial(&self) -> Option<u32> {
+        self.numbers.initial[CLIENT]
+    }
+
+    pub fn is_clear(&self) -> bool {
+        matches!(self.mode, Mode::Clear)
+    }
+
+    pub fn is_tls(&self) -> bool {
+        matches!(self.mode, Mode::Tls(_))
+    }
+
+    fn tls(&self) -> Option<&tls::Connection> {
+        match &self.mode {
+            Mode::Tls(tls) => Some(tls),
+            _ => None,
+        }
+    }
+
+    pub fn take(
+        &mut self,
+        shared: &mut Shared,
+        sink: &mut Sink<'_>,
+        arrival: Arrival,
+        side: usize,
+        segment: &Segment<'_>,
+    ) {
+        let both = flags::SYN | flags::ACK;
+        let is_answer = side == SERVER && segment.flags & both == both && self.numbers.initial[SERVER].is_none();
+        if is_answer {
+            self.numbers.initial[SERVER] = Some(segment.sequence);
+        }
+        match &self.mode {
+            Mode::Undecided(_) => self.take_undecided(shared, sink, arrival, side, segment),
+            Mode::Clear => sink.emit(arrival, segment.original, segment.datagram()),
+            Mode::Behind(shift) => shift.emit(sink, arrival, side, segment, &self.numbers.initial),
+            Mode::Tls(_) if is_answer => {
+                sink.emit(arrival, segment.start as u32, without_payload(segment, &mut Vec::new()));
+                for one in std::mem::take(&mut self.held) {
+                    self.take_tls(shared, sink, one.arrival, one.side, &one.segment.segment());
+                }
+                self.take_tls(shared, sink, arrival, side, segment);
+            }
+            Mode::Tls(_) => self.take_tls(shared, sink, arrival, side, segment),
+        }
+    }
+
+    /// Where a segment's payload stands in its side's bytes (RFC 9293, 3.4), and what of it counts.
+    fn placed<'a>(&self, side: usize, segment: &Segment<'a>) -> Option<(u32, &'a [u8])> {
+        let before = self.preamble.map_or(0, |preamble| preamble.lengths[side]);
+        let initial = self.numbers.initial[side]?.wrapping_add(before);
+        placed(initial, segment)
+    }
+
+    // Undecided
+
+    fn take_undecided(
+        &mut self,
+        shared: &mut Shared,
+        sink: &mut Sink<'_>,
+        arrival: Arrival,
+        side: usize,
+        segment: &Segment<'_>,
+    ) {
+        self.is_snapped |= segment.is_snapped;
+        let is_syn = segment.flags & flags::SYN != 0;
+        let begun = match &mut self.mode {
+            Mode::Undecided(undecided) => undecided.take(),
+            _ => None,
+        };
+        if begun.is_none() && is_syn && !segment.has_payload() {
+            sink.emit(arrival, segment.original, segment.datagram());
+            return;
+        }
+        let mut undecided = begun.unwrap_or_default();
+        undecided.cost += segment.datagram_length();
+        undecided.held.push(Arrived { arrival, side, segment: segment.held() });
+        let from = if side == SERVER && is_syn { 0 } else { undecided.held.len() - 1 };
+        match self.look_at(&mut undecided, side, from) {
+            Verdict::Wait if undecided.cost <= MOST_HELD => self.mode = Mode::Undecided(Some(undecided)),
+            Verdict::Wait | Verdict::Clear => self.go_on_clear(sink, undecided.held),
+            Verdict::Tls => self.go_on_tls(shared, sink, undecided.held),
+        }
+    }
+
+    /// Puts the bytes of a side in order, of what is held from a place on, and looks at what has begun.
+    fn look_at(&mut self, undecided: &mut Undecided, side: usize, from: usize) -> Verdict {
+        let Undecided { flows, begun, held, .. } = undecided;
+        for one in held[from..].iter().filter(|one| one.side == side) {
+            if let Some((offset, data)) = self.placed(side, &one.segment.segment()) {
+                let data = flows[side].add(offset, data, one.arrival);
+                if data.is_empty() {
+                    continue;
+                }
+                begun[side].extend_from_slice(&data);
+                match self.verdict(begun) {
+                    Verdict::Wait => {}
+                    decided => return decided,
+                }
+            }
+        }
+        Verdict::Wait
+    }
+
+    fn verdict(&mut self, begun: &[Vec<u8>; 2]) -> Verdict {
+        let lengths = match look(&begun[CLIENT], &begun[SERVER]) {
+            Found::Maybe => return Verdict::Wait,
+            Found::No => [0, 0],
+            Found::Yes(preamble) => preamble.lengths,
+        };
+        let [client, server] = [CLIENT, SERVER].map(|side| &begun[side][lengths[side] as usize..]);
+        if client.is_empty() && server.is_empty() {
+            return Verdict::Wait;
+        }
+        if let Found::Yes(preamble) = look(&begun[CLIENT], &begun[SERVER]) {
+            self.preamble = Some(preamble);
+        }
+        let is_tls = if client.is_empty() { looks_like_tls(server, true) } else { looks_like_tls(client, false) };
+        if is_tls {
+            Verdict::Tls
+        } else {
+            Verdict::Clear
+        }
+    }
+
+    fn go_on_clear(&mut self, sink: &mut Sink<'_>, held: Vec<Arrived>) {
+        self.mode = match self.preamble {
+            None => Mode::Clear,
+            Some(preamble) => Mode::Behind(Box::new(Shift::new(preamble.lengths))),
+        };
+        for one in &held {
+            let segment = one.segment.segment();
+            match &self.mode {
+                Mode::Behind(shift) => shift.emit(sink, one.arrival, one.side, &segment, &self.numbers.initial),
+                _ => sink.emit(one.arrival, segment.original, segment.datagram()),
+            }
+        }
+    }
+
+    fn go_on_tls(&mut self, shared: &mut Shared, sink: &mut Sink<'_>, held: Vec<Arrived>) {
+        self.mode = Mode::Tls(Box::new(tls::Connection::new(self.opening, shared)));
+        for one in held {
+            let segment = one.segment.segment();
+            if segment.flags & flags::SYN != 0 {
+                sink.emit(one.arrival, segment.start as u32, without_payload(&segment, &mut Vec::new()));
+            }
+            self.take_tls(shared, sink, one.arrival, one.side, &segment);
+        }
+    }
+
+    // TLS
+
+    fn take_tls(
+        &mut self,
+        shared: &mut Shared,
+        sink: &mut Sink<'_>,
+        arrival: Arrival,
+        side: usize,
+        segment: &Segment<'_>,
+    ) {
+        self.has_client_ended |= side == CLIENT && segment.flags & (flags::FIN | flags::RST) != 0;
+        let initial = self.numbers.initial[side];
+        if let Some(initial) = initial.filter(|_| segment.flags & flags::FIN != 0) {
+            let before = self.preamble.map_or(0, |preamble| preamble.lengths[side]);
+            let length = (segment.end - segment.start) as u32;
+            self.ends_at[side] =
+                Some(segment.sequence.wrapping_add(length).wrapping_sub(initial).wrapping_sub(1).wrapping_sub(before));
+        }
+        if !segment.has_payload() || self.tls().map_or(true, |tls| tls.refused().is_some()) {
+            return;
+        }
+        self.is_snapped |= segment.is_snapped;
+        if initial.is_none() {
+            self.hold(arrival, side, segment);
+            return;
+        }
+        let placed = self.placed(side, segment);
+        if let (Some((offset, data)), Mode::Tls(tls)) = (placed, &mut self.mode) {
+            let mut plain = Plain { numbers: &mut self.numbers, sink };
+            tls.segment(shared, &mut plain, side, offset, data, arrival);
+        }
+    }
+
+    /// Whether nothing more is to be told of it: it is refused, or all bytes up to both sides' FIN are there, and read.
+    /// What may still come repeats some of them.
+    pub fn is_over(&self) -> bool {
+        let tls = match self.tls() {
+            Some(tls) if self.numbers.initial[SERVER].is_some() => tls,
+            _ => return false,
+        };
+        if tls.refused().is_some() {
+            return true;
+        }
+        let is_at_end = |side: usize| self.ends_at[side] == Some(tls.side(side).flow().next());
+        !tls.is_waiting() && is_at_end(CLIENT) && is_at_end(SERVER)
+    }
+
+    /// Whether its end would write nothing, and no more is known to be missing.
+    pub fn is_quiet(&self) -> bool {
+        let is_whole =
+            |tls: &tls::Connection, side: usize| tls.side(side).end().is_none() && !tls.side(side).flow().has_hole();
+        self.tls().map_or(false, |tls| {
+            !tls.is_waiting()
+                && self.numbers.initial[SERVER].is_some()
+                && is_whole(tls, CLIENT)
+                && is_whole(tls, SERVER)
+        })
+    }
+
+    pub fn waits_for_key(&self) -> bool {
+        self.tls().map_or(false, |tls| tls.handshake().waits_for_key())
+    }
+
+    /// The client's random, by which its keys are known.
+    pub fn random(&self) -> Option<tls::Random> {
+        self.tls().and_then(|tls| tls.handshake().client_random())
+    }
+
+    /// Asks for the secret of an earlier session, where it waits for one.
+    pub fn resume(&self, shared: &mut Shared) {
+        if let Some(tls) = self.tls().filter(|tls| tls.handshake().is_resumed(&shared.keys)) {
+            tls.handshake().resume(shared);
+        }
+    }
+
+    /// Goes on with what waited for keys.
+    pub fn advance(&mut self, shared: &mut Shared, sink: &mut Sink<'_>) {
+        if let Mode::Tls(tls) = &mut self.mode {
+            tls.advance(shared, &mut Plain { numbers: &mut self.numbers, sink });
+        }
+    }
+
+    /// Keeps what cannot be placed before the server's SYN ACK; past a limit that is not waited for.
+    fn hold(&mut self, arrival: Arrival, side: usize, segment: &Segment<'_>) {
+        self.cost += segment.datagram_length();
+        if self.cost <= MOST_HELD {
+            self.held.push(Arrived { arrival, side, segment: segment.held() });
+        } else {
+            self.held = Vec::new();
+        }
+    }
+
+    // The end
+
+    /// Ends the connection with the capture, and says what became of it.
+    pub fn finish(&mut self, shared: &mut Shared, sink: &mut Sink<'_>) -> Outcome {
+        if let Mode::Undecided(undecided) = &mut self.mode {
+            let held = undecided.take().map_or_else(Vec::new, |undecided| undecided.held);
+            self.go_on_clear(sink, held);
+        }
+        let became = match &mut self.mode {
+            Mode::Tls(tls) => {
+                let known = Known {
+                    is_snapped: self.is_snapped,
+                    has_answer: self.numbers.initial[SERVER].is_some(),
+                    has_client_ended: self.has_client_ended,
+                };
+                let mut plain = Plain { numbers: &mut self.numbers, sink };
+                tls.finish(shared, &mut plain, &known);
+                became(tls, &mut plain)
+            }
+            _ => Became::Clear,
+        };
+        let preamble = self.preamble.filter(|_| !matches!(became, Became::Refused(_)));
+        Outcome { opening: self.opening, ends: self.numbers.ends[CLIENT], became, preamble, fragments: 0 }
+    }
+}
+
+fn became(tls: &tls::Connection, plain: &mut Plain<'_, '_>) -> Became {
+    if let Some(why) = tls.refused() {
+        return Became::Refused(why);
+    }
+    let [client, server] = [CLIENT, SERVER].map(|side| side_read(tls, plain, side));
+    let known = tls.handshake();
+    let (early_records, rejected_records) = known.early_data();
+    Became::Read(Box::new(Read {
+        version: if known.version() == Some(TLS_1_2) { "1.2" } else { "1.3" },
+        suite: known.suite().map_or("-", |suite| suite.name),
+        protocol: known.protocol().map(<[u8]>::to_vec),
+        records: tls.count(),
+        early_records,
+        rejected_records,
+        client,
+        server,
+    }))
+}
+
+/// How far a side's plaintext goes. A byte past a hole makes h2audit say that there is one.
+fn side_read(tls: &tls::Connection, plain: &mut Plain<'_, '_>, index: usize) -> SideRead {
+    let side = tls.side(index);
+    let bytes = plain.numbers.sent[index];
+    let lost = side.end().map(|(_, arrival)| arrival).or_else(|| side.flow().behind_hole());
+    if let Some(arrival) = lost {
+        plain.numbers.write(plain.sink, index, bytes + 1, b"\0", arrival);
+    }
+    let tail = if side.end().is_none() { side.tail() } else { 0 };
+    let end = match side.end() {
+        Some((why, _)) => End::Stopped(why),
+        None if lost.is_some() => End::Lost,
+        None if tail > 0 && side.flow().next() == END_OF_OFFSETS => End::TooLarge,
+        None if tail > 0 => End::Cut,
+        None => End::Whole,
+    };
+    SideRead { bytes, has_gap: lost.is_some(), tail, end }
+}
+
+/// Takes plaintext to the capture that is made.
+struct Plain<'a, 'b> {
+    numbers: &'a mut Numbers,
+    sink: &'a mut Sink<'b>,
+}
+
+impl Emit for Plain<'_, '_> {
+    fn emit(&mut self, side: usize, content: &[u8], arrival: Arrival) {
+        let offset = self.numbers.sent[side];
+        self.numbers.sent[side] = offset.wrapping_add(content.len() as u32);
+        self.numbers.write(self.sink, side, offset, content, arrival);
+    }
+}
+
+impl Numbers {
+    /// Writes a segment of these bytes, as its side would have sent them without TLS.
+    fn write(&self, sink: &mut Sink<'_>, side: usize, offset: u32, content: &[u8], arrival: Arrival) {
+        let (ends, other) = (&self.ends[side], 1 - side);
+        let next = |initial: u32, sent: u32| initial.wrapping_add(1).wrapping_add(sent);
+        let sequence = next(self.initial[side].unwrap_or(0), offset);
+        let answer = self.initial[other].map_or(0, |initial| next(initial, self.sent[other]));
+        let total = HEADERS_LENGTH + content.len();
+        let mut headers = [0; HEADERS_LENGTH];
+        headers[0] = 0x45;
+        headers[2..4].copy_from_slice(&(total as u16).to_be_bytes());
+        headers[6..10].copy_from_slice(&[0x40, 0, 64, 6]);
+        headers[12..24].copy_from_slice(ends);
+        headers[24..28].copy_from_slice(&sequence.to_be_bytes());
+        headers[28..32].copy_from_slice(&answer.to_be_bytes());
+        headers[32..36].copy_from_slice(&[0x50, PUSH_AND_ACK, 0xFF, 0xFF]);
+        sink.emit(arrival, total as u32, [&headers, content]);
+    }
+}
+
+/// Where a segment's payload stands behind this number, and what of it counts.
+pub fn placed<'a>(initial: u32, segment: &Segment<'a>) -> Option<(u32, &'a [u8])> {
+    if !segment.has_payload() {
+        return None;
+    }
+    let syn = u32::from(segment.flags & flags::SYN != 0);
+    let offset = segment.sequence.wrapping_add(syn).wrapping_sub(initial).wrapping_sub(1);
+    let data = segment.payload();
+    if offset < END_OF_OFFSETS {
+        return Some((offset, data));
+    }
+    let before = offset.wrapping_neg() as usize;
+    (before < data.len()).then(|| (0, &data[before..]))
+}
+
+/// A segment's datagram with its headers alone, for which there is some room.
+pub fn without_payload<'a>(segment: &Segment<'_>, room: &'a mut Vec<u8>) -> [&'a [u8]; 2] {
+    segment.headers().iter().for_each(|part| room.extend_from_slice(part));
+    let length = (segment.start as u16).to_be_bytes();
+    room[2..4].copy_from_slice(&length);
+    [room, &[]]
+}

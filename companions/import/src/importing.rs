@@ -1,0 +1,322 @@
+//! The pipeline: from files to the capture that is made, and its map.
+
+use std::collections::HashMap;
+use std::ffi::{OsStr, OsString};
+use std::fs::File;
+
+use captures::{
+    pcapng, Arrival, Decoder, Ends, Error, Fragment, Item, Packet, PassedOver, Reader, Source, STANDARD_INPUT,
+};
+use programs::{printable, say, Failure};
+use tls::Shared;
+
+use crate::course::Course;
+use crate::others::Others;
+use crate::outcomes::{Back, Counts, Summary};
+use crate::progress::Progress;
+use crate::sink::{Problem, Sink};
+use crate::table::{Belongs, Table};
+
+/// Datagrams whose fragments are known to be of some connection.
+const MOST_FRAGMENTED: usize = 1 << 12;
+/// So often it is looked whether something went wrong in writing, and how far the work is.
+const MOST_BETWEEN_LOOKS: u64 = 0x3FF;
+
+/// What is imported.
+pub struct Asked<'a> {
+    pub program: &'a str,
+    /// In the order in which they are read; standard input where there is none.
+    pub files: &'a [OsString],
+    pub key_logs: &'a [OsString],
+    /// Whether what is made can be taken back, so that the files are read once more where that gives more keys.
+    pub can_repeat: bool,
+}
+
+/// Reads all files into the sink; once more where the sessions in them show secrets for more connections. What a user
+/// should know besides is said on standard error.
+pub fn imported(asked: &Asked<'_>, sink: &mut Sink<'_>, course: &mut Option<Course<'_>>) -> Result<Summary, Failure> {
+    let standard = [OsString::from(STANDARD_INPUT)];
+    let files = if asked.files.is_empty() { &standard[..] } else { asked.files };
+    let mut shared = Shared::default();
+    read_keys(asked, files, &mut shared)?;
+    shared.keys.waits_for_sessions = shared.more_keys || !asked.can_repeat;
+    let (mut summary, missed) = read_through(asked, files, &mut shared, sink, course, true)?;
+    if !missed.is_empty() {
+        sink.begin_anew()?;
+        *course = course.take().map(Course::begin_anew).transpose()?;
+        shared.sessions = Default::default();
+        shared.keys.add_text(&missed);
+        summary = read_through(asked, files, &mut shared, sink, course, false)?.0;
+    }
+    Ok(summary)
+}
+
+/// The keys that are known before the capture is read, and whether more may come in it.
+fn read_keys(asked: &Asked<'_>, files: &[OsString], shared: &mut Shared) -> Result<(), Failure> {
+    for path in asked.key_logs {
+        let read = File::open(path).and_then(|file| shared.keys.read(file));
+        read.map_err(|error| Failure::of_file(path, &error))?;
+    }
+    for path in files {
+        if !Source::can_be_read_twice(path).map_err(|error| Failure::of_file(path, &error))? {
+            shared.more_keys = true;
+            continue;
+        }
+        let scanned = Source::open(path).and_then(|mut source| match source.fill(4)? == pcapng::MAGIC {
+            true => pcapng::secrets_in(source, |text| drop(shared.keys.add_text(text))),
+            false => Ok(()),
+        });
+        match scanned {
+            Err(Error::Io(error)) => return Err(Failure::of_file(path, &error)),
+            Ok(()) | Err(Error::Refused(_)) => {} // refusals are for the reading of the packets
+        }
+    }
+    let bad = shared.keys.bad_lines;
+    if bad > 0 {
+        say(asked.program, &format!("{bad} lines of the key logs are none, and were passed over"));
+    }
+    Ok(())
+}
+
+fn read_through(
+    asked: &Asked<'_>,
+    files: &[OsString],
+    shared: &mut Shared,
+    sink: &mut Sink<'_>,
+    course: &mut Option<Course<'_>>,
+    is_first: bool,
+) -> Result<(Summary, Vec<u8>), Failure> {
+    let mut importer = Importer::new(shared, sink, course, Progress::new(asked.program));
+    for path in files {
+        let has_bytes_behind = importer.file(path).map_err(|problem| problem.failure(Some(path)))?;
+        if has_bytes_behind && is_first {
+            let path = printable(path);
+            say(asked.program, &format!("{path}: bytes behind the end of what gzip packed were passed over"));
+        }
+    }
+    let (summary, missed) = importer.finish().map_err(|problem| problem.failure(None))?;
+    if let Some(back) = summary.back.filter(|_| is_first) {
+        let packet = back.packet;
+        say(asked.program, &times_go_back(packet));
+    }
+    Ok((summary, missed))
+}
+
+/// What is said of packets whose times lie before that of the packet before them; this is the first of them.
+pub fn times_go_back(packet: u64) -> String {
+    format!("times go back at packet {packet}: are the files in order? reordercap")
+}
+
+/// What ends the work early.
+enum Early {
+    Capture(Error),
+    Problem(Problem),
+}
+
+impl From<Error> for Early {
+    fn from(error: Error) -> Early {
+        Early::Capture(error)
+    }
+}
+
+impl Early {
+    fn failure(self, path: Option<&OsString>) -> Failure {
+        let named = path.map_or(String::new(), |path| format!(": {}", printable(path)));
+        match self {
+            Early::Capture(Error::Refused(name)) => Failure::Refused(format!("capture refused: {name}{named}")),
+            Early::Capture(Error::Io(error)) => match path {
+                Some(path) if path != STANDARD_INPUT => Failure::of_file(path, &error),
+                _ => Failure::from_io("standard input", &error),
+            },
+            Early::Problem(Problem::BadTime) => Failure::Refused(format!("capture refused: bad-time{named}")),
+            Early::Problem(Problem::Failed(failure)) => failure,
+        }
+    }
+}
+
+/// Takes files, and hands their segments to the table of connections.
+struct Importer<'a, 'b, 'c> {
+    shared: &'a mut Shared,
+    sink: &'a mut Sink<'b>,
+    course: &'a mut Option<Course<'c>>,
+    progress: Progress,
+    decoder: Decoder,
+    table: Table,
+    packets: u64,
+    counts: Counts,
+    others: Others,
+    last: Option<i64>,
+    back: Option<Back>,
+    fragmented: HashMap<([u8; 8], u32), Ends>,
+}
+
+impl<'a, 'b, 'c> Importer<'a, 'b, 'c> {
+    fn new(
+        shared: &'a mut Shared,
+        sink: &'a mut Sink<'b>,
+        course: &'a mut Option<Course<'c>>,
+        progress: Progress,
+    ) -> Importer<'a, 'b, 'c> {
+        Importer {
+            shared,
+            sink,
+            course,
+            progress,
+            decoder: Decoder::default(),
+            table: Table::default(),
+            packets: 0,
+            counts: Counts::default(),
+            others: Others::default(),
+            last: None,
+            back: None,
+            fragmented: HashMap::new(),
+        }
+    }
+
+    /// Reads a file, and answers whether bytes stood behind the end of what gzip packed.
+    fn file(&mut self, path: &OsStr) -> Result<bool, Early> {
+        let source = Source::open(path)?;
+        self.sink.map.begin_file(path, self.packets);
+        if let Some(course) = self.course {
+            course.begin_file(path, self.packets);
+        }
+        let mut reader = Reader::new(source)?;
+        while let Some(item) = reader.next()? {
+            match item {
+                Item::Packet(packet) => self.packet(&packet)?,
+                Item::Secrets(text) => self.secrets(text),
+                Item::Cut => self.sink.map.cut(self.packets + 1),
+            }
+            if self.sink.has_problem() {
+                break;
+            }
+        }
+        self.look_for_problems()?;
+        Ok(reader.source().has_bytes_behind())
+    }
+
+    fn look_for_problems(&mut self) -> Result<(), Early> {
+        let course = self.course.as_mut().and_then(|course| course.take_failure()).map(Problem::Failed);
+        match self.sink.take_problem().or(course) {
+            None => Ok(()),
+            Some(problem) => Err(Early::Problem(problem)),
+        }
+    }
+
+    fn packet(&mut self, packet: &Packet<'_>) -> Result<(), Early> {
+        self.packets += 1;
+        if self.packets & MOST_BETWEEN_LOOKS == 0 {
+            self.progress.tell(self.packets);
+            self.look_for_problems()?;
+        }
+        let arrival = Arrival { packet: self.packets, nanos: packet.nanos };
+        if packet.link.is_some() {
+            self.look_at_time(arrival);
+        }
+        let segment = match self.decoder.segment(packet)? {
+            Ok(segment) => segment,
+            Err(why) => {
+                self.pass_over(&why);
+                return Ok(());
+            }
+        };
+        self.counts.segments += 1;
+        self.counts.snapped += u64::from(segment.is_snapped);
+        if self.decoder.has_addresses() {
+            self.name_addresses();
+        }
+        let belongs = self.table.take(self.shared, self.sink, arrival, &segment);
+        if let Some(course) = self.course {
+            match belongs {
+                Belongs::Opens => course.opened(arrival, &segment),
+                Belongs::Side(_) => course.segment(arrival, &segment),
+                Belongs::Stray => {}
+            }
+        }
+        Ok(())
+    }
+
+    fn look_at_time(&mut self, arrival: Arrival) {
+        let before = self.last.replace(arrival.nanos).unwrap_or(arrival.nanos);
+        if arrival.nanos < before {
+            let nanos = before.abs_diff(arrival.nanos);
+            let back = self.back.get_or_insert(Back { packet: arrival.packet, packets: 0, nanos });
+            back.packets += 1;
+            back.nanos = back.nanos.max(nanos);
+            if let Some(course) = self.course {
+                course.back(arrival, nanos);
+            }
+        }
+    }
+
+    fn name_addresses(&mut self) {
+        for (stand_in, original) in self.decoder.take_addresses() {
+            self.sink.map.address(stand_in, original);
+            if let Some(course) = self.course {
+                course.address(stand_in, original);
+            }
+        }
+    }
+
+    fn pass_over(&mut self, why: &PassedOver) {
+        self.others.add(why);
+        match why {
+            PassedOver::NotIp(_) => self.counts.not_ip += 1,
+            PassedOver::NotTcp(..) => self.counts.not_tcp += 1,
+            PassedOver::Refused(_) => self.counts.refused += 1,
+            PassedOver::Fragment(fragment) => {
+                self.counts.fragments += 1;
+                if let Some(fragment) = fragment {
+                    self.count_fragment(fragment);
+                }
+            }
+        }
+        self.sink.map.passed(self.packets, why);
+    }
+
+    /// Counts a fragment at its connection: the first one of a datagram has the ports.
+    fn count_fragment(&mut self, fragment: &Fragment) {
+        let datagram = (fragment.addresses, fragment.identification);
+        if let Some(ports) = fragment.ports {
+            let mut ends = [0; 12];
+            ends[..8].copy_from_slice(&fragment.addresses);
+            ends[8..].copy_from_slice(&ports);
+            if self.fragmented.len() >= MOST_FRAGMENTED {
+                self.fragmented.clear();
+            }
+            self.fragmented.insert(datagram, ends);
+        }
+        if let Some(ends) = self.fragmented.get(&datagram) {
+            self.table.fragment(ends);
+        }
+    }
+
+    fn secrets(&mut self, text: &[u8]) {
+        if self.shared.more_keys {
+            let randoms = self.shared.keys.add_text(text);
+            self.table.keys_came(self.shared, self.sink, &randoms);
+        }
+    }
+
+    /// Ends all connections, and answers what the map says last; and lines of a key log with which more could be read,
+    /// from the beginning.
+    fn finish(mut self) -> Result<(Summary, Vec<u8>), Early> {
+        self.table.ask_for_sessions(self.shared);
+        let mut missed = tls::lines_for(&self.shared.sessions, &self.shared.keys);
+        if !missed.is_empty() && self.shared.keys.waits_for_sessions {
+            let randoms = self.shared.keys.add_text(&std::mem::take(&mut missed));
+            self.table.keys_came(self.shared, self.sink, &randoms);
+        }
+        self.counts.records = self.packets;
+        let (outcomes, unopened) = std::mem::take(&mut self.table).finish_all(self.shared, self.sink);
+        let summary =
+            Summary { counts: self.counts, back: self.back, others: self.others.most_seen(), unopened, outcomes };
+        self.sink.map.finish(&summary);
+        if let Some(course) = self.course {
+            course.finish();
+        }
+        self.look_for_problems()?;
+        self.progress.end();
+        Ok((summary, missed))
+    }
+}

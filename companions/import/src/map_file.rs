@@ -1,0 +1,179 @@
+//! Writes the map of a capture that is made (docs/MAP.md).
+
+use std::ffi::OsStr;
+use std::io::{self, Write};
+use std::net::Ipv4Addr;
+
+use captures::PassedOver;
+use programs::{Failure, Output};
+
+use crate::addresses::{escaped, escaped_path, Addresses};
+use crate::map::{Files, Map};
+use crate::others::Kind;
+use crate::outcomes::{Became, Outcome, Read, SideRead, Summary};
+
+const FIRST_LINE: &str = "h2audit-map 1";
+
+/// The lines of a map, written as they become known; without a file they go nowhere.
+pub struct MapFile<'a> {
+    out: Option<&'a mut Output>,
+    files: Files,
+    addresses: Addresses,
+    failure: Option<Failure>,
+    /// Where a line is put together.
+    line: Vec<u8>,
+}
+
+impl<'a> MapFile<'a> {
+    pub fn new(out: Option<&'a mut Output>) -> MapFile<'a> {
+        let mut map =
+            MapFile { out, files: Files::default(), addresses: Addresses::default(), failure: None, line: Vec::new() };
+        map.line(format_args!("{FIRST_LINE}"));
+        map
+    }
+
+    fn line(&mut self, text: std::fmt::Arguments<'_>) {
+        self.written(|out| out.write_fmt(text).and_then(|()| out.write_all(b"\n")));
+    }
+
+    fn written(&mut self, write: impl FnOnce(&mut Output) -> io::Result<()>) {
+        if let Some(out) = self.out.as_mut().filter(|_| self.failure.is_none()) {
+            if let Err(error) = write(out) {
+                self.failure = Some(out.failure(&error));
+            }
+        }
+    }
+
+    fn connection(&mut self, outcome: &Outcome) {
+        let (client, server) = self.addresses.endpoints(&outcome.ends);
+        let (file, packet) = self.files.place(outcome.opening);
+        let said = said_of(&outcome.became);
+        self.line(format_args!("connection client {client} server {server} file {file} packet {packet} {said}"));
+        if let Became::Read(read) = &outcome.became {
+            self.sides(read);
+        }
+        if let Some(preamble) = outcome.preamble {
+            let [client, server] = preamble.lengths;
+            self.line(format_args!("behind {} client {client} server {server}", preamble.kind.name()));
+        }
+        if outcome.fragments > 0 {
+            self.line(format_args!("fragments {}", outcome.fragments));
+        }
+    }
+
+    fn sides(&mut self, read: &Read) {
+        self.side("client", &read.client);
+        self.side("server", &read.server);
+        let (accepted, rejected) = (read.early_records, read.rejected_records);
+        if accepted > 0 || rejected > 0 {
+            self.line(format_args!("early-data accepted {accepted} rejected {rejected}"));
+        }
+    }
+
+    fn side(&mut self, name: &str, side: &SideRead) {
+        let SideRead { bytes, tail, end, .. } = side;
+        let gap = if side.has_gap { bytes.to_string() } else { "none".to_string() };
+        self.line(format_args!("flow {name} bytes {bytes} gap {gap} tail {tail} end {end}"));
+    }
+}
+
+fn said_of(became: &Became) -> String {
+    match became {
+        Became::Clear => "clear".to_string(),
+        Became::Refused(why) => format!("refused {why}"),
+        Became::Read(read) => {
+            let protocol = read.protocol.as_ref().map_or("none".to_string(), |protocol| escaped(protocol));
+            format!("tls {} {} alpn {protocol} records {}", read.version, read.suite, read.records)
+        }
+    }
+}
+
+impl Map for MapFile<'_> {
+    fn begin_file(&mut self, path: &OsStr, packets_before: u64) {
+        self.files.begin(packets_before);
+        self.line(format_args!("file {} {}", self.files.count(), escaped_path(path)));
+    }
+
+    fn address(&mut self, stand_in: [u8; 4], original: [u8; 16]) {
+        let original = self.addresses.add(stand_in, original).to_string();
+        self.line(format_args!("address {} {original}", Ipv4Addr::from(stand_in)));
+    }
+
+    fn record(&mut self, number: u64, packet: u64) {
+        if self.out.is_none() {
+            return;
+        }
+        let (file, packet) = self.files.place(packet);
+        let mut digits = [itoa::Buffer::new(), itoa::Buffer::new(), itoa::Buffer::new()];
+        let [first, second, third] = &mut digits;
+        let parts =
+            ["record ", first.format(number), " file ", second.format(file), " packet ", third.format(packet), "\n"];
+        let mut line = std::mem::take(&mut self.line);
+        line.clear();
+        parts.iter().for_each(|part| line.extend_from_slice(part.as_bytes()));
+        self.written(|out| out.write_all(&line));
+        self.line = line;
+    }
+
+    fn passed(&mut self, packet: u64, why: &PassedOver) {
+        let (file, packet) = self.files.place(packet);
+        match why {
+            PassedOver::Fragment(_) => self.line(format_args!("passed file {file} packet {packet} fragment")),
+            PassedOver::Refused(why) => self.line(format_args!("passed file {file} packet {packet} refused {why}")),
+            PassedOver::NotIp(_) | PassedOver::NotTcp(..) => {}
+        }
+    }
+
+    fn cut(&mut self, packet: u64) {
+        let (file, packet) = self.files.place(packet);
+        self.line(format_args!("passed file {file} packet {packet} cut"));
+    }
+
+    fn finish(&mut self, summary: &Summary) {
+        let counts = &summary.counts;
+        self.line(format_args!(
+            "capture records {} segments {} snapped {} not-ipv4 {} fragments {} not-tcp {} refused {}",
+            counts.records,
+            counts.segments,
+            counts.snapped,
+            counts.not_ip,
+            counts.fragments,
+            counts.not_tcp,
+            counts.refused
+        ));
+        if let Some(back) = summary.back {
+            let (file, packet) = self.files.place(back.packet);
+            let (packets, nanos) = (back.packets, back.nanos);
+            self.line(format_args!("back file {file} packet {packet} packets {packets} nanos {nanos}"));
+        }
+        for other in &summary.others {
+            let (name, packets) = (other.kind.name(), other.packets);
+            match other.kind {
+                Kind::EtherType(kind) => {
+                    self.line(format_args!("other ethertype 0x{kind:04x} {name} packets {packets}"))
+                }
+                Kind::Protocol(number) => self.line(format_args!("other protocol {number} {name} packets {packets}")),
+                Kind::Udp(port) => self.line(format_args!("other udp-port {port} {name} packets {packets}")),
+            }
+        }
+        for pair in &summary.unopened {
+            let (source, target) = self.addresses.endpoints(&pair.ends);
+            let (file, packet) = self.files.place(pair.first.packet);
+            let segments = pair.segments;
+            self.line(format_args!("unopened {source} {target} file {file} packet {packet} segments {segments}"));
+        }
+        summary.outcomes.iter().for_each(|outcome| self.connection(outcome));
+    }
+
+    fn begin_anew(&mut self) -> Result<(), Failure> {
+        if let Some(out) = &mut self.out {
+            out.begin_anew().map_err(|error| out.failure(&error))?;
+        }
+        *self = MapFile::new(self.out.take());
+        Ok(())
+    }
+
+    fn take_failure(&mut self) -> Option<Failure> {
+        self.failure.take()
+    }
+}

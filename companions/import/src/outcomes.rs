@@ -1,0 +1,127 @@
+//! What became of the connections of a capture, and of its packets, as the map says it.
+
+use std::fmt;
+
+use captures::{Arrival, Ends};
+use tls::Reason;
+
+use crate::preamble::Preamble;
+
+/// Why a flow of plaintext ends.
+#[derive(Clone, Copy, Debug, PartialEq, Eq)]
+pub enum End {
+    Whole,
+    Cut,
+    Lost,
+    TooLarge,
+    Stopped(Reason),
+}
+
+impl fmt::Display for End {
+    fn fmt(&self, out: &mut fmt::Formatter<'_>) -> fmt::Result {
+        match self {
+            End::Whole => out.write_str("whole"),
+            End::Cut => out.write_str("cut"),
+            End::Lost => out.write_str("lost"),
+            End::TooLarge => out.write_str("too-large"),
+            End::Stopped(why) => why.fmt(out),
+        }
+    }
+}
+
+/// How far one side's plaintext goes, and why it ends there.
+#[derive(Clone, Copy, Debug)]
+pub struct SideRead {
+    pub bytes: u32,
+    pub has_gap: bool,
+    /// Encrypted bytes of a record that is cut.
+    pub tail: usize,
+    pub end: End,
+}
+
+/// A TLS connection whose plaintext was written.
+#[derive(Clone, Debug)]
+pub struct Read {
+    pub version: &'static str,
+    pub suite: &'static str,
+    pub protocol: Option<Vec<u8>>,
+    pub records: u64,
+    pub early_records: u64,
+    pub rejected_records: u64,
+    pub client: SideRead,
+    pub server: SideRead,
+}
+
+#[derive(Clone, Debug)]
+pub enum Became {
+    /// It went through as it stands.
+    Clear,
+    /// Nothing of it could be read.
+    Refused(Reason),
+    Read(Box<Read>),
+}
+
+/// What became of a connection.
+#[derive(Clone, Debug)]
+pub struct Outcome {
+    /// The packet of its opening, numbered through all files.
+    pub opening: u64,
+    /// Of what its client sends.
+    pub ends: Ends,
+    pub became: Became,
+    /// What stood before its bytes, and was left out.
+    pub preamble: Option<Preamble>,
+    /// IP fragments that were passed over, and belong to it.
+    pub fragments: u64,
+}
+
+/// A pair of endpoints with segments before any opening of theirs.
+#[derive(Clone, Copy, Debug)]
+pub struct Unopened {
+    /// The first of these segments.
+    pub first: Arrival,
+    pub ends: Ends,
+    pub segments: u64,
+}
+
+/// How many packets of a kind there were.
+#[derive(Clone, Copy, Debug, Default)]
+pub struct Counts {
+    pub records: u64,
+    pub segments: u64,
+    pub snapped: u64,
+    pub not_ip: u64,
+    pub fragments: u64,
+    pub not_tcp: u64,
+    pub refused: u64,
+}
+
+/// Packets whose times lie before that of the packet before them.
+#[derive(Clone, Copy, Debug)]
+pub struct Back {
+    /// The first of them.
+    pub packet: u64,
+    pub packets: u64,
+    /// The longest way back.
+    pub nanos: u64,
+}
+
+/// All that is known at the end.
+#[derive(Debug, Default)]
+pub struct Summary {
+    pub counts: Counts,
+    pub back: Option<Back>,
+    /// What was passed over, the most frequent first.
+    pub others: Vec<crate::others::Other>,
+    /// In the order of first segments.
+    pub unopened: Vec<Unopened>,
+    /// In the order of openings.
+    pub outcomes: Vec<Outcome>,
+}
+
+impl Summary {
+    /// How many connections were not refused.
+    pub fn read(&self) -> usize {
+        self.outcomes.iter().filter(|outcome| !matches!(outcome.became, Became::Refused(_))).count()
+    }
+}

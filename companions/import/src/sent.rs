@@ -1,0 +1,132 @@
+//! Which bytes a side has sent, so that those that come again are told from new ones, and packets that were captured
+//! twice from either.
+
+use std::collections::hash_map::DefaultHasher;
+use std::collections::{BTreeMap, VecDeque};
+use std::hash::Hasher;
+
+use captures::{flags, Arrival, Segment, END_OF_OFFSETS};
+
+/// A packet that was captured twice stands so close to its double.
+const MOST_BETWEEN: usize = 32;
+const CLOSE: i64 = 1_000_000;
+
+/// What a segment brings.
+#[derive(Debug, PartialEq, Eq)]
+pub enum Fresh {
+    /// It has no payload that counts.
+    None,
+    /// It was captured before.
+    Doubled,
+    /// New bytes, and bytes that were sent before.
+    Bytes { fresh: u64, again: u64 },
+}
+
+#[derive(Default)]
+pub struct Sent {
+    initial: Option<u32>,
+    /// The offset behind all bytes that came.
+    reached: u32,
+    /// Holes before that: begin and end of each.
+    holes: BTreeMap<u32, u32>,
+    recent: VecDeque<Recent>,
+}
+
+struct Recent {
+    arrival: Arrival,
+    sequence: u32,
+    identification: u16,
+    length: usize,
+    hash: u64,
+}
+
+impl Sent {
+    /// Whether bytes are missing before some that came.
+    pub fn has_hole(&self) -> bool {
+        !self.holes.is_empty()
+    }
+
+    pub fn add(&mut self, arrival: Arrival, segment: &Segment<'_>) -> Fresh {
+        let is_syn = segment.flags & flags::SYN != 0;
+        if is_syn {
+            self.initial.get_or_insert(segment.sequence);
+        }
+        let payload = segment.payload();
+        let initial = match self.initial.filter(|_| !payload.is_empty()) {
+            Some(initial) => initial,
+            None => return Fresh::None,
+        };
+        if self.is_double(arrival, segment, payload) {
+            return Fresh::Doubled;
+        }
+        let offset = segment.sequence.wrapping_add(u32::from(is_syn)).wrapping_sub(initial).wrapping_sub(1);
+        if offset >= END_OF_OFFSETS {
+            return Fresh::Bytes { fresh: 0, again: payload.len() as u64 };
+        }
+        let end = (u64::from(offset) + payload.len() as u64).min(u64::from(END_OF_OFFSETS)) as u32;
+        let fresh = self.cover(offset, end);
+        Fresh::Bytes { fresh: u64::from(fresh), again: u64::from(end - offset - fresh) }
+    }
+
+    /// Whether these bytes came with a packet just before that was no other one: with the same identification, or, where
+    /// packets have none, at nearly the same time.
+    fn is_double(&mut self, arrival: Arrival, segment: &Segment<'_>, payload: &[u8]) -> bool {
+        let mut hasher = DefaultHasher::new();
+        hasher.write(payload);
+        let one = Recent {
+            arrival,
+            sequence: segment.sequence,
+            identification: segment.identification,
+            length: payload.len(),
+            hash: hasher.finish(),
+        };
+        let is_found = self.recent.iter().any(|before| {
+            let is_same = (before.sequence, before.length, before.hash) == (one.sequence, one.length, one.hash);
+            let is_close = arrival.nanos.saturating_sub(before.arrival.nanos).saturating_abs() <= CLOSE;
+            is_same && before.identification == one.identification && (one.identification != 0 || is_close)
+        });
+        if self.recent.len() == MOST_BETWEEN {
+            self.recent.pop_front();
+        }
+        self.recent.push_back(one);
+        is_found
+    }
+
+    /// Notes bytes from one offset to another, and answers how many of them are new.
+    fn cover(&mut self, begin: u32, end: u32) -> u32 {
+        let mut fresh = end.saturating_sub(begin.max(self.reached));
+        if begin > self.reached {
+            self.holes.insert(self.reached, begin);
+        }
+        let first = self.holes.range(..=begin).next_back().map_or(begin, |(begin, _)| *begin);
+        let met: Vec<_> = self.holes.range(first..end).filter(|hole| *hole.1 > begin).map(|(a, b)| (*a, *b)).collect();
+        for (hole, until) in met {
+            self.holes.remove(&hole);
+            fresh += until.min(end) - hole.max(begin);
+            if hole < begin {
+                self.holes.insert(hole, begin);
+            }
+            if until > end {
+                self.holes.insert(end, until);
+            }
+        }
+        self.reached = self.reached.max(end);
+        fresh
+    }
+}
+
+#[cfg(test)]
+mod tests {
+    use super::Sent;
+
+    #[test]
+    fn bytes_are_new_once() {
+        let mut sent = Sent::default();
+        let steps = [((10, 20), 10), ((0, 5), 5), ((0, 30), 15), ((3, 30), 0), ((28, 40), 10), ((50, 60), 10)];
+        for ((begin, end), fresh) in steps {
+            assert_eq!(sent.cover(begin, end), fresh, "{begin} to {end}");
+        }
+        assert_eq!(sent.cover(39, 61), 11);
+        assert!(sent.holes.is_empty());
+    }
+}

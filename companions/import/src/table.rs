@@ -1,0 +1,277 @@
+//! Which connection a segment belongs to: the last opening of its pair at or before it (docs/AUDIT_RULES.md, 3).
+//!
+//! A connection is kept until its outcome is known. After that its pair has the sequence number of its opening, by which
+//! a repeated SYN is told from a new one, and whether segments still pass.
+
+use std::collections::{HashMap, VecDeque};
+
+use captures::{flags, swapped, Arrival, Ends, Segment};
+use tls::{Random, Shared, CLIENT, SERVER};
+
+use crate::connections::{without_payload, Connection};
+use crate::outcomes::{Outcome, Unopened};
+use crate::sink::Sink;
+
+/// Twice the life of a segment (RFC 9293, 3.4.2), in nanoseconds.
+const LONGEST_WAY: i64 = 240_000_000_000;
+
+/// What is known of a pair of endpoints.
+struct Place {
+    /// Whether the client of its last opening is the lesser of the two.
+    client_is_less: bool,
+    state: State,
+}
+
+#[derive(Clone, Copy)]
+enum State {
+    /// Its connection has this slot.
+    Open(usize),
+    /// Its connection is over: whether segments still pass, and packet and number of its opening.
+    Over { passes: bool, opening: u64, sequence: Option<u32> },
+}
+
+/// To which connection a segment belongs.
+pub enum Belongs {
+    /// To a new one.
+    Opens,
+    /// To the last one of its pair, of this side.
+    Side(usize),
+    /// To none.
+    Stray,
+}
+
+struct Stray {
+    first: Arrival,
+    ends: Ends,
+    segments: u64,
+}
+
+/// The connections of a capture, and the pairs of endpoints that were not seen to open one.
+#[derive(Default)]
+pub struct Table {
+    places: HashMap<Ends, Place>,
+    strays: HashMap<Ends, Stray>,
+    slots: Vec<Option<Box<Connection>>>,
+    free: Vec<usize>,
+    outcomes: Vec<Outcome>,
+    /// With the time of an RST, until that is long ago.
+    reset: VecDeque<(i64, u64, usize)>,
+    /// Which connections wait for the keys of a client random.
+    waiting: HashMap<Random, Vec<(u64, usize)>>,
+    /// How many fragments belong to connections, by their openings.
+    fragments: HashMap<u64, u64>,
+    room: Vec<u8>,
+}
+
+/// A pair's name, whoever sends, and whether the sender is the lesser of the two.
+fn pair_of(ends: &Ends) -> (Ends, bool) {
+    let other = swapped(ends);
+    if *ends <= other {
+        (*ends, true)
+    } else {
+        (other, false)
+    }
+}
+
+impl Table {
+    pub fn take(
+        &mut self,
+        shared: &mut Shared,
+        sink: &mut Sink<'_>,
+        arrival: Arrival,
+        segment: &Segment<'_>,
+    ) -> Belongs {
+        let (pair, is_less) = pair_of(&segment.ends);
+        let place = self.places.get(&pair).map(|place| (place.client_is_less == is_less, place.state));
+        if segment.flags & (flags::SYN | flags::ACK) == flags::SYN && !self.repeats(place, segment.sequence) {
+            let slot = self.open(shared, sink, arrival, segment, place.map(|place| place.1));
+            self.places.insert(pair, Place { client_is_less: is_less, state: State::Open(slot) });
+            self.take_open(shared, sink, arrival, CLIENT, segment, slot);
+            return Belongs::Opens;
+        }
+        let (from_client, state) = match place {
+            None => {
+                self.stray(sink, arrival, segment, pair);
+                return Belongs::Stray;
+            }
+            Some(place) => place,
+        };
+        let side = if from_client { CLIENT } else { SERVER };
+        match state {
+            State::Open(slot) => self.take_open(shared, sink, arrival, side, segment, slot),
+            State::Over { passes: true, .. } => sink.emit(arrival, segment.original, segment.datagram()),
+            State::Over { passes: false, .. } => {}
+        }
+        Belongs::Side(side)
+    }
+
+    fn take_open(
+        &mut self,
+        shared: &mut Shared,
+        sink: &mut Sink<'_>,
+        arrival: Arrival,
+        side: usize,
+        segment: &Segment<'_>,
+        slot: usize,
+    ) {
+        let connection = match &mut self.slots[slot] {
+            Some(connection) => connection,
+            None => return,
+        };
+        connection.take(shared, sink, arrival, side, segment);
+        if connection.is_clear() || connection.is_over() {
+            self.finish(shared, sink, slot);
+            return;
+        }
+        if segment.flags & flags::RST != 0 && connection.is_tls() {
+            self.reset.push_back((arrival.nanos, connection.opening, slot));
+        }
+        self.list(slot);
+    }
+
+    /// Notes which connection waits for which keys.
+    fn list(&mut self, slot: usize) {
+        if let Some(connection) = self.slots[slot].as_mut().filter(|one| !one.is_listed && one.waits_for_key()) {
+            if let Some(random) = connection.random() {
+                connection.is_listed = true;
+                self.waiting.entry(random).or_default().push((connection.opening, slot));
+            }
+        }
+    }
+
+    /// Whether a SYN with this number is the one that opened the sender's last connection once more.
+    fn repeats(&self, place: Option<(bool, State)>, sequence: u32) -> bool {
+        match place {
+            Some((true, State::Open(slot))) => {
+                self.slots[slot].as_ref().map_or(false, |connection| connection.initial() == Some(sequence))
+            }
+            Some((true, State::Over { sequence: opened, .. })) => opened == Some(sequence),
+            _ => false,
+        }
+    }
+
+    /// A new connection, and its slot. One that its pair had before has all its segments now.
+    fn open(
+        &mut self,
+        shared: &mut Shared,
+        sink: &mut Sink<'_>,
+        arrival: Arrival,
+        segment: &Segment<'_>,
+        before: Option<State>,
+    ) -> usize {
+        if let Some(State::Open(slot)) = before {
+            if self.slots[slot].as_ref().map_or(false, |connection| !connection.waits_for_key()) {
+                self.finish(shared, sink, slot);
+            }
+        }
+        self.end_reset(shared, sink, arrival.nanos);
+        let connection = Some(Box::new(Connection::new(arrival, segment)));
+        match self.free.pop() {
+            Some(slot) => {
+                self.slots[slot] = connection;
+                slot
+            }
+            None => {
+                self.slots.push(connection);
+                self.slots.len() - 1
+            }
+        }
+    }
+
+    /// Ends connections whose RST was so long ago that no segment sent before it is still on its way. Where there is a
+    /// hole, or something waits, that is left to the end, so that what is written keeps its order.
+    fn end_reset(&mut self, shared: &mut Shared, sink: &mut Sink<'_>, now: i64) {
+        while let Some(&(then, opening, slot)) = self.reset.front() {
+            if now.saturating_sub(then) <= LONGEST_WAY {
+                break;
+            }
+            self.reset.pop_front();
+            let connection = self.slots[slot].as_ref();
+            if connection.map_or(false, |connection| connection.opening == opening && connection.is_quiet()) {
+                self.finish(shared, sink, slot);
+            }
+        }
+    }
+
+    /// Counts a segment of no connection, and writes its headers, for h2audit to name it.
+    fn stray(&mut self, sink: &mut Sink<'_>, arrival: Arrival, segment: &Segment<'_>, pair: Ends) {
+        let stray = self.strays.entry(pair).or_insert(Stray { first: arrival, ends: segment.ends, segments: 0 });
+        stray.segments += 1;
+        self.room.clear();
+        sink.emit(arrival, segment.start as u32, without_payload(segment, &mut self.room));
+    }
+
+    /// Goes on with what waited for keys of these connections, in the order of openings.
+    pub fn keys_came(&mut self, shared: &mut Shared, sink: &mut Sink<'_>, randoms: &[Random]) {
+        let mut slots: Vec<_> = randoms.iter().filter_map(|random| self.waiting.remove(random)).flatten().collect();
+        slots.sort_unstable();
+        for (opening, slot) in slots {
+            if let Some(connection) = self.slots[slot].as_mut().filter(|one| one.opening == opening) {
+                connection.is_listed = false;
+                if connection.waits_for_key() {
+                    connection.advance(shared, sink);
+                }
+                self.list(slot);
+            }
+        }
+    }
+
+    /// Counts a fragment at the connection that its pair has now.
+    pub fn fragment(&mut self, ends: &Ends) {
+        let opening = match self.places.get(&pair_of(ends).0).map(|place| place.state) {
+            Some(State::Open(slot)) => self.slots[slot].as_ref().map(|connection| connection.opening),
+            Some(State::Over { opening, .. }) => Some(opening),
+            None => None,
+        };
+        if let Some(opening) = opening {
+            *self.fragments.entry(opening).or_insert(0) += 1;
+        }
+    }
+
+    /// Asks for the secrets of the sessions that waiting connections go on with.
+    pub fn ask_for_sessions(&self, shared: &mut Shared) {
+        for slot in self.open_slots() {
+            if let Some(connection) = self.slots[slot].as_ref().filter(|connection| connection.waits_for_key()) {
+                connection.resume(shared);
+            }
+        }
+    }
+
+    /// Those of open connections, in the order of openings.
+    fn open_slots(&self) -> Vec<usize> {
+        let mut open: Vec<_> = (0..self.slots.len()).filter(|slot| self.slots[*slot].is_some()).collect();
+        open.sort_by_key(|slot| self.slots[*slot].as_ref().map(|connection| connection.opening));
+        open
+    }
+
+    fn finish(&mut self, shared: &mut Shared, sink: &mut Sink<'_>, slot: usize) {
+        let mut connection = match self.slots[slot].take() {
+            Some(connection) => connection,
+            None => return,
+        };
+        self.free.push(slot);
+        self.outcomes.push(connection.finish(shared, sink));
+        if let Some(place) = self.places.get_mut(&pair_of(connection.ends()).0) {
+            if matches!(place.state, State::Open(open) if open == slot) {
+                let (opening, sequence) = (connection.opening, connection.initial());
+                place.state = State::Over { passes: connection.is_clear(), opening, sequence };
+            }
+        }
+    }
+
+    /// Ends all connections, and answers what became of each, and which pairs opened none.
+    pub fn finish_all(mut self, shared: &mut Shared, sink: &mut Sink<'_>) -> (Vec<Outcome>, Vec<Unopened>) {
+        shared.keys.waits_for_sessions = false;
+        for slot in self.open_slots() {
+            self.finish(shared, sink, slot);
+        }
+        self.outcomes.sort_by_key(|outcome| outcome.opening);
+        for outcome in &mut self.outcomes {
+            outcome.fragments = self.fragments.get(&outcome.opening).copied().unwrap_or(0);
+        }
+        let named = |stray: Stray| Unopened { first: stray.first, ends: stray.ends, segments: stray.segments };
+        let mut unopened: Vec<_> = self.strays.into_values().map(named).collect();
+        unopened.sort_by_key(|pair| pair.first.packet);
+        (self.outcomes, unopened)
+    }
+}

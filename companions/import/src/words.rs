@@ -1,0 +1,49 @@
+//! The command line of h2audit-import.
+
+use std::ffi::OsString;
+use std::path::PathBuf;
+
+use lexopt::Arg::{Long, Short, Value};
+use programs::{missing, number, wrong, Failure};
+
+const MOST_JOBS: u64 = 64;
+
+/// What a command line asks for.
+pub enum Words {
+    Help,
+    Version,
+    Import(Import),
+}
+
+pub struct Import {
+    pub files: Vec<OsString>,
+    pub key_logs: Vec<OsString>,
+    pub output: PathBuf,
+    pub map: Option<PathBuf>,
+    pub course: Option<PathBuf>,
+    pub is_sorted: bool,
+}
+
+pub fn words_of(words: Vec<OsString>) -> Result<Words, Failure> {
+    let mut parser = lexopt::Parser::from_args(words);
+    let (mut files, mut key_logs, mut is_sorted) = (Vec::new(), Vec::new(), false);
+    let (mut output, mut map, mut course) = (None, None, None);
+    while let Some(word) = parser.next().map_err(wrong)? {
+        match word {
+            Short('h') | Long("help") => return Ok(Words::Help),
+            Short('V') | Long("version") => return Ok(Words::Version),
+            Short('k') | Long("key-log") => key_logs.push(parser.value().map_err(wrong)?),
+            Short('o') | Long("output") => output = Some(PathBuf::from(parser.value().map_err(wrong)?)),
+            Short('m') | Long("map") => map = Some(PathBuf::from(parser.value().map_err(wrong)?)),
+            Long("course") => course = Some(PathBuf::from(parser.value().map_err(wrong)?)),
+            Long("sort") => is_sorted = true,
+            Short('j') | Long("jobs") => {
+                number("-j/--jobs", &parser.value().map_err(wrong)?, 1, MOST_JOBS)?;
+            }
+            Value(file) => files.push(file),
+            other => return Err(wrong(other.unexpected())),
+        }
+    }
+    let output = output.ok_or_else(|| missing(&["-o/--output"]))?;
+    Ok(Words::Import(Import { files, key_logs, output, map, course, is_sorted }))
+}

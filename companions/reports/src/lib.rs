@@ -1,0 +1,22 @@
+//! Reports of h2audit and maps of imports: what their lines say (docs/REPORT_FORMAT.md, docs/MAP.md), who is to blame
+//! for a finding, and the sentences that tell it.
+
+#![forbid(unsafe_code)]
+
+mod blame;
+mod cursor;
+mod kinds;
+mod lines;
+pub mod maps;
+mod notes;
+mod numbers;
+mod reading;
+mod sentences;
+
+pub use blame::{section_of, who_is_to_blame};
+pub use kinds::{is_fault, Blame, Kind, Side};
+pub use lines::{finding_in, Capture, Finding, FindingLine, Flow, Form, Line, Opening, Stall};
+pub use notes::{Note, Pairing};
+pub use numbers::{duration, grouped};
+pub use reading::{read_line, ReadError, Reader, LONGEST_LINE};
+pub use sentences::{sentence_of, what_happened};

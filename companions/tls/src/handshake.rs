@@ -1,0 +1,449 @@
+//! What both sides of a TLS connection agree on, and the keys that follow from it.
+//!
+//! A side goes through stages; each protected stage has its keys. They are made when the first record that needs them
+//! comes, since keys may still be on their way. [`Handshake::read`] gives none where a record has to wait.
+//!
+//! What a record's reading depends on (version, suite, both randoms) is settled by the ServerHello that is taken, and
+//! nothing in the clear changes it after that.
+
+use crate::connection::Shared;
+use crate::hellos::{self, ClientHello, Messages, Random, ServerHello};
+use crate::key_log::{Keys, Label, OF_SIDES};
+use crate::key_schedule::{key_block, next_secret, traffic_keys, TrafficKeys};
+use crate::protection::{DoesNotOpen, Opener};
+use crate::reason::Reason;
+use crate::records::{Header, ALERT, APPLICATION_DATA, CHANGE_CIPHER_SPEC, HANDSHAKE};
+use crate::suites::{suite_of, Suite};
+use crate::{CLIENT, SERVER, TLS_1_2, TLS_1_3};
+
+const FATAL: u8 = 2;
+/// A client says hello once more after a retry.
+const MOST_HELLOS: u32 = 2;
+
+/// Which keys the next protected record of a side needs.
+#[derive(Clone, Copy, Debug, Default, PartialEq, Eq)]
+pub enum Stage {
+    /// In TLS 1.3, those of early data or of the handshake.
+    #[default]
+    First,
+    Early,
+    Handshake,
+    Traffic,
+}
+
+/// What is known of one side.
+#[derive(Default)]
+struct Half {
+    stage: Stage,
+    messages: Messages,
+    opener: Option<Box<Opener>>,
+    secret: Vec<u8>,
+    /// Records, with the keys in use.
+    opened: u64,
+    /// Passes over early data that was rejected.
+    skips: bool,
+}
+
+/// The content of a record stands at the front of the room, in so many bytes; none where the record has to wait.
+pub type Content = Result<Option<usize>, Reason>;
+
+const NOTHING: Content = Ok(Some(0));
+
+/// Takes the records of each side in order.
+#[derive(Default)]
+pub struct Handshake {
+    opening: u64,
+    more_keys: bool,
+    waits_for_key: bool,
+    halves: [Half; 2],
+    client_hello: Option<Box<ClientHello>>,
+    server_random: Option<Random>,
+    is_encrypted_first: bool,
+    /// In TLS 1.2: the server does not go on with a session.
+    is_full: bool,
+    suite: Option<Suite>,
+    version: Option<u16>,
+    protocol: Option<Vec<u8>>,
+    block: Option<Box<[TrafficKeys; 2]>>,
+    hello_count: u32,
+    has_retried: bool,
+    /// Unknown before EncryptedExtensions.
+    accepts_early_data: Option<bool>,
+    early_records: u64,
+    rejected_records: u64,
+    opened: u64,
+    alert: Option<u8>,
+}
+
+impl Handshake {
+    pub fn new(opening: u64, more_keys: bool) -> Handshake {
+        Handshake { opening, more_keys, ..Handshake::default() }
+    }
+
+    pub fn stage(&self, side: usize) -> Stage {
+        self.halves[side].stage
+    }
+
+    /// The version, once a ServerHello has said it.
+    pub fn version(&self) -> Option<u16> {
+        self.version
+    }
+
+    pub fn suite(&self) -> Option<Suite> {
+        self.suite
+    }
+
+    /// The protocol that the server chose by ALPN.
+    pub fn protocol(&self) -> Option<&[u8]> {
+        self.protocol.as_deref()
+    }
+
+    /// Records of early data that the server accepted, and those that it rejected.
+    pub fn early_data(&self) -> (u64, u64) {
+        (self.early_records, self.rejected_records)
+    }
+
+    /// How many records were opened.
+    pub fn opened(&self) -> u64 {
+        self.opened
+    }
+
+    /// The last fatal alert.
+    pub fn alert(&self) -> Option<u8> {
+        self.alert
+    }
+
+    pub fn waits_for_key(&self) -> bool {
+        self.waits_for_key
+    }
+
+    /// The client's random, by which secrets are known.
+    pub fn client_random(&self) -> Option<Random> {
+        self.client_hello.as_ref().map(|hello| hello.random)
+    }
+
+    /// From here on no further key comes.
+    pub fn expect_no_key(&mut self) {
+        self.more_keys = false;
+    }
+
+    /// Whether a side could be read though the other one cannot, for want of its secrets.
+    pub fn can_read(&self, side: usize, keys: &Keys) -> bool {
+        let random = self.client_random().filter(|_| self.version == Some(TLS_1_3));
+        random.map_or(false, |random| keys.has_of_side(&random, side))
+    }
+
+    pub fn read(
+        &mut self,
+        shared: &mut Shared,
+        side: usize,
+        header: &Header,
+        body: &[u8],
+        room: &mut Vec<u8>,
+    ) -> Content {
+        let kind = header[0];
+        if self.halves[side].opener.is_some() {
+            return match self.version {
+                Some(TLS_1_3) => self.read_13(side, header, body, room),
+                _ => self.read_12(side, header, body, room),
+            };
+        }
+        match kind {
+            HANDSHAKE => return self.read_clear(shared, side, body),
+            CHANGE_CIPHER_SPEC => return self.change_cipher(shared, side),
+            APPLICATION_DATA => return self.first_protected(shared, side, header, body, room),
+            ALERT => self.note_alert(body),
+            _ => {}
+        }
+        NOTHING
+    }
+
+    // Before protection
+
+    fn read_clear(&mut self, shared: &mut Shared, side: usize, content: &[u8]) -> Content {
+        let messages = self.halves[side].messages.add(content)?;
+        for (kind, body) in messages.iter() {
+            match (side, kind) {
+                (CLIENT, hellos::CLIENT_HELLO) => self.meet_client_hello(hellos::client_hello(body)?)?,
+                (CLIENT, _) => {}
+                (_, hellos::SERVER_HELLO) => self.meet_server_hello(shared, &hellos::server_hello(body)?)?,
+                (_, hellos::NEW_SESSION_TICKET) if self.version == Some(TLS_1_2) => {
+                    self.begin_session(shared, hellos::new_ticket(body)?);
+                }
+                (_, hellos::SERVER_HELLO_DONE) => self.is_full = true,
+                _ => {}
+            }
+        }
+        NOTHING
+    }
+
+    fn meet_client_hello(&mut self, hello: ClientHello) -> Result<(), Reason> {
+        self.hello_count = (self.hello_count + 1).min(MOST_HELLOS);
+        let known = self.client_random();
+        if self.server_random.is_some() && known.is_some() && known != Some(hello.random) {
+            return Err(Reason::NotTls);
+        }
+        self.client_hello = Some(Box::new(hello));
+        Ok(())
+    }
+
+    fn meet_server_hello(&mut self, shared: &mut Shared, hello: &ServerHello<'_>) -> Result<(), Reason> {
+        if self.server_random.is_some() {
+            return Err(Reason::NotTls);
+        }
+        if !matches!(hello.version, TLS_1_2 | TLS_1_3) {
+            return Err(Reason::TlsVersion(hello.version));
+        }
+        if hello.is_retry() {
+            self.has_retried = true;
+            self.version = Some(hello.version);
+            return Ok(());
+        }
+        let is_of_version = (hello.version == TLS_1_3) == (hello.suite >> 8 == 0x13);
+        let suite = suite_of(hello.suite).filter(|_| is_of_version).ok_or(Reason::CipherSuite(hello.suite))?;
+        if hello.compression != 0 {
+            return Err(Reason::TlsCompression);
+        }
+        if hello.extensions.has(hellos::TRUNCATED_HMAC) && suite.mac.is_some() {
+            return Err(Reason::TruncatedHmac);
+        }
+        self.version = Some(hello.version);
+        self.suite = Some(suite);
+        self.server_random = Some(hello.random);
+        if hello.version == TLS_1_2 {
+            self.protocol = hellos::protocol_of(&hello.extensions)?;
+            self.is_encrypted_first = hello.extensions.has(hellos::ENCRYPT_THEN_MAC);
+            if self.client_hello.as_ref().map_or(false, |client| client.session != hello.session) {
+                self.begin_session(shared, hello.session);
+            }
+        }
+        Ok(())
+    }
+
+    /// Keeps the name that a server gives its session, where its secret may be known.
+    fn begin_session(&mut self, shared: &mut Shared, name: &[u8]) {
+        if let Some(hello) = self.client_hello.as_ref().filter(|_| shared.keys.has_master || self.more_keys) {
+            shared.sessions.begin(name, &hello.random);
+        }
+    }
+
+    /// Keeps the description of a fatal alert (RFC 8446, 6).
+    fn note_alert(&mut self, content: &[u8]) {
+        if let [FATAL, alert] = content {
+            self.alert = Some(*alert);
+        }
+    }
+
+    // Keys
+
+    /// A secret of this connection; none where it may still come.
+    fn secret(&mut self, shared: &mut Shared, random: &Random, label: Label) -> Result<Option<Vec<u8>>, Reason> {
+        let found = shared.keys.find(random, label).map(<[u8]>::to_vec);
+        let is_missing = found.is_none();
+        let is_resumed = is_missing && label == Label::Master && self.is_resumed(&shared.keys);
+        self.waits_for_key = is_missing && (self.more_keys || is_resumed && shared.keys.waits_for_sessions);
+        if is_resumed && !self.waits_for_key {
+            self.resume(shared);
+        }
+        if is_missing && !self.waits_for_key {
+            return Err(Reason::NoKey);
+        }
+        Ok(found)
+    }
+
+    /// Whether an earlier connection may have had the master secret of this one: its server has said ChangeCipherSpec
+    /// before ServerHelloDone (RFC 5246, 7.3).
+    pub fn is_resumed(&self, keys: &Keys) -> bool {
+        let named =
+            self.client_hello.as_ref().map_or(false, |hello| !hello.session.is_empty() || !hello.ticket.is_empty());
+        !self.is_full && keys.has_master && named
+    }
+
+    /// Asks for the secret of the session that this connection goes on with.
+    pub fn resume(&self, shared: &mut Shared) {
+        if let Some(hello) = &self.client_hello {
+            shared.sessions.resume([&hello.ticket, &hello.session], self.opening, &hello.random);
+        }
+    }
+
+    /// In TLS 1.2 the next record is protected (RFC 5246, 7.1); in TLS 1.3 this says nothing (RFC 8446, D.4).
+    fn change_cipher(&mut self, shared: &mut Shared, side: usize) -> Content {
+        if self.version == Some(TLS_1_3) {
+            return NOTHING;
+        }
+        let (random, server_random, suite) = match (self.client_random(), self.server_random, self.suite) {
+            (Some(random), Some(server_random), Some(suite)) => (random, server_random, suite),
+            _ => return Ok(None),
+        };
+        if self.block.is_none() {
+            match self.secret(shared, &random, Label::Master)? {
+                None => return Ok(None),
+                Some(master) => self.block = Some(Box::new(key_block(&suite, &master, &random, &server_random))),
+            }
+        }
+        if let Some(block) = &self.block {
+            let opener = Opener::tls_1_2(&suite, &block[side], self.is_encrypted_first)?;
+            self.halves[side] = Half { stage: Stage::Traffic, opener: Some(Box::new(opener)), ..Half::default() };
+        }
+        NOTHING
+    }
+
+    /// The first record of a stage, or early data that is not accepted.
+    fn first_protected(
+        &mut self,
+        shared: &mut Shared,
+        side: usize,
+        header: &Header,
+        body: &[u8],
+        room: &mut Vec<u8>,
+    ) -> Content {
+        if side == CLIENT && self.has_retried && self.hello_count < MOST_HELLOS {
+            self.rejected_records += 1;
+            return NOTHING;
+        }
+        let random = match (self.client_random(), self.server_random) {
+            (Some(random), Some(_)) => random,
+            _ => return Ok(None),
+        };
+        if self.version != Some(TLS_1_3) {
+            return Err(Reason::NotTls);
+        }
+        if self.stage(side) == Stage::First {
+            match self.first_stage(side) {
+                None => return Ok(None),
+                Some(first) => self.halves[side].stage = first,
+            }
+        }
+        let label = match self.stage(side) {
+            Stage::Early => Label::Early,
+            Stage::Traffic => OF_SIDES[side][1],
+            Stage::First | Stage::Handshake => OF_SIDES[side][0],
+        };
+        match self.secret(shared, &random, label)? {
+            None => Ok(None),
+            Some(secret) => {
+                self.protect(side, secret)?;
+                self.read_13(side, header, body, room)
+            }
+        }
+    }
+
+    /// Early data comes first where the server accepts it; else it is passed over (RFC 8446, 4.2.10).
+    fn first_stage(&mut self, side: usize) -> Option<Stage> {
+        let offers = self.client_hello.as_ref().map_or(false, |hello| hello.offers_early_data);
+        if side == SERVER || !offers {
+            return Some(Stage::Handshake);
+        }
+        let accepts = self.accepts_early_data?;
+        self.halves[side].skips = !accepts;
+        Some(if accepts { Stage::Early } else { Stage::Handshake })
+    }
+
+    /// Makes the keys of the side's stage in TLS 1.3 (RFC 8446, 7.1).
+    fn protect(&mut self, side: usize, secret: Vec<u8>) -> Result<(), Reason> {
+        let suite = self.suite.ok_or(Reason::NotTls)?;
+        let opener = Opener::tls_1_3(&suite, &traffic_keys(&suite, &secret))?;
+        let half = &mut self.halves[side];
+        half.messages = Messages::default();
+        half.opener = Some(Box::new(opener));
+        (half.secret, half.opened) = (secret, 0);
+        Ok(())
+    }
+
+    // Under protection
+
+    /// What a record holds; none where it is early data that was rejected.
+    fn opened_content(&mut self, side: usize, header: &Header, body: &[u8], room: &mut Vec<u8>) -> Content {
+        let half = &mut self.halves[side];
+        let opener = half.opener.as_mut().ok_or(Reason::NotTls)?;
+        match opener.open(header, body, room) {
+            Ok(length) => {
+                half.opened += 1;
+                self.opened += 1;
+                Ok(Some(length))
+            }
+            Err(DoesNotOpen) if half.skips && half.opened == 0 => {
+                self.rejected_records += 1;
+                Ok(None)
+            }
+            Err(DoesNotOpen) if half.opened > 0 => Err(Reason::BadRecord),
+            Err(DoesNotOpen) => Err(Reason::WrongKey),
+        }
+    }
+
+    fn read_13(&mut self, side: usize, header: &Header, body: &[u8], room: &mut Vec<u8>) -> Content {
+        if header[0] != APPLICATION_DATA {
+            return self.read_unprotected(header[0], body);
+        }
+        let length = match self.opened_content(side, header, body, room)? {
+            None => return NOTHING,
+            Some(length) => length,
+        };
+        let last = room[..length].iter().rposition(|byte| *byte != 0).ok_or(Reason::BadRecord)?;
+        let (content, kind) = (&room[..last], room[last]);
+        match kind {
+            APPLICATION_DATA if self.stage(side) != Stage::Handshake => {
+                self.early_records += u64::from(self.stage(side) == Stage::Early);
+                Ok(Some(last))
+            }
+            HANDSHAKE => {
+                let messages = self.halves[side].messages.add(content)?;
+                messages.iter().try_for_each(|(message, inner)| self.meet_message(side, message, inner))?;
+                NOTHING
+            }
+            ALERT => {
+                self.note_alert(content);
+                NOTHING
+            }
+            _ => Err(Reason::BadRecord),
+        }
+    }
+
+    /// A record of TLS 1.3 in the clear among protected ones: ChangeCipherSpec says nothing, an alert may be a last
+    /// word.
+    fn read_unprotected(&mut self, kind: u8, body: &[u8]) -> Content {
+        match kind {
+            ALERT => self.note_alert(body),
+            CHANGE_CIPHER_SPEC => {}
+            _ => return Err(Reason::NotTls),
+        }
+        NOTHING
+    }
+
+    /// A protected handshake message of TLS 1.3 that changes keys or says what is chosen (RFC 8446, 4).
+    fn meet_message(&mut self, side: usize, kind: u8, body: &[u8]) -> Result<(), Reason> {
+        match (kind, self.stage(side)) {
+            (hellos::ENCRYPTED_EXTENSIONS, _) if side == SERVER => {
+                let extensions = hellos::encrypted_extensions(body)?;
+                self.protocol = hellos::protocol_of(&extensions)?;
+                self.accepts_early_data = Some(extensions.has(hellos::EARLY_DATA));
+            }
+            (hellos::FINISHED, Stage::Handshake) => self.change_stage(side, Stage::Traffic),
+            (hellos::END_OF_EARLY_DATA, Stage::Early) => self.change_stage(side, Stage::Handshake),
+            (hellos::KEY_UPDATE, Stage::Traffic) => {
+                let suite = self.suite.ok_or(Reason::NotTls)?;
+                let secret = next_secret(&suite, &self.halves[side].secret);
+                self.protect(side, secret)?;
+            }
+            _ => {}
+        }
+        Ok(())
+    }
+
+    fn change_stage(&mut self, side: usize, stage: Stage) {
+        let half = &mut self.halves[side];
+        half.stage = stage;
+        half.opener = None;
+    }
+
+    fn read_12(&mut self, side: usize, header: &Header, body: &[u8], room: &mut Vec<u8>) -> Content {
+        let length = self.opened_content(side, header, body, room)?.unwrap_or(0);
+        match header[0] {
+            APPLICATION_DATA => return Ok(Some(length)),
+            CHANGE_CIPHER_SPEC => return Err(Reason::Renegotiation),
+            ALERT => self.note_alert(&room[..length]),
+            _ => {}
+        }
+        NOTHING
+    }
+}

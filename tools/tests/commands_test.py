@@ -1,0 +1,130 @@
+#!/usr/bin/python3
+"""Tests of what all programs in Python share: help and version, statuses, and names on a terminal."""
+
+import os
+import pathlib
+import subprocess
+import sys
+import tempfile
+import unittest
+
+TOP = pathlib.Path(__file__).resolve().parents[2]
+TOOLS = TOP / "tools"
+sys.path.insert(0, str(TOOLS))
+sys.dont_write_bytecode = True
+
+from report import VERSION  # noqa: E402
+
+PROGRAMS = ("h2audit-fleet", "h2audit-page", "h2audit-plot", "by-definition", "believed.py")
+# Escapes of a terminal, a line feed, a bell, a right-to-left override, and what is no UTF-8.
+HOSTILE = b"no\x1b[31m\nre\x07d\xe2\x80\xae\xff.txt"
+ESCAPED = "no\\x1b[31m\\nre\\x07d\\u202e\\udcff.txt"
+# A word of a command line.
+Word = str | pathlib.Path | bytes
+
+
+def ran(script: str, *words: Word, **more: str) -> subprocess.CompletedProcess[bytes]:
+    """A run of bash, which has the words as its arguments."""
+    surroundings = {**os.environ, **more}
+    return subprocess.run(["bash", "-c", script, "bash", *words], capture_output=True, timeout=100, env=surroundings)
+
+
+class HelpAndVersion(unittest.TestCase):
+    def test_version(self) -> None:
+        for name in PROGRAMS:
+            for word in ("-V", "--version"):
+                run = ran('python3 "$@"' if name.endswith(".py") else '"$@"', TOOLS / name, word)
+                self.assertEqual((run.returncode, run.stdout, run.stderr), (0, f"{name} {VERSION}\n".encode(), b""))
+
+    def test_statuses(self) -> None:
+        """Each help says what the statuses mean."""
+        for name in PROGRAMS:
+            run = ran('python3 "$@"', TOOLS / name, "--help")
+            self.assertEqual((run.returncode, run.stderr), (0, b""))
+            text = " ".join(run.stdout.decode().lower().split())
+            self.assertIn("exit status", text, name)
+            behind = text.partition("exit status")[2]
+            for status in "245":
+                self.assertRegex(behind, rf"\b{status}\b", name)
+            self.assertIn("memory", behind, name)
+
+    def test_nobody_reads(self) -> None:
+        """A pipe that is closed, a disk that is full, and no output: one line, status 4, and no traceback."""
+        reader, closed = os.pipe()
+        os.close(reader)
+        self.addCleanup(os.close, closed)
+        for name in PROGRAMS:
+            for word in ("--help", "--version"):
+                for script, why in ((f'python3 "$@" >&{closed}', "Broken pipe"),
+                                    (f'python3 -u "$@" >&{closed}', "Broken pipe"),
+                                    ('python3 "$@" > /dev/full', "No space left on device"),
+                                    ('python3 "$@" >&-', "Bad file descriptor")):
+                    run = subprocess.run(["bash", "-c", script, "bash", TOOLS / name, word], stderr=subprocess.PIPE,
+                                         pass_fds=[closed], timeout=100)
+                    said = f"{name}: standard output: {why}\n".encode()
+                    self.assertEqual((run.returncode, run.stderr), (4, said), (name, word, script))
+
+
+class Statuses(unittest.TestCase):
+    def test_memory(self) -> None:
+        """Want of memory is status 5, and nothing else is."""
+        script = "import sys; sys.path.insert(0, sys.argv.pop(1)); from report.command import run\n" \
+            "def main(words): raise MemoryError\nsys.argv[0] = '/a/h2audit-page'; run(main)"
+        run = subprocess.run([sys.executable, "-c", script, str(TOOLS)], capture_output=True)
+        self.assertEqual((run.returncode, run.stderr), (5, b"h2audit-page: out of memory\n"))
+
+    def test_missing_library(self) -> None:
+        """A library that is missing is named by its package, with status 3."""
+        with tempfile.TemporaryDirectory() as folder:
+            for name in ("matplotlib", "distributed"):
+                pathlib.Path(folder, f"{name}.py").write_text(f"raise ModuleNotFoundError('none', name='{name}')\n")
+            pathlib.Path(folder, "a.pcap").write_bytes(b"")
+            for words, why in (
+                (["h2audit-plot", str(TOP / "examples" / "stream_overrun_go.frames.report"), "-o", f"{folder}/a.svg"],
+                 "matplotlib is not installed (Debian: apt-get install python3-matplotlib)"),
+                (["h2audit-fleet", "--db", f"{folder}/a", "--scheduler", "tcp://127.0.0.1:1", "--unencrypted", folder],
+                 "distributed is not installed (Debian: apt-get install python3-distributed)"),
+            ):
+                run = ran('"$@"', TOOLS / words[0], *words[1:], PYTHONPATH=folder)
+                self.assertEqual((run.returncode, run.stderr.decode()), (3, f"{words[0]}: {why}\n"))
+
+
+class Names(unittest.TestCase):
+    def test_escaped(self) -> None:
+        """What a terminal would act on in the name of a file is escaped in each message, on one line."""
+        with tempfile.TemporaryDirectory() as folder:
+            missing = os.fsencode(folder) + b"/" + HOSTILE
+            (pathlib.Path(folder) / "empty").mkdir()
+            report = TOP / "examples" / "stream_overrun_go.frames.report"
+            runs: tuple[tuple[int, tuple[Word, ...]], ...] = (
+                (4, (TOOLS / "h2audit-page", missing, "-o", "/dev/null")),
+                (4, (TOOLS / "h2audit-page", report, "-o", missing + b"/none")),
+                (2, (TOOLS / "h2audit-page", report, missing, "-o", "/dev/null")),
+                (4, (TOOLS / "h2audit-plot", missing)),
+                (2, (TOOLS / "h2audit-plot", report, "-o", missing.replace(b".txt", b".jpg"))),
+                (4, (TOOLS / "h2audit-fleet", "--db", f"{folder}/a", missing)),
+                (4, (TOOLS / "h2audit-fleet", "--db", missing + b"/none", report)),
+                (4, (TOOLS / "h2audit-fleet", "--db", f"{folder}/a", "--list", missing)),
+                (2, (TOOLS / "by-definition", missing)),
+                (2, (TOOLS / "by-definition", "--script", missing)),
+                (2, (TOOLS / "believed.py", missing)),
+            )
+            for status, words in runs:
+                run = ran('python3 "$@"', *words)
+                said = run.stderr.decode()
+                self.assertEqual((run.returncode, said.count("\n"), said[:-1].isprintable()), (status, 1, True), said)
+                self.assertIn(ESCAPED.removesuffix(".txt"), said)
+
+    def test_empty_folder(self) -> None:
+        """And so it is in the line that says that a folder holds nothing."""
+        with tempfile.TemporaryDirectory() as folder:
+            empty = os.path.join(os.fsencode(folder), HOSTILE)
+            os.mkdir(empty)
+            run = ran('"$@"', TOOLS / "h2audit-fleet", "--db", f"{folder}/a", empty)
+            self.assertEqual(run.returncode, 3)
+            self.assertIn(ESCAPED, run.stderr.decode())
+            self.assertTrue(run.stderr.decode()[:-1].isprintable())
+
+
+if __name__ == "__main__":
+    unittest.main()
