@@ -153,19 +153,20 @@ def read(asked: argparse.Namespace, place: Path, audit_ends: object, progress: P
 
 
 def written(answer: Answer, asked: argparse.Namespace) -> Iterator[str]:
-    """The answer in the form that is asked for, line by line."""
+    """The answer in the form that is asked for, piece by piece."""
     from why import document
     from why.text import Page
 
     if asked.json:
-        yield document.text_of(document.document_of(answer))
+        yield from document.pieces_of(answer)
+        yield "\n"
     elif asked.json_lines:
-        yield from map(document.text_of, document.lines_of(answer))
+        yield from (document.text_of(line) + "\n" for line in document.lines_of(answer))
     else:
         is_terminal = sys.stdout.isatty()
         colours = asked.color == "always" or asked.color == "auto" and is_terminal and not os.environ.get("NO_COLOR")
         width = asked.width or (shutil.get_terminal_size().columns if is_terminal else None)
-        yield from Page(answer, colours, width, asked.all).lines()
+        yield from (line + "\n" for line in Page(answer, colours, width, asked.all).lines())
 
 
 def work(asked: argparse.Namespace) -> int:
@@ -174,8 +175,7 @@ def work(asked: argparse.Namespace) -> int:
         answer = answered(asked, progress)
     finally:
         progress.end()
-    for line in written(answer, asked):
-        sys.stdout.write(line + "\n")
+    sys.stdout.writelines(written(answer, asked))
     sys.stdout.flush()
     if not answer.audited:
         return failed(NAME, NOTHING_AUDITED, "nothing was audited")
