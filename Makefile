@@ -12,8 +12,8 @@ RUST_PROGRAMS = h2audit-any h2audit-comment h2audit-import h2audit-merge
 RUST_BUILT = companions/target/release
 CARGO ?= cargo
 # Programs in Python, and the packages that they share.
-PYTHON_PROGRAMS = h2audit-fleet h2audit-page h2audit-plot
-PYTHON_PACKAGES = fleet page page/assets plot report
+PYTHON_PROGRAMS = h2audit-fleet h2audit-page h2audit-plot h2audit-why
+PYTHON_PACKAGES = fleet page page/assets plot report why
 BESIDE = $(RUST_PROGRAMS) $(PYTHON_PROGRAMS) h2audit-split
 FIRST = examples/negative_window_tomcat.pcap examples/stream_overrun_go.pcap
 # The parts of "make check", the longest first.

@@ -221,6 +221,7 @@ def refusals(program: pathlib.Path) -> list[str]:
         ("--parts 2 -o out version", 3, "h2audit-split: capture refused: bad-version\n"),
         ("--parts 2 -o out cooked", 3, "h2audit-split: capture refused: link-type\n"),
         ("--parts 2 -o out missing", 4, "h2audit-split: cannot open: missing\n"),
+        ("--parts 2 -o out .", 4, "h2audit-split: cannot read: .\n"),
         ("--parts 2 -o good good", 4, "h2audit-split: cannot make folder: good\n"),
         ("--parts 2 -o none/out good", 4, "h2audit-split: cannot make folder: none/out\n"),
         ("--parts 0 -o out good", 2, None), ("--parts 501 -o out good", 2, None), ("--parts 2 good", 2, None),
@@ -236,8 +237,8 @@ def refusals(program: pathlib.Path) -> list[str]:
             said = ran.stderr + ran.stdout
             if ran.returncode != status or (said != text if text is not None else not ran.stderr.startswith("error: ")):
                 wrong.append(f"{words}: {ran.returncode} {said!r}")
-            if status and (pathlib.Path(folder) / "out" / "split.txt").exists():
-                wrong.append(f"{words}: a summary of a split that did not end")
+            if status and {path.name for path in pathlib.Path(folder).iterdir()} != set(files):
+                wrong.append(f"{words}: something is left of a split that did not end")
     return wrong
 
 

@@ -35,8 +35,11 @@ CALLS = {
     "h2audit/src/command_line/words.rt": ["parse"],
 }
 SPLITTER_CALLS = {
-    "capture_parts/src/splitting.rt": ["split_capture", "split_file", "split_last"],
+    "capture_parts/src/files.rt": ["split_capture"],
+    "capture_parts/src/finishing.rt": ["flush_parts", "refuse_full"],
     "capture_parts/src/laws.rt": ["one_part", "segments_name", "either_order", "same_records"],
+    "h2audit_split/src/outputs.rt": ["finish_parts"],
+    "h2audit_split/src/failure.rt": ["end"],
 }
 VIEWS = {"input_output/src/kept_bytes.rt": ["KeptBytes"]}
 # The folders of specs/ that hold what is not believed.

@@ -93,6 +93,24 @@ _h2audit_any() {
     esac
 }
 
+_h2audit_why() {
+    local word=${COMP_WORDS[COMP_CWORD]} before=${COMP_WORDS[COMP_CWORD - 1]}
+    local options='--key-log -k --sort --all --query --no-requests --json --json-lines --color --width --h2audit --import'
+    options+=' --help -h --version -V'
+    [[ $word == = ]] && word=
+    [[ $before == = ]] && before=${COMP_WORDS[COMP_CWORD - 2]}
+    case $before in
+    --color) _h2audit_offer -W 'auto always never' -- "$word" ;;
+    --width) _h2audit_offer -W '80 100 120 160' -- "$word" ;;
+    *)
+        case $word in
+        -*) _h2audit_offer -W "$options" -- "$word" ;;
+        *) _h2audit_offer -f -- "$word" ;;
+        esac
+        ;;
+    esac
+}
+
 _h2audit_fleet() {
     local word=${COMP_WORDS[COMP_CWORD]} before=${COMP_WORDS[COMP_CWORD - 1]}
     local options='--db --list --resume --require-http2 --reports --collect --keys --import --timeout --retries --split-above'
@@ -145,3 +163,4 @@ complete -o filenames -F _h2audit_merge h2audit-merge
 complete -o filenames -F _h2audit_page h2audit-page
 complete -o filenames -F _h2audit_plot h2audit-plot
 complete -o filenames -F _h2audit_split h2audit-split
+complete -o filenames -F _h2audit_why h2audit-why

@@ -8,7 +8,7 @@ A report may be large, so its lines are handed on one by one, and none is read t
 from __future__ import annotations
 
 import re
-from collections.abc import Iterator
+from collections.abc import Callable, Iterator
 from typing import BinaryIO, NamedTuple
 
 from report.blame import is_fault, who_broke_it
@@ -129,12 +129,24 @@ Line = Capture | PassedOver | Unopened | Opening | Flow | Finding | Stall | Audi
 ReadLine = Line | Fragments
 
 
-def read_lines(report: BinaryIO) -> Iterator[Line]:
-    """What each line of a report says; Refused with the first that is none."""
+# Takes the frame, the side, the stream and the value of a line of credit.
+TakesCredit = Callable[[int, bytes, int, int], None]
+
+
+def read_lines(report: BinaryIO, take_credit: TakesCredit | None = None) -> Iterator[Line]:
+    """What each line of a report says; Refused with the first that is none.
+
+    With --frames nearly all lines are of credit. Where they are handed on by themselves, they are taken by their words,
+    as of a report that this run made, at a third of the time.
+    """
     number = 0
     has_connection = False
     while raw := report.readline(LONGEST_LINE + 1):
         number += 1
+        if take_credit and has_connection and b"-credit stream " in raw:
+            words = raw.split()
+            take_credit(int(words[1]), words[6], int(words[9]), int(words[11]))
+            continue
         text = text_of(raw)
         said = read_line(text) if number > 1 else first_line(text)
         if said is None or not (has_connection or type(said) not in PARTS_OF_CONNECTION):

@@ -33,7 +33,7 @@ on_root() {
 }
 
 # The programs beside h2audit, by what follows their names.
-beside=(-any -comment -fleet -import -merge -page -plot -split)
+beside=(-any -comment -fleet -import -merge -page -plot -split -why)
 
 # The programs and their completions for bash.
 installed() {
@@ -43,7 +43,7 @@ installed() {
 
 # By the repository, and not by the Makefile: each module and asset.
 modules() {
-    (cd tools && find comment fleet import page plot report split -name __pycache__ -prune -o -type f \
+    (cd tools && find comment fleet import page plot report split why -name __pycache__ -prune -o -type f \
         -printf "./$1/share/h2audit/%p\n")
 }
 
@@ -115,6 +115,7 @@ run_installed() {
     "$bin/h2audit-import" -o "$work/made.pcap" -k tests/tls/nghttp-nghttpd-13.{keys,pcap}
     "$bin/h2audit-any" examples/negative_window.pcap > /dev/null
     "$bin/h2audit-fleet" --version > /dev/null
+    "$bin/h2audit-why" --version > /dev/null
     "$bin/h2audit-split" --help > /dev/null
     mandoc -Tmarkdown "$work/root/usr/share/man/man1/h2audit.1.gz" | grep '# EXIT STATUS' > /dev/null ||
         fail 'the manual of the package cannot be read'

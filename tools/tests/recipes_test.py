@@ -24,7 +24,7 @@ TOP = pathlib.Path(__file__).resolve().parents[2]
 PAIR = re.compile(r"^```sh\n(.*?)^```\n+```text\n(.*?)^```$", re.M | re.S)
 LINK = re.compile(r"\]\(([^)#:]+)(?:#[^)]*)?\)")
 # What the stand-in has no report for.
-NEEDS_PROGRAM = re.compile("h2audit-(any|import) |tcpdump -i ")
+NEEDS_PROGRAM = re.compile("h2audit-(any|import|why) |tcpdump -i ")
 AWKS = {awk: path for awk in ("mawk", "gawk", "original-awk") if (path := shutil.which(awk))}
 
 
@@ -54,9 +54,10 @@ def tools_folder(folder: str, program: pathlib.Path, awk: str) -> pathlib.Path:
     bin_of = pathlib.Path(folder, awk)
     bin_of.mkdir()
     (bin_of / "h2audit").symlink_to(program)
-    for name in ("any", "comment", "fleet", "import", "merge", "page", "plot"):
-        script = TOP / "tools" / f"h2audit-{name}"
-        (bin_of / script.name).symlink_to(script if script.exists() else companion(script.name))
+    for name in ("h2audit-fleet", "h2audit-page", "h2audit-plot", "h2audit-why"):
+        (bin_of / name).symlink_to(TOP / "tools" / name)
+    for name in ("h2audit-any", "h2audit-comment", "h2audit-import", "h2audit-merge"):
+        (bin_of / name).symlink_to(companion(name))
     (bin_of / "awk").symlink_to(AWKS[awk])
     return bin_of
 

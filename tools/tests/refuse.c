@@ -2,7 +2,7 @@
  *
  * The Nth call of KIND fails: growth (malloc, realloc), thread (pthread_create), read, write. Of read-one and write-one the Nth
  * moves one byte, and of write-none it takes none. With drip each write takes 3 bytes, and the Nth fails. Where the call is met,
- * the file MET is made. Of threads none is refused: MET has a byte for each one that is started.
+ * the file MET is made.
  */
 #define _GNU_SOURCE
 #include <dlfcn.h>
@@ -39,13 +39,6 @@ static int is_met(const char *name) {
     return 1;
 }
 
-/* Adds a byte to MET for each thread. */
-static void note_thread(void) {
-    int file = open(getenv("MET"), O_CREAT | O_WRONLY | O_APPEND, 0600);
-    dprintf(file, ".");
-    close(file);
-}
-
 #define REAL(name) ((__typeof__(&name))dlsym(RTLD_NEXT, #name))
 
 static void *(*real_malloc)(size_t);
@@ -64,8 +57,6 @@ void *realloc(void *old, size_t size) {
 }
 
 int pthread_create(pthread_t *thread, const pthread_attr_t *attributes, void *(*body)(void *), void *data) {
-    if (is_kind("threads"))
-        note_thread();
     return is_met("thread") ? EAGAIN : REAL(pthread_create)(thread, attributes, body, data);
 }
 

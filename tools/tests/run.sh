@@ -1,7 +1,7 @@
 #!/usr/bin/env bash
 # Tests what stands around the program: imports, comments, pages, pictures, many captures, man pages, completions,
 # recipes, the Debian package and the example of the library. And what the program answers where memory, threads,
-# reads and writes are refused.
+# reads and writes are refused, and what audits cost.
 #
 # It proves nothing, and builds the library's example alone. Where the program is not built, or is older than its
 # sources, the recipes read the stored reports of examples/, and install and package have another program in its place;
@@ -11,6 +11,8 @@ set -euo pipefail
 cd "$(dirname "$0")/../.."
 
 needed=(python3-matplotlib mandoc lintian zsh fish gawk mawk original-awk tshark binutils gcc libc6-dev)
+# Of costs.
+needed+=(valgrind)
 # Of types.
 needed+=(mypy)
 # Of the page and its tests.
@@ -22,6 +24,9 @@ needed+=(cargo rustc rustfmt rust-clippy clang pkg-config libssl-dev libzstd-dev
 needed+=(librust-{atty,bzip2,flate2,itoa,lexopt,memchr,once-cell,openssl,rlimit,signal-hook,tempfile,xz2,zstd}-dev)
 # Of many captures and their tests.
 needed+=(python3-distributed sqlite3 parallel iproute2)
+# Of the answer in words and its tests: real servers and clients.
+needed+=(python3-hpack python3-jsonschema python3-grpcio)
+needed+=(nginx-light nghttp2-client nghttp2-server h2o caddy nodejs curl)
 built=crates/h2audit_cli/out/h2audit_cli
 split=crates/h2audit_split/out/h2audit_split
 work=$(mktemp -d)
@@ -76,6 +81,15 @@ try_built() {
     fi
 }
 
+# A test of the splitter, likewise.
+try_split() {
+    if [[ $split != "$program" ]]; then
+        try "$@"
+    else
+        left_out+=("$1")
+    fi
+}
+
 left_out=()
 install_packages
 if make -q "$built" > /dev/null 2>&1; then
@@ -120,6 +134,8 @@ try 'forms of captures' tools/tests/import_forms_test.py
 try 'cipher suites, resumption, PSK, early data' tools/tests/import_tls_test.py "${audits[@]}"
 try_built 'reports of earlier imports' tools/tests/import_map_test.py "$built"
 try 'mutated captures and key logs' tools/tests/import_mutations_test.py
+try 'imports: what was once read wrongly, preambles, the course of TCP' tools/tests/import_corpus_test.py
+try 'imports: memory and work' tools/tests/import_limits_test.py
 try 'many captures: tables' tools/tests/fleet_test.py "${audits[@]}" Tables
 try 'many captures: lost workers, memory, time' tools/tests/fleet_test.py \
     Course.test_{killed_worker,worker_killed_each_time,memory_and_time}
@@ -136,8 +152,20 @@ try_built 'many captures: large imports in parts' tools/tests/fleet_imports_test
 try_built 'many captures: large imports, lost workers' tools/tests/fleet_imports_test.py "$built" Misfortunes
 try_built 'many captures: large imports on a cluster' tools/tests/fleet_imports_test.py "$built" OnCluster
 try 'many captures: without daemons' tools/tests/fleet_collect_test.py "${audits[@]}"
+try_split 'splitter: full parts and disks, names' tools/tests/splitter_test.py "$split"
 try 'install and package' tools/tests/package_test.sh "$program" "$split"
+try_built 'the answer in words: captures' tools/tests/why_test.py "$built"
+try_built 'the answer in words: hostile captures' tools/tests/why_hostile_test.py "$built"
+try_built 'the answer in words: words' tools/tests/why_words_test.py "$built"
+try_built 'the answer in words: damaged captures' tools/tests/why_mutations_test.py "$built"
+try_built 'the answer in words: both ends of a wire' tools/tests/why_place_test.py "$built"
+try_built 'the answer in words: windows of real peers' tools/tests/why_causes_test.py "$built" Windows
+try_built 'the answer in words: real clients' tools/tests/why_causes_test.py "$built" Clients
+try_built 'the answer in words: real applications' tools/tests/why_causes_test.py "$built" Applications
 try_built 'refused growths, threads, reads and writes' tools/tests/refusals_test.py "$built"
 try_built 'threads that are started' tools/tests/threads_test.py "$built"
+try_built 'random bytes, and reads of any length' tools/tests/calls_test.py "$built"
+try_built 'costs: instructions, memory, threads' tools/tests/costs_test.py "$built"
+try_built 'large captures' tools/tests/sizes_test.py "$built"
 [[ ${#left_out[@]} -eq 0 ]] || fail "did not run, for want of the program: $(printf '%s; ' "${left_out[@]}")"
 echo 'test-tools: all passed'

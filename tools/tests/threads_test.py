@@ -5,14 +5,12 @@ No contract says that threads run, since it could not say that they take turns. 
 docs/ARCHITECTURE.md divides the work has a capture here that takes it, and the number of threads that it adds,
 computed by hand. A way that is idle, or a thread that is started in vain, changes a sum. One worker starts no thread.
 
-One number is not the same in each run: the reader begins a walk over packets where the one before it is done, so of
-several MiB there may be one walk for each MiB but the last, or fewer. Where there are two such or more, the sum has a
-least and a most.
+The reader begins a walk over packets where the one before it is done. Here a read waits for the threads that were
+started before it (count.c), so there is a walk for each MiB but the last.
 """
 
 import os
 import pathlib
-import subprocess
 import sys
 import tempfile
 import unittest
@@ -22,6 +20,7 @@ sys.path.insert(0, str(TOP / "tests"))
 sys.dont_write_bytecode = True
 
 from captures import PREFACE, SERVER, SYN, SYN_ACK, Capture, capture_of, frame_of  # noqa: E402
+from counting import Counter  # noqa: E402
 
 SETTINGS, SETTINGS_ACK = frame_of(["SETTINGS"]), frame_of(["ACK"])
 
@@ -52,8 +51,8 @@ TWO_LOUD_STREAMS = capture_of("opened\nC HEADERS 1\nC HEADERS 3\nS WINDOW_UPDATE
 UNMATCHED, AT_ONCE = SETTINGS_ACK, "C ACK"
 SHORT, LONG, LONGER = pings(3904, AT_ONCE), pings(4096, AT_ONCE), pings(20004, AT_ONCE)
 
-Ways = dict[str, int | tuple[int, int]]
-# The words, the capture, and how many threads each way adds beside the one at hand, or how many at least and at most.
+Ways = dict[str, int]
+# The words, the capture, and how many threads each way adds beside the one at hand.
 ROWS: list[tuple[str, bytes, Ways]] = [
     ("--workers 2", TWO_STREAMS, {"one side's flow": 1, "nothing is shown, so there is no round": 0}),
     ("--workers 2 --frames", TWO_STREAMS, {"one side's flow": 1, "one of two groups": 1}),
@@ -71,7 +70,7 @@ ROWS: list[tuple[str, bytes, Ways]] = [
         "chunks ahead, one at each 256 KiB of the first MiB": 4, "packets of that MiB while reading goes on": 1,
         "one side's flow": 1, "faults beside the split": 1, "faults in three pieces": 2, "five blocks are summed": 3}),
     ("--workers 4", pings(70_000), {
-        "chunks ahead": 4, "one more at each MiB from the second on": 4, "packets of five MiB": (1, 5),
+        "chunks ahead": 4, "one more at each MiB from the second on": 4, "packets of five MiB": 5,
         "one side's flow": 1,
         "each of six batches, of 128 KiB twice and then of 256 KiB, is taken by two": 6,
         "each is met while the next one is taken": 6}),
@@ -84,48 +83,39 @@ ROWS: list[tuple[str, bytes, Ways]] = [
         "flows": 3, "halves, from 64 connections on": 1, "each is made ready by halves": 2,
         "blocks of each are summed": 2}),
     ("--workers 4", connections(5000, UNMATCHED), {
-        "chunks ahead": 4, "one more at the second MiB": 1, "packets of two MiB": (1, 2), "flows": 3,
+        "chunks ahead": 4, "one more at the second MiB": 1, "packets of two MiB": 2, "flows": 3,
         "halves of one batch, and halves of these": 3, "halves of the text on two batches, and halves of these": 6}),
     ("--workers 4", connections(255), {"flows": 3, "a text of so few is one worker's": 0}),
     ("--workers 4", connections(256), {"flows": 3, "halves of the text, from 256 connections on": 1}),
     ("--workers 4", connections(8193), {
-        "chunks ahead": 4, "one more at the second and the third MiB": 2, "packets of three MiB": (1, 3), "flows": 3,
+        "chunks ahead": 4, "one more at the second and the third MiB": 2, "packets of three MiB": 3, "flows": 3,
         "halves of the text on 8,192 connections, and halves of these; the last one is a batch of its own": 3}),
 ]
 
 
 class Threads(unittest.TestCase):
-    shim: pathlib.Path
-    met: pathlib.Path
+    counter: Counter
     capture: pathlib.Path
 
     @classmethod
     def setUpClass(cls) -> None:
         folder = tempfile.TemporaryDirectory()
         cls.addClassCleanup(folder.cleanup)
-        cls.shim, cls.met, cls.capture = (pathlib.Path(folder.name, name) for name in ("refuse.so", "met", "capture"))
-        source = pathlib.Path(__file__).with_name("refuse.c")
-        subprocess.run(["cc", "-O2", "-shared", "-fPIC", "-o", cls.shim, source], check=True)
+        cls.counter, cls.capture = Counter(PROGRAM, folder.name), pathlib.Path(folder.name, "capture")
 
     def started(self, words: str, capture: bytes) -> int:
         """How many threads a run starts. The capture is a file, which a read gives as much of as it asks for."""
         self.capture.write_bytes(capture)
-        self.met.unlink(missing_ok=True)
-        surroundings = dict(os.environ, LD_PRELOAD=str(self.shim), REFUSE="threads 0", MET=str(self.met))
-        subprocess.run([PROGRAM, *words.split(), self.capture], capture_output=True, env=surroundings, timeout=60)
-        return self.met.stat().st_size if self.met.exists() else 0
+        return self.counter.run([*words.split(), str(self.capture)], SETTLE=1).counts.started
 
     def test_each_way(self) -> None:
         for words, capture, ways in ROWS:
             with self.subTest(words, ways=ways):
-                bounds = [(way, way) if isinstance(way, int) else way for way in ways.values()]
-                started = self.started(words, capture)
-                self.assertLessEqual(sum(least for least, _ in bounds), started)
-                self.assertLessEqual(started, sum(most for _, most in bounds))
+                self.assertEqual(sum(ways.values()), self.started(words, capture))
 
     def test_one_worker(self) -> None:
         for _, capture, _ in ROWS:
-            self.assertEqual(self.started("--workers 1 --block 64", capture), 0)
+            self.assertEqual(0, self.started("--workers 1 --block 64", capture))
 
 
 if __name__ == "__main__":

@@ -21,7 +21,7 @@ TOP = pathlib.Path(__file__).resolve().parents[2]
 MAN = TOP / "tools" / "man"
 COMPLETIONS = TOP / "tools" / "completions"
 HELP_TEXTS = {"h2audit": TOP / "tests" / "help.txt", "h2audit-split": TOP / "tests" / "split_help.txt"}
-IN_PYTHON = ("fleet", "page", "plot")
+IN_PYTHON = ("fleet", "page", "plot", "why")
 IN_RUST = ("any", "comment", "import", "merge")
 OPTION = re.compile(r"(?<![\w-])(--[a-z][a-z0-9-]*)")
 
@@ -95,6 +95,7 @@ class Bash(unittest.TestCase):
         self.assertEqual(self.offered("h2audit-import", "--jobs", "6"), ["6", "60", "61", "62", "63", "64"])
         self.assertEqual(self.offered("h2audit-import", "-k", "READ"), ["README.md"])
         self.assertEqual(self.offered("h2audit-any", "--groups", "10"), ["1024"])
+        self.assertEqual(self.offered("h2audit-why", "--color", "a"), ["auto", "always"])
         self.assertEqual(self.offered("h2audit-fleet", "--import", "a"), ["auto", "always"])
         self.assertEqual(self.offered("h2audit-fleet", "--reports", "exam"), ["examples"])
         self.assertEqual(self.offered("h2audit-split", "--parts", "5"), ["500"])
@@ -122,6 +123,7 @@ class Fish(unittest.TestCase):
         self.assertIn("README.md", self.offered("h2audit READ"))
         self.assertIn("README.md", self.offered("h2audit-any -k READ"))
         self.assertEqual(self.offered("h2audit-import --jobs 6"), ["6", "60", "61", "62", "63", "64"])
+        self.assertEqual(sorted(self.offered("h2audit-why --color a")), ["always", "auto"])
         self.assertEqual(sorted(self.offered("h2audit-fleet --import a")), ["always", "auto"])
         self.assertEqual(self.offered("h2audit-split --parts 50"), ["500"])
 
@@ -195,6 +197,7 @@ class Zsh(unittest.TestCase):
         self.assertEqual(self.completed("h2audit READ"), "h2audit README.md")
         self.assertEqual(self.completed("h2audit-any --groups=10"), "h2audit-any --groups=1024")
         self.assertEqual(self.completed("h2audit-import --key-log=READ"), "h2audit-import --key-log=README.md")
+        self.assertEqual(self.completed("h2audit-why --color=n"), "h2audit-why --color=never")
         self.assertEqual(self.completed("h2audit-fleet --import=n"), "h2audit-fleet --import=never")
         self.assertEqual(self.completed("h2audit-split --parts=50"), "h2audit-split --parts=500")
         self.assertEqual(self.completed("h2audit-merge exam").rstrip("/"), "h2audit-merge examples")

@@ -14,3 +14,5 @@ mod FrameRows
 mod Apart
 mod JoinedSteps
 pub mod StreamsMet
+mod RisingRows
+mod ShownPass

@@ -37,7 +37,8 @@ pub use Rattle.audit_terms.specs.code.{Room.HasRoom, runs.Orderly.IsInRange, run
 pub use Rattle.audit_terms.specs.code.runs.{Changes.changes_from, Changes.settings_run_from, Orderly.IsOrderly}
 pub use Rattle.audit_terms.specs.code.runs.{Changes.changes_of, States.items_from, States.state_from}
 pub use Rattle.audit_terms.specs.code.runs.Blocks.{block_run, block_runs, connection_after_all}
-pub use Rattle.audit_terms.specs.code.runs.Streams.{IsAcknowledged, change_step, initial_after, stream_run_from}
+pub use Rattle.audit_terms.specs.code.runs.Streams.{IsAcknowledged, change_step, initial_after, step_at}
+pub use Rattle.audit_terms.specs.code.runs.Streams.{stream_run_from}
 pub use Rattle.audit_terms.specs.code.runs.Streams.{frame_step, frames_of, group_run, steps_of, stream_run, with_change}
 pub use Rattle.audit_terms.specs.declared.{connections.ConnectionState.ConnectionState, settings.Settings.Settings}
 pub use Rattle.audit_terms.specs.declared.{findings.Finding.Finding, frames.Body.TheVariants.Settings as SettingsBody}

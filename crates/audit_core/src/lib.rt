@@ -2,8 +2,12 @@
 //! of the definitions that it follows, which stand in `audit_terms`.
 //!
 //! - [`one_pass`] gives the findings of the pass: all, of every kind, in order, up to and including the first that
-//!   stops. It is a program for tests, a plain fold over the frames that keeps its streams in a list; the audit itself
+//!   stops. It is a program for tests: the audit asks for [`shown_in_one_pass`], where there is one worker, and else
 //!   goes in the rounds of `audit_rounds`.
+//! - [`shown_in_one_pass`] gives of these what is shown. It goes over the frames once, keeps a row for each stream, and
+//!   ends at the first frame at which the audit stops. Most frames are met by one stream, whose row is found by a
+//!   guess, else by halving. Where streams first come out of order (RFC 9113, 5.1.1), or many acknowledgements and
+//!   promises meet many streams, it has no answer: so its time is about as long as the frames are many.
 //! - [`laws`] say what follows from the definitions, and of no code. Each credit is the closed sum of RFC 9113, 6.9,
 //!   and a live window is one of an opened stream that its side has not ended. The streams of a connection are those
 //!   that its frames meet, each once, and the steps of a stream are its frames and the changes, in order. The pass ends
@@ -20,8 +24,9 @@
 //! - Refused by the prover in other crates, on the same definitions: content of a reset stream that the connection does
 //!   not count, in `quiet_pass`; and wrong bodies of the calls that it makes with these, as a change that counts before
 //!   its acknowledgement in `settings_pair`.
-//! - Tested, in `crate_tests`: that `one_pass` succeeds where there is memory, and that the rounds show what it does of
-//!   random frames.
+//! - Tested, in `crate_tests`: that both succeed where there is memory, that the rounds show what `one_pass` does of
+//!   random frames, and that one worker goes through no round. Neither proved nor tested: when `shown_in_one_pass` has
+//!   no answer.
 #![tactic(auto)]
 
 pub mod laws;
@@ -29,4 +34,4 @@ mod passes;
 mod rows;
 pub mod worked_examples;
 
-pub use passes::one_pass;
+pub use passes::{one_pass, shown_in_one_pass};

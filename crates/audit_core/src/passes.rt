@@ -1,19 +1,23 @@
-ghost use Rattle.std.specs.Prelude.{◌≡◌, ◌++◌, ◌&&◌, pos, is_none, IfOk, OnOk};
+ghost use Rattle.std.specs.Prelude.{◌≡◌, ◌==◌, [], ◌++◌, ◌&&◌, if◌then◌else◌, pos, is_none, None, IfOk, OnOk};
+ghost use Rattle.std.specs.List.{find, list_any};
+ghost use Rattle.std.specs.Option.{ForSome};
 ghost use Rattle.audit_terms.specs.declared.kinds.Kind.TheVariants.{UnmatchedAck};
 ghost use Rattle.audit_terms.specs.Sides.{side_of};
 ghost use Rattle.audit_terms.specs.Frame.{is_ack};
-ghost use Rattle.audit_terms.specs.Finding.{finding_at, say};
+ghost use Rattle.audit_terms.specs.Finding.{finding_at, in_order, say, shown, stops, upto_stop};
 ghost use Rattle.audit_terms.specs.LocalFault.{local_said};
 ghost use Rattle.audit_terms.specs.code.runs.Orderly.{IsInRange, IsOrderly};
-ghost use Rattle.audit_terms.specs.Pass.{pass};
+ghost use Rattle.audit_terms.specs.code.runs.Changes.{changes_of};
+ghost use Rattle.audit_terms.specs.Pass.{pass, streams_of};
+ghost use Rattle.audit_core.specs.code.StreamRows.{idle_rows};
 
-use crate::rows::{idle_rows, meet_all, opens};
+use crate::rows::{StreamRow, idle_rows, meet, opens, rising_rows};
 use audit_terms::{
     Change, ConnectionState, FIRST_WINDOW, Finding, Frame, Item, Kind, Sides, cut_at_stop,
-    initial_after, put_in_order, say_if,
+    initial_after, keep_shown, put_in_order, say_if,
 };
 use fault_rules::{keep_last, say_connection, say_local};
-use settings_pair::pair;
+use settings_pair::{Pairs, pair};
 use std::alloc::{AllocError, Global};
 
 /// The plain pass over a connection's frames in capture order: all findings, in order, up to and including the first
@@ -22,15 +26,77 @@ pub fn one_pass(alloc: Global, frames: &[Frame]) -> Result<Vec<Finding>, AllocEr
     requires { IsOrderly frames.now }
     ensures { IfOk result (λ found. found.items ≡ pass frames.now) }
 {
-    let mut found = Vec::new(alloc);
-    let mut previous = Sides::both(None);
     let pairs = pair(alloc, frames)?;
+    let rows = idle_rows(alloc, frames)?;
+    shown_with(alloc, true, frames, &pairs, rows)
+}
+
+/// The same as far as it is shown, with or without credits, if this takes time about as the frames do: where streams
+/// first come in rising order, and few frames may be met by all of them. Else there is no answer.
+pub fn shown_in_one_pass(
+    alloc: Global,
+    credits_shown: bool,
+    frames: &[Frame],
+) -> Result<Option<Vec<Finding>>, AllocError>
+    requires { IsOrderly frames.now }
+    ensures { IfOk result (λ made. ForSome made (λ found. found.items ≡ shown credits_shown (pass frames.now))) }
+{
+    let by_all = met_by_all(frames);
+    if !take_few_steps(by_all, by_all, frames.len()) {
+        return Ok(None);
+    }
+    let Some(rows) = rising_rows(alloc, frames)? else {
+        return Ok(None);
+    };
+    if !take_few_steps(by_all, rows.len(), frames.len()) {
+        return Ok(None);
+    }
+    let pairs = pair(alloc, frames)?;
+    let found = shown_with(alloc, credits_shown, frames, &pairs, rows)?;
+    Ok(Some(found))
+}
+
+/// How many frames all streams may meet: an acknowledgement may change each window, and a stream that is promised is
+/// looked for among all. The change of an acknowledgement is looked for among those of all acknowledgements too.
+fn met_by_all(frames: &[Frame]) -> usize {
+    let mut count = 0usize;
+    for frame in frames {
+        if frame.body.is_ack() || frame.promised_by() != 0 {
+            count = count.saturating_add(1);
+        }
+    }
+    count
+}
+
+/// So many steps for each frame, on average, are few.
+const STEPS: usize = 8;
+
+/// Are so many frames met in few steps, where each takes so many?
+fn take_few_steps(met: usize, steps: usize, frames: usize) -> bool {
+    met.saturating_mul(steps) <= frames.saturating_mul(STEPS)
+}
+
+/// What is shown of the pass, where these are the changes and the rows of the streams.
+fn shown_with(
+    alloc: Global,
+    credits_shown: bool,
+    frames: &[Frame],
+    pairs: &Pairs,
+    streams: Vec<StreamRow>,
+) -> Result<Vec<Finding>, AllocError>
+    requires frames { IsOrderly frames.now }
+    requires changes { pairs.now.changes.items ≡ changes_of frames.now }
+    requires rows { streams.items ≡ idle_rows (streams_of frames.now) }
+    ensures { IfOk result (λ found. found.items ≡ shown credits_shown (pass frames.now)) }
+{
+    let mut rows = streams;
+    let mut found = Vec::new(alloc);
+    let mut said = Vec::new(alloc);
+    let mut previous = Sides::both(None);
     let mut in_force = Sides::both(FIRST_WINDOW);
     let mut connection = ConnectionState::start();
-    let mut rows = idle_rows(alloc, frames)?;
     for frame in frames {
-        let change = pairs.change_at(frame.number);
-        let mut said = Vec::new(alloc);
+        let change = change_of(pairs, frame);
         say_alone(&mut said, &previous, frame, &change)?;
         let item = Item {
             frame: *frame,
@@ -38,14 +104,53 @@ pub fn one_pass(alloc: Global, frames: &[Frame]) -> Result<Vec<Finding>, AllocEr
             change,
         };
         say_connection(&mut said, &mut connection, &item)?;
-        meet_all(&mut rows, &mut said, &in_force, &item)?;
-        put_in_order(&mut said)?;
-        found.append(&mut said)?;
+        meet(&mut rows, &mut said, &in_force, &item)?;
+        if add_shown(&mut found, &mut said, credits_shown)? {
+            return Ok(up_to_stop(found));
+        }
         keep_last(&mut previous, frame);
         in_force = initial_after(&change, &in_force);
     }
+    Ok(up_to_stop(found))
+}
+
+/// The findings up to and including the first that stops.
+fn up_to_stop(mut found: Vec<Finding>) -> Vec<Finding>
+    ensures { result.items ≡ upto_stop found.items }
+{
     cut_at_stop(&mut found);
-    Ok(found)
+    found
+}
+
+/// The change that a frame brings: only an acknowledgement brings one.
+fn change_of(pairs: &Pairs, frame: &Frame) -> Option<Change>
+    ensures { result ≡ (if is_ack frame.now.body
+        then find (λ change. change.number == frame.now.number) pairs.now.changes.items
+        else None) }
+{
+    if !frame.body.is_ack() {
+        return None;
+    }
+    pairs.change_at(frame.number)
+}
+
+/// Adds what is shown of what is said at a frame, put in order, and answers whether the audit stops there. What was
+/// said is empty then, and its room serves the next frame.
+fn add_shown(
+    found: &mut Vec<Finding>,
+    said: &mut Vec<Finding>,
+    credits_shown: bool,
+) -> Result<bool, AllocError>
+    ensures added { OnOk result (found.new.items
+        ≡ found.old.items ++ shown credits_shown (in_order said.old.items)) }
+    ensures room { OnOk result (said.new.items ≡ []) }
+    ensures stops { IfOk result (λ ends. ends ≡ list_any stops (shown credits_shown (in_order said.old.items))) }
+{
+    put_in_order(said)?;
+    keep_shown(said, credits_shown);
+    let ends = said.iter().any(|one| one.stops());
+    found.append(said)?;
+    Ok(ends)
 }
 
 /// Adds what a frame shows with no state but the last frames and its change: local faults, and an acknowledgement that

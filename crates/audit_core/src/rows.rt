@@ -1,8 +1,12 @@
-ghost use Rattle.std.specs.Prelude.{◌≡◌, ℕ, ◌+◌, ◌-◌, ◌^◌, ◌≤◌, ◌++◌, List, map, IfOk, OnOk};
+ghost use Rattle.std.specs.Prelude.{◌≡◌, ℕ, ◌+◌, ◌-◌, ◌^◌, ◌≤◌, ◌∷◌, ◌++◌, List, map, IfOk, OnOk};
+ghost use Rattle.std.specs.Bool.{OnTrue};
+ghost use Rattle.std.specs.Option.{ForSome};
 ghost use Rattle.std.specs.List.{flat_map, list_any, AllByRecursion};
 ghost use Rattle.audit_terms.specs.Pass.{first_of, streams_of};
 ghost use Rattle.audit_terms.specs.code.runs.Streams.{IsAcknowledged, step_at};
-ghost use Rattle.audit_core.specs.code.StreamRows.{idle_rows, row_opens, row_said, row_after, RowFits};
+ghost use Rattle.audit_terms.specs.declared.frames.Frame.{Frame as FrameTerm};
+ghost use Rattle.audit_core.specs.code.StreamRows.{idle_rows, row_opens, row_said, row_after, AreDistinct, IsAlone};
+ghost use Rattle.audit_core.specs.code.StreamRows.{IsRowOf, RowFits};
 
 use audit_terms::{Finding, Frame, Item, Sides, Stream};
 use fault_rules::say_stream;
@@ -41,8 +45,115 @@ fn put_first(rows: &mut Vec<StreamRow>, stream: u32) -> Result<(), AllocError>
     Ok(())
 }
 
+/// The same, where streams first come in rising order, as they have to be opened (RFC 9113, 5.1.1); else no rows.
+pub fn rising_rows(alloc: Global, frames: &[Frame]) -> Result<Option<Vec<StreamRow>>, AllocError>
+    ensures { IfOk result (λ made. ForSome made (λ rows. rows.items ≡ idle_rows (streams_of frames.now))) }
+{
+    let mut made = RisingRows {
+        rows: Vec::new(alloc),
+        last: 0,
+    };
+    for frame in frames {
+        if !made.put_of(frame)? {
+            return Ok(None);
+        }
+    }
+    Ok(Some(made.rows))
+}
+
+/// Rows of streams in rising order, up to the last.
+#[derive(Drop)]
+pub struct RisingRows {
+    pub rows: Vec<StreamRow>,
+    pub last: u32,
+}
+
+impl RisingRows {
+    ghost use Rattle.audit_core.specs.code.StreamRows.{AreRowsBefore, AreRowsOf, with_stream};
+
+    /// Puts the rows of the streams that a frame meets behind the others, where they have none, if the streams are past
+    /// them.
+    fn put_of(&mut self, frame: &Frame) -> Result<bool, AllocError>
+        ensures { IfOk result (λ rises. OnTrue rises ((all later : List FrameTerm)
+            → AreRowsBefore all (frame.now ∷ later) self.old → AreRowsBefore all later self.new)) }
+    {
+        let rises = self.put(frame.stream)?;
+        if !rises {
+            return Ok(false);
+        }
+        self.put(frame.promised_by())
+    }
+
+    /// The same of one stream; 0 has no row.
+    fn put(&mut self, stream: u32) -> Result<bool, AllocError>
+        ensures { IfOk result (λ rises. OnTrue rises ((streams : List ℕ) → AreRowsOf streams self.old
+            → AreRowsOf (with_stream stream streams) self.new)) }
+    {
+        if stream == 0 || find(&self.rows, stream).is_some() {
+            return Ok(true);
+        }
+        if stream <= self.last {
+            return Ok(false);
+        }
+        let entry = Stream::idle();
+        self.rows.push(StreamRow { stream, entry })?;
+        self.last = stream;
+        Ok(true)
+    }
+}
+
+/// Where the row of a stream stands. Clients mostly open every odd stream, so a guess finds most.
+#[inline]
+fn find(rows: &[StreamRow], stream: u32) -> Option<usize>
+    ensures { ForSome result (IsRowOf rows.now stream) }
+{
+    let Some(first) = rows.first() else {
+        return None;
+    };
+    let guess = stream.wrapping_sub(first.stream) as usize / 2;
+    if is_row_of(rows, guess, stream) {
+        return Some(guess);
+    }
+    search(rows, stream)
+}
+
+/// The same by halving.
+fn search(rows: &[StreamRow], stream: u32) -> Option<usize>
+    ensures { ForSome result (IsRowOf rows.now stream) }
+{
+    let at = rows.partition_point(|row| row.stream < stream);
+    if is_row_of(rows, at, stream) {
+        return Some(at);
+    }
+    None
+}
+
+/// Does the row of a stream stand here?
+fn is_row_of(rows: &[StreamRow], at: usize, stream: u32) -> bool
+    ensures { OnTrue result (IsRowOf rows.now stream at) }
+{
+    match rows.get(at) {
+        Some(row) => row.stream == stream,
+        None => false,
+    }
+}
+
 /// Does a frame open its stream (RFC 9113, 5.1.1)?
 pub fn opens(rows: &[StreamRow], frame: &Frame) -> bool
+    requires { AreDistinct rows.now }
+    ensures { result ≡ list_any (row_opens frame.now) rows.now }
+{
+    if frame.stream == 0 {
+        return false;
+    }
+    match find(rows, frame.stream) {
+        Some(at) => rows[at].entry.life.is_opening(frame.stream, frame),
+        None => opens_some(rows, frame),
+    }
+}
+
+/// The same, whatever the stream of the frame.
+fn opens_some(rows: &[StreamRow], frame: &Frame) -> bool
     ensures { result ≡ list_any (row_opens frame.now) rows.now }
 {
     rows.iter().any(|row| row.stream == frame.stream
@@ -50,8 +161,63 @@ pub fn opens(rows: &[StreamRow], frame: &Frame) -> bool
 }
 
 /// Adds what each stream shows at an item, and brings it to its state after the item; `initial` are the initial windows
-/// in force before it.
-pub fn meet_all(
+/// in force before it. An item that brings no change and promises no stream is met by one stream at most.
+pub fn meet(
+    rows: &mut [StreamRow],
+    found: &mut Vec<Finding>,
+    initial: &Sides<u32>,
+    item: &Item,
+) -> Result<(), AllocError>
+    requires distinct { AreDistinct rows.old }
+    requires numbered { item.now.frame.number ≤ 2 ^ 28 - 2 }
+    requires acknowledged { (stream : ℕ) → IsAcknowledged (step_at item.now stream) }
+    requires fits { AllByRecursion (RowFits (2 ^ 60)) rows.old }
+    ensures said { OnOk result (found.new.items
+        ≡ found.old.items ++ flat_map (row_said initial.now item.now) rows.old) }
+    ensures after { OnOk result (rows.new ≡ map (row_after initial.now item.now) rows.old) }
+    ensures fits { OnOk result ((bound : ℕ) → AllByRecursion (RowFits bound) rows.old
+        → AllByRecursion (RowFits (bound + 2 ^ 32)) rows.new) }
+{
+    if item.change.is_some() || item.frame.promised_by() != 0 {
+        return meet_all(rows, found, initial, item);
+    }
+    if item.frame.stream == 0 {
+        return Ok(());
+    }
+    match find(rows, item.frame.stream) {
+        Some(at) => meet_at(rows, at, found, initial, item),
+        None => meet_all(rows, found, initial, item),
+    }
+}
+
+/// The same of an item on the stream of the row that stands there, which no other stream meets.
+fn meet_at(
+    rows: &mut [StreamRow],
+    at: usize,
+    found: &mut Vec<Finding>,
+    initial: &Sides<u32>,
+    item: &Item,
+) -> Result<(), AllocError>
+    requires distinct { AreDistinct rows.old }
+    requires alone { IsAlone item.now }
+    requires there { IsRowOf rows.old item.now.frame.stream at }
+    requires numbered { item.now.frame.number ≤ 2 ^ 28 - 2 }
+    requires fits { AllByRecursion (RowFits (2 ^ 60)) rows.old }
+    ensures said { OnOk result (found.new.items
+        ≡ found.old.items ++ flat_map (row_said initial.now item.now) rows.old) }
+    ensures after { OnOk result (rows.new ≡ map (row_after initial.now item.now) rows.old) }
+    ensures fits { OnOk result ((bound : ℕ) → AllByRecursion (RowFits bound) rows.old
+        → AllByRecursion (RowFits (bound + 2 ^ 32)) rows.new) }
+{
+    let mut row = rows[at];
+    let step = item.step_at(row.stream);
+    say_stream(found, &mut row.entry, row.stream, initial, &step)?;
+    rows[at] = row;
+    Ok(())
+}
+
+/// The same, where any stream may meet the item.
+fn meet_all(
     rows: &mut [StreamRow],
     found: &mut Vec<Finding>,
     initial: &Sides<u32>,

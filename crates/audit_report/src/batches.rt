@@ -2,7 +2,6 @@
 //! than a batch's text is in memory twice.
 
 ghost use Rattle.std.specs.Prelude.{◌≡◌, ◌+◌, ◌<◌, ◌≤◌, ◌++◌, Bool, IsOk, OnOk, length};
-ghost use Rattle.std.specs.String.{string_bytes};
 ghost use Rattle.std.specs.Thread.{IsSync};
 ghost use Rattle.audit_report.specs.code.Reported.{AreHeaded, told_text};
 ghost use Rattle.audit_report.specs.code.Shares.{IsHeaded, share_text};
@@ -11,7 +10,6 @@ use crate::headings::Heading;
 use crate::sections::push_sections;
 use crate::telling::Telling;
 use crate::told::{Outcome, Told};
-use crate::words::push_word;
 use std::alloc::AllocError;
 use std::thread::{Threads, join_mut};
 
@@ -100,11 +98,11 @@ impl<'a> Share<'a> {
 fn push_share<R: Threads + Sync>(
     rt: &R,
     telling: Telling,
-    out: &mut String,
+    out: &mut Vec<u8>,
     share: Share<'_>,
 ) -> Result<(), AllocError>
     requires { IsHeaded share }
-    ensures { OnOk result (string_bytes out.new ≡ string_bytes out.old
+    ensures { OnOk result (out.new.items ≡ out.old.items
         ++ share_text telling.frames_shown share.entry) }
 {
     // A text that doubles leaves its former places in the C library's heap.
@@ -122,55 +120,55 @@ fn push_share<R: Threads + Sync>(
 fn push_halves<R: Threads + Sync>(
     rt: &R,
     telling: Telling,
-    out: &mut String,
+    out: &mut Vec<u8>,
     front: Share<'_>,
     back: Share<'_>,
 ) -> Result<(), AllocError>
     requires workers { 2 ≤ telling.workers }
     requires front { IsHeaded front }
     requires back { IsHeaded back }
-    ensures { OnOk result (string_bytes out.new ≡ string_bytes out.old
+    ensures { OnOk result (out.new.items ≡ out.old.items
         ++ (share_text telling.frames_shown front.entry ++ share_text telling.frames_shown back.entry)) }
 {
     let few = telling.workers / 2;
     let others = telling.workers - few;
-    let mut behind = String::new(telling.alloc);
+    let mut behind = Vec::new(telling.alloc);
     let mut push_back = || -> Result<(), AllocError>
         requires { IsSync R.row × (0 < few) × IsHeaded back }
-        ensures { OnOk result (string_bytes behind.exit
-            ≡ string_bytes behind.entry ++ share_text telling.frames_shown back.entry) }
+        ensures { OnOk result (behind.exit.items
+            ≡ behind.entry.items ++ share_text telling.frames_shown back.entry) }
     { push_share(rt, telling.by(few), &mut behind, back) };
     let mut push_front = || -> Result<(), AllocError>
         requires { IsSync R.row × (0 < others) × IsHeaded front }
-        ensures { OnOk result (string_bytes out.exit.now
-            ≡ string_bytes out.entry.now ++ share_text telling.frames_shown front.entry) }
+        ensures { OnOk result (out.exit.now.items
+            ≡ out.entry.now.items ++ share_text telling.frames_shown front.entry) }
     { push_share(rt, telling.by(others), out, front) };
     let (later, earlier) = join_mut(rt, &mut push_back, &mut push_front);
-    push_behind(out, earlier.and(later), behind.as_str())
+    push_behind(out, earlier.and(later), behind.as_slice())
 }
 
 /// Adds the back's text, where both halves were made.
 fn push_behind(
-    out: &mut String,
+    out: &mut Vec<u8>,
     made: Result<(), AllocError>,
-    behind: &str,
+    behind: &[u8],
 ) -> Result<(), AllocError>
     ensures made { OnOk result (IsOk made) }
-    ensures text { OnOk result (string_bytes out.new ≡ string_bytes out.old ++ behind.now) }
+    ensures text { OnOk result (out.new.items ≡ out.old.items ++ behind.now) }
 {
     made?;
-    push_word(out, behind)
+    out.extend_from_slice(behind)
 }
 
 /// Adds the sections of a share's connections in batches.
 fn push_batches<R: Threads + Sync>(
     rt: &R,
     telling: Telling,
-    out: &mut String,
+    out: &mut Vec<u8>,
     share: Share<'_>,
 ) -> Result<(), AllocError>
     requires { IsHeaded share }
-    ensures { OnOk result (string_bytes out.new ≡ string_bytes out.old
+    ensures { OnOk result (out.new.items ≡ out.old.items
         ++ share_text telling.frames_shown share.entry) }
 {
     out.reserve(share.told.len().saturating_mul(SECTION))?;
@@ -187,12 +185,12 @@ fn push_batches<R: Threads + Sync>(
 pub fn push_all_sections<R: Threads + Sync>(
     rt: &R,
     telling: Telling,
-    out: &mut String,
+    out: &mut Vec<u8>,
     headings: &[Heading],
     told: &[Told],
 ) -> Result<(), AllocError>
     requires { AreHeaded 0 headings.now told.now }
-    ensures { OnOk result (string_bytes out.new ≡ string_bytes out.old
+    ensures { OnOk result (out.new.items ≡ out.old.items
         ++ told_text telling.frames_shown 1 headings.now told.now) }
 {
     let all = Share {

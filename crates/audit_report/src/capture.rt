@@ -1,5 +1,4 @@
 ghost use Rattle.std.specs.Prelude.{◌≡◌, ◌++◌, OnOk, IfOk, length};
-ghost use Rattle.std.specs.String.{string_bytes};
 ghost use Rattle.pcap_records.specs.declared.capture.Records.{Records};
 ghost use Rattle.audit_report.specs.CutRecordLine.{cut_record_line};
 ghost use Rattle.audit_report.specs.code.Packets.{AreRecordsOf, counts_line, packet_counts, packets_text};
@@ -23,23 +22,23 @@ pub fn capture_lines(
     cut: Option<u32>,
     packets: &Packets<'_>,
     strays: Vec<Stray>,
-) -> Result<String, AllocError>
+) -> Result<Vec<u8>, AllocError>
     ensures { IfOk result (λ text. (records : Records) → AreRecordsOf packets.now cut records
-        → string_bytes text ≡ capture_text records packets.now strays.items) }
+        → text.items ≡ capture_text records packets.now strays.items) }
 {
-    let mut out = String::new(alloc);
+    let mut out = Vec::new(alloc);
     push_capture_text(&mut out, cut, packets, strays.as_slice())?;
     Ok(out)
 }
 
 #[tactic(auto, using(crate::proofs::Joins::joins))]
 fn push_capture_text(
-    out: &mut String,
+    out: &mut Vec<u8>,
     cut: Option<u32>,
     packets: &Packets<'_>,
     strays: &[Stray],
 ) -> Result<(), AllocError>
-    ensures { OnOk result (string_bytes out.new ≡ string_bytes out.old
+    ensures { OnOk result (out.new.items ≡ out.old.items
         ++ packets_text (length packets.now) cut packets.now strays.now) }
 {
     push_capture_line(out, packets)?;
@@ -49,8 +48,8 @@ fn push_capture_text(
 }
 
 #[tactic(auto, using(crate::proofs::Joins::joins))]
-fn push_capture_line(out: &mut String, packets: &Packets<'_>) -> Result<(), AllocError>
-    ensures { OnOk result (string_bytes out.new ≡ string_bytes out.old
+fn push_capture_line(out: &mut Vec<u8>, packets: &Packets<'_>) -> Result<(), AllocError>
+    ensures { OnOk result (out.new.items ≡ out.old.items
         ++ counts_line (length packets.now) packets.now) }
 {
     push_field(out, "capture records ", packets.len() as u64)?;
@@ -59,8 +58,8 @@ fn push_capture_line(out: &mut String, packets: &Packets<'_>) -> Result<(), Allo
 }
 
 #[tactic(auto, using(crate::proofs::Joins::joins))]
-fn push_packet_counts(out: &mut String, packets: &Packets<'_>) -> Result<(), AllocError>
-    ensures { OnOk result (string_bytes out.new ≡ string_bytes out.old ++ packet_counts packets.now) }
+fn push_packet_counts(out: &mut Vec<u8>, packets: &Packets<'_>) -> Result<(), AllocError>
+    ensures { OnOk result (out.new.items ≡ out.old.items ++ packet_counts packets.now) }
 {
     let tally = Tally::of(packets);
     push_field(out, " segments ", tally.segments)?;
@@ -72,8 +71,8 @@ fn push_packet_counts(out: &mut String, packets: &Packets<'_>) -> Result<(), All
 }
 
 #[tactic(auto, using(crate::proofs::Joins::joins))]
-fn push_cut_record_line(out: &mut String, cut: Option<u32>) -> Result<(), AllocError>
-    ensures { OnOk result (string_bytes out.new ≡ string_bytes out.old ++ cut_record_line cut) }
+fn push_cut_record_line(out: &mut Vec<u8>, cut: Option<u32>) -> Result<(), AllocError>
+    ensures { OnOk result (out.new.items ≡ out.old.items ++ cut_record_line cut) }
 {
     if let Some(number) = cut {
         push_field(out, "record ", number as u64)?;

@@ -1,5 +1,4 @@
 ghost use Rattle.std.specs.Prelude.{◌≡◌, ◌++◌, OnOk};
-ghost use Rattle.std.specs.String.{string_bytes};
 ghost use Rattle.packet_heads.specs.declared.packets.Endpoint.{Endpoint};
 ghost use Rattle.audit_terms.specs.declared.sides.Side.{Side};
 ghost use Rattle.audit_report.specs.FlowLine.{gap_text, flow_line};
@@ -19,13 +18,13 @@ use std::alloc::AllocError;
 /// Adds the line of the `k`-th connection, counted from 1, and the lines of its client's and its server's flow.
 #[tactic(auto, using(crate::proofs::Joins::joins))]
 pub fn push_opening_text(
-    out: &mut String,
+    out: &mut Vec<u8>,
     k: u64,
     heading: Heading,
     extents: &Sides<Extent>,
     contents: Contents,
 ) -> Result<(), AllocError>
-    ensures { OnOk result (string_bytes out.new ≡ string_bytes out.old ++ opening_text k heading
+    ensures { OnOk result (out.new.items ≡ out.old.items ++ opening_text k heading
         extents.now contents) }
 {
     push_opening_line(out, k, heading, contents)?;
@@ -37,12 +36,12 @@ pub fn push_opening_text(
 
 #[tactic(auto, using(crate::proofs::Joins::joins))]
 fn push_opening_line(
-    out: &mut String,
+    out: &mut Vec<u8>,
     k: u64,
     heading: Heading,
     contents: Contents,
 ) -> Result<(), AllocError>
-    ensures { OnOk result (string_bytes out.new ≡ string_bytes out.old ++ opening_line k heading contents) }
+    ensures { OnOk result (out.new.items ≡ out.old.items ++ opening_line k heading contents) }
 {
     push_heading(out, k, heading)?;
     push_word(out, " ")?;
@@ -51,8 +50,8 @@ fn push_opening_line(
 }
 
 #[tactic(auto, using(crate::proofs::Joins::joins))]
-fn push_heading(out: &mut String, k: u64, heading: Heading) -> Result<(), AllocError>
-    ensures { OnOk result (string_bytes out.new ≡ string_bytes out.old ++ headed_text k heading) }
+fn push_heading(out: &mut Vec<u8>, k: u64, heading: Heading) -> Result<(), AllocError>
+    ensures { OnOk result (out.new.items ≡ out.old.items ++ headed_text k heading) }
 {
     push_field(out, "connection ", k)?;
     push_roles(out, heading.client, heading.server)?;
@@ -60,8 +59,8 @@ fn push_heading(out: &mut String, k: u64, heading: Heading) -> Result<(), AllocE
 }
 
 #[tactic(auto, using(crate::proofs::Joins::joins), unfolding(crate::specs::code::Roles::roles_text))]
-fn push_roles(out: &mut String, client: Endpoint, server: Endpoint) -> Result<(), AllocError>
-    ensures { OnOk result (string_bytes out.new ≡ string_bytes out.old ++ roles_text client server) }
+fn push_roles(out: &mut Vec<u8>, client: Endpoint, server: Endpoint) -> Result<(), AllocError>
+    ensures { OnOk result (out.new.items ≡ out.old.items ++ roles_text client server) }
 {
     push_word(out, " client ")?;
     push_endpoint(out, client)?;
@@ -69,8 +68,8 @@ fn push_roles(out: &mut String, client: Endpoint, server: Endpoint) -> Result<()
     push_endpoint(out, server)
 }
 
-fn push_contents(out: &mut String, contents: Contents) -> Result<(), AllocError>
-    ensures { OnOk result (string_bytes out.new ≡ string_bytes out.old ++ contents_words contents) }
+fn push_contents(out: &mut Vec<u8>, contents: Contents) -> Result<(), AllocError>
+    ensures { OnOk result (out.new.items ≡ out.old.items ++ contents_words contents) }
 {
     match contents {
         Contents::Http2 { frames, .. } => push_field(out, "http2 frames ", frames),
@@ -81,8 +80,13 @@ fn push_contents(out: &mut String, contents: Contents) -> Result<(), AllocError>
 }
 
 #[tactic(auto, using(crate::proofs::Joins::joins))]
-fn push_flow_line(out: &mut String, side: Side, extent: Extent, tail: u32) -> Result<(), AllocError>
-    ensures { OnOk result (string_bytes out.new ≡ string_bytes out.old ++ flow_line side extent tail) }
+fn push_flow_line(
+    out: &mut Vec<u8>,
+    side: Side,
+    extent: Extent,
+    tail: u32,
+) -> Result<(), AllocError>
+    ensures { OnOk result (out.new.items ≡ out.old.items ++ flow_line side extent tail) }
 {
     push_words(out, "flow ", side.name())?;
     push_field(out, " bytes ", extent.size)?;
@@ -92,8 +96,8 @@ fn push_flow_line(out: &mut String, side: Side, extent: Extent, tail: u32) -> Re
     push_word(out, "\n")
 }
 
-fn push_gap(out: &mut String, gap: Option<u64>) -> Result<(), AllocError>
-    ensures { OnOk result (string_bytes out.new ≡ string_bytes out.old ++ gap_text gap) }
+fn push_gap(out: &mut Vec<u8>, gap: Option<u64>) -> Result<(), AllocError>
+    ensures { OnOk result (out.new.items ≡ out.old.items ++ gap_text gap) }
 {
     match gap {
         None => push_word(out, "none"),

@@ -1,5 +1,4 @@
 ghost use Rattle.std.specs.Prelude.{◌≡◌, ◌++◌, OnOk, codes};
-ghost use Rattle.std.specs.String.{string_bytes};
 ghost use Rattle.audit_report.specs.Line.{field, line};
 ghost use Rattle.audit_report.specs.StallLine.{stall_end_text, stall_line, stall_lines};
 ghost use Rattle.audit_report.specs.EndLine.{end_line_after, end_line};
@@ -10,8 +9,8 @@ use audit_terms::Finding;
 use std::alloc::AllocError;
 
 /// Adds a line for each stall, in order.
-pub fn push_stall_lines(out: &mut String, stalls: &[Stall]) -> Result<(), AllocError>
-    ensures { OnOk result (string_bytes out.new ≡ string_bytes out.old ++ stall_lines stalls.now) }
+pub fn push_stall_lines(out: &mut Vec<u8>, stalls: &[Stall]) -> Result<(), AllocError>
+    ensures { OnOk result (out.new.items ≡ out.old.items ++ stall_lines stalls.now) }
 {
     for stall in stalls {
         push_stall_line(out, stall)?;
@@ -20,8 +19,8 @@ pub fn push_stall_lines(out: &mut String, stalls: &[Stall]) -> Result<(), AllocE
 }
 
 #[tactic(auto, using(crate::proofs::Joins::joins))]
-fn push_stall_line(out: &mut String, stall: &Stall) -> Result<(), AllocError>
-    ensures { OnOk result (string_bytes out.new ≡ string_bytes out.old ++ stall_line stall.now) }
+fn push_stall_line(out: &mut Vec<u8>, stall: &Stall) -> Result<(), AllocError>
+    ensures { OnOk result (out.new.items ≡ out.old.items ++ stall_line stall.now) }
 {
     push_words(out, "stall ", stall.side.name())?;
     push_field(out, " stream ", stall.stream as u64)?;
@@ -31,8 +30,8 @@ fn push_stall_line(out: &mut String, stall: &Stall) -> Result<(), AllocError>
 }
 
 #[tactic(auto, using(crate::proofs::Joins::joins))]
-fn push_stall_end(out: &mut String, to: Option<u32>, nanos: i64) -> Result<(), AllocError>
-    ensures { OnOk result (string_bytes out.new ≡ string_bytes out.old ++ stall_end_text to nanos) }
+fn push_stall_end(out: &mut Vec<u8>, to: Option<u32>, nanos: i64) -> Result<(), AllocError>
+    ensures { OnOk result (out.new.items ≡ out.old.items ++ stall_end_text to nanos) }
 {
     let Some(number) = to else {
         return push_word(out, " open");
@@ -43,15 +42,15 @@ fn push_stall_end(out: &mut String, to: Option<u32>, nanos: i64) -> Result<(), A
 }
 
 /// Adds the line that says how far the audit went: all frames, or up to the frame of a connection error.
-pub fn push_end_line(out: &mut String, findings: &[Finding]) -> Result<(), AllocError>
-    ensures { OnOk result (string_bytes out.new ≡ string_bytes out.old ++ end_line findings.now) }
+pub fn push_end_line(out: &mut Vec<u8>, findings: &[Finding]) -> Result<(), AllocError>
+    ensures { OnOk result (out.new.items ≡ out.old.items ++ end_line findings.now) }
 {
     push_end_line_after(out, findings.last().copied())
 }
 
 /// The same, by the last finding.
-fn push_end_line_after(out: &mut String, last: Option<Finding>) -> Result<(), AllocError>
-    ensures { OnOk result (string_bytes out.new ≡ string_bytes out.old ++ end_line_after last) }
+fn push_end_line_after(out: &mut Vec<u8>, last: Option<Finding>) -> Result<(), AllocError>
+    ensures { OnOk result (out.new.items ≡ out.old.items ++ end_line_after last) }
 {
     match last {
         Some(finding) if finding.stops() => push_stop_line(out, finding.place.number()),
@@ -60,8 +59,8 @@ fn push_end_line_after(out: &mut String, last: Option<Finding>) -> Result<(), Al
 }
 
 #[tactic(auto, using(crate::proofs::Joins::joins))]
-fn push_stop_line(out: &mut String, number: u32) -> Result<(), AllocError>
-    ensures { OnOk result (string_bytes out.new ≡ string_bytes out.old
+fn push_stop_line(out: &mut Vec<u8>, number: u32) -> Result<(), AllocError>
+    ensures { OnOk result (out.new.items ≡ out.old.items
         ++ line (field (codes "audit stopped at frame ") number)) }
 {
     push_field(out, "audit stopped at frame ", number as u64)?;

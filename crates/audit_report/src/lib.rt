@@ -18,8 +18,8 @@
 //!   record, so they add up. The last finding alone decides how an audit ended. Want of memory is the one error.
 //! - Asked of the caller: one outcome for each connection, and orderly frames; nothing of the findings. A finding whose
 //!   frame is not there would have record 0 and time 0, which no report meets. A finding's frame is looked for at its
-//!   own number first, since frame n stands at n - 1, then by halving; lines go onto one growing text, or a worker's
-//!   own.
+//!   own number first, since frame n stands at n - 1, then by halving. Lines go onto one growing text, or a worker's
+//!   own; that of a finding is first made from its end on, in a few bytes that serve all (`lines`).
 //! - [`worked_examples`] shows stalls: of both sides, of several windows, without an end, by a clock that went back.
 //! - Refused by the prover: the cut record left out, ends exchanged, a sign left out, a half whose connections are
 //!   numbered afresh, an end of a stall that has none.
@@ -39,6 +39,7 @@ mod ends;
 mod extents;
 mod findings;
 mod headings;
+mod lines;
 mod lookup;
 mod numbered;
 mod reports;

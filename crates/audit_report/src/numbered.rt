@@ -1,5 +1,4 @@
 ghost use Rattle.std.specs.Prelude.{◌≡◌, ◌++◌, OnOk};
-ghost use Rattle.std.specs.String.{string_bytes};
 ghost use Rattle.packet_heads.specs.declared.packets.Refusal.{Refusal};
 ghost use Rattle.audit_report.specs.RecordLines.{record_line, record_lines_from};
 
@@ -8,8 +7,8 @@ use packet_heads::{Packet, Packets, Refusal, Skip};
 use std::alloc::AllocError;
 
 /// Adds a line for each fragment and each refused packet, under the number of its record.
-pub fn push_record_lines(out: &mut String, packets: &Packets<'_>) -> Result<(), AllocError>
-    ensures { OnOk result (string_bytes out.new ≡ string_bytes out.old ++ record_lines_from 1 packets.now) }
+pub fn push_record_lines(out: &mut Vec<u8>, packets: &Packets<'_>) -> Result<(), AllocError>
+    ensures { OnOk result (out.new.items ≡ out.old.items ++ record_lines_from 1 packets.now) }
 {
     for index in 0..packets.len() {
         push_record_line(out, index as u64 + 1, &packets.at(index))?;
@@ -18,8 +17,8 @@ pub fn push_record_lines(out: &mut String, packets: &Packets<'_>) -> Result<(), 
 }
 
 #[inline(always)]
-fn push_record_line(out: &mut String, number: u64, packet: &Packet) -> Result<(), AllocError>
-    ensures { OnOk result (string_bytes out.new ≡ string_bytes out.old ++ record_line number packet.now) }
+fn push_record_line(out: &mut Vec<u8>, number: u64, packet: &Packet) -> Result<(), AllocError>
+    ensures { OnOk result (out.new.items ≡ out.old.items ++ record_line number packet.now) }
 {
     match packet {
         Packet::Skipped(Skip::Fragment) => push_fragment_line(out, number),
@@ -29,8 +28,8 @@ fn push_record_line(out: &mut String, number: u64, packet: &Packet) -> Result<()
 }
 
 #[tactic(auto, using(crate::proofs::Joins::joins))]
-fn push_fragment_line(out: &mut String, number: u64) -> Result<(), AllocError>
-    ensures { OnOk result (string_bytes out.new ≡ string_bytes out.old
+fn push_fragment_line(out: &mut Vec<u8>, number: u64) -> Result<(), AllocError>
+    ensures { OnOk result (out.new.items ≡ out.old.items
         ++ record_line number (Packet.Skipped Skip.Fragment)) }
 {
     push_field(out, "record ", number)?;
@@ -38,8 +37,8 @@ fn push_fragment_line(out: &mut String, number: u64) -> Result<(), AllocError>
 }
 
 #[tactic(auto, using(crate::proofs::Joins::joins))]
-fn push_refused_line(out: &mut String, number: u64, refusal: Refusal) -> Result<(), AllocError>
-    ensures { OnOk result (string_bytes out.new ≡ string_bytes out.old ++ record_line number (Packet.Refused refusal)) }
+fn push_refused_line(out: &mut Vec<u8>, number: u64, refusal: Refusal) -> Result<(), AllocError>
+    ensures { OnOk result (out.new.items ≡ out.old.items ++ record_line number (Packet.Refused refusal)) }
 {
     push_field(out, "record ", number)?;
     push_words(out, " refused ", refusal.name())?;

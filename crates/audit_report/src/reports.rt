@@ -1,5 +1,4 @@
 ghost use Rattle.std.specs.Prelude.{◌≡◌, ◌++◌, List, IfOk, All, length, map};
-ghost use Rattle.std.specs.String.{string_bytes};
 ghost use Rattle.audit_report.specs.Section.{sections_text};
 ghost use Rattle.audit_report.specs.code.Heading.{heading_of};
 ghost use Rattle.audit_report.specs.code.Reported.{AreToldOf, HasOrderlyOutcome};
@@ -20,7 +19,7 @@ use std::thread::Threads;
 pub fn report<R: Threads + Sync>(
     rt: &R,
     telling: Telling,
-    capture_lines: String,
+    capture_lines: Vec<u8>,
     headings: &[Heading],
     told: &[Told],
 ) -> Result<Vec<u8>, AllocError>
@@ -28,9 +27,9 @@ pub fn report<R: Threads + Sync>(
     requires orderly { All (λ (t : Told). HasOrderlyOutcome t.outcome) told.now }
     ensures { IfOk result (λ text. (connections : List Connection) → (audited : List Audited)
         → headings.now ≡ map heading_of connections → AreToldOf told.now audited → text.items
-        ≡ string_bytes capture_lines ++ sections_text telling.frames_shown 1 connections audited) }
+        ≡ capture_lines.items ++ sections_text telling.frames_shown 1 connections audited) }
 {
     let mut text = capture_lines;
     push_all_sections(rt, telling, &mut text, headings, told)?;
-    Ok(text.into_bytes())
+    Ok(text)
 }

@@ -1,7 +1,6 @@
 //! The sections of connections, one after the other.
 
 ghost use Rattle.std.specs.Prelude.{◌≡◌, ◌++◌, ◌+◌, [], OnOk, length};
-ghost use Rattle.std.specs.String.{string_bytes};
 ghost use Rattle.audit_terms.specs.code.runs.Orderly.{IsOrderly};
 ghost use Rattle.audit_report.specs.EndLine.{end_line};
 ghost use Rattle.audit_report.specs.FindingLine.{finding_lines};
@@ -25,13 +24,13 @@ use std::alloc::AllocError;
 /// Adds the sections of connections, before which there are so many others.
 pub fn push_sections(
     telling: Telling,
-    out: &mut String,
+    out: &mut Vec<u8>,
     before: u64,
     headings: &[Heading],
     told: &[Told],
 ) -> Result<(), AllocError>
     requires { AreHeaded before headings.now told.now }
-    ensures { OnOk result (string_bytes out.new ≡ string_bytes out.old
+    ensures { OnOk result (out.new.items ≡ out.old.items
         ++ told_text telling.frames_shown (before + 1) headings.now told.now) }
 {
     for (i, heading) in headings.iter().enumerate() {
@@ -43,13 +42,13 @@ pub fn push_sections(
 #[tactic(auto, using(crate::proofs::Joins::joins))]
 fn push_section(
     telling: Telling,
-    out: &mut String,
+    out: &mut Vec<u8>,
     k: u64,
     heading: &Heading,
     told: &Told,
 ) -> Result<(), AllocError>
     requires { HasOrderlyOutcome told.now.outcome }
-    ensures { OnOk result (string_bytes out.new ≡ string_bytes out.old
+    ensures { OnOk result (out.new.items ≡ out.old.items
         ++ (opening_text k heading.now (extents_in told.now.reach) (contents_in told.now.outcome)
         ++ outcome_text telling.frames_shown told.now.outcome)) }
 {
@@ -59,9 +58,9 @@ fn push_section(
     push_outcome(telling, out, &told.outcome)
 }
 
-fn push_outcome(telling: Telling, out: &mut String, outcome: &Outcome) -> Result<(), AllocError>
+fn push_outcome(telling: Telling, out: &mut Vec<u8>, outcome: &Outcome) -> Result<(), AllocError>
     requires { HasOrderlyOutcome outcome.now }
-    ensures { OnOk result (string_bytes out.new ≡ string_bytes out.old
+    ensures { OnOk result (out.new.items ≡ out.old.items
         ++ outcome_text telling.frames_shown outcome.now) }
 {
     match outcome {
@@ -74,12 +73,12 @@ fn push_outcome(telling: Telling, out: &mut String, outcome: &Outcome) -> Result
 #[tactic(auto, using(crate::proofs::Joins::joins))]
 fn push_audit(
     telling: Telling,
-    out: &mut String,
+    out: &mut Vec<u8>,
     frames: &[Frame],
     findings: &[Finding],
 ) -> Result<(), AllocError>
     requires { IsOrderly frames.now }
-    ensures { OnOk result (string_bytes out.new ≡ string_bytes out.old
+    ensures { OnOk result (out.new.items ≡ out.old.items
         ++ (finding_lines telling.frames_shown frames.now findings.now ++ stall_lines (stalls frames.now findings.now)
         ++ end_line findings.now)) }
 {

@@ -1,5 +1,4 @@
 ghost use Rattle.std.specs.Prelude.{◌≡◌, ◌++◌, OnOk};
-ghost use Rattle.std.specs.String.{string_bytes};
 ghost use Rattle.audit_report.specs.UnopenedLines.{unopened_line, unopened_lines};
 
 use crate::endpoints::push_endpoint;
@@ -8,8 +7,8 @@ use std::alloc::AllocError;
 use tcp_streams::Stray;
 
 #[tactic(auto, using(crate::proofs::Joins::joins))]
-fn push_unopened_line(out: &mut String, stray: Stray) -> Result<(), AllocError>
-    ensures { OnOk result (string_bytes out.new ≡ string_bytes out.old ++ unopened_line stray) }
+fn push_unopened_line(out: &mut Vec<u8>, stray: Stray) -> Result<(), AllocError>
+    ensures { OnOk result (out.new.items ≡ out.old.items ++ unopened_line stray) }
 {
     push_word(out, "unopened ")?;
     push_endpoint(out, stray.from)?;
@@ -19,8 +18,8 @@ fn push_unopened_line(out: &mut String, stray: Stray) -> Result<(), AllocError>
     push_word(out, "\n")
 }
 
-pub fn push_unopened_lines(out: &mut String, strays: &[Stray]) -> Result<(), AllocError>
-    ensures { OnOk result (string_bytes out.new ≡ string_bytes out.old ++ unopened_lines strays.now) }
+pub fn push_unopened_lines(out: &mut Vec<u8>, strays: &[Stray]) -> Result<(), AllocError>
+    ensures { OnOk result (out.new.items ≡ out.old.items ++ unopened_lines strays.now) }
 {
     for stray in strays {
         push_unopened_line(out, *stray)?;

@@ -1,6 +1,6 @@
 pub mod OrderedLists
 pub mod FindingOrder
-mod UptoStop
+pub mod UptoStop
 pub mod Bounds
 pub mod Watching
 pub mod FindingLists

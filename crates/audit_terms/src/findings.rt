@@ -17,7 +17,11 @@ pub struct Finding {
 }
 
 impl Finding {
+    ghost use Rattle.std.specs.Ordering.{int_cmp, nat_cmp, on, then_cmp};
+    ghost use Rattle.audit_terms.specs.declared.findings.Finding.{Finding as FindingTerm};
     ghost use Rattle.audit_terms.specs.Finding.{finding_at, stops, finding_cmp, is_shown};
+    ghost use Rattle.audit_terms.specs.Kind.{rank_of};
+    ghost use Rattle.audit_terms.specs.Side.{side_order};
 
     /// The finding of a kind at a frame's number and a stream, of a side.
     pub fn at(kind: Kind, number: u32, stream: u32, side: Side, value: u32) -> Self
@@ -51,10 +55,22 @@ impl Finding {
     pub fn compare(&self, other: &Self) -> Ordering
         ensures { result ≡ finding_cmp self.now other.now }
     {
+        match self.place.word().cmp(&other.place.word()) {
+            // Most findings stand at a place of their own: the rest is not looked at.
+            Ordering::Equal => self.compare_at_place(other),
+            by_place => by_place,
+        }
+    }
+
+    /// The same of two findings at one place.
+    fn compare_at_place(&self, other: &Self) -> Ordering
+        ensures { result ≡ then_cmp (on (λ (found : FindingTerm). side_order found.side) nat_cmp)
+            (then_cmp (on (λ (found : FindingTerm). rank_of found.kind) nat_cmp)
+            (on (λ (found : FindingTerm). found.value) int_cmp)) self.now other.now }
+    {
         let by_kind = self.kind.rank().cmp(&other.kind.rank());
         let by_side = self.side.order().cmp(&other.side.order());
-        let by_place = self.place.word().cmp(&other.place.word());
-        by_place.then(by_side.then(by_kind.then(self.value.cmp(&other.value))))
+        by_side.then(by_kind.then(self.value.cmp(&other.value)))
     }
 }
 
@@ -63,6 +79,7 @@ ghost use Rattle.audit_terms.specs.code.runs.Look.{up_to};
 ghost use Rattle.std.specs.Prelude.{position};
 
 /// Adds a finding where a test holds.
+#[inline]
 pub fn say_if(found: &mut Vec<Finding>, holds: bool, finding: Finding) -> Result<(), AllocError>
     ensures ok { OnOk result (found.new.items ≡ found.old.items ++ say holds finding) }
     ensures err { OnErr result (found.new.items ≡ found.old.items) }

@@ -1,4 +1,4 @@
-ghost use Rattle.std.specs.Prelude.{◌≡◌};
+ghost use Rattle.std.specs.Prelude.{◌≡◌, ◌≤◌, length};
 
 /// What a finding says, in order of rank. Ranks 0 to 12 are connection errors, which stop the audit of a connection;
 /// 13 to 20 are other faults; 21 to 24 tell of stalls, 25 and 26 of credit.
@@ -81,7 +81,8 @@ impl Kind {
 
     /// The word that a report prints.
     pub fn name(self) -> &'static str
-        ensures { result.now ≡ kind_name self }
+        ensures name { result.now ≡ kind_name self }
+        ensures short { length result.now ≤ 22 }
     {
         match self {
             Kind::BadPreface => "bad-preface",

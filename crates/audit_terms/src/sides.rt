@@ -1,4 +1,4 @@
-ghost use Rattle.std.specs.Prelude.{◌≡◌};
+ghost use Rattle.std.specs.Prelude.{◌≡◌, ◌≤◌, length};
 
 /// An endpoint of a connection (RFC 9113, 2.2): the client opened it.
 #[derive(Clone, Copy, PartialEq, Eq, PartialOrd)]
@@ -29,7 +29,8 @@ impl Side {
 
     /// The word that a report prints.
     pub fn name(self) -> &'static str
-        ensures { result.now ≡ side_name self }
+        ensures name { result.now ≡ side_name self }
+        ensures short { length result.now ≤ 6 }
     {
         match self {
             Side::Client => "client",

@@ -1,17 +1,23 @@
 -- What parts get of records, one after the other.
 use Rattle.capture_parts.proofs.Terms.{Bool, List, [], ap, append-nil, append_assoc, arith, cond-false, drop}
 use Rattle.capture_parts.proofs.Terms.{drop-append-le, false, front_of, given, given_from, if◌then◌else◌}
-use Rattle.capture_parts.proofs.Terms.{length, length-append, length-drop, length-take, min, ne_eqb, pair_of, part_at}
+use Rattle.capture_parts.proofs.Terms.{length, length-append, length-drop, length-take, min, ne_eqb, pair_at, pair_of}
+use Rattle.capture_parts.proofs.Terms.{part_at}
 use Rattle.capture_parts.proofs.Terms.{part_of, refl, sym, take, take-append-le, take-take, take_all, true, ℕ, ◌++◌}
 use Rattle.capture_parts.proofs.Terms.{◌+◌, ◌<◌, ◌==◌, ◌∙◌, ◌∷◌, ◌≡◌, ◌≤◌}
 
--- the part of a record does not change as more of it comes
+-- the endpoints of a record do not change as more of it comes
+pub pair_at-more : (link : ℕ) (front more : List ℕ) → 98 ≤ length front
+    → pair_at link (front ++ more) ≡ pair_at link front
+pair_at-more link front more long =
+    let enough : 82 ≤ length (drop 16 front) = omega (arith, length-drop 16 front, long) in
+    ap (λ (f : List ℕ). pair_of link f)
+    (ap front_of (drop-append-le 16 front more (omega (arith, long))) ∙ take-append-le 82 (drop 16 front) more enough)
+
+-- nor does its part
 pub part_at-more : (link parts n : ℕ) (front more : List ℕ) → 98 ≤ length front
     → part_at link parts n (front ++ more) ≡ part_at link parts n front
-part_at-more link parts n front more long =
-    let enough : 82 ≤ length (drop 16 front) = omega (arith, length-drop 16 front, long) in
-    ap (λ (f : List ℕ). part_of parts n (pair_of link f))
-    (ap front_of (drop-append-le 16 front more (omega (arith, long))) ∙ take-append-le 82 (drop 16 front) more enough)
+part_at-more link parts n front more long = ap (part_of parts n) (pair_at-more link front more long)
 
 cond-append : (b : Bool) (x y : List ℕ) → (if b then x else []) ++ (if b then y else []) ≡ (if b then x ++ y else [])
 cond-append true x y = refl
@@ -26,7 +32,8 @@ module _ (link parts : ℕ) (taken : ℕ → List ℕ → List ℕ) (i : ℕ) wh
   all = given_from link parts taken i
 
   -- one record more behind others
-  given_from-snoc : (n : ℕ) (rs : List (List ℕ)) (r : List ℕ) → all n (rs ++ r ∷ []) ≡ all n rs ++ one (n + length rs) r
+  pub given_from-snoc : (n : ℕ) (rs : List (List ℕ)) (r : List ℕ)
+      → all n (rs ++ r ∷ []) ≡ all n rs ++ one (n + length rs) r
   given_from-snoc n [] r = append-nil (one n r) ∙ ap (λ (m : ℕ). one m r) (omega arith)
   given_from-snoc n (x ∷ rs) r =
       let at : n + 1 + length rs ≡ n + length (x ∷ rs) = omega arith in

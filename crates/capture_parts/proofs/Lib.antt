@@ -1,7 +1,9 @@
 mod Terms
 mod Buffer
+mod Fulls
 mod Given
 mod Growth
+mod Opened
 mod Rows
 mod Segments
 mod Standing

@@ -5,13 +5,14 @@ use Rattle.capture_parts.proofs.Terms.{append_assoc, arith, big_bytes, big_from-
 use Rattle.capture_parts.proofs.Terms.{concat, drop, false, front_of, if◌then◌else◌, inl, inr, length, length-append}
 use Rattle.capture_parts.proofs.Terms.{length-take-le, little_from-append, min, order_of, part_at, part_bytes}
 use Rattle.capture_parts.proofs.Terms.{part_numbers, refl, subst, sym, take, take-append-drop, take_min, true, ℕ, ◌++◌}
-use Rattle.capture_parts.proofs.Terms.{HasBegun, ◌+◌, ◌-◌, ◌<◌, ◌==◌, ◌∙◌, ◌∷◌, ◌≡◌, ◌≤◌}
+use Rattle.capture_parts.proofs.Terms.{HasBegun, full_at, pair_at, part_full, ◌+◌, ◌-◌, ◌<◌, ◌==◌, ◌∙◌, ◌∷◌, ◌≡◌, ◌≤◌}
 use Rattle.std.proofs.SliceLists.{all_by_recursion_push}
 use Rattle.std.proofs.lemmas.List.Folds.{concat-append}
 use Rattle.pcap_records.proofs.Fronts.{ReadsFirst, in_front}
 use Rattle.capture_parts.proofs.Given.{given-more, given-some, given_from-empty, given_from-more}
-use Rattle.capture_parts.proofs.Given.{part_at-more}
-use Rattle.capture_parts.proofs.Growth.{AllGrow-none, AllGrow-one, OneGrows-bytes}
+use Rattle.capture_parts.proofs.Fulls.{full_from-empty, full_front}
+use Rattle.capture_parts.proofs.Given.{pair_at-more, part_at-more}
+use Rattle.capture_parts.proofs.Growth.{AllGrow-full, AllGrow-none, AllGrow-one, OneGrows-bytes}
 
 -- numbers are read from their own bytes
 reads_first : (little : Bool) → ReadsFirst (order_of little)
@@ -36,10 +37,12 @@ module _ {W : Type 0} (contents : W → Option (List ℕ)) where
   abbrev HaveGot : (link : ℕ) (first new : List (Part W)) (records : List (List ℕ)) (front : List ℕ) → Type 0
   HaveGot link first new records front = AllGrow contents first new
       (λ i. part_bytes link (length first) i records front) (λ i. part_numbers link (length first) i records front)
+      (λ i size. part_full link (length first) i size records front)
 
   -- behind a record's number and its first bytes, where the dealer stood between two records
   begun : {d : Dealer} (e : Dealer) {first old mid new : List (Part W)} {bytes x : List ℕ} → d.left ≡ 0
-      → 0 < length x → HasEntered contents d e old mid (front_of (drop 16 x)) → OneGrows contents mid new e.part x []
+      → 0 < length x → HasEntered contents d e old mid (front_of (drop 16 x))
+      → OneGrows contents mid new e.part x [] (λ size. full_at size (length x) e.pair)
       → (was : IsDealt contents d first old bytes)
       → (bytes ++ x ≡ concat was.records ++ x) × (e.number ≡ length was.records + 1)
       × (e.part ≡ part_at e.link (length first) e.number x) × HaveGot e.link first new was.records x
@@ -55,19 +58,26 @@ module _ {W : Type 0} (contents : W → Option (List ℕ)) where
         ap (λ (l : List ℕ). l ++ x) are,
         next,
         at,
-        AllGrow-one contents first old new e.part _ _ _ _ x (big_bytes 8 e.number) (more bytes_taken)
-            (more number_taken) (rw entered.link (subst (HaveGot d.link first old was.records) empty was.parts))
-            (OneGrows-bytes contents old mid new e.part x (big_bytes 8 e.number) entered.grows one),
+        AllGrow-one contents first old new e.part _ _ _ _ (λ i size. part_full e.link parts i size was.records [])
+            (λ i size. part_full e.link parts i size was.records x) x (big_bytes 8 e.number)
+            (λ size. full_at size (length x) e.pair) (more bytes_taken) (more number_taken)
+            (λ i size small. rw entered.pair
+            (full_front e.link parts i e.part size e.number was.records [] x x next small
+            (rw at (sym (given-some e.link parts bytes_taken i e.number x some)))
+            (λ no. absurd (omega (arith, no)))))
+            (rw entered.link (subst (HaveGot d.link first old was.records) empty was.parts))
+            (OneGrows-bytes contents old mid new e.part x (big_bytes 8 e.number)
+            (λ size. full_at size (length x) e.pair) entered.grows one),
       )
 
   -- behind the bytes x of a record that was begun behind others
   settled : (d : Dealer) (first new : List (Part W)) (records : List (List ℕ)) (x bytes : List ℕ)
       → bytes ≡ concat records ++ x → AllByRecursion (IsRecord (order_of d.is_little)) records
-      → d.number ≡ length records + 1 → d.part ≡ part_at d.link (length first) d.number x
+      → d.number ≡ length records + 1 → d.part ≡ part_at d.link (length first) d.number x → d.pair ≡ pair_at d.link x
       → (0 < d.left → 98 ≤ length x) → 16 ≤ length x
       → length x + d.left ≡ 16 + captured_length (order_of d.is_little) x → HaveGot d.link first new records x
       → IsDealt contents d first new bytes
-  settled d first new records x bytes are whole number part enough header left parts = elim (cases_eq d.left 0) [
+  settled d first new records x bytes are whole number part pair enough header left parts = elim (cases_eq d.left 0) [
     | inl done ↦ record {
       records = records ++ x ∷ [];
       front = [];
@@ -78,7 +88,9 @@ module _ {W : Type 0} (contents : W → Option (List ℕ)) where
         between = λ _. (refl, number ∙ sym (length-append records (x ∷ [])));
         within = λ some. absurd (omega (arith, some, done));
       };
-      parts = simp given_from-empty parts;
+      parts = AllGrow-full contents _ _
+          (λ i size small. sym (full_from-empty d.link (length first) i size (records ++ x ∷ []) small))
+          (simp given_from-empty parts);
     }
     | inr more ↦
         let some : 0 < d.left = omega (arith, more) in
@@ -89,7 +101,7 @@ module _ {W : Type 0} (contents : W → Option (List ℕ)) where
           stands = record {
             whole = whole;
             between = λ none. absurd (more none);
-            within = λ _. record { number = number; part = part; enough = enough some; left = left };
+            within = λ _. record { number = number; part = part; pair = pair; enough = enough some; left = left };
           };
           parts = parts;
         }
@@ -97,14 +109,16 @@ module _ {W : Type 0} (contents : W → Option (List ℕ)) where
 
   -- more of a record was dealt
   pub dealt_more : {d : Dealer} {old new : List (Part W)} (unread : List ℕ) (n : ℕ) → 0 < d.left
-      → n ≡ min d.left (length unread) → OneGrows contents old new d.part (take n unread) []
+      → n ≡ min d.left (length unread)
+      → OneGrows contents old new d.part (take n unread) [] (λ size. full_at size (length (take n unread)) d.pair)
       → Deals contents d (record d { left = d.left - n }) old new (take n unread)
   dealt_more {d} {old} {new} unread n some count one = record { link = refl; is_little = refl; behind = behind }
     where
       behind : (first : List (Part W)) (bytes : List ℕ) → IsDealt contents d first old bytes
           → IsDealt contents (record d { left = d.left - n }) first new (bytes ++ take n unread)
       behind first bytes was =
-          let record { number = number; part = part; enough = enough; left = left } = was.stands.within some in
+          let record { number = number; part = part; pair = pair; enough = enough; left = left } =
+          was.stands.within some in
           let parts : ℕ = length first in
           let front : List ℕ = was.front in
           let chunk : List ℕ = take n unread in
@@ -115,18 +129,26 @@ module _ {W : Type 0} (contents : W → Option (List ℕ)) where
           settled (record d { left = d.left - n }) first new was.records (front ++ chunk) (bytes ++ chunk)
           (ap (λ (l : List ℕ). l ++ chunk) was.are ∙ append_assoc (concat was.records) front chunk)
           was.stands.whole number (part ∙ sym (part_at-more d.link parts d.number front chunk enough))
+          (pair ∙ sym (pair_at-more d.link front chunk enough))
           (λ _. omega (arith, sum, enough)) (omega (arith, sum, enough)) (omega (arith, sum, left, captured, count))
-          (AllGrow-one contents first old new d.part _ _ _ _ chunk []
+          (AllGrow-one contents first old new d.part _ _ _ _ (λ i size. part_full d.link parts i size was.records front)
+          (λ i size. part_full d.link parts i size was.records (front ++ chunk)) chunk []
+          (λ size. full_at size (length chunk) d.pair)
           (λ i. given_from-more d.link parts bytes_taken i was.records d.number front (front ++ chunk) _ number
           (rw part (given-more d.link parts bytes_taken i d.number front chunk chunk enough refl)))
           (λ i. given_from-more d.link parts number_taken i was.records d.number front (front ++ chunk) _ number
           (rw part (given-more d.link parts number_taken i d.number front chunk [] enough none_more)))
+          (λ i size small. rw (pair, ← pair_at-more d.link front chunk enough)
+          (full_front d.link parts i d.part size d.number was.records front (front ++ chunk) chunk number small
+          (rw part (given-more d.link parts bytes_taken i d.number front chunk chunk enough refl))
+          (λ _. sym (pair_at-more d.link front chunk enough))))
           was.parts one)
 
   -- a record was begun, and its first bytes were dealt
   pub dealt_first : {d : Dealer} (e : Dealer) {old mid new : List (Part W)} (unread : List ℕ) (n : ℕ) → d.left ≡ 0
       → HasBegun contents d e old mid unread → e.left ≡ 16 + captured_length (order_of d.is_little) unread
-      → n ≡ min e.left (length unread) → OneGrows contents mid new e.part (take n unread) []
+      → n ≡ min e.left (length unread)
+      → OneGrows contents mid new e.part (take n unread) [] (λ size. full_at size (length (take n unread)) e.pair)
       → Deals contents d (record e { left = e.left - n }) old new (take n unread)
   dealt_first {d} e {old} {mid} {new} unread n none started left count one =
       record { link = started.entered.link; is_little = started.entered.is_little; behind = behind }
@@ -146,7 +168,8 @@ module _ {W : Type 0} (contents : W → Option (List ℕ)) where
           ∙ captured-more d.is_little chunk (drop n unread) long in
           let (are, next, at, parts) = begun e none (omega (arith, long)) (rw whole entered) one was in
           settled (record e { left = e.left - n }) first new was.records chunk (bytes ++ chunk) are
-          (rw little was.stands.whole) next at (λ more. omega (arith, more, size, count, left, enough)) long
+          (rw little was.stands.whole) next at (rw whole entered.pair)
+          (λ more. omega (arith, more, size, count, left, enough)) long
           (rw little (omega (arith, size, count, left, captured))) parts
 
   -- the end of a capture, where no bytes are left
@@ -169,7 +192,8 @@ module _ {W : Type 0} (contents : W → Option (List ℕ)) where
   -- the end of a capture within a record, of which too little is there to tell that it is cut
   pub dealt_rest : {d : Dealer} (e : Dealer) {first old mid new : List (Part W)} {bytes rest : List ℕ} → d.left ≡ 0
       → ¬ BeginsWithRecord (order_of d.is_little) rest → 0 < length rest
-      → HasEntered contents d e old mid (front_of (drop 16 rest)) → OneGrows contents mid new e.part rest []
+      → HasEntered contents d e old mid (front_of (drop 16 rest))
+      → OneGrows contents mid new e.part rest [] (λ size. full_at size (length rest) e.pair)
       → IsDealt contents d first old bytes
       → AreSplit contents (order_of d.is_little) d.link (bytes ++ rest) first new
   dealt_rest e {rest = rest} none cut some entered one was =
@@ -192,5 +216,6 @@ module _ {W : Type 0} (contents : W → Option (List ℕ)) where
       between = λ _. (refl, number);
       within = λ some. absurd (omega (arith, some, left));
     };
-    parts = AllGrow-none contents parts;
+    parts = AllGrow-none contents parts _
+        (λ i size small. sym (full_from-empty d.link (length parts) i size [] small));
   }

@@ -1,14 +1,17 @@
 //! Which bytes go to which part.
 
 ghost use Rattle.std.specs.Prelude.{◌≡◌, ◌+◌, ◌-◌, ◌<◌, ◌≤◌, ◌^◌, ℕ, List, [], ◌++◌, false, length, min, take, drop};
+ghost use Rattle.std.specs.Prelude.{None};
 ghost use Rattle.std.specs.Prelude.{vec_len, IfOk, IfSome, OnOk, IsTrue};
 ghost use Rattle.std.specs.Bool.{Decides};
 ghost use Rattle.byteorder.specs.Endian.{big_bytes};
 ghost use Rattle.pcap_records.specs.FileHeader.{format_of, link_of, number_of};
 ghost use Rattle.pcap_records.specs.Record.{BeginsWithRecord, captured_length};
+ghost use Rattle.capture_parts.specs.Dealt.{full_at};
 ghost use Rattle.capture_parts.specs.Pair.{front_of};
 ghost use Rattle.capture_parts.specs.Parts.{AreSplit};
-ghost use Rattle.capture_parts.specs.Files.{IsDealt, order_of};
+ghost use Rattle.capture_parts.specs.Files.{order_of};
+ghost use Rattle.capture_parts.specs.code.Standing.{IsDealt};
 ghost use Rattle.capture_parts.specs.code.Dealing.{Deals, HasBegun, HasEntered, OneGrows};
 ghost use Rattle.capture_parts.specs.declared.part.Part.{Part};
 
@@ -139,7 +142,8 @@ impl<W: Write + Drop> Dealing<W> {
         ensures left { IfOk result
             (λ n. self.new.dealer ≡ record self.old.dealer { left = self.old.dealer.left - n }) }
         ensures grows { IfOk result (λ n. OneGrows W.contents self.old.parts.items self.new.parts.items
-            self.old.dealer.part (take n unread.now) []) }
+            self.old.dealer.part (take n unread.now) []
+            (λ size. full_at size (length (take n unread.now)) self.old.dealer.pair)) }
     {
         let count = self.dealer.left.min(unread.len() as u64) as usize;
         self.give(&unread[..count])?;
@@ -192,7 +196,7 @@ impl<W: Write + Drop> Dealing<W> {
     fn give(&mut self, bytes: &[u8]) -> Result<(), SplitFault>
         ensures dealer { self.new.dealer ≡ self.old.dealer }
         ensures grows { OnOk result (OneGrows W.contents self.old.parts.items self.new.parts.items
-            self.old.dealer.part bytes.now []) }
+            self.old.dealer.part bytes.now [] (λ size. full_at size (length bytes.now) self.old.dealer.pair)) }
     {
         give_bytes(
             self.parts.as_mut_slice(),
@@ -229,9 +233,12 @@ fn give_number<W: Write + Drop>(
 ) -> Result<(), SplitFault>
     requires { part < length parts.old }
     ensures count { length parts.new ≡ length parts.old }
-    ensures grows { OnOk result (OneGrows W.contents parts.old parts.new part [] (big_bytes 8 number)) }
+    ensures grows { OnOk result (OneGrows W.contents parts.old parts.new part [] (big_bytes 8 number) (λ size. None)) }
 {
-    parts[part].take_number(number)
+    match parts[part].take_number(number) {
+        Ok(()) => Ok(()),
+        Err(file) => Err(SplitFault::Write(part + 1, file)),
+    }
 }
 
 /// Gives bytes of a record with this pair to a part.
@@ -243,7 +250,11 @@ fn give_bytes<W: Write + Drop>(
 ) -> Result<(), SplitFault>
     requires { part < length parts.old }
     ensures count { length parts.new ≡ length parts.old }
-    ensures grows { OnOk result (OneGrows W.contents parts.old parts.new part bytes.now []) }
+    ensures grows { OnOk result (OneGrows W.contents parts.old parts.new part bytes.now []
+        (λ size. full_at size (length bytes.now) pair)) }
 {
-    parts[part].take_bytes(bytes, pair)
+    match parts[part].take_bytes(bytes, pair) {
+        Ok(()) => Ok(()),
+        Err(file) => Err(SplitFault::Write(part + 1, file)),
+    }
 }

@@ -18,7 +18,7 @@ fn endian(header: &[u8]) -> Endian
 }
 
 /// Are the numbers of a file with this header little-endian?
-pub fn is_little(header: &[u8]) -> bool
+pub(crate) fn is_little(header: &[u8]) -> bool
     requires { 4 ≤ length header.now }
     ensures { IfSome (format_of header.now) (λ format. order_of result ≡ number_of format.endian) }
 {
@@ -29,7 +29,7 @@ pub fn is_little(header: &[u8]) -> bool
 }
 
 /// The link type in a header.
-pub fn link_type(header: &[u8]) -> u16
+pub(crate) fn link_type(header: &[u8]) -> u16
     requires { 24 ≤ length header.now }
     ensures { IfSome (format_of header.now) (λ format. result ≡ link_of (number_of format.endian) header.now) }
 {

@@ -1,17 +1,19 @@
 //! A part of a capture that is being written.
 
-ghost use Rattle.std.specs.Prelude.{◌≡◌, ◌<◌, ◌^◌, [], None, OnOk, IfOk, length};
+ghost use Rattle.std.specs.Prelude.{◌≡◌, ◌<◌, ◌^◌, [], None, OnOk, IfOk, length, max};
+ghost use Rattle.std.specs.Io.Buffered.{writer_contents};
 ghost use Rattle.std.specs.Io.KnownBytes.{Appends, Keeps};
 ghost use Rattle.byteorder.specs.Endian.{big_bytes};
+ghost use Rattle.capture_parts.specs.Dealt.{full_at};
 
-use crate::fault::SplitFault;
+use crate::fault::PartFile;
 use crate::pair::Pair;
 use pcap_records::MOST_BYTES;
-use std::io::Write;
+use std::io::{BufWriter, Write};
 
 /// How many parts are made where so many are asked for: one at least.
 pub fn part_count(asked: u32) -> usize
-    ensures { 0 < result }
+    ensures { result ≡ max asked 1 }
 {
     asked.max(1) as usize
 }
@@ -39,7 +41,7 @@ impl<W: Write + Drop> Part<W> {
     ghost use Rattle.capture_parts.specs.Parts.{Grows};
 
     /// A part that begins with this file header. Fails where the write does.
-    pub fn begin(mut packets: W, numbers: W, header: &[u8]) -> Result<Part<W>, SplitFault>
+    pub fn begin(mut packets: W, numbers: W, header: &[u8]) -> Result<Part<W>, PartFile>
         requires { length header.now < 2 ^ 31 }
         ensures packets { IfOk result (λ part. Appends (W.contents packets) (W.contents part.packets) header.now) }
         ensures numbers { IfOk result (λ part. part.numbers ≡ numbers) }
@@ -47,7 +49,7 @@ impl<W: Write + Drop> Part<W> {
         ensures full { IfOk result (λ part. part.full ≡ None) }
     {
         if packets.write_all(header).is_err() {
-            return Err(SplitFault::Write);
+            return Err(PartFile::Packets);
         }
         Ok(Part {
             packets,
@@ -58,21 +60,22 @@ impl<W: Write + Drop> Part<W> {
     }
 
     /// Takes the number of a record.
-    pub(crate) fn take_number(&mut self, number: u64) -> Result<(), SplitFault>
-        ensures { OnOk result (Grows W.contents self.old self.new [] (big_bytes 8 number)) }
+    pub(crate) fn take_number(&mut self, number: u64) -> Result<(), PartFile>
+        ensures { OnOk result (Grows W.contents self.old self.new [] (big_bytes 8 number) None) }
     {
         if self.full.is_some() {
             return Ok(());
         }
         match self.numbers.write_all(&number.to_be_bytes()) {
             Ok(()) => Ok(()),
-            Err(_) => Err(SplitFault::Write),
+            Err(_) => Err(PartFile::Numbers),
         }
     }
 
     /// Takes bytes of a record with this pair, where there is room.
-    pub(crate) fn take_bytes(&mut self, bytes: &[u8], pair: Option<Pair>) -> Result<(), SplitFault>
-        ensures { OnOk result (Grows W.contents self.old self.new bytes.now []) }
+    pub(crate) fn take_bytes(&mut self, bytes: &[u8], pair: Option<Pair>) -> Result<(), PartFile>
+        ensures { OnOk result (Grows W.contents self.old self.new bytes.now []
+            (full_at self.old.size (length bytes.now) pair)) }
     {
         if self.full.is_some() {
             return Ok(());
@@ -87,20 +90,8 @@ impl<W: Write + Drop> Part<W> {
                 self.size += count;
                 Ok(())
             }
-            Err(_) => Err(SplitFault::Write),
+            Err(_) => Err(PartFile::Packets),
         }
-    }
-
-    /// Flushes both files. Fails where a flush does.
-    pub fn flush(&mut self) -> Result<(), SplitFault>
-        ensures packets { Keeps (W.contents self.old.packets) (W.contents self.new.packets) }
-        ensures numbers { Keeps (W.contents self.old.numbers) (W.contents self.new.numbers) }
-        ensures full { self.new.full ≡ self.old.full }
-    {
-        if self.packets.flush().is_err() || self.numbers.flush().is_err() {
-            return Err(SplitFault::Write);
-        }
-        Ok(())
     }
 
     /// Whether it is full, and by which record.
@@ -108,5 +99,27 @@ impl<W: Write + Drop> Part<W> {
         ensures { result ≡ self.now.full }
     {
         self.full
+    }
+}
+
+impl<W: Write + Drop> Part<BufWriter<W>> {
+    ghost use Rattle.capture_parts.specs.Finished.{IsFlushed};
+
+    /// Flushes both files, in whose buffers nothing is left then. Fails where a flush does.
+    pub fn flush(&mut self) -> Result<(), PartFile>
+        ensures flushed { OnOk result (IsFlushed self.new) }
+        ensures packets { Keeps (writer_contents W.contents self.old.packets)
+            (writer_contents W.contents self.new.packets) }
+        ensures numbers { Keeps (writer_contents W.contents self.old.numbers)
+            (writer_contents W.contents self.new.numbers) }
+        ensures full { self.new.full ≡ self.old.full }
+    {
+        if self.packets.flush().is_err() {
+            return Err(PartFile::Packets);
+        }
+        if self.numbers.flush().is_err() {
+            return Err(PartFile::Numbers);
+        }
+        Ok(())
     }
 }

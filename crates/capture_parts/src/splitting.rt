@@ -1,13 +1,12 @@
-//! Splits the files of a capture.
+//! Deals the files of a capture.
 
-ghost use Rattle.std.specs.Prelude.{◌≡◌, ◌-◌, ◌<◌, ◌≤◌, ℕ, List, ◌++◌, length, take, vec_len, IfOk, IfSome, OnOk};
+ghost use Rattle.std.specs.Prelude.{◌≡◌, ◌-◌, ◌<◌, ◌≤◌, ℕ, List, [], ◌++◌, length, take, vec_len, IfOk, IfSome, OnOk};
 ghost use Rattle.std.specs.Io.KnownBytes.{Consumes, IsAtEnd};
 ghost use Rattle.pcap_records.specs.FileHeader.{format_of, link_of, number_of};
 ghost use Rattle.pcap_records.specs.Record.{BeginsWithRecord};
-ghost use Rattle.capture_parts.specs.Parts.{AreSplit};
-ghost use Rattle.capture_parts.specs.Files.{IsDealt, order_of};
-ghost use Rattle.capture_parts.specs.code.Dealing.{Deals, HasTurned};
-ghost use Rattle.capture_parts.specs.declared.part.Part.{Part};
+ghost use Rattle.capture_parts.specs.Files.{order_of};
+ghost use Rattle.capture_parts.specs.code.Standing.{IsDealt};
+ghost use Rattle.capture_parts.specs.code.Dealing.{Deals, EndsSplit, HasTurned};
 
 use crate::dealer::Dealing;
 use crate::fault::SplitFault;
@@ -42,34 +41,9 @@ pub fn read_header<R: Read>(reader: &mut R, header: &mut [u8]) -> Result<usize, 
     Ok(filled)
 }
 
-/// Splits a capture that has this file header, which refuses nothing, from behind it on.
-///
-/// Where the reader tells its bytes, these are the capture's. Each part that is not full then holds exactly its own
-/// records, in order, and their numbers; a full one would have reached 2^31 bytes. Fails where a read or a write
-/// does, and where either is too many ([`SplitFault::TooLong`]).
-pub fn split_capture<R: Read, W: Write + Drop>(
-    header: &[u8],
-    reader: &mut R,
-    buffer: Vec<u8>,
-    parts: Vec<Part<W>>,
-) -> Result<Vec<Part<W>>, SplitFault>
-    requires header { 24 ≤ length header.now }
-    requires buffer { 98 ≤ vec_len buffer }
-    requires some { 0 < vec_len parts }
-    ensures { IfOk result (λ split. (given : List ℕ)
-        × Consumes (R.remaining reader.old) (R.remaining reader.new) given
-        × IsAtEnd (R.remaining reader.new)
-        × IfSome (format_of header.now) (λ format. AreSplit W.contents (number_of format.endian)
-        (link_of (number_of format.endian) header.now) given parts.items split.items)) }
-{
-    let mut splitter = Splitter::behind(header, buffer, parts);
-    split_last(&mut splitter, reader)?;
-    Ok(splitter.into_parts())
-}
-
 /// A capture that is being split, file by file.
 #[derive(Drop)]
-pub struct Splitter<W: Drop> {
+pub(crate) struct Splitter<W: Drop> {
     dealing: Dealing<W>,
     /// What was read and is not dealt yet stands at its front.
     buffer: Vec<u8>,
@@ -78,7 +52,7 @@ pub struct Splitter<W: Drop> {
 
 impl<W: Write + Drop> Splitter<W> {
     /// Nothing is read yet of a capture behind this file header.
-    pub fn behind(header: &[u8], buffer: Vec<u8>, parts: Vec<Part<W>>) -> Splitter<W>
+    pub(crate) fn behind(header: &[u8], buffer: Vec<u8>, parts: Vec<Part<W>>) -> Splitter<W>
         requires header { 24 ≤ length header.now }
         requires buffer { 98 ≤ vec_len buffer }
         requires some { 0 < vec_len parts }
@@ -86,9 +60,7 @@ impl<W: Write + Drop> Splitter<W> {
             (λ format. order_of result.dealing.dealer.is_little ≡ number_of format.endian) }
         ensures link { IfSome (format_of header.now)
             (λ format. result.dealing.dealer.link ≡ link_of (number_of format.endian) header.now) }
-        ensures number { result.dealing.dealer.number ≡ 0 }
-        ensures left { result.dealing.dealer.left ≡ 0 }
-        ensures parts { result.dealing.parts ≡ parts }
+        ensures none { IsDealt W.contents result.dealing.dealer parts.items result.dealing.parts.items [] }
     {
         Splitter {
             dealing: Dealing::behind(header, parts),
@@ -97,25 +69,23 @@ impl<W: Write + Drop> Splitter<W> {
     }
 
     /// The parts, with what they got.
-    pub fn into_parts(self) -> Vec<Part<W>>
+    pub(crate) fn into_parts(self) -> Vec<Part<W>>
         ensures { result ≡ self.dealing.parts }
     {
         self.dealing.parts
     }
 }
 
-/// Deals the last file of a capture, from behind its header on. Fails as [`split_capture`] does.
-pub fn split_last<R: Read, W: Write + Drop>(
+/// Deals the last file of a capture, from behind its header on.
+pub(crate) fn split_last<R: Read, W: Write + Drop>(
     splitter: &mut Splitter<W>,
     reader: &mut R,
 ) -> Result<(), SplitFault>
     ensures { OnOk result ((given : List ℕ)
         × Consumes (R.remaining reader.old) (R.remaining reader.new) given
         × IsAtEnd (R.remaining reader.new)
-        × ((first : List (Part W)) (bytes : List ℕ)
-        → IsDealt W.contents splitter.old.dealing.dealer first splitter.old.dealing.parts.items bytes
-        → AreSplit W.contents (order_of splitter.old.dealing.dealer.is_little) splitter.old.dealing.dealer.link
-        (bytes ++ given) first splitter.new.dealing.parts.items)) }
+        × EndsSplit W.contents splitter.old.dealing.dealer splitter.old.dealing.parts.items
+        splitter.new.dealing.parts.items given) }
 {
     let filled = deal_file(
         &mut splitter.dealing,
@@ -126,8 +96,8 @@ pub fn split_last<R: Read, W: Write + Drop>(
 }
 
 /// Deals a file of a capture behind which another one comes, from behind its header on. It has to end with a whole
-/// record, else the fault is [`SplitFault::CutRecord`]; others are those of [`split_capture`].
-pub fn split_file<R: Read, W: Write + Drop>(
+/// record, else the fault is [`SplitFault::CutRecord`].
+pub(crate) fn split_file<R: Read, W: Write + Drop>(
     splitter: &mut Splitter<W>,
     reader: &mut R,
 ) -> Result<(), SplitFault>
@@ -135,9 +105,8 @@ pub fn split_file<R: Read, W: Write + Drop>(
     ensures dealt { OnOk result ((given : List ℕ)
         × Consumes (R.remaining reader.old) (R.remaining reader.new) given
         × IsAtEnd (R.remaining reader.new)
-        × ((first : List (Part W)) (bytes : List ℕ)
-        → IsDealt W.contents splitter.old.dealing.dealer first splitter.old.dealing.parts.items bytes
-        → IsDealt W.contents splitter.new.dealing.dealer first splitter.new.dealing.parts.items (bytes ++ given))) }
+        × Deals W.contents splitter.old.dealing.dealer splitter.new.dealing.dealer
+        splitter.old.dealing.parts.items splitter.new.dealing.parts.items given) }
 {
     let filled = deal_file(
         &mut splitter.dealing,

@@ -80,14 +80,14 @@ fn strays(alloc: Global) -> Result<Vec<Stray>, AllocError> {
 }
 
 /// The lines of a capture of these packets, and of the strays.
-fn lines(alloc: Global, made: &MadePackets) -> Result<String, AllocError> {
+fn lines(alloc: Global, made: &MadePackets) -> Result<Vec<u8>, AllocError> {
     let strays = strays(alloc)?;
     let packets = Packets::of(alloc, made)?;
     capture_lines(alloc, Some(14), &packets, strays)
 }
 
 /// The lines of these packets.
-fn capture_text(alloc: Global) -> Result<String, AllocError> {
+fn capture_text(alloc: Global) -> Result<Vec<u8>, AllocError> {
     let made = packets(alloc)?;
     lines(alloc, &made)
 }
@@ -95,7 +95,7 @@ fn capture_text(alloc: Global) -> Result<String, AllocError> {
 /// Which packets are counted where, and which have a line of their own.
 pub fn each_kind_of_packet(alloc: Global) -> Answer {
     let text = capture_text(alloc)?;
-    Ok(text.as_str() == CAPTURE_LINES)
+    Ok(text.as_slice() == CAPTURE_LINES.as_bytes())
 }
 
 /// Each fault of a run and each refusal of a capture by its number.

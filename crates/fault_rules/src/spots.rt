@@ -34,6 +34,7 @@ pub(crate) fn spot_of(frame: &Frame) -> Spot
 }
 
 /// Adds the finding of a kind at a spot, where a test holds.
+#[inline(always)]
 pub(crate) fn say_at(
     found: &mut Vec<Finding>,
     holds: bool,
@@ -49,6 +50,7 @@ pub(crate) fn say_at(
 }
 
 /// Adds the finding of each kind whose test holds, in turn, all at one spot and with one value.
+#[inline(always)]
 pub(crate) fn say_each(
     found: &mut Vec<Finding>,
     tests: &[(bool, Kind)],

@@ -1,4 +1,4 @@
-ghost use Rattle.std.specs.Prelude.{◌≡◌, ◌<◌, ◌^◌, All, IfOk, IfErr, None, Ok, length, string_bytes};
+ghost use Rattle.std.specs.Prelude.{◌≡◌, ◌<◌, ◌^◌, All, IfOk, IfErr, None, Ok, length};
 ghost use Rattle.audit_report.specs.code.Reported.{HasOrderlyOutcome};
 ghost use Rattle.audit_report.specs.declared.told.Told.{Told as ToldTerm};
 ghost use Rattle.pcap_records.specs.Refusal.{refusal};
@@ -140,11 +140,11 @@ fn lines_and_flows<R: Threads + Sync, G: Gate>(
     found: &CapturePackets,
     strays: Vec<Stray>,
     opened: &[Connection],
-) -> Result<(String, Vec<Part<Told>>), AllocError>
+) -> Result<(Vec<u8>, Vec<Part<Told>>), AllocError>
     requires few { length opened.now < 2 ^ 32 }
     requires sources { All (AreSources capture.now (packets_in found.now)) opened.now }
     ensures lines { IfOk result (λ r. AreLinesOf (packets_in found.now) found.now.cut strays.items
-        (string_bytes r.0)) }
+        r.0.items) }
     ensures flows { IfOk result (λ r. AreToldFlows credits_shown capture.now (packets_in found.now) opened.now
         r.1.items) }
 {
@@ -158,9 +158,9 @@ fn lines_and_flows<R: Threads + Sync, G: Gate>(
 
 /// The lines, and the flows where there are some.
 fn with_flows(
-    lines: String,
+    lines: Vec<u8>,
     flows: Result<Vec<Part<Told>>, AllocError>,
-) -> Result<(String, Vec<Part<Told>>), AllocError>
+) -> Result<(Vec<u8>, Vec<Part<Told>>), AllocError>
     ensures { IfOk result (λ r. (r.0 ≡ lines) × (flows ≡ Ok r.1)) }
 {
     match flows {
@@ -173,13 +173,13 @@ fn with_flows(
 fn report_told<R: Threads + Sync, G: Gate>(
     team: &Team<'_, R, G>,
     credits_shown: bool,
-    lines: String,
+    lines: Vec<u8>,
     headings: &[Heading],
     told: &[Told],
 ) -> Result<(Vec<u8>, Verdict), AllocError>
     requires each { length told.now ≡ length headings.now }
     requires orderly { All (λ (one : ToldTerm). HasOrderlyOutcome one.outcome) told.now }
-    ensures { IfOk result (λ r. IsToldBehind credits_shown (string_bytes lines) headings.now told.now r.0.items r.1) }
+    ensures { IfOk result (λ r. IsToldBehind credits_shown lines.items headings.now told.now r.0.items r.1) }
 {
     let telling = Telling {
         alloc: team.alloc,

@@ -3,6 +3,7 @@
 ghost use Rattle.std.specs.Prelude.{◌<◌};
 
 use crate::failure::Failure;
+use crate::printable::printable_lines;
 use capture_parts::part_count;
 use clap::error::ErrorKind;
 use clap::{Arg, ArgAction, ArgMatches, Command, Error, value_parser};
@@ -49,7 +50,7 @@ fn unparsed(alloc: Global, error: &Error) -> Result<Asked, Failure> {
     if kind == ErrorKind::OutOfMemory {
         return Err(Failure::OutOfMemory);
     }
-    let text = error.to_string(alloc)?;
+    let text = printable_lines(alloc, error.to_string(alloc)?.as_str())?;
     match kind {
         ErrorKind::DisplayHelp | ErrorKind::DisplayVersion => Ok(Asked::Text(text)),
         _ => Err(Failure::Words(text)),

@@ -1,10 +1,16 @@
 //! How the program ends.
 
+ghost use Rattle.std.specs.Prelude.{◌≡◌, IfErr, Ok};
+ghost use Rattle.std.specs.Process.{exit_status};
+ghost use Rattle.h2audit_split.specs.Ending.{status_of};
+
+use crate::printable::printable;
 use capture_parts::SplitFault;
 use pcap_records::PcapFault;
 use std::alloc::{AllocError, AllocFailed, Global};
 use std::io;
 use std::process::ExitCode;
+use thiserror::Error;
 
 /// What the program does at its end.
 #[derive(Drop)]
@@ -17,26 +23,32 @@ pub enum Ending {
     Text(String),
 }
 
-/// Why the program split nothing, or not all.
-#[derive(Drop)]
+/// Why the program split nothing, or not all. Names of files in it are printable.
+#[derive(Debug, Drop, Error)]
 pub enum Failure {
     /// The words do not parse.
+    #[error("{0}")]
     Words(String),
     /// The capture is refused by this name.
+    #[error("capture refused: {0}")]
     Capture(&'static str),
     /// This file is refused by this name.
+    #[error("{0} refused: {1}")]
     File(String, &'static str),
     /// What failed.
+    #[error("{0}")]
     Io(&'static str),
-    /// This path could not be opened, or made.
+    /// What could not be done with the file or the folder of this path.
+    #[error("{0}: {1}")]
     Path(&'static str, String),
+    #[error("out of memory")]
     OutOfMemory,
 }
 
 impl Failure {
-    /// This path could not be opened, or made.
+    /// What could not be done with the file or the folder of this path.
     pub fn at(alloc: Global, what: &'static str, path: &str) -> Failure {
-        match String::from_str(alloc, path) {
+        match printable(alloc, path) {
             Ok(path) => Failure::Path(what, path),
             Err(_) => Failure::OutOfMemory,
         }
@@ -44,7 +56,7 @@ impl Failure {
 
     /// The file with this path is refused by this name.
     pub fn of_file(alloc: Global, path: &str, name: &'static str) -> Failure {
-        match String::from_str(alloc, path) {
+        match printable(alloc, path) {
             Ok(path) => Failure::File(path, name),
             Err(_) => Failure::OutOfMemory,
         }
@@ -65,30 +77,31 @@ impl<T: Drop> From<AllocFailed<T>> for Failure {
 
 impl From<PcapFault> for Failure {
     fn from(fault: PcapFault) -> Failure {
-        match fault {
-            PcapFault::ShortHeader => Failure::Capture("short-header"),
-            PcapFault::BadMagic => Failure::Capture("bad-magic"),
-            PcapFault::BadVersion => Failure::Capture("bad-version"),
-            PcapFault::LinkType => Failure::Capture("link-type"),
-            PcapFault::TooLarge => Failure::Capture("too-large"),
-            PcapFault::OutOfMemory => Failure::OutOfMemory,
+        match refusal_name(fault) {
+            Some(name) => Failure::Capture(name),
+            None => Failure::OutOfMemory,
         }
     }
 }
 
-impl From<SplitFault> for Failure {
-    fn from(fault: SplitFault) -> Failure {
-        match fault {
-            SplitFault::CutRecord => Failure::Capture("cut-record"),
-            SplitFault::Read => Failure::Io("read failed"),
-            SplitFault::Write => Failure::Io("write failed"),
-            SplitFault::TooLong => Failure::Capture("too-long"),
-        }
+/// The name by which a capture is refused; none is of want of memory.
+pub fn refusal_name(fault: PcapFault) -> Option<&'static str> {
+    match fault {
+        PcapFault::ShortHeader => Some("short-header"),
+        PcapFault::BadMagic => Some("bad-magic"),
+        PcapFault::BadVersion => Some("bad-version"),
+        PcapFault::LinkType => Some("link-type"),
+        PcapFault::TooLarge => Some("too-large"),
+        PcapFault::OutOfMemory => None,
     }
 }
 
 /// Says what the answer is, and gives its exit status.
-pub fn end(rt: &(impl Print + Eprint), answer: Result<Ending, Failure>) -> ExitCode {
+pub fn end(rt: &(impl Print + Eprint), answer: Result<Ending, Failure>) -> ExitCode
+    ensures whole { answer ≡ Ok Ending.Split → exit_status result ≡ 0 }
+    ensures refused { answer ≡ Ok Ending.PartsRefused → exit_status result ≡ 3 }
+    ensures failed { IfErr answer (λ failure. exit_status result ≡ status_of failure) }
+{
     match answer {
         Ok(Ending::Split) => ExitCode::from(0),
         Ok(Ending::PartsRefused) => ExitCode::from(3),
@@ -104,23 +117,23 @@ fn show(rt: &(impl Print + Eprint), text: &str) -> ExitCode {
     }
 }
 
-fn fail(rt: &impl Eprint, failure: &Failure) -> ExitCode {
+fn fail(rt: &impl Eprint, failure: &Failure) -> ExitCode
+    ensures { exit_status result ≡ status_of failure.now }
+{
     let said: io::Result<()> = match failure {
         Failure::Words(text) => {
             let text = text.as_str().trim_end();
             eprintln!(rt; "{text}")
         }
-        Failure::Capture(name) => eprintln!(rt; "h2audit-split: capture refused: {name}"),
-        Failure::File(path, name) => eprintln!(rt; "h2audit-split: {path} refused: {name}"),
-        Failure::Io(what) => eprintln!(rt; "h2audit-split: {what}"),
-        Failure::Path(what, path) => eprintln!(rt; "h2audit-split: {what}: {path}"),
-        Failure::OutOfMemory => eprintln!(rt; "h2audit-split: out of memory"),
+        failure => eprintln!(rt; "h2audit-split: {failure}"),
     };
     let _ = said;
     ExitCode::from(status(failure))
 }
 
-fn status(failure: &Failure) -> u8 {
+fn status(failure: &Failure) -> u8
+    ensures { result ≡ status_of failure.now }
+{
     match failure {
         Failure::Words(_) => 2,
         Failure::Capture(_) | Failure::File(_, _) => 3,

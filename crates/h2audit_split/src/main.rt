@@ -2,17 +2,18 @@
 //! capture that h2audit reads.
 //!
 //! - Which record goes to which part, and that each goes to one, `capture_parts` promises.
-//! - What the program does with words, files and folders is proved safe and total: there is a part, there are as many
-//!   as were asked for, and the buffer is long enough for a packet's front.
-//! - Tested, in `tests/` at the root: the texts of help and of refused words, each status; that the right files are
-//!   opened and named; the parts of whole captures, beside a model; reports of parts, merged. That a full part is
-//!   removed is read and not tested, since a part is full at 2^31 bytes alone.
+//! - What the program does with words, files and folders is proved safe and total: as many parts are made as `clap`
+//!   hands over, those that are not full are flushed, each full one is refused, and status 3 says so.
+//! - Tested, in `tests/` and `tools/tests/splitter_test.py` at the root: the texts of help and of refused words, each
+//!   status; that the right files are opened and named; the parts of whole captures, beside a model; reports of parts,
+//!   merged; that a full part is removed, and that a split that failed leaves nothing.
 #![tactic(auto)]
 
 mod command;
 mod failure;
 mod inputs;
 mod outputs;
+mod printable;
 mod program;
 
 use failure::end;

@@ -1,10 +1,12 @@
 //! The files that the program writes.
 
-ghost use Rattle.std.specs.Prelude.{◌≡◌, ◌+◌, IfOk, OnOk, vec_len};
+ghost use Rattle.std.specs.Prelude.{◌≡◌, ◌+◌, IfOk, OnOk, if◌then◌else◌, map, vec_len};
+ghost use Rattle.std.specs.List.{All};
+ghost use Rattle.capture_parts.specs.Finished.{IsFlushedOrFull, has_full};
 
 use crate::failure::{Ending, Failure};
 use crate::inputs::Header;
-use capture_parts::{FullPart, Part};
+use capture_parts::{FlushFault, FullPart, Part, PartFile, RefusedPart, flush_parts, refuse_full};
 use packet_heads::Endpoint;
 use std::alloc::{AllocError, Global};
 use std::fs;
@@ -20,11 +22,47 @@ const NUMBERS_BUFFER: usize = 4_096;
 
 pub type FilePart<R> = Part<BufWriter<<R as Files>::File>>;
 
-fn part_path(alloc: Global, folder: &str, number: usize, kind: &str) -> Result<String, AllocError> {
+/// The path of a file of the part of this number.
+fn part_path(
+    alloc: Global,
+    folder: &str,
+    number: usize,
+    file: PartFile,
+) -> Result<String, AllocError> {
+    let kind = match file {
+        PartFile::Packets => "pcap",
+        PartFile::Numbers => "records",
+    };
     format!(in alloc; "{folder}/part-{number:03}.{kind}")
 }
 
-/// Makes the folder and the files of the parts, which begin with this file header.
+fn summary_path(alloc: Global, folder: &str) -> Result<String, AllocError> {
+    format!(in alloc; "{folder}/split.txt")
+}
+
+/// What could not be done with this file of the part of this number.
+pub fn part_failure(
+    alloc: Global,
+    what: &'static str,
+    folder: &str,
+    number: usize,
+    file: PartFile,
+) -> Failure {
+    match part_path(alloc, folder, number, file) {
+        Ok(path) => Failure::at(alloc, what, path.as_str()),
+        Err(_) => Failure::OutOfMemory,
+    }
+}
+
+/// Makes the folder for the parts, which must not be there.
+pub fn create_folder<R: Files + AllocGlobal>(rt: &R, folder: &str) -> Result<(), Failure> {
+    match fs::create_dir(rt, folder) {
+        Ok(()) => Ok(()),
+        Err(_) => Err(Failure::at(rt.alloc(), "cannot make folder", folder)),
+    }
+}
+
+/// Makes the files of the parts, which begin with this file header.
 pub fn create_parts<R: Files + AllocGlobal>(
     rt: &R,
     folder: &str,
@@ -33,19 +71,11 @@ pub fn create_parts<R: Files + AllocGlobal>(
 ) -> Result<Vec<FilePart<R>>, Failure>
     ensures { IfOk result (λ parts. vec_len parts ≡ count) }
 {
-    create_folder(rt, folder)?;
     let mut parts = Vec::new(rt.alloc());
     for index in 0..count {
         add(&mut parts, create_part(rt, folder, index + 1, header))?;
     }
     Ok(parts)
-}
-
-fn create_folder<R: Files + AllocGlobal>(rt: &R, folder: &str) -> Result<(), Failure> {
-    match fs::create_dir(rt, folder) {
-        Ok(()) => Ok(()),
-        Err(_) => Err(Failure::at(rt.alloc(), "cannot make folder", folder)),
-    }
 }
 
 /// Adds what was made, if it was.
@@ -56,37 +86,32 @@ fn add<T: Drop>(list: &mut Vec<T>, made: Result<T, Failure>) -> Result<(), Failu
     Ok(())
 }
 
-/// Makes the files of one part.
+/// Makes the files of the part of this number.
 fn create_part<R: Files + AllocGlobal>(
     rt: &R,
     folder: &str,
     number: usize,
     header: &Header,
 ) -> Result<FilePart<R>, Failure> {
-    let packets = create_file(rt, folder, number, "pcap", PACKETS_BUFFER)?;
-    let numbers = create_file(rt, folder, number, "records", NUMBERS_BUFFER);
-    begin_part(packets, numbers, header)
-}
-
-fn begin_part<W: Write + Drop>(
-    packets: W,
-    numbers: Result<W, Failure>,
-    header: &Header,
-) -> Result<Part<W>, Failure> {
-    Ok(Part::begin(packets, numbers?, header)?)
+    let packets = create_file(rt, folder, number, PartFile::Packets, PACKETS_BUFFER)?;
+    let numbers = create_file(rt, folder, number, PartFile::Numbers, NUMBERS_BUFFER)?;
+    match Part::begin(packets, numbers, header) {
+        Ok(part) => Ok(part),
+        Err(file) => Err(part_failure(rt.alloc(), "cannot write", folder, number, file)),
+    }
 }
 
 fn create_file<R: Files + AllocGlobal>(
     rt: &R,
     folder: &str,
     number: usize,
-    kind: &str,
+    kind: PartFile,
     buffer: usize,
 ) -> Result<BufWriter<R::File>, Failure> {
     let path = part_path(rt.alloc(), folder, number, kind)?;
     match File::create(rt, path.as_str()) {
         Ok(file) => buffered(rt.alloc(), buffer, file),
-        Err(_) => Err(Failure::Path("cannot create", path)),
+        Err(_) => Err(Failure::at(rt.alloc(), "cannot create", path.as_str())),
     }
 }
 
@@ -101,32 +126,50 @@ fn buffered<W: Write + Drop>(
     }
 }
 
-/// Completes the files, and writes down how the split ended. Says which parts are full, and whether there are any.
+/// Completes the files, and writes down how the split ended. Full parts are refused, written down and removed; says
+/// whether there are any.
 pub fn finish_parts<R: Files + AllocGlobal + Eprint>(
     rt: &R,
     folder: &str,
     parts: &mut [FilePart<R>],
-) -> Result<Ending, Failure> {
+) -> Result<Ending, Failure>
+    ensures ending { IfOk result (λ ending. ending ≡ (if has_full (map (λ part. part.full) parts.old)
+        then Ending.PartsRefused else Ending.Split)) }
+    ensures flushed { OnOk result (All IsFlushedOrFull parts.new) }
+{
+    flush(rt.alloc(), folder, parts)?;
     let mut summary = begin_summary(rt.alloc(), parts.len())?;
-    finish_with(rt, folder, parts, &mut summary)
+    let are_refused = refuse_full(
+        parts,
+        &mut |part: RefusedPart| { refuse_part(rt, folder, part, &mut summary) },
+    )?;
+    write_summary(rt, folder, summary.as_str())?;
+    Ok(ending(are_refused))
+}
+
+fn flush<W: Write + Drop>(
+    alloc: Global,
+    folder: &str,
+    parts: &mut [Part<BufWriter<W>>],
+) -> Result<(), Failure>
+    ensures flushed { OnOk result (All IsFlushedOrFull parts.new) }
+    ensures full { map (λ part. part.full) parts.new ≡ map (λ part. part.full) parts.old }
+{
+    match flush_parts(parts) {
+        Ok(()) => Ok(()),
+        Err(FlushFault { number, file }) => {
+            Err(part_failure(alloc, "cannot write", folder, number, file))
+        }
+    }
 }
 
 fn begin_summary(alloc: Global, count: usize) -> Result<String, AllocError> {
     format!(in alloc; "h2audit-split 1\nparts {count}\n")
 }
 
-fn finish_with<R: Files + AllocGlobal + Eprint>(
-    rt: &R,
-    folder: &str,
-    parts: &mut [FilePart<R>],
-    summary: &mut String,
-) -> Result<Ending, Failure> {
-    let are_refused = finish_each(rt, folder, parts, summary)?;
-    write_summary(rt, folder, summary.as_str())?;
-    Ok(ending(are_refused))
-}
-
-fn ending(are_refused: bool) -> Ending {
+fn ending(are_refused: bool) -> Ending
+    ensures { result ≡ (if are_refused then Ending.PartsRefused else Ending.Split) }
+{
     if are_refused {
         Ending::PartsRefused
     } else {
@@ -134,55 +177,24 @@ fn ending(are_refused: bool) -> Ending {
     }
 }
 
-fn finish_each<R: Files + AllocGlobal + Eprint>(
-    rt: &R,
-    folder: &str,
-    parts: &mut [FilePart<R>],
-    summary: &mut String,
-) -> Result<bool, Failure> {
-    let mut are_refused = false;
-    for index in 0..parts.len() {
-        are_refused |= finish_part(rt, folder, index + 1, &mut parts[index], summary)?;
-    }
-    Ok(are_refused)
-}
-
-/// Completes the files of one part, and answers whether it is full. A full one is written down and removed.
-fn finish_part<R: Files + AllocGlobal + Eprint>(
-    rt: &R,
-    folder: &str,
-    number: usize,
-    part: &mut FilePart<R>,
-    summary: &mut String,
-) -> Result<bool, Failure> {
-    part.flush()?;
-    match part.full() {
-        Some(full) => refuse_part(rt, folder, number, full, summary),
-        None => Ok(false),
-    }
-}
-
 /// Says why a part is refused, writes it down, and removes the part.
 fn refuse_part<R: Files + AllocGlobal + Eprint>(
     rt: &R,
     folder: &str,
-    number: usize,
-    full: FullPart,
+    part: RefusedPart,
     summary: &mut String,
-) -> Result<bool, Failure> {
-    write_down(rt, number, full, summary)?;
-    remove_part(rt, folder, number)?;
-    Ok(true)
+) -> Result<(), Failure> {
+    write_down(rt, part, summary)?;
+    remove_part(rt, folder, part.number)
 }
 
 fn write_down<R: AllocGlobal + Eprint>(
     rt: &R,
-    number: usize,
-    full: FullPart,
+    part: RefusedPart,
     summary: &mut String,
 ) -> Result<(), AllocError> {
-    let reason = full_reason(rt.alloc(), full)?;
-    tell_refused(rt, number, reason.as_str(), summary)
+    let reason = full_reason(rt.alloc(), part.full)?;
+    tell_refused(rt, part.number, reason.as_str(), summary)
 }
 
 fn tell_refused(
@@ -202,29 +214,42 @@ fn write_summary<R: Files + AllocGlobal>(
     folder: &str,
     summary: &str,
 ) -> Result<(), Failure> {
-    let path = format!(in rt.alloc(); "{folder}/split.txt")?;
+    let path = summary_path(rt.alloc(), folder)?;
     match fs::write(rt, path.as_str(), summary) {
         Ok(()) => Ok(()),
-        Err(_) => Err(Failure::Io("write failed")),
+        Err(_) => Err(Failure::at(rt.alloc(), "cannot write", path.as_str())),
     }
 }
 
 fn remove_part<R: Files + AllocGlobal>(rt: &R, folder: &str, number: usize) -> Result<(), Failure> {
-    remove_file(rt, folder, number, "pcap")?;
-    remove_file(rt, folder, number, "records")
+    remove_file(rt, folder, number, PartFile::Packets)?;
+    remove_file(rt, folder, number, PartFile::Numbers)
 }
 
 fn remove_file<R: Files + AllocGlobal>(
     rt: &R,
     folder: &str,
     number: usize,
-    kind: &str,
+    kind: PartFile,
 ) -> Result<(), Failure> {
     let path = part_path(rt.alloc(), folder, number, kind)?;
     match fs::remove_file(rt, path.as_str()) {
         Ok(()) => Ok(()),
-        Err(_) => Err(Failure::Path("cannot remove", path)),
+        Err(_) => Err(Failure::at(rt.alloc(), "cannot remove", path.as_str())),
     }
+}
+
+/// Removes the folder with the files of so many parts, after a failure. What cannot be removed stays: it is the failure
+/// before that is told.
+pub fn remove_folder<R: Files + AllocGlobal>(rt: &R, folder: &str, count: usize) {
+    for index in 0..count {
+        let _ = remove_file(rt, folder, index + 1, PartFile::Packets);
+        let _ = remove_file(rt, folder, index + 1, PartFile::Numbers);
+    }
+    if let Ok(path) = summary_path(rt.alloc(), folder) {
+        let _ = fs::remove_file(rt, path.as_str());
+    }
+    let _ = fs::remove_dir(rt, folder);
 }
 
 /// Why a part is refused: the connection of the record that had no room, or a record of none.

@@ -4,12 +4,13 @@ ghost use Rattle.std.specs.Prelude.{◌<◌, ◌≤◌, vec_len};
 
 use crate::command::{Asked, Words, parse_words};
 use crate::failure::{Ending, Failure};
-use crate::inputs::{CaptureFile, Header, begin, open, split_later, split_named};
-use crate::outputs::{create_parts, finish_parts};
-use capture_parts::{Part, Splitter, make_buffer, split_capture};
+use crate::inputs::{Header, begin, open, split_failure};
+use crate::outputs::{create_folder, create_parts, finish_parts, remove_folder};
+use capture_parts::{make_buffer, split_capture};
 use std::alloc::{AllocError, Global};
 use std::env;
-use std::io::{Read, Write};
+use std::fs::File;
+use std::io::Read;
 use std::rt::{Env, Files};
 
 /// Does what the words of the command line ask for.
@@ -70,11 +71,17 @@ fn split_from<R: Files + AllocGlobal + Eprint, I: Read>(
     reader: &mut I,
 ) -> Result<Ending, Failure> {
     let buffer = make_buffer(rt.alloc())?;
-    let header = begin(reader)?;
-    split_behind(rt, words, reader, &header, buffer)
+    let header = begin(rt.alloc(), words.files.as_slice(), reader)?;
+    create_folder(rt, words.folder.as_str())?;
+    let answer = split_behind(rt, words, reader, &header, buffer);
+    if answer.is_err() {
+        remove_folder(rt, words.folder.as_str(), words.parts);
+    }
+    answer
 }
 
-/// Splits it from behind its header on, into parts that it makes.
+/// Splits it from behind its header on, into parts that it makes. Standard input or files make one capture in their
+/// order; the reader stands behind the header of the first.
 fn split_behind<R: Files + AllocGlobal + Eprint, I: Read>(
     rt: &R,
     words: &Words,
@@ -84,51 +91,20 @@ fn split_behind<R: Files + AllocGlobal + Eprint, I: Read>(
 ) -> Result<Ending, Failure>
     requires { 98 ≤ vec_len buffer }
 {
-    let parts = create_parts(rt, words.folder.as_str(), words.parts, header)?;
-    let mut parts = split_files(rt, words.files.as_slice(), reader, header, buffer, parts)?;
-    finish_parts(rt, words.folder.as_str(), parts.as_mut_slice())
+    let folder = words.folder.as_str();
+    let files = words.files.as_slice();
+    let parts = create_parts(rt, folder, words.parts, header)?;
+    let open_later = |path: &str| File::open(rt, path);
+    match split_capture(header, reader, later(files), &open_later, buffer, parts) {
+        Ok(mut parts) => finish_parts(rt, folder, parts.as_mut_slice()),
+        Err(wrong) => Err(split_failure(rt.alloc(), files, folder, wrong)),
+    }
 }
 
-/// Splits standard input or files, which make one capture in their order. The reader stands behind the header of the
-/// first.
-fn split_files<R: Files + AllocGlobal, I: Read, W: Write + Drop>(
-    rt: &R,
-    files: &[String],
-    reader: &mut I,
-    header: &Header,
-    buffer: Vec<u8>,
-    parts: Vec<Part<W>>,
-) -> Result<Vec<Part<W>>, Failure>
-    requires buffer { 98 ≤ vec_len buffer }
-    requires some { 0 < vec_len parts }
-{
-    if files.is_empty() {
-        return Ok(split_capture(header, reader, buffer, parts)?);
+/// The files behind the first one.
+fn later(files: &[String]) -> &[String] {
+    match files.split_first() {
+        Some((_, later)) => later,
+        None => files,
     }
-    let mut splitter = Splitter::behind(header, buffer, parts);
-    let first = CaptureFile {
-        path: files[0].as_str(),
-        is_last: files.len() == 1,
-    };
-    split_named(rt.alloc(), first, reader, &mut splitter)?;
-    split_others(rt, &files[1..], header, &mut splitter)?;
-    Ok(splitter.into_parts())
-}
-
-/// Splits the files behind the first one.
-fn split_others<R: Files + AllocGlobal, W: Write + Drop>(
-    rt: &R,
-    later: &[String],
-    header: &Header,
-    splitter: &mut Splitter<W>,
-) -> Result<(), Failure> {
-    let count = later.len();
-    for (index, path) in later.iter().enumerate() {
-        let named = CaptureFile {
-            path: path.as_str(),
-            is_last: index + 1 == count,
-        };
-        split_later(rt, named, header, splitter)?;
-    }
-    Ok(())
 }

@@ -1,11 +1,9 @@
--- What is shown of findings put in order, cut and joined. A connection error is always shown, so the audit ends at the
--- same finding whether credits are shown or not.
+-- What is shown of findings put in order, cut and joined.
 use Rattle.audit_terms.proofs.FindingOrder.{comes_after_is}
 use Rattle.audit_terms.proofs.OrderedLists.{IsAfter, IsInOrder, NoneBefore, in_order-ordered, put-front}
-use Rattle.audit_terms.specs.declared.kinds.Kind.TheVariants.{ConnectionCredit, StreamCredit}
-use Rattle.audit_terms.specs.declared.{findings.Finding.Finding, kinds.Kind.Kind}
-use Rattle.audit_terms.specs.{Finding.stops, Kind.is_connection_error, Kind.is_credit, Order.ordered_by, Order.put_by}
-use Rattle.split_merge.proofs.Terms.{Bool, List, [], ap, arith, false, filter, not, refl, shown, true, ◌++◌, ◌∷◌, ◌≡◌}
+use Rattle.audit_terms.proofs.UptoStop.{upto_stop-shown}
+use Rattle.audit_terms.specs.{Order.ordered_by, Order.put_by, declared.findings.Finding.Finding}
+use Rattle.split_merge.proofs.Terms.{Bool, List, [], arith, false, filter, refl, shown, ◌++◌, ◌∷◌, ◌≡◌}
 use Rattle.split_merge.proofs.Terms.{comes_after, filter-append, flat_map, if◌then◌else◌, in_order, is_shown, upto_stop}
 
 -- ---- of lists joined
@@ -51,21 +49,6 @@ pub in_order-shown : (credits_shown : Bool) (xs : List Finding) →
 in_order-shown credits_shown xs = kept-ordered comes_after comes_after_is (is_shown credits_shown) xs
 
 -- ---- up to where they stop
-
-error-no-credit : (kind : Kind) → is_connection_error kind ≡ true → is_credit kind ≡ false
-error-no-credit ConnectionCredit e = cc
-error-no-credit StreamCredit e = cc
-error-no-credit _ e = refl
-
-stopping-shown : (credits_shown : Bool) (x : Finding) → stops x ≡ true → is_shown credits_shown x ≡ true
-stopping-shown true x e = refl
-stopping-shown false x e = ap not (error-no-credit x.kind e)
-
--- the front of what is shown is what is shown of the front
-pub upto_stop-shown : (credits_shown : Bool) (xs : List Finding) →
-    upto_stop (shown credits_shown xs) ≡ shown credits_shown (upto_stop xs)
-upto_stop-shown credits_shown [] = refl
-upto_stop-shown credits_shown (x ∷ xs) = grind (arith, upto_stop-shown credits_shown xs, stopping-shown)
 
 -- both together: a merge of what is shown is what is shown of the merge
 pub merge-shown : (credits_shown : Bool) (xs : List Finding) →

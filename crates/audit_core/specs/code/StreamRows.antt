@@ -1,14 +1,20 @@
 -- The streams that `one_pass` keeps, a row for each.
-use Rattle.std.specs.Prelude.{ℕ, ◌^◌, ◌<◌, ◌==◌, ◌&&◌, Bool, List, map}
+use Rattle.std.specs.Prelude.{◌≡◌, ◌≢◌, ℕ, ◌^◌, ◌<◌, ◌≤◌, ◌==◌, ◌&&◌, ◌||◌, Bool, not, if◌then◌else◌, List, [], ◌∷◌}
+use Rattle.std.specs.Prelude.{◌++◌}
+use Rattle.std.specs.Prelude.{filter, map, slice_get, None, Some}
+use Rattle.std.specs.List.{list_any, AllByRecursion}
 use Rattle.audit_terms.specs.declared.sides.Sides.{Sides}
 use Rattle.audit_terms.specs.declared.frames.Frame.{Frame}
 use Rattle.audit_terms.specs.declared.items.Item.{Item}
 use Rattle.audit_terms.specs.declared.streams.Stream.{Stream}
 use Rattle.audit_terms.specs.declared.findings.Finding.{Finding}
+use Rattle.audit_terms.specs.Frame.{promised_by}
 use Rattle.audit_terms.specs.Life.{is_opening}
+use Rattle.audit_terms.specs.Pass.{streams_of}
 use Rattle.audit_terms.specs.Stream.{idle_stream, stream_after, stream_said}
 use Rattle.audit_terms.specs.code.Room.{WindowHasRoom}
 use Rattle.audit_terms.specs.code.runs.Streams.{step_at}
+use Rattle.audit_core.specs.declared.rows.RisingRows.{RisingRows}
 use Rattle.audit_core.specs.declared.rows.StreamRow.{StreamRow}
 
 -- the rows of these streams, each as it is among all streams
@@ -39,3 +45,43 @@ pub record RowFits (bound : ℕ) (row : StreamRow) : Type 0 where
   pub stream : row.stream < 2 ^ 31
   pub client : WindowHasRoom bound row.entry.window.client
   pub server : WindowHasRoom bound row.entry.window.server
+
+-- no row is of stream 0, and no two are of one stream
+abbrev pub AreDistinct : List StreamRow → Type 0
+AreDistinct [] = Unit {0}
+AreDistinct (row ∷ rows) =
+    (row.stream ≢ 0) × AllByRecursion (λ (other : StreamRow). other.stream ≢ row.stream) rows × AreDistinct rows
+
+-- no stream but that of its frame meets the item
+pub record IsAlone (item : Item) : Type 0 where
+  pub unchanged : item.change ≡ None
+  pub promises : promised_by item.frame ≡ 0
+
+-- the row of a stream stands there
+pub record IsRowOf (rows : List StreamRow) (stream at : ℕ) : Type 0 where
+  pub row : StreamRow
+  pub there : slice_get rows at ≡ Some row
+  pub same : row.stream ≡ stream
+
+-- is the stream one of these?
+abbrev pub is_among : (stream : ℕ) → List ℕ → Bool
+is_among stream streams = list_any (λ other. other == stream) streams
+
+-- these streams, and behind them this one, if it is none of them and not 0
+abbrev pub with_stream : (stream : ℕ) → List ℕ → List ℕ
+with_stream stream seen = if (stream == 0) || is_among stream seen then seen else seen ++ stream ∷ []
+
+-- the streams that are not among those seen
+abbrev pub without : (seen : List ℕ) → List ℕ → List ℕ
+without seen streams = filter (λ stream. not (is_among stream seen)) streams
+
+-- the rows are those of these streams, none of them opened
+pub record AreRowsOf (streams : List ℕ) (made : RisingRows) : Type 0 where
+  pub rows : made.rows.items ≡ idle_rows streams
+  pub below : AllByRecursion (λ stream. stream ≤ made.last) streams
+
+-- the rows are those of the streams that frames met before some later ones
+pub record AreRowsBefore (all later : List Frame) (made : RisingRows) : Type 0 where
+  pub seen : List ℕ
+  pub rows : AreRowsOf seen made
+  pub named : seen ++ without seen (streams_of later) ≡ streams_of all

@@ -1,13 +1,13 @@
 use Rattle.audit_report.specs.code.Shares.{IsHeaded, share_text}
-use Rattle.std.{proofs.Common.length, proofs.Common.◌++◌, proofs.Common.◌≡◌, specs.String.string_bytes}
+use Rattle.std.proofs.Common.{length, ◌++◌, ◌≡◌}
 use Rattle.audit_report.proofs.batches.push_batches.Given as goal
 
 -- what is written, with the lines of the connections to come, is the whole
 abbrev pub invariant-loop-left : goal.invariant-loop-left
 invariant-loop-left g l = record {
   headed : IsHeaded l.left;
-  written : string_bytes l.out ++ share_text l.telling.frames_shown l.left
-      ≡ string_bytes l.fn.out ++ share_text l.telling.frames_shown l.fn.share;
+  written : l.out.items ++ share_text l.telling.frames_shown l.left
+      ≡ l.fn.out.items ++ share_text l.telling.frames_shown l.fn.share;
 }
 
 abbrev pub decreases-loop-left : goal.decreases-loop-left

@@ -1,5 +1,5 @@
 use Rattle.std.proofs.Common.{◌≡◌, ℕ, List, ◌++◌, OnOk, subst, append_assoc}
-use Rattle.std.specs.{Prelude.codes, Prelude.count_by, String.string_bytes}
+use Rattle.std.specs.{Prelude.codes, Prelude.count_by}
 use Rattle.packet_heads.specs.declared.packets.Packet.{Packet}
 use Rattle.audit_report.specs.CaptureLine.{is_fragment, is_not_ipv4, is_not_tcp, is_refused, is_segment, is_snapped}
 use Rattle.audit_report.{specs.Line.field, specs.code.Packets.packet_counts, proofs.Joins.three}
@@ -28,8 +28,8 @@ returns c =
     let front = λ (n : ℕ). field (codes "capture records ") n in
     let pushed = three c.push_word.result _ _ _ _ (front c.len.result) (packet_counts packets) (codes "\n")
     c.in_ok-push_field.ensures c.in_ok-push_packet_counts.ensures c.push_word.ensures in
-    subst (λ n. OnOk c.push_word.result (string_bytes c.push_word.new.out ≡ string_bytes c.args.out.now
+    subst (λ n. OnOk c.push_word.result (c.push_word.new.out.items ≡ c.args.out.now.items
     ++ (counted (front n) packets ++ codes "\n"))) c.len.ensures
     (subst (λ l. OnOk c.push_word.result
-    (string_bytes c.push_word.new.out ≡ string_bytes c.args.out.now ++ (l ++ codes "\n")))
+    (c.push_word.new.out.items ≡ c.args.out.now.items ++ (l ++ codes "\n")))
     (counted-is (front c.len.result) packets) pushed)

@@ -1,13 +1,11 @@
-use Rattle.std.proofs.Common.{◌≡◌, ◌++◌, ℕ, List, ap, ◌∙◌, rules}
-use Rattle.std.specs.String.{string_bytes}
+use Rattle.std.proofs.Common.{◌≡◌, ◌++◌, ℕ, List, ap, ◌∙◌}
 use Rattle.audit_report.{specs.code.Reported.told_text, proofs.Standing.told-same}
 use Rattle.audit_report.proofs.reports.report.Goals as goal
 
 pub returns : goal.returns
 returns g c = λ connections audited headed stand.
-    let before = string_bytes c.args.capture_lines in
+    let before = c.args.capture_lines.items in
     let shown = c.args.telling.frames_shown in
-    let bytes : c.into_bytes.result.items ≡ string_bytes c.push_all_sections.new.out = search rules in
-    bytes ∙ c.in_ok-push_all_sections.ensures
+    c.in_ok-push_all_sections.ensures
     ∙ ap (λ headings. before ++ told_text shown 1 headings c.args.told.now) headed
     ∙ ap (λ (l : List ℕ). before ++ l) (told-same shown 1 connections c.args.told.now audited stand)

@@ -1,9 +1,9 @@
-use Rattle.std.{proofs.Common.◌≡◌, proofs.Common.◌++◌, proofs.Common.◌+◌, proofs.Common.drop, specs.String.string_bytes}
+use Rattle.std.proofs.Common.{◌≡◌, ◌++◌, ◌+◌, drop}
 use Rattle.audit_report.specs.code.Reported.{told_text}
 use Rattle.audit_report.proofs.sections.push_sections.Given as goal
 
 -- what is written, with the lines of the connections to come, is the whole
 abbrev pub invariant-loop-i : goal.invariant-loop-i
-invariant-loop-i l = string_bytes l.out ++ told_text l.telling.frames_shown (l.before + l.i + 1) (drop l.i l.headings)
+invariant-loop-i l = l.out.items ++ told_text l.telling.frames_shown (l.before + l.i + 1) (drop l.i l.headings)
     (drop l.i l.told)
-    ≡ string_bytes l.initial.out ++ told_text l.telling.frames_shown (l.before + 1) l.headings l.told
+    ≡ l.initial.out.items ++ told_text l.telling.frames_shown (l.before + 1) l.headings l.told

@@ -13,6 +13,7 @@ returns-clause-begun g c = λ _.
         link = entered.link;
         is_little = entered.is_little;
         number = entered.number;
+        pair = rw (← length, drop-take 16 captured c.args.unread.now, take-min, ← front) entered.pair;
         part = rw (← length, drop-take 16 captured c.args.unread.now, take-min, ← front) entered.part;
         grows = entered.grows;
       };

@@ -1,8 +1,7 @@
-use Rattle.capture_parts.proofs.Terms.{AreSplit, IfSome, List, None, Option, Some, [], ℕ, ◌≡◌}
+use Rattle.capture_parts.proofs.Terms.{AreSplit, IfSome, List, None, Option, Some, [], ℕ, ◌++◌, ◌≡◌}
 use Rattle.pcap_records.specs.FileHeader.{ByteOrder, link_of, number_of}
 use Rattle.pcap_records.specs.declared.format.Format.{Format}
-use Rattle.capture_parts.proofs.Standing.{none_dealt}
-use Rattle.capture_parts.proofs.splitting.split_capture.Goals as goal
+use Rattle.capture_parts.proofs.files.split_capture.Goals as goal
 
 -- what holds by the order and the link type of a dealer holds by those of the header
 by_header : (P : ByteOrder → ℕ → Type 0) (order : ByteOrder) (link : ℕ) (header : List ℕ) (told : Option Format)
@@ -16,13 +15,14 @@ pub returns : goal.returns
 returns g c =
     let behind = c.behind-splitter.ensures in
     let parts = c.args.parts.items in
-    let none = none_dealt g.W.Write.contents c.behind-splitter.result.dealing.dealer parts behind.number behind.left in
-    let (given, consumed, end, split) = c.in_ok-split_last.ensures in
-    let got = c.split_last.new.splitter.dealing.parts.items in
+    let (given, more, consumed, end, held, ends) = c.in_ok-split_files.ensures in
+    let got = c.split_files.new.splitter.dealing.parts.items in
     rw c.into_parts.ensures (
       given,
+      more,
       consumed,
       end,
-      by_header (λ number link. AreSplit g.W.Write.contents number link given parts got)
-          _ _ c.args.header.now _ behind.order behind.link (split parts [] (rw behind.parts none)),
+      held,
+      by_header (λ number link. AreSplit g.W.Write.contents number link (given ++ more) parts got)
+          _ _ c.args.header.now _ behind.order behind.link (ends parts [] behind.none),
     )

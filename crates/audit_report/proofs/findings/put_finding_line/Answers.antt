@@ -1,0 +1,35 @@
+use Rattle.std.proofs.Common.{List, [], ap, append-nil, append_assoc, arith, drop, ℕ, ◌++◌, ◌∙◌, ◌≡◌}
+use Rattle.std.{proofs.lemmas.List.drop_all, specs.Fmt.signed_decimal, specs.Prelude.codes}
+use Rattle.audit_terms.specs.{Kind.kind_name, Place.place_number, Place.place_stream, Side.side_name}
+use Rattle.audit_terms.specs.{declared.findings.Finding.Finding, declared.frames.Frame.Frame}
+use Rattle.audit_report.specs.{FindingLine.finding_line, FindingLine.record_at, FrameLookup.nanos_at, Line.field}
+use Rattle.audit_report.specs.{code.Findings.moment_text, code.Findings.said_text}
+use Rattle.audit_report.proofs.findings.put_finding_line.Goals as goal
+
+-- three pieces, each before what was there, at the end of all
+joined : (a b e whole two one none : List ℕ) → whole ≡ a ++ two → two ≡ b ++ one → one ≡ e ++ none → none ≡ [] →
+    whole ≡ a ++ (b ++ e)
+joined a b e whole two one none p q r s =
+    p ∙ ap (λ l. a ++ l) (q ∙ ap (λ l. b ++ l) (r ∙ ap (λ l. e ++ l) s ∙ append-nil e))
+
+regroup : (a b c d e f g h i j k : List ℕ) → (a ++ b ++ c) ++ ((d ++ e ++ f ++ g ++ h ++ i ++ j) ++ k)
+    ≡ (a ++ b ++ c ++ d ++ e ++ f ++ g ++ h ++ i ++ j) ++ k
+regroup a b c d e f g h i j k = simp append_assoc
+
+parts : (frames : List Frame) (finding : Finding) →
+    moment_text frames (place_number finding.place) ++ (said_text finding ++ codes "\n") ≡ finding_line frames finding
+parts frames finding =
+    let number = place_number finding.place in
+    regroup (field (codes "frame ") number) (field (codes " record ") (record_at frames number))
+    (field (codes " time ") (nanos_at frames number)) (codes " ") (side_name finding.side) (codes " ")
+    (kind_name finding.kind) (field (codes " stream ") (place_stream finding.place)) (codes " value ")
+    (signed_decimal finding.value) (codes "\n")
+
+pub returns-clause-made : goal.returns-clause-made
+returns-clause-made c =
+    let frames = c.args.frames.now in
+    let finding = c.args.finding.now in
+    joined (moment_text frames c.number.result) (said_text finding) (codes "\n") _ _ _ (drop 192 c.args.line.now)
+    c.put_moment.ensures.put c.put_said-end.ensures.put c.put_word-end.ensures.put
+    (drop_all 192 c.args.line.now (omega arith))
+    ∙ ap (λ n. moment_text frames n ++ (said_text finding ++ codes "\n")) c.number.ensures ∙ parts frames finding

@@ -1,0 +1,18 @@
+use Rattle.std.proofs.Common.{arith, rules}
+use Rattle.std.proofs.lemmas.Fmt.{length-decimal-le}
+use Rattle.audit_report.proofs.lines.put_field.Goals as goal
+
+pub write_digits-begin-requires : goal.write_digits-begin-requires
+write_digits-begin-requires c =
+    let long = length-decimal-le 20 c.args.n (omega arith) (omega arith) c.ranges.n.fits in
+    (omega (arith, long), search rules)
+
+pub put_word-requires : goal.put_word-requires
+put_word-requires c =
+    let long = length-decimal-le 20 c.args.n (omega arith) (omega arith) c.ranges.n.fits in
+    omega (arith, long)
+
+pub returns-clause-begins : goal.returns-clause-begins
+returns-clause-begins c =
+    let long = length-decimal-le 20 c.args.n (omega arith) (omega arith) c.ranges.n.fits in
+    omega (arith, long)

@@ -1,0 +1,55 @@
+//! A line that is made from its end on: there a number's last digit stands, which is known first. So each number and
+//! word is written once, into its place, and the whole line is added to the text at once.
+
+ghost use Rattle.std.specs.Prelude.{◌≡◌, ◌+◌, ◌≤◌, ◌++◌, drop, length};
+ghost use Rattle.std.specs.Fmt.{decimal, signed_decimal};
+ghost use Rattle.audit_report.specs.Line.{field};
+
+use itoa::{Buffer, write_digits};
+
+/// No line of a finding is longer.
+pub const LONGEST: usize = 192;
+
+/// Puts a word before what stands from `end` on, and answers where it begins.
+#[inline]
+pub fn put_word(line: &mut [u8; LONGEST], end: usize, word: &str) -> usize
+    requires { (length word.now ≤ end) × (end ≤ 192) }
+    ensures begins { result + length word.now ≡ end }
+    ensures put { drop result line.new ≡ word.now ++ drop end line.old }
+{
+    let begin = end - word.len();
+    line[begin..end].copy_from_slice(word.as_bytes());
+    begin
+}
+
+/// The same of two words.
+#[inline]
+pub fn put_words(line: &mut [u8; LONGEST], end: usize, first: &str, second: &str) -> usize
+    requires { (length first.now + length second.now ≤ end) × (end ≤ 192) }
+    ensures begins { result + (length first.now + length second.now) ≡ end }
+    ensures put { drop result line.new ≡ (first.now ++ second.now) ++ drop end line.old }
+{
+    let begin = put_word(line, end, second);
+    put_word(line, begin, first)
+}
+
+/// The same of a number in decimal, with `-` before it where it is below zero.
+pub fn put_signed(line: &mut [u8; LONGEST], end: usize, n: i64) -> usize
+    requires { (20 ≤ end) × (end ≤ 192) }
+    ensures begins { (result ≤ end) × (end ≤ result + 20) }
+    ensures put { drop result line.new ≡ signed_decimal n ++ drop end line.old }
+{
+    let mut digits = Buffer::new();
+    put_word(line, end, digits.format(n))
+}
+
+/// The same of a name and the number that it names.
+#[inline]
+pub fn put_field(line: &mut [u8; LONGEST], end: usize, name: &str, n: u64) -> usize
+    requires { (length name.now + 20 ≤ end) × (end ≤ 192) }
+    ensures begins { (result ≤ end) × (end ≤ result + length name.now + 20) }
+    ensures put { drop result line.new ≡ field name.now n ++ drop end line.old }
+{
+    let begin = write_digits(n, line, end);
+    put_word(line, begin, name)
+}

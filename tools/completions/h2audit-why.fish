@@ -1,0 +1,15 @@
+# Completions of h2audit-why for fish.
+
+complete -c h2audit-why -s k -l key-log -r -d 'Secrets of TLS connections'
+complete -c h2audit-why -l sort -d 'Read files in the order of their first packets'
+complete -c h2audit-why -l all -d 'Every request and connection'
+complete -c h2audit-why -l query -d 'Show the query of paths too'
+complete -c h2audit-why -l no-requests -d 'Leave out the names of requests'
+complete -c h2audit-why -l json -d 'One document with all of it'
+complete -c h2audit-why -l json-lines -d 'A line of JSON for each request'
+complete -c h2audit-why -l color -x -a 'auto always never' -d 'When there are colours'
+complete -c h2audit-why -l width -x -a '80 100 120 160' -d 'Fold lines, from 40 to 1000 letters'
+complete -c h2audit-why -l h2audit -r -d 'The program that audits'
+complete -c h2audit-why -l import -r -d 'The program that imports'
+complete -c h2audit-why -s h -l help -d 'Print the usage, and nothing else'
+complete -c h2audit-why -s V -l version -d 'Print the name and the version, and nothing else'

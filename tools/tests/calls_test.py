@@ -1,0 +1,66 @@
+#!/usr/bin/python3
+"""What a program does with answers of its system that vary: tools/tests/calls_test.py PROGRAM
+
+Random bytes, with which tables are keyed so that nobody can choose colliding pairs; and reads of any length. No
+contract says that the bytes that were drawn are those that a table takes, or that a read of each length is taken.
+"""
+
+import os
+import pathlib
+import sys
+import tempfile
+import unittest
+
+import cost_captures
+from counting import Counter
+
+# How much a read gives at most: beside powers of two lengths that are none. The greatest read asks for 1,048,576 bytes.
+LENGTHS = (
+    511, 4096, 8191, 65_536, 99_999, 131_071, 262_143, 262_144, 262_145, 333_333, 500_000, 524_288, 600_000, 654_321,
+    700_001, 777_777, 800_000, 917_504, 1_000_000, 1_048_575,
+)
+
+
+class Calls(unittest.TestCase):
+    counter: Counter
+    folder: pathlib.Path
+
+    @classmethod
+    def setUpClass(cls) -> None:
+        folder = tempfile.TemporaryDirectory()
+        cls.addClassCleanup(folder.cleanup)
+        cls.counter, cls.folder = Counter(PROGRAM, folder.name), pathlib.Path(folder.name)
+
+    def capture(self, name: str) -> str:
+        path = self.folder / name
+        cost_captures.write(name, path)
+        return str(path)
+
+    def test_random_bytes(self) -> None:
+        """They are drawn once, and decide where pairs and streams stand in a table, and so how fast they are found."""
+        for name, status in (("one_server_below", 0), ("shuffled_streams", 1)):
+            with self.subTest(name):
+                words = ["--workers=1", self.capture(name)]
+                ran = self.counter.run(words)
+                self.assertEqual((status, b"", 1), (ran.status, ran.said, ran.counts.drawn))
+                for key in ("1", "2", ""):
+                    self.assertEqual(ran.text, self.counter.run(words, KEY=key).text)
+                # Under one key the numbers of instructions differ by 30 at most.
+                steps = [self.counter.instructions(words, key) for key in "12345"]
+                self.assertLess(1000, max(steps) - min(steps))
+
+    def test_lengths_of_reads(self) -> None:
+        path = self.capture("bulk")
+        for workers in (1, 4):
+            words = [f"--workers={workers}", path]
+            whole = self.counter.run(words)
+            self.assertEqual((0, b""), (whole.status, whole.said))
+            for most in LENGTHS:
+                with self.subTest(workers=workers, most=most):
+                    ran = self.counter.run(words, READ_MOST=most)
+                    self.assertEqual(whole[:3], ran[:3])
+
+
+if __name__ == "__main__":
+    PROGRAM = os.path.abspath(sys.argv.pop(1))
+    unittest.main()

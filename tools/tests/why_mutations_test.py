@@ -1,0 +1,100 @@
+#!/usr/bin/python3
+"""Damages captures, and has h2audit-why say what it can: no damage ends in a traceback, and shares sum to each life.
+
+    tools/tests/why_mutations_test.py [H2AUDIT] [NUMBER [FIRST]]
+"""
+
+from __future__ import annotations
+
+import contextlib
+import io
+import pathlib
+import random
+import sys
+import tempfile
+
+from why_tools import TOP, has_programs, programs_of
+
+from why import document
+from why.answer import Answer
+from why.making import Failed
+from why.program import Progress, answered, arguments
+from why.text import Page
+
+USUAL = 300
+LONGEST = 60_000
+SAMPLES = [path for folder in ("examples", "tests/tls") for path in sorted((TOP / folder).iterdir())
+           if path.suffix in (".pcap", ".pcapng") and path.stat().st_size < LONGEST]  # fmt: skip
+
+
+def damaged(source: random.Random, octets: bytes) -> bytes:
+    """A capture with some bytes changed, cut out, doubled or added; mostly behind the file's header."""
+    made = bytearray(octets)
+    for _ in range(source.choice((1, 1, 2, 3, 8, 40))):
+        at = source.randrange(24 if source.random() < 0.98 else 0, len(made))
+        way = source.random()
+        if way < 0.5:
+            made[at] = source.choice((0, 1, 4, 8, 9, 127, 128, 255, source.randrange(256)))
+        elif way < 0.7:
+            made[at] ^= 1 << source.randrange(8)
+        elif way < 0.8:
+            del made[at : at + source.choice((1, 2, 9, 60))]
+        elif way < 0.9:
+            made[at:at] = made[at : at + source.choice((1, 9, 70, 400))]
+        else:
+            made[at : at + 4] = source.randbytes(4)
+    return bytes(made[: source.randrange(24, len(made))] if source.random() < 0.05 else made)
+
+
+def said_of(path: pathlib.Path, keys: pathlib.Path) -> Answer | None:
+    """The answer in all forms, or None where the capture is refused."""
+    words = [str(path), *(["-k", str(keys)] if keys.exists() else [])]
+    with contextlib.redirect_stderr(io.StringIO()):
+        try:
+            answer = answered(arguments(["--json", *words]), Progress())
+        except Failed as why:
+            if why.status != 3 or "refused" not in str(why):
+                raise
+            return None
+    document.text_of(document.document_of(answer))
+    for line in Page(answer, False, 100, True).lines():
+        if not line.isprintable():
+            raise AssertionError(repr(line))
+    return answer
+
+
+def check(answer: Answer) -> None:
+    for one in answer.connections:
+        for request in one.requests:
+            for side in request.sides:
+                if sum(side.shares) != side.nanos or min(side.shares) < 0:
+                    raise AssertionError(f"stream {request.stream}: {side.shares} of {side.nanos}")
+
+
+def main(words: list[str]) -> int:
+    number, first = int(words[1]) if len(words) > 1 else USUAL, int(words[2]) if len(words) > 2 else 0
+    refused = audited = 0
+    with tempfile.TemporaryDirectory() as folder:
+        path = pathlib.Path(folder, "damaged")
+        for seed in range(first, first + number):
+            source = random.Random(seed)
+            sample = source.choice(SAMPLES)
+            path.write_bytes(damaged(source, sample.read_bytes()))
+            try:
+                answer = said_of(path, sample.with_suffix(".keys"))
+                if answer is not None:
+                    check(answer)
+            except BaseException:
+                print(f"seed {seed}, {sample.name}")
+                raise
+            refused += answer is None
+            audited += answer is not None and bool(answer.audited)
+    print(f"{number} damaged captures: {audited} audited, {refused} refused")
+    return 0 if audited * 2 > number else 1
+
+
+if __name__ == "__main__":
+    sys.argv = programs_of(sys.argv)
+    if not has_programs():
+        sys.exit("h2audit or h2audit-import is not built")
+    sys.exit(main(sys.argv))

@@ -1,0 +1,169 @@
+#!/usr/bin/python3
+"""Tests of what h2audit-why says: its words, warnings, colours, files, statuses, and what is left behind.
+
+    tools/tests/why_words_test.py [H2AUDIT] [TEST..]
+"""
+
+from __future__ import annotations
+
+import contextlib
+import os
+import pty
+import re
+import struct
+import subprocess
+import sys
+import unittest
+from collections.abc import Iterator
+
+from why_tools import TOP, OnCaptures, has_programs, programs_of, ran, said_of
+
+
+def records_of(capture: bytes) -> Iterator[bytes]:
+    """The records of a capture, each with its header."""
+    at = 24
+    while at < len(capture):
+        end = at + 16 + int(struct.unpack_from("<I", capture, at + 8)[0])
+        yield capture[at:end]
+        at = end
+
+
+class Words(OnCaptures):
+    """The command line, colours, width, standard input, several files."""
+
+    EXAMPLE = TOP / "examples" / "leaked_connection_credit_nginx.pcap"
+
+    def test_colours(self) -> None:
+        plain = ran(self.EXAMPLE).stdout
+        self.assertNotIn(b"\x1b", plain)
+        coloured = ran("--color", "always", self.EXAMPLE).stdout
+        self.assertIn(b"\x1b[33m", coloured)
+        self.assertEqual(ran("--color", "never", self.EXAMPLE).stdout, plain)
+
+    def test_terminal(self) -> None:
+        """On a terminal there are colours, without NO_COLOR, and lines fold at its width."""
+        for more, has_colours in (({"TERM": "xterm"}, True), ({"NO_COLOR": "1"}, False)):
+            leader, follower = pty.openpty()
+            surroundings = {name: word for name, word in os.environ.items() if name != "NO_COLOR"}
+            words = [TOP / "tools" / "h2audit-why", self.EXAMPLE]
+            with subprocess.Popen(words, stdout=follower, env={**surroundings, "COLUMNS": "70", **more}) as child:
+                os.close(follower)
+                text = b""
+                with contextlib.suppress(OSError):  # the terminal ends with its last writer
+                    while octets := os.read(leader, 4096):
+                        text += octets
+            os.close(leader)
+            self.assertEqual((child.returncode, b"\x1b[" in text), (0, has_colours))
+            lines = re.sub(r"\x1b\[\d+m", "", text.decode()).splitlines()
+            self.assertLessEqual(max(map(len, lines)), 70)
+
+    def test_width(self) -> None:
+        lines = ran("--width", "60", self.EXAMPLE).stdout.decode().splitlines()
+        self.assertLessEqual(max(map(len, lines)), 60)
+        self.assertTrue(all(line[:1] != "G" for line in lines))
+        self.assertGreater(len(lines), len(ran(self.EXAMPLE).stdout.decode().splitlines()))
+
+    def test_standard_input(self) -> None:
+        octets = self.EXAMPLE.read_bytes()
+        named = ran(self.EXAMPLE)
+        for words in ((), ("-",)):
+            run = ran(*words, stdin=octets)
+            self.assertEqual((run.returncode, run.stdout), (named.returncode, named.stdout))
+
+    def test_worst_first(self) -> None:
+        """Hung requests come first, then those that were held back longest; --all shows every one."""
+        for words in ((), ("--all",)):
+            text = ran(*words, self.EXAMPLE).stdout.decode()
+            self.assertLess(text.index("stream 19"), text.index("stream 9 "))
+        self.assertEqual(text.count("GET /"), 10)
+
+    def test_several_files(self) -> None:
+        """Two files are one capture; a packet is named with its file."""
+        first, second = TOP / "examples" / "stream_overrun_go.pcap", self.EXAMPLE
+        found = said_of(str(second), str(first))
+        self.assertEqual(found["files"], [str(second), str(first)])
+        self.assertEqual([one["opened"]["file"] for one in found["connections"]], [1, 2])
+        self.assertIn(f"packet 12 of {first}", ran(second, first).stdout.decode())
+
+    def test_wrong_order(self) -> None:
+        """Files in the wrong order are said before all else, and --sort puts them right."""
+        octets = self.EXAMPLE.read_bytes()
+        records = list(records_of(octets))
+        (self.folder / "g2").write_bytes(octets[:24] + b"".join(records[:40]))
+        (self.folder / "g10").write_bytes(octets[:24] + b"".join(records[40:]))
+        words = [str(self.folder / "g10"), str(self.folder / "g2")]
+        found = said_of(*words)
+        self.assertEqual(found["warnings"][0]["kind"], "files-out-of-order")
+        self.assertIn("g10 ends", found["warnings"][0]["text"])
+        self.assertEqual(said_of("--sort", *words)["warnings"], [])
+
+    def test_doubled(self) -> None:
+        """Each packet came twice, as where a bridge and its port are both captured."""
+        octets = self.EXAMPLE.read_bytes()
+        made = octets[:24] + b"".join(2 * record for record in records_of(octets))
+        (self.folder / "doubled.pcap").write_bytes(made)
+        found = said_of(str(self.folder / "doubled.pcap"))
+        self.assertEqual([one["kind"] for one in found["warnings"]], ["doubled"])
+        self.assertEqual(said_of(str(self.EXAMPLE))["warnings"], [])
+
+    def test_one_direction(self) -> None:
+        octets = self.EXAMPLE.read_bytes()
+        made = octets[:24]
+        for record in records_of(octets):
+            if struct.unpack_from(">H", record, 16 + 14 + 20)[0] != 20740:  # the server's port
+                made += record
+        (self.folder / "one.pcap").write_bytes(made)
+        run = ran(self.folder / "one.pcap")
+        self.assertEqual(run.returncode, 6)
+        self.assertIn(b"one direction alone was captured", run.stdout)
+        self.assertNotIn(b"No rule was broken", run.stdout)
+
+    def test_statuses(self) -> None:
+        self.assertEqual(ran("--nothing").returncode, 2)
+        self.assertEqual(ran("--width", "3", self.EXAMPLE).returncode, 2)
+        self.assertEqual(ran(TOP / "examples" / "stream_overrun_go.pcap").returncode, 1)
+        self.assertEqual(ran(self.EXAMPLE).returncode, 0)
+        self.assertEqual(ran("--h2audit", "/nothere", self.EXAMPLE).returncode, 4)
+        self.assertEqual(ran("--import", "/bin/false", self.EXAMPLE).returncode, 4)
+
+    def test_full(self) -> None:
+        """Where nothing can be written, one line says so."""
+        for words in (["--help"], ["--version"], [str(self.EXAMPLE)], ["--json", str(self.EXAMPLE)]):
+            with open("/dev/full", "wb") as full:
+                run = subprocess.run([TOP / "tools" / "h2audit-why", *words], stdout=full, stderr=subprocess.PIPE)
+            self.assertEqual(run.returncode, 4)
+            self.assertRegex(run.stderr.decode(), "^h2audit-why: .*No space left on device\n$")
+
+    def test_proved(self) -> None:
+        """It says what rests on the proved report."""
+        self.assertIn("proved report", ran(self.EXAMPLE).stdout.decode())
+        causes = [one["cause"] for one in said_of(str(self.EXAMPLE))["connections"][0]["requests"]]
+        self.assertTrue(all(one["proved"] == (one["kind"] == "connection-window") for one in causes))
+
+    def test_nothing_is_left(self) -> None:
+        """What held plaintext is gone after each end, also where the program is interrupted."""
+        home = self.folder / "tmp"
+        home.mkdir()
+        surroundings = {**os.environ, "TMPDIR": str(home)}
+        subprocess.run([TOP / "tools" / "h2audit-why", self.EXAMPLE], env=surroundings, capture_output=True)
+        self.assertEqual(list(home.iterdir()), [])
+        slow = self.folder / "slow"
+        slow.write_text("#!/bin/sh\nexec sleep 60\n")
+        slow.chmod(0o755)
+        words = [str(TOP / "tools" / "h2audit-why"), "--import", str(slow), str(self.EXAMPLE)]
+        for signal in (2, 15, 1):
+            child = subprocess.Popen(words, env=surroundings, stdout=subprocess.PIPE, stderr=subprocess.PIPE)
+            while not (made := list(home.glob("h2audit-why-*"))):
+                self.assertIsNone(child.poll())
+            self.assertEqual([folder.stat().st_mode & 0o777 for folder in made], [0o700])
+            child.send_signal(signal)
+            said = child.communicate(timeout=30)
+            self.assertEqual((child.returncode, said), (-signal, (b"", b"")))
+            self.assertEqual(list(home.iterdir()), [])
+
+
+if __name__ == "__main__":
+    sys.argv = programs_of(sys.argv)
+    if not has_programs():
+        sys.exit("h2audit or h2audit-import is not built")
+    unittest.main()

@@ -1,0 +1,73 @@
+"""How the answer is worded: durations, rates, codes, names of sides, lists of streams."""
+
+from __future__ import annotations
+
+from collections.abc import Sequence
+
+CODES = (
+    "NO_ERROR", "PROTOCOL_ERROR", "INTERNAL_ERROR", "FLOW_CONTROL_ERROR", "SETTINGS_TIMEOUT", "STREAM_CLOSED",
+    "FRAME_SIZE_ERROR", "REFUSED_STREAM", "CANCEL", "COMPRESSION_ERROR", "CONNECT_ERROR", "ENHANCE_YOUR_CALM",
+    "INADEQUATE_SECURITY", "HTTP_1_1_REQUIRED",
+)  # fmt: skip
+GRPC = (
+    "OK", "CANCELLED", "UNKNOWN", "INVALID_ARGUMENT", "DEADLINE_EXCEEDED", "NOT_FOUND", "ALREADY_EXISTS",
+    "PERMISSION_DENIED", "RESOURCE_EXHAUSTED", "FAILED_PRECONDITION", "ABORTED", "OUT_OF_RANGE", "UNIMPLEMENTED",
+    "INTERNAL", "UNAVAILABLE", "DATA_LOSS", "UNAUTHENTICATED",
+)  # fmt: skip
+MOST_NAMED = 8
+
+
+def code_name(code: int) -> str:
+    return CODES[code] if code < len(CODES) else f"error 0x{code:x}"
+
+
+def grpc_name(code: int) -> str:
+    return GRPC[code] if 0 <= code < len(GRPC) else str(code)
+
+
+def time_of(nanos: int) -> str:
+    """A duration as a person says it: four digits from a second on, three below."""
+    for unit, size in (("s", 10**9), ("ms", 10**6), ("µs", 10**3)):
+        if nanos >= size:
+            if nanos >= 100 * size:
+                return f"{(nanos + size // 2) // size:,} {unit}"
+            digits = 3 if unit == "s" and nanos < 10 * size else 2 if nanos < 10 * size else 1
+            whole, rest = divmod((nanos * 10**digits + size // 2) // size, 10**digits)
+            return f"{whole}.{rest:0{digits}}".rstrip("0").rstrip(".") + f" {unit}"
+    return f"{nanos} ns"
+
+
+def rate_of(bytes_: int, nanos: int) -> str:
+    """Bytes in a time, as so many a second."""
+    a_second = bytes_ * 10**9 // max(nanos, 1)
+    for unit, size in (("GB", 10**9), ("MB", 10**6), ("kB", 10**3)):
+        if a_second >= size:
+            tenths = (a_second * 10 + size // 2) // size
+            return f"{tenths / 10:,.1f} {unit}/s" if tenths < 1000 else f"{tenths // 10:,} {unit}/s"
+    return f"{a_second} B/s"
+
+
+def percent(part: int, whole: int) -> str:
+    """A share in whole percent; what is there is never said to be 0 %."""
+    if whole <= 0:
+        return "100 %" if part else "0 %"
+    tenths = part * 1000 // whole
+    return "less than 1 %" if part and tenths < 10 else f"{(part * 100 + whole // 2) // whole} %"
+
+
+def count(number: int, one: str, many: str = "") -> str:
+    return f"{number:,} {one if number == 1 else many or one + 's'}"
+
+
+def streams_named(streams: Sequence[int]) -> str:
+    """The streams by their numbers: "stream 3", "streams 1, 3, 5", or so many from one to another."""
+    if len(streams) == 1:
+        return f"stream {streams[0]}"
+    if len(streams) <= MOST_NAMED:
+        return "streams " + ", ".join(map(str, streams))
+    return f"{len(streams):,} streams, {streams[0]} to {streams[-1]}"
+
+
+def escaped(text: str) -> str:
+    """What a terminal would act on, or what is no text, as an escape."""
+    return "".join(letter if letter.isprintable() else ascii(letter)[1:-1] for letter in text)
