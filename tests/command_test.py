@@ -32,6 +32,7 @@ CALLS = [
     ("--frames", HEADER, (0, NO_RECORD, "")),
     ("--workers 0", HEADER, (2, "", ZERO)),
     ("one.pcap two.pcap", HEADER, (2, "", SECOND_FILE)),
+    ("--frames \udcff.pcap", HEADER, (2, "", "error: a word is not text\n")),  # the byte 0xff
     ("notes.txt", b"", (3, "", "h2audit: capture refused: bad-magic\n")),
     ("missing.pcap", HEADER, (4, "", "h2audit: read failed\n")),
 ]
