@@ -19,8 +19,8 @@
 //!   items cannot bring beyond 2^60, and `block_sum` says that an item moves each by at most 2^32.
 //! - [`worked_examples`]: credit used up, granted and used again, in states and sums, and a stall in blocks of one, of
 //!   two and at once.
-//! - Refused by the prover: a block that forgets the streams opened before it, a sum of changes without those before
-//!   them, a block called clear by the sum of its changes alone, a run that looks only once.
+//! - Refused by the prover: a block that forgets the streams opened before it, a credit that begins at 65,535 with each
+//!   block, a block called clear by the sum of its changes alone, a run that looks only once.
 //! - Tested, in `crate_tests`: that the calls succeed where there is memory, within rounds over random frames; and, in
 //!   numbers, how often a run over 1,000 frames looks, and what it is handed and keeps.
 #![tactic(auto)]

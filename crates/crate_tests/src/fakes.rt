@@ -1,9 +1,10 @@
-//! A reader and a writer that go in small steps, fail once where they are told to, and count their calls; and a gate
-//! that counts jobs, and holds some.
+//! A reader and a writer that go in small steps, fail once where they are told to, and count their calls; a gate that
+//! counts jobs, and holds some; a system that gives no random bytes.
 
 use std::alloc::Global;
 use std::io;
 use std::io::{ErrorKind, Read, Write};
+use std::random::RandomSource;
 use std::sync::atomic::{AtomicU32, Ordering};
 use std::thread::yield_now;
 use stop_desk::Gate;
@@ -184,5 +185,15 @@ impl Gate for TestGate {
         if is_held && !meets_another(jobs) {
             self.given_up.fetch_add(1, Ordering::SeqCst);
         }
+    }
+}
+
+/// A system that gives no random bytes.
+#[derive(Drop)]
+pub struct NoBytes;
+
+impl RandomSource for NoBytes {
+    fn fill_bytes(&self, _buf: &mut [u8]) -> io::Result<()> {
+        Err(io::Error::from(io::ErrorKind::Unsupported))
     }
 }

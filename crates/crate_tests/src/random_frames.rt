@@ -3,7 +3,7 @@
 ghost use Rattle.std.specs.Prelude.{◌≤◌, ◌<◌};
 
 use crate::Answer;
-use crate::fakes::TestGate;
+use crate::fakes::{NoBytes, TestGate};
 use crate::frames::{
     acknowledgement, are_orderly, data, grant, headers, initial_window, promise, reset,
 };
@@ -91,7 +91,7 @@ fn divided(workers: u32, groups: u32, block: u32) -> Division
         workers,
         groups,
         block,
-        hash: TableHash::Keyless,
+        hash: TableHash::drawn(&NoBytes),
     }
 }
 

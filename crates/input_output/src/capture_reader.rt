@@ -1,4 +1,4 @@
-ghost use Rattle.std.specs.Prelude.{◌≡◌, ◌+◌, ◌^◌, ◌<◌, ◌≤◌, length, take, IfErr, IfOk, IsOk, OnOk, Ok};
+ghost use Rattle.std.specs.Prelude.{◌≡◌, ◌+◌, ◌^◌, ◌<◌, ◌≤◌, length, take, IfErr, IfOk, IsErr, IsOk, OnOk, Ok};
 ghost use Rattle.std.specs.Bool.{Decides};
 ghost use Rattle.input_output.specs.Account.{IsUnread, kept};
 ghost use Rattle.input_output.specs.code.Front.{Lasts};
@@ -122,7 +122,7 @@ impl<R> CaptureReader<R> {
     /// Enters whether there was memory.
     fn enter_memory(&mut self, had: Result<(), AllocError>) -> Result<(), ReadFault>
         ensures ok { OnOk result (IsOk had × (self.new ≡ self.old)) }
-        ensures err { IfErr result (λ e. (e ≡ ReadFault.OutOfMemory)
+        ensures err { IfErr result (λ e. IsErr had × (e ≡ ReadFault.OutOfMemory)
             × (self.new ≡ record self.old { state = ReadState.LackedMemory })) }
     {
         if had.is_err() {
@@ -137,7 +137,7 @@ impl<R> CaptureReader<R> {
         requires { self.old.state ≡ ReadState.Open }
         ensures ok { IfOk result (λ n. read ≡ Ok n) }
         ensures state { IfOk result (λ n. IsStateAfter n self.new.state) }
-        ensures err { IfErr result (λ e. (e ≡ ReadFault.Failed) × (self.new.state ≡ ReadState.Failed)) }
+        ensures err { IfErr result (λ e. IsErr read × (e ≡ ReadFault.Failed) × (self.new.state ≡ ReadState.Failed)) }
         ensures same { self.new ≡ record self.old { state = self.new.state } }
     {
         match read {

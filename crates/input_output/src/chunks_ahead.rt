@@ -18,8 +18,8 @@ const STRIDE: usize = 2048;
 /// Makes chunks ahead, each by a thread of its own, beside the thread that reads.
 ///
 /// Most of the time of reading goes into memory that is used for the first time. The threads here take that over; they
-/// know nothing of a capture, so no byte that is read depends on them.
-#[derive(Drop)]
+/// know nothing of a capture, so no byte that is read depends on them. It cannot be dropped, so whoever has one has to
+/// [`ChunksAhead::finish`] it.
 pub struct ChunksAhead<'a, T: Threads> {
     pub(crate) rt: &'a T,
     pub(crate) alloc: Global,
@@ -71,7 +71,12 @@ impl<'a, T: Threads> ChunksAhead<'a, T> {
 
     /// Waits for the chunks that are in the making, and frees them: a thread that nobody waits for keeps what it made.
     pub fn finish(self) {
-        let ChunksAhead { rt, making, .. } = self;
+        let ChunksAhead {
+            rt,
+            making,
+            alloc: _,
+            most: _,
+        } = self;
         for maker in making {
             maker.join(rt);
         }

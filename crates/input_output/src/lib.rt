@@ -17,10 +17,11 @@
 //!   that is used for the first time. With one worker, or where no thread can be had, the one that reads makes them.
 //! - [`keep_and_walk`] has a [`FrontWalk`] go on over what was read, and knows no more of it. On which thread, and how
 //!   far at a time, docs/ARCHITECTURE.md says ("The data on its way").
-//! - A [`TableHash`] hashes by SipHash under a key that is drawn anew at each start. No answer of a table depends on
-//!   the key, and no contract names it (docs/DECISIONS.md, "Program and repository").
-//! - Refused by the prover: a read that is told to have filled, a write that is told to have taken all; a reading that
-//!   ends at half of its limit; a range that ends with its first chunk.
+//! - A [`TableHash`] hashes by SipHash under a key that is drawn anew at each start; there is no other way to have one.
+//!   No answer of a table depends on the key, and no contract names it (docs/DECISIONS.md, "Program and repository").
+//! - Refused by the prover: a read that is told to have filled, one that gave bytes and is told as failed, a write that
+//!   is told to have taken all; a reading that ends at half of its limit; a range that ends with its first chunk.
+//!   Refused by the compiler: a reading that leaves threads behind, since `ChunksAhead` cannot be dropped.
 //! - Tested, in `crate_tests`: which calls readers and writers get.
 //! - Trusted: that a file or a pipe gives and keeps its bytes. That an account is honest, no contract says:
 //!   docs/PROOFS.md names the functions to read for it ("What it does not say").

@@ -3,22 +3,28 @@ ghost use Rattle.input_output.specs.code.TableHash.{first_hasher};
 use std::hash::{BuildHasher, DefaultHasher, RandomState};
 use std::random::RandomSource;
 
-/// Makes the hashers of a table.
+/// Makes the hashers of a table. None is made but by [`TableHash::drawn`].
 #[derive(Clone, Copy)]
-pub enum TableHash {
-    /// Under a key of random bytes.
+pub struct TableHash {
+    key: Key,
+}
+
+#[derive(Clone, Copy)]
+enum Key {
+    /// Of random bytes.
     Drawn(RandomState),
-    /// Under the key zero, where the system gives no random bytes.
-    Keyless,
+    /// Zero, where the system gives no random bytes.
+    Zero,
 }
 
 impl TableHash {
     /// A hash under a key that nobody knows, where the system gives random bytes.
     pub fn drawn(rt: &impl RandomSource) -> TableHash {
-        match RandomState::new(rt) {
-            Ok(key) => TableHash::Drawn(key),
-            Err(_) => TableHash::Keyless,
-        }
+        let key = match RandomState::new(rt) {
+            Ok(drawn) => Key::Drawn(drawn),
+            Err(_) => Key::Zero,
+        };
+        TableHash { key }
     }
 }
 
@@ -28,9 +34,9 @@ impl BuildHasher for TableHash {
     ghost build_hasher = { first_hasher };
 
     fn build_hasher(&self) -> DefaultHasher {
-        match self {
-            TableHash::Drawn(key) => key.build_hasher(),
-            TableHash::Keyless => DefaultHasher::new(),
+        match &self.key {
+            Key::Drawn(drawn) => drawn.build_hasher(),
+            Key::Zero => DefaultHasher::new(),
         }
     }
 }

@@ -3,6 +3,7 @@ pub mod LinkType
 pub mod Reading
 pub mod Record
 pub mod Refusal
+pub mod RefusalName
 pub mod laws
 pub mod examples
 pub mod code

@@ -10,6 +10,7 @@
 //! - The contract pins both answers to definitions that go by the bytes alone: `refusal` of `specs/Refusal.antt` looks
 //!   at the header and the length, and `IsReading` of `specs/Reading.antt` is a relation by cases, a record of 16
 //!   header bytes and the captured ones and then the rest. They share no offset and no loop with the code.
+//! - A fault has one name for both programs ([`PcapFault::name`], and [`fault_text`] behind a text).
 //! - A refusal is decided by the header and the length, before memory is taken, so it is answered whatever memory there
 //!   is. Any other fault is want of memory.
 //! - [`format_of_magic`], [`link_in`] and [`captured_length`] read fields of a header alone.

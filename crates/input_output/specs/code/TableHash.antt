@@ -2,9 +2,13 @@
 use Rattle.std.specs.Hash.DefaultHasher.{initial}
 use Rattle.std.specs.RandomState.{initial_hasher}
 use Rattle.std.specs.declared.hash.DefaultHasher.{DefaultHasher}
+use Rattle.input_output.specs.declared.table_hash.Key.{Key}
+use Rattle.input_output.specs.declared.table_hash.Key.TheVariants.{Drawn, Zero}
 use Rattle.input_output.specs.declared.table_hash.TableHash.{TableHash}
-use Rattle.input_output.specs.declared.table_hash.TableHash.TheVariants.{Drawn, Keyless}
+
+abbrev pub hasher_under : Key → DefaultHasher
+hasher_under (Drawn drawn) = initial_hasher drawn
+hasher_under Zero = initial
 
 abbrev pub first_hasher : TableHash → DefaultHasher
-first_hasher (Drawn key) = initial_hasher key
-first_hasher Keyless = initial
+first_hasher hash = hasher_under hash.key
