@@ -2,13 +2,14 @@
 """Tests of what h2audit-any says of an original: why plaintext ends, fragments, times that go back, what was passed
 over; and of how it ends where its own files fail.
 
-    tools/tests/any_test.py [PROGRAM]
+    tools/tests/any_test.py [PROGRAM] [CLASS..]
 
 PROGRAM is h2audit; without it the tests of reports are skipped.
 """
 
 import os
 import pathlib
+import signal
 import struct
 import subprocess
 import sys
@@ -18,8 +19,9 @@ import unittest
 sys.dont_write_bytecode = True
 
 import import_tools as tools
+from signals import SIGNALS, until
 
-PROGRAM = os.path.abspath(sys.argv.pop()) if len(sys.argv) > 1 and not sys.argv[-1].startswith("-") else None
+PROGRAM = os.path.abspath(sys.argv.pop(1)) if len(sys.argv) > 1 and "/" in sys.argv[1] else None
 EXAMPLE = tools.EXAMPLES / "use_after_reset.pcap"
 TLS = "nghttp-nghttpd-13"
 NOTHING_READ = "h2audit-any: no connection could be read"
@@ -141,6 +143,39 @@ class Endings(InFolder):
         ):
             self.assertEqual(self.run_shell(f"({script}); echo $?"), ("4\n", f"h2audit-any: {why}\n"))
         self.assertEqual(os.listdir(self.folder), [])
+
+    def test_signals(self) -> None:
+        """A signal ends h2audit too, says nothing, and leaves neither plaintext nor parts behind."""
+        program, pid = self.folder / "waits", self.folder / "pid"
+        program.write_text(f"#!/bin/sh\necho $$ > {pid}.new; mv {pid}.new {pid}; exec sleep 100\n")
+        splits = self.folder / "h2audit-split"
+        splits.write_text("#!/bin/sh\nmkdir $4; cp $5 $4/part-001.pcap\n")
+        for path in (program, splits):
+            path.chmod(0o755)
+        temporary = self.folder / "temporary"
+        temporary.mkdir()
+        path = f"{self.folder}:{os.environ['PATH']}"
+        for more in ([], ["--parts", "1"]):
+            for number in SIGNALS:
+                pid.unlink(missing_ok=True)
+                words = ["env", f"TMPDIR={temporary}", f"PATH={path}", tools.ANY, "--h2audit", program, *more, "-"]
+                status, said = self.ended_by([*words], number, pid)
+                self.assertEqual((status, said, os.listdir(temporary)), (-number, b"", []), (more, number))
+                until(lambda: not pathlib.Path("/proc", pid.read_text().strip()).exists())
+                self.assertFalse(pathlib.Path("/proc", pid.read_text().strip()).exists())
+
+    def ended_by(self, words: list[object], number: signal.Signals, pid: pathlib.Path) -> tuple[int, bytes]:
+        """What becomes of a program that gets a signal once the one that it runs is there."""
+        if signal.getsignal(number) is signal.SIG_IGN:  # as of what a shell runs in the background
+            signal.signal(number, signal.SIG_DFL)
+        with open(EXAMPLE, "rb") as capture:
+            child = subprocess.Popen([*map(str, words)], stdin=capture, stderr=subprocess.PIPE)
+        until(pid.exists)
+        child.send_signal(number)
+        status = child.wait(60)
+        assert child.stderr
+        with child.stderr as said:
+            return status, said.read()
 
     def test_names_are_escaped(self) -> None:
         said = self.run_shell("$ANY $'/nowhere/re\\e[31md\\n'; echo $?")

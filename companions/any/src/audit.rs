@@ -15,6 +15,10 @@ pub const H2AUDIT: &str = "h2audit";
 const VARIABLE: &str = "H2AUDIT";
 /// So many bytes of a report are read at a time.
 const BUFFER: usize = 1 << 18;
+/// SIGHUP, SIGINT and SIGTERM, which a terminal or a service manager sends to all that it started.
+const ENDING: [i32; 3] = [1, 2, 15];
+/// So long a signal takes at most to reach this program too.
+const UNTIL_OURS: Duration = Duration::from_millis(300);
 /// How long to wait for a program's end, at first and at most.
 const TICKS: (Duration, Duration) = (Duration::from_micros(200), Duration::from_millis(20));
 
@@ -79,7 +83,11 @@ impl Running {
         }
     }
 
+    /// The status of a program that has ended; where a signal ended it, this program may get the same one.
     pub fn code(&self, status: ExitStatus) -> Result<i32, Failure> {
+        if status.signal().map_or(false, |signal| ENDING.contains(&signal)) {
+            thread::sleep(UNTIL_OURS);
+        }
         status.code().ok_or_else(|| {
             let signal = status.signal().unwrap_or_default();
             Failure::Io(format!("{}: ended by signal {signal}", printable(&self.name)))

@@ -90,7 +90,16 @@ fn audited(asked: &Audited) -> Outcome {
 
 /// Prints the report of an audit, and answers the status of what audits.
 fn of_audit(audit: Audit, original: &mut Original) -> Outcome {
-    let shown = write(audit.report, original)?;
+    let shown = match write(audit.report, original) {
+        Ok(shown) => shown,
+        Err(failure) => {
+            // A program that a signal ends in the middle of a line has said no report.
+            if let Some(status) = audit.running.ended()? {
+                audit.running.code(status)?;
+            }
+            return Err(failure);
+        }
+    };
     match audit.running.status()? {
         NO_FAULTS | FAULTS if !shown.is_there => Err(no_report()),
         status => Ok(status),

@@ -1,6 +1,6 @@
 //! Reads a map back (docs/MAP.md), for a report of what was imported with it: h2audit-any --map.
 
-use std::io::BufReader;
+use std::io::{BufRead, BufReader};
 use std::path::Path;
 
 use programs::{printable, Failure, Input};
@@ -59,7 +59,7 @@ enum Began {
 
 impl Reading {
     /// Takes all lines; an error where they are no map, or not all of one.
-    fn read(&mut self, input: BufReader<Input>) -> Result<(), Broken> {
+    fn read(&mut self, input: impl BufRead) -> Result<(), Broken> {
         let mut reader = MapReader::new(input)?;
         let mut is_whole = true;
         while let Some(line) = reader.next_line()? {
@@ -134,5 +134,58 @@ impl Reading {
             self.original.add_connection(opening, Connection { became, fragments });
         }
         Some(())
+    }
+}
+
+#[cfg(test)]
+mod tests {
+    use mutations::changed;
+
+    use super::Reading;
+    use crate::report::bring_back;
+
+    const INTERESTING: [&[u8]; 8] =
+        [b"\n", b" ", b"18446744073709551615", b"connection ", b"frame ", b"\xff", b"refused", b"flow client "];
+    const MAP: &[u8] = b"h2audit-map 1\nfile 1 a.pcap\naddress 240.0.0.1 2001:db8::1\nrecord 1 file 1 packet 1\n\
+        record 2 file 1 packet 4\nrecord 3 file 1 packet 9\npassed file 1 packet 3 fragment\n\
+        capture records 9 segments 8 snapped 0 not-ipv4 0 fragments 1 not-tcp 0 refused 0\n\
+        connection client [2001:db8::1]:1 server 10.0.0.2:2 file 1 packet 1 tls 1.3 SUITE alpn h2 records 7\n\
+        flow client bytes 9 gap none tail 5 end cut\nflow server bytes 7 gap 7 tail 0 end no-key\nfragments 1\n\
+        connection client 10.0.0.1:1 server 10.0.0.2:2 file 1 packet 4 refused no-key\n";
+    const REPORT: &[u8] = b"capture records 3 segments 3 snapped 0 not-ipv4 0 fragments 0 not-tcp 0 refused 0\n\
+        unopened 240.0.0.1:9 10.0.0.2:2 segments 4\n\
+        connection 1 client 240.0.0.1:1 server 10.0.0.2:2 record 1 http2 frames 2\n\
+        flow client bytes 9 gap none tail 1\nflow server bytes 7 gap 7 tail 0\n\
+        frame 1 record 3 time 5 client stream-overrun stream 1 value -5\naudit of all frames\n\
+        connection 2 client 10.0.0.1:1 server 10.0.0.2:2 record 2 no-preface\nflow client bytes 0 gap none tail 0\n";
+    const WANTED: &str = "capture records 9 segments 8 snapped 0 not-ipv4 0 fragments 1 not-tcp 0 refused 0\n\
+        record 3 fragment\nunopened [2001:db8::1]:9 10.0.0.2:2 segments 4\n\
+        connection 1 client [2001:db8::1]:1 server 10.0.0.2:2 record 1 http2 frames 2\nfragments 1\n\
+        flow client bytes 9 gap none tail 6\nflow server bytes 7 gap 7 tail 0 end no-key\n\
+        frame 1 record 9 time 5 client stream-overrun stream 1 value -5\naudit of all frames\n\
+        connection 2 client 10.0.0.1:1 server 10.0.0.2:2 record 4 refused no-key\n";
+
+    /// The report of the original, where map and report are some.
+    fn brought_back(map: &[u8], report: &[u8]) -> Option<Vec<u8>> {
+        let (mut reading, mut out) = (Reading::default(), Vec::new());
+        reading.read(map).ok()?;
+        bring_back(report, &mut reading.original, &mut out).ok()?;
+        Some(out)
+    }
+
+    #[test]
+    fn each_line_is_about_the_original() {
+        assert_eq!(brought_back(MAP, REPORT).as_deref(), Some(WANTED.as_bytes()));
+    }
+
+    #[test]
+    fn mutated_maps_and_reports() {
+        mutations::each(20_000, |dice| {
+            let (map, report) = match dice.below(2) {
+                0 => (changed(MAP, dice, &INTERESTING), REPORT.to_vec()),
+                _ => (MAP.to_vec(), changed(REPORT, dice, &INTERESTING)),
+            };
+            brought_back(&map, &report);
+        });
     }
 }

@@ -6,13 +6,15 @@ mod classic;
 mod comments;
 mod ended;
 mod import_map;
+#[cfg(test)]
+mod mutated;
 mod options;
 mod packets;
 mod report;
 mod windows;
 
 use std::ffi::OsString;
-use std::io::BufReader;
+use std::io::{BufReader, Write};
 use std::path::{Path, PathBuf};
 
 use captures::{pcap, pcapng, Source};
@@ -102,7 +104,7 @@ fn placed(findings: &mut Findings, map: &Path, capture: &Path) -> Result<u64, Fa
 }
 
 /// What there was in the capture.
-struct Copied {
+pub struct Copied {
     packets: u64,
     is_cut: bool,
     has_bytes_behind: bool,
@@ -122,7 +124,7 @@ fn copy(words: &Words, mut comments: Comments) -> Result<Copied, Failure> {
     }
 }
 
-fn copied(mut source: Source, comments: &mut Comments, output: &mut Output) -> Result<Copied, Ended> {
+fn copied(mut source: Source, comments: &mut Comments, output: &mut impl Write) -> Result<Copied, Ended> {
     let magic = source.fill(4)?;
     let copied = match magic.len() {
         4 if magic == pcapng::MAGIC => packets::copy(source, comments, output)?,
