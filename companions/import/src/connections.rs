@@ -5,15 +5,13 @@
 //! proxy put before the bytes is left out.
 
 use captures::{flags, swapped, Arrival, Ends, Flow, HeldSegment, Segment, END_OF_OFFSETS, MOST_HELD};
-use tls::{looks_like_tls, Emit, Known, Shared, CLIENT, SERVER, TLS_1_2};
+use tls::{looks_like_tls, Known, Shared, CLIENT, SERVER};
 
-use crate::outcomes::{Became, End, Outcome, Read, SideRead};
+use crate::outcomes::{Became, Outcome};
+use crate::plaintext::{became, Numbers, Plain};
 use crate::preamble::{look, Found, Preamble};
 use crate::shifted::Shift;
 use crate::sink::Sink;
-
-const HEADERS_LENGTH: usize = 40;
-const PUSH_AND_ACK: u8 = 0x18;
 
 /// A segment that is kept, the packet that brought it, and the side that sent it.
 struct Arrived {
@@ -44,13 +42,6 @@ enum Verdict {
     Wait,
     Clear,
     Tls,
-}
-
-/// Ends and numbers of a connection, of which the plaintext that is written has its own.
-struct Numbers {
-    ends: [Ends; 2],
-    initial: [Option<u32>; 2],
-    sent: [u32; 2],
 }
 
 /// An opening with all segments that belong to it.
@@ -361,78 +352,6 @@ impl Connection {
         };
         let preamble = self.preamble.filter(|_| !matches!(became, Became::Refused(_)));
         Outcome { opening: self.opening, ends: self.numbers.ends[CLIENT], became, preamble, fragments: 0 }
-    }
-}
-
-fn became(tls: &tls::Connection, plain: &mut Plain<'_, '_>) -> Became {
-    if let Some(why) = tls.refused() {
-        return Became::Refused(why);
-    }
-    let [client, server] = [CLIENT, SERVER].map(|side| side_read(tls, plain, side));
-    let known = tls.handshake();
-    let (early_records, rejected_records) = known.early_data();
-    Became::Read(Box::new(Read {
-        version: if known.version() == Some(TLS_1_2) { "1.2" } else { "1.3" },
-        suite: known.suite().map_or("-", |suite| suite.name),
-        protocol: known.protocol().map(<[u8]>::to_vec),
-        records: tls.count(),
-        early_records,
-        rejected_records,
-        client,
-        server,
-    }))
-}
-
-/// How far a side's plaintext goes. A byte past a hole makes h2audit say that there is one.
-fn side_read(tls: &tls::Connection, plain: &mut Plain<'_, '_>, index: usize) -> SideRead {
-    let side = tls.side(index);
-    let bytes = plain.numbers.sent[index];
-    let lost = side.end().map(|(_, arrival)| arrival).or_else(|| side.flow().behind_hole());
-    if let Some(arrival) = lost {
-        plain.numbers.write(plain.sink, index, bytes + 1, b"\0", arrival);
-    }
-    let tail = if side.end().is_none() { side.tail() } else { 0 };
-    let end = match side.end() {
-        Some((why, _)) => End::Stopped(why),
-        None if lost.is_some() => End::Lost,
-        None if tail > 0 && side.flow().next() == END_OF_OFFSETS => End::TooLarge,
-        None if tail > 0 => End::Cut,
-        None => End::Whole,
-    };
-    SideRead { bytes, has_gap: lost.is_some(), tail, end }
-}
-
-/// Takes plaintext to the capture that is made.
-struct Plain<'a, 'b> {
-    numbers: &'a mut Numbers,
-    sink: &'a mut Sink<'b>,
-}
-
-impl Emit for Plain<'_, '_> {
-    fn emit(&mut self, side: usize, content: &[u8], arrival: Arrival) {
-        let offset = self.numbers.sent[side];
-        self.numbers.sent[side] = offset.wrapping_add(content.len() as u32);
-        self.numbers.write(self.sink, side, offset, content, arrival);
-    }
-}
-
-impl Numbers {
-    /// Writes a segment of these bytes, as its side would have sent them without TLS.
-    fn write(&self, sink: &mut Sink<'_>, side: usize, offset: u32, content: &[u8], arrival: Arrival) {
-        let (ends, other) = (&self.ends[side], 1 - side);
-        let next = |initial: u32, sent: u32| initial.wrapping_add(1).wrapping_add(sent);
-        let sequence = next(self.initial[side].unwrap_or(0), offset);
-        let answer = self.initial[other].map_or(0, |initial| next(initial, self.sent[other]));
-        let total = HEADERS_LENGTH + content.len();
-        let mut headers = [0; HEADERS_LENGTH];
-        headers[0] = 0x45;
-        headers[2..4].copy_from_slice(&(total as u16).to_be_bytes());
-        headers[6..10].copy_from_slice(&[0x40, 0, 64, 6]);
-        headers[12..24].copy_from_slice(ends);
-        headers[24..28].copy_from_slice(&sequence.to_be_bytes());
-        headers[28..32].copy_from_slice(&answer.to_be_bytes());
-        headers[32..36].copy_from_slice(&[0x50, PUSH_AND_ACK, 0xFF, 0xFF]);
-        sink.emit(arrival, total as u32, [&headers, content]);
     }
 }
 

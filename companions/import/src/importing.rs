@@ -15,7 +15,7 @@ use crate::others::Others;
 use crate::outcomes::{Back, Counts, Summary};
 use crate::progress::Progress;
 use crate::sink::{Problem, Sink};
-use crate::table::{Belongs, Table};
+use crate::table::Table;
 
 /// Datagrams whose fragments are known to be of some connection.
 const MOST_FRAGMENTED: usize = 1 << 12;
@@ -225,13 +225,11 @@ impl<'a, 'b, 'c> Importer<'a, 'b, 'c> {
         if self.decoder.has_addresses() {
             self.name_addresses();
         }
-        let belongs = self.table.take(self.shared, self.sink, arrival, &segment);
-        if let Some(course) = self.course {
-            match belongs {
-                Belongs::Opens => course.opened(arrival, &segment),
-                Belongs::Last => course.segment(arrival, &segment),
-                Belongs::Stray => {}
-            }
+        let opens = self.table.take(self.shared, self.sink, arrival, &segment);
+        match self.course {
+            Some(course) if opens => course.opened(arrival, &segment),
+            Some(course) => course.segment(arrival, &segment),
+            None => {}
         }
         Ok(())
     }

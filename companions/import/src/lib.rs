@@ -22,6 +22,7 @@ mod map;
 mod map_file;
 mod others;
 mod outcomes;
+mod plaintext;
 mod preamble;
 mod progress;
 mod sent;

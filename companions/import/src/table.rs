@@ -30,16 +30,6 @@ enum State {
     Over { passes: bool, opening: u64, sequence: Option<u32> },
 }
 
-/// To which connection a segment belongs.
-pub enum Belongs {
-    /// To a new one.
-    Opens,
-    /// To the last one of its pair.
-    Last,
-    /// To none.
-    Stray,
-}
-
 struct Stray {
     first: Arrival,
     ends: Ends,
@@ -74,25 +64,20 @@ fn pair_of(ends: &Ends) -> (Ends, bool) {
 }
 
 impl Table {
-    pub fn take(
-        &mut self,
-        shared: &mut Shared,
-        sink: &mut Sink<'_>,
-        arrival: Arrival,
-        segment: &Segment<'_>,
-    ) -> Belongs {
+    /// Takes a segment to its connection, and answers whether it opens one.
+    pub fn take(&mut self, shared: &mut Shared, sink: &mut Sink<'_>, arrival: Arrival, segment: &Segment<'_>) -> bool {
         let (pair, is_less) = pair_of(&segment.ends);
         let place = self.places.get(&pair).map(|place| (place.client_is_less == is_less, place.state));
         if segment.flags & (flags::SYN | flags::ACK) == flags::SYN && !self.repeats(place, segment.sequence) {
             let slot = self.open(shared, sink, arrival, segment, place.map(|place| place.1));
             self.places.insert(pair, Place { client_is_less: is_less, state: State::Open(slot) });
             self.take_open(shared, sink, arrival, CLIENT, segment, slot);
-            return Belongs::Opens;
+            return true;
         }
         let (from_client, state) = match place {
             None => {
                 self.stray(sink, arrival, segment, pair);
-                return Belongs::Stray;
+                return false;
             }
             Some(place) => place,
         };
@@ -102,7 +87,7 @@ impl Table {
             State::Over { passes: true, .. } => sink.emit(arrival, segment.original, segment.datagram()),
             State::Over { passes: false, .. } => {}
         }
-        Belongs::Last
+        false
     }
 
     fn take_open(
