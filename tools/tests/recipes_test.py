@@ -53,9 +53,9 @@ def tools_folder(folder: str, program: pathlib.Path, awk: str) -> pathlib.Path:
     bin_of = pathlib.Path(folder, awk)
     bin_of.mkdir()
     (bin_of / "h2audit").symlink_to(program)
-    for name in ("h2audit-fleet", "h2audit-import", "h2audit-page", "h2audit-plot"):
+    for name in ("h2audit-fleet", "h2audit-page", "h2audit-plot"):
         (bin_of / name).symlink_to(TOP / "tools" / name)
-    for name in ("h2audit-any", "h2audit-comment", "h2audit-merge"):
+    for name in ("h2audit-any", "h2audit-comment", "h2audit-import", "h2audit-merge"):
         (bin_of / name).symlink_to(companion(name))
     (bin_of / "awk").symlink_to(AWKS[awk])
     return bin_of
