@@ -132,6 +132,7 @@ try 'library example' tools/tests/library_example_test.py
 try 'captures of TLS' tools/tests/import_test.py "${audits[@]}"
 try 'forms of captures' tools/tests/import_forms_test.py
 try 'cipher suites, resumption, PSK, early data' tools/tests/import_tls_test.py "${audits[@]}"
+try 'what h2audit-any says of an original' tools/tests/any_test.py "${audits[@]}"
 try_built 'reports of earlier imports' tools/tests/import_map_test.py "$built"
 try 'mutated captures and key logs' tools/tests/import_mutations_test.py
 try 'imports: what was once read wrongly, preambles, the course of TCP' tools/tests/import_corpus_test.py
