@@ -38,7 +38,7 @@ impl Header {
         if head.len() < HEADER_LENGTH {
             return Err(Error::refused("short-header"));
         }
-        let (order, unit) = format_of(head).ok_or(Error::refused("bad-magic"))?;
+        let (order, unit) = format_of(head).ok_or_else(|| Error::refused("bad-magic"))?;
         if (order.u16(head, 4), order.u16(head, 6)) != (2, 4) {
             return Err(Error::refused("bad-version"));
         }

@@ -107,7 +107,7 @@ impl Blocks {
             self.order = [Order::Little, Order::Big]
                 .into_iter()
                 .find(|order| order.u32(head, 8) == BYTE_ORDER_MAGIC)
-                .ok_or(Error::refused("bad-block"))?;
+                .ok_or_else(|| Error::refused("bad-block"))?;
         }
         let (kind, length) = (self.order.u32(head, 0), self.order.u32(head, 4) as usize);
         if length < shortest + 4 || length % 4 != 0 {
