@@ -5,8 +5,8 @@
 #
 # It proves nothing, and builds the library's example alone. Where the program is not built, or is older than its
 # sources, the recipes read the stored reports of examples/, and install and package have another program in its place;
-# what needs the program then does not run, and so the tests fail at their end. Where a Debian package is missing that it
-# needs, it fails with the list: make deps installs them.
+# what needs the program then does not run, and so the tests fail at their end. Where a Debian package is missing, it
+# fails with the list: make deps installs what is needed.
 set -euo pipefail
 cd "$(dirname "$0")/../.."
 
