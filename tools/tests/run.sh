@@ -20,11 +20,11 @@ fail() {
     exit 1
 }
 
-# Runs one test for at most eight minutes, and most take less than one; what it says is shown where it fails.
+# Runs one test, for at most eight minutes; most take less than one. What it says is shown where it fails.
 try() {
     local name=$1 start=$SECONDS
     shift
-    timeout 480 "$@" > "$work/said" 2>&1 < /dev/null || {
+    timeout "${limit:-480}" "$@" > "$work/said" 2>&1 < /dev/null || {
         cat "$work/said" >&2
         fail "$name: failed"
     }
@@ -64,8 +64,8 @@ else
 fi
 make -q "$split" > /dev/null 2>&1 || split=$program
 PATH=/usr/bin:/bin make --no-print-directory companions || fail 'the programs in Rust could not be built'
-try 'programs in Rust: form' tools/tests/rust_test.sh form
-try 'programs in Rust: their own tests' tools/tests/rust_test.sh tests
+limit=1200 try 'programs in Rust: form' tools/tests/rust_test.sh form
+limit=1200 try 'programs in Rust: their own tests' tools/tests/rust_test.sh tests
 try 'types of Python, and lines' tools/tests/sources_test.py
 try 'man pages and completions' tools/tests/words_test.py
 try 'definitions to believe' tools/tests/believed_test.py
