@@ -141,10 +141,13 @@ pictures:
 	tools/tests/wireshark_picture.sh docs/pictures/wireshark_comments.png
 
 # Measures time and memory on generated captures, beside cat. BENCH has more words for bench/measure.py, as
-# make bench BENCH='--peer PROGRAM --shapes bulk,chatty 40'. Then h2audit-fleet beside xargs, over sets of captures that
-# BENCH_FLEET names, as BENCH_FLEET='1000 0.05 20 20'.
-bench: $(PROGRAM)
+# make bench BENCH='--peer PROGRAM --shapes bulk,chatty 40'. Then the programs beside it, each beside what a user would
+# take instead: imports beside the program in Python that they were, tshark and openssl; any, comment and merge;
+# h2audit-fleet beside xargs, over sets of captures that BENCH_FLEET names, as BENCH_FLEET='1000 0.05 20 20'.
+bench: $(PROGRAM) companions
 	python3 bench/measure.py $(PROGRAM) $(BENCH)
+	python3 bench/measure_import.py $(BENCH_IMPORT)
+	python3 bench/measure_companions.py $(PROGRAM) $(BENCH_COMPANIONS)
 	python3 bench/measure_fleet.py $(PROGRAM) $(BENCH_FLEET)
 
 # Lists the definitions that a reader has to believe, with their lines, and marks those that the report of a capture
