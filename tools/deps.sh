@@ -9,7 +9,7 @@ needed+=(valgrind)
 # Of types.
 needed+=(mypy)
 # Of the page and its tests.
-needed+=(libjs-dygraphs chromium chromium-driver python3-selenium)
+needed+=(libjs-dygraphs chromium chromium-driver python3-selenium poppler-utils)
 # Of imports and their tests.
 needed+=(python3-cryptography python3-zstandard zstd tcpdump openssl)
 # Of the programs in Rust.

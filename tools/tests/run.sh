@@ -84,9 +84,12 @@ try 'comments of packets: forms of captures' tools/tests/comment_test.py Forms
 try 'comments of packets: maps and bad input' tools/tests/comment_test.py Maps BadInput
 try 'comments of packets: imports of TLS' tools/tests/comment_test.py "${audits[@]}" Imports
 try 'page' tools/tests/page_test.py
+try 'page of an answer' tools/tests/page_answer_test.py
 try 'page in a browser' tools/tests/page_browser_test.py Examples Hands Schemes Hostile Merged
 try 'page of a million lines in a browser' tools/tests/page_browser_test.py Large
 try 'page of many connections in a browser' tools/tests/page_browser_test.py Crowded
+try 'page of requests in a browser' tools/tests/page_waterfall_test.py
+try_built 'page of captures' tools/tests/page_capture_test.py "$built"
 try 'library example' tools/tests/library_example_test.py
 try 'captures of TLS' tools/tests/import_test.py "${audits[@]}"
 try 'forms of captures' tools/tests/import_forms_test.py
