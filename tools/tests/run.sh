@@ -25,7 +25,7 @@ needed+=(librust-{atty,bzip2,flate2,itoa,lexopt,memchr,once-cell,openssl,rlimit,
 # Of many captures and their tests.
 needed+=(python3-distributed sqlite3 parallel iproute2)
 # Of the answer in words and its tests: real servers and clients.
-needed+=(python3-hpack python3-jsonschema python3-grpcio)
+needed+=(python3-hpack python3-jsonschema python3-grpcio libxml2-utils)
 needed+=(nginx-light nghttp2-client nghttp2-server h2o caddy nodejs curl)
 built=crates/h2audit_cli/out/h2audit_cli
 split=crates/h2audit_split/out/h2audit_split
@@ -156,6 +156,7 @@ try_split 'splitter: full parts and disks, names' tools/tests/splitter_test.py "
 try 'install and package' tools/tests/package_test.sh "$program" "$split"
 try_built 'the answer in words: captures' tools/tests/why_test.py "$built"
 try_built 'the answer in words: hostile captures' tools/tests/why_hostile_test.py "$built"
+try_built 'the answer in words: jobs of CI' tools/tests/why_ci_test.py "$built"
 try_built 'the answer in words: words' tools/tests/why_words_test.py "$built"
 try_built 'the answer in words: damaged captures' tools/tests/why_mutations_test.py "$built"
 try_built 'the answer in words: both ends of a wire' tools/tests/why_place_test.py "$built"
