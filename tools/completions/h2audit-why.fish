@@ -16,5 +16,6 @@ complete -c h2audit-why -l fail-stall -x -a '10ms 100ms 1s' -d 'Status 1 for so 
 complete -c h2audit-why -l require-http2 -d 'Status 1 where nothing was audited'
 complete -c h2audit-why -l junit -r -d 'Also write a JUnit file'
 complete -c h2audit-why -l quiet -d 'Print no answer, but what failed'
+complete -c h2audit-why -l compare -r -d 'Requests before and after a change'
 complete -c h2audit-why -s h -l help -d 'Print the usage, and nothing else'
 complete -c h2audit-why -s V -l version -d 'Print the name and the version, and nothing else'
