@@ -18,7 +18,7 @@ needed+=(librust-{atty,bzip2,flate2,itoa,lexopt,memchr,once-cell,openssl,rlimit,
 # Of many captures and their tests.
 needed+=(python3-distributed sqlite3 parallel iproute2)
 # Of the answer in words and its tests: real servers and clients.
-needed+=(python3-hpack python3-jsonschema python3-grpcio)
+needed+=(python3-hpack python3-jsonschema python3-grpcio libxml2-utils)
 needed+=(nginx-light nghttp2-client nghttp2-server h2o caddy nodejs curl)
 # So many seconds may pass until all are installed.
 patience=900
