@@ -27,8 +27,7 @@ def other_end(one: Connection, note: Note) -> str:
     finding = note.finding
     if finding.kind in STALL_BEGIN:
         if note.other is None:
-            said = waited(one, note)
-            return f", and waited {said}" if one.wait(note) else f", and {said.replace('was seen', 'of the stall was seen')}"
+            return f", and waited {waited(one, note)}" if one.wait(note) else ", and no end of the stall was seen"
         if note.waited == 0:
             return f", and had more in the same instant, in {note.other.place}"
         return f", and waited {duration(note.waited or 0)}, up to {note.other.place}"

@@ -86,8 +86,8 @@ def audited(asked: Namespace, place: Path, names: list[str]) -> Audit:
 def ended(name: str, running: Running) -> None:
     status, said = running.end()
     if status not in AUDITED:
-        words = f"{os.path.basename(name)}: {without_name(said)}" if status >= 0 else f"{name}: ended by signal {-status}"
-        raise Failed(status if status in (2, 3, 4, 5, 7) else IO_FAILED, words)
+        why = without_name(said) if status >= 0 else f"ended by signal {-status}"
+        raise Failed(status if status in (2, 3, 4, 5, 7) else IO_FAILED, f"{os.path.basename(name)}: {why}")
 
 
 def program(name: str) -> str:

@@ -93,7 +93,7 @@ def shortened(caption: str, heads: list[str], rows: list[Markup], found: list[As
         return Markup("")
     if more := len(found) - len(rows):
         rows.append(row([f"{more:,} more", *[""] * (len(heads) - 1)]))
-    return table(caption, heads, rows)
+    return table(caption, heads, rows, class_="sums")
 
 
 def place(connection: Connection, note: Note, notes: set[int]) -> Content:

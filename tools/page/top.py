@@ -15,12 +15,13 @@ from page.answer import Json
 from page.model import Audit, Connection
 from page.words import MOST_NAMED, breaches, doubts, peer, reason_of
 
-# Which share of a direction's life stands for which kind of cause.
+# Which share of a direction's life stands for which kind of cause; of an application, for which why.
 SHARES = {
-    "stream-window": ("stream_stall",),
-    "connection-window": ("connection_stall",),
-    "tcp": ("tcp",),
-    "application": ("idle", "waiting"),
+    "stream-window": "stream_stall",
+    "connection-window": "connection_stall",
+    "tcp": "tcp",
+    "before": "waiting",
+    "between": "idle",
 }
 KINDS = {
     "stream-window": "its window of a stream",
@@ -84,7 +85,8 @@ def held_back(audit: Audit) -> str:
     where = f"in {count(len(first.intervals), 'connection')}"
     if not first.nanos:
         return f"The {first.side}, {first.peer}, gave no credit up to the end of what was found, {where}."
-    return f"The {first.side}, {first.peer}, held back the {OTHER_SIDE[first.side]} for {time_of(first.nanos)}, {where}."
+    other, nanos = OTHER_SIDE[first.side], time_of(first.nanos)
+    return f"The {first.side}, {first.peer}, held back the {other} for {nanos}, {where}."
 
 
 def limits(audit: Audit) -> list[str]:
@@ -172,18 +174,19 @@ def waits_of(audit: Audit, one: Connection) -> Iterator[Waited]:
 
 def of_request(one: Connection, request: Json) -> Waited:
     cause = request["cause"]
-    opened, kind = request["opened"]["time"], cause["kind"]
-    spans = request[cause["side"]]["spans"]
-    if spans is None:
-        intervals = [(opened, opened + cause["nanos"])]
-    else:
-        held = [span for span in spans if span[2] in SHARES[kind]]
-        intervals = [(opened + begin, opened + begin + nanos) for begin, nanos, _ in held]
     side = cause["ask"] or ""
     who = peer(one.opening, side) if side else "nobody: the path between them"
-    return side, who, f"{KINDS[kind]}: {WHY[cause['why']]}", intervals, cause["nanos"]
+    return side, who, f"{KINDS[cause['kind']]}: {WHY[cause['why']]}", intervals_of(request), cause["nanos"]
 
 
-def longest(one: Asked) -> str:
-    return duration(one.longest) if one.longest else "no end was seen"
-
+def intervals_of(request: Json) -> list[tuple[int, int]]:
+    """When a request was held back. Where its spans do not tell all of it, as of stalls that do not show, it is one
+    stretch of as much time from the first place on.
+    """
+    cause, opened = request["cause"], request["opened"]["time"]
+    share = SHARES.get(cause["kind"]) or SHARES.get(cause["why"])
+    spans = [span for span in request[cause["side"]]["spans"] or () if span[2] == share]
+    if sum(nanos for _, nanos, _ in spans) < cause["nanos"]:
+        begin = cause["first"]["time"] if cause["first"] else opened
+        return [(begin, begin + cause["nanos"])]
+    return [(opened + begin, opened + begin + nanos) for begin, nanos, _ in spans]

@@ -27,12 +27,14 @@ from page_answers import (
     MS,
     START,
     audit_of,
+    cause,
     connection,
     document_of,
     finding,
     many,
     opening,
     page_of,
+    request,
     stalled,
 )
 from page_test import Tags
@@ -88,7 +90,9 @@ class Sentences(unittest.TestCase):
         end = "audit of all frames\n"
         clean = HEAD + opening(1) + FLOWS + end
         self.assertEqual(headline(audit_of(clean)), "No rule was broken. No side used up its credit.")
-        line = finding(1, 5, "client", "stream-stall-begin", 1, 0) + finding(2, 8 * MS, "client", "stream-stall-end", 1, 9)
+        line = finding(1, 5, "client", "stream-stall-begin", 1, 0) + finding(
+            2, 8 * MS, "client", "stream-stall-end", 1, 9
+        )
         said = "No rule was broken. The server, 10.0.0.2:443, held back the client for 8 ms, in 1 connection."
         self.assertEqual(headline(audit_of(HEAD + opening(1) + FLOWS + line + end)), said)
 
@@ -134,11 +138,26 @@ class Sums(unittest.TestCase):
         said = [row for row in rows(page_of(report)) if row.startswith("20 ms|server")]
         self.assertEqual(
             said,
-            [
-                f"20 ms|server, 10.0.0.2:443|streams 1, 3, 5|connection {number}, frame 4, packet 4"
-                for number in (1, 2)
-            ],
+            [f"20 ms|server, 10.0.0.2:443|streams 1, 3, 5|connection {number}, frame 4, packet 4" for number in (1, 2)],
         )
+
+
+class Causes(unittest.TestCase):
+    def test_what_spans_do_not_tell(self) -> None:
+        """Of stalls that do not show, the time of all is no less than the longest; together they count once."""
+        waits = cause("stream-window", "unshown", 40 * MS, "no stall shows here")
+        two = [request(stream, "GET /", START + MS, [[0, 50 * MS, "sending"]], waits) for stream in (1, 3)]
+        document = document_of([connection(1, 60 * MS, two)])
+        report = HEAD + opening(1) + FLOWS + finding(1, 5, "client", "connection-credit", 0, 9)
+        (found,) = asked(audit_of(report, document))
+        self.assertEqual((found.times, found.longest, found.nanos), (2, 40 * MS, 40 * MS))
+
+    def test_nobody_to_ask(self) -> None:
+        waits = {**cause("tcp", "resent", 20 * MS, "held by TCP"), "ask": None}
+        one = request(1, "GET /", START + MS, [[0, MS, "sending"], [MS, 20 * MS, "tcp"]], waits)
+        report = HEAD + opening(1) + FLOWS + finding(1, 5, "client", "connection-credit", 0, 9)
+        text = page_of(report, document_of([connection(1, 60 * MS, [one])]))
+        self.assertIn("nobody: the path between them|TCP: bytes were sent again|1|1|20 ms|20 ms", rows(text))
 
 
 class TimeZero(unittest.TestCase):
@@ -161,7 +180,9 @@ class Requests(unittest.TestCase):
 
     def test_each_is_in_the_table(self) -> None:
         text = page_of(*stalled())
-        self.assertIn("GET /hung|1|1|200|2.05 s|HUNG for 2 s: the client granted nothing|the end of the capture", rows(text))
+        self.assertIn(
+            "GET /hung|1|1|200|2.05 s|HUNG for 2 s: the client granted nothing|the end of the capture", rows(text)
+        )
         names = [one["name"] for one in self.packed(text)["requests"]]
         self.assertEqual(names, ["GET /faulty", "GET /hung", "GET /calm"])
 

@@ -519,8 +519,8 @@ def write_pictures() -> None:
         browser.scheme("dark")
         printed = pathlib.Path(folder, "page.pdf")
         printed.write_bytes(base64.b64decode(browser.command("Page.printToPDF", printBackground=True)["data"]))
-        words = ["pdftoppm", "-png", "-r", "80", "-f", "1", "-singlefile", printed, PICTURES / "page_printed"]
-        subprocess.run(words, check=True)
+        words = ["pdftoppm", "-png", "-r", "80", "-f", "1", "-singlefile"]
+        subprocess.run([*words, printed, PICTURES / "page_printed"], check=True)
         browser.close()
 
 

@@ -10,12 +10,19 @@ import html
 import os
 import pathlib
 import re
+import signal
 import subprocess
 import sys
 import tempfile
+import time
 import unittest
+from unittest import mock
 
 from why_tools import TOP, answer, has_programs, programs_of
+
+from page.program import arguments
+from page.sources import audit_of
+from page.top import asked
 
 PAGE = TOP / "tools" / "h2audit-page"
 EXAMPLES = sorted((TOP / "examples").glob("*.pcap"))
@@ -49,6 +56,18 @@ class Examples(unittest.TestCase):
                         self.assertIn(f"\n{request['name'] or 'request'}\n", shown)
                     for fault in one["faults"]:
                         self.assertIn(f"\n{fault['text']}\n", shown)
+
+    def test_sums_hold_the_longest(self) -> None:
+        """Of each row of whom to ask: the time of all is no less than that of its longest request."""
+        made = {
+            "H2AUDIT_WHY": str(TOP / "tools" / "h2audit-why"),
+            "H2AUDIT_ANY": str(TOP / "companions" / "target" / "release" / "h2audit-any"),
+        }
+        self.enterContext(mock.patch.dict(os.environ, made))
+        for capture in EXAMPLES:
+            audit = audit_of(arguments([str(capture), "-o", "-"]))
+            for one in asked(audit):
+                self.assertGreaterEqual(one.nanos, one.longest, capture.name)
 
     def test_no_requests(self) -> None:
         capture = TOP / "examples" / "leaked_connection_credit_nginx.pcap"
@@ -101,6 +120,29 @@ class Endings(unittest.TestCase):
             self.assertEqual(os.listdir(folder), ["page.html"])
             ran("-", "-o", f"{folder}/other.html", stdin=b"\xd4\xc3\xb2\xa1" + bytes(5), TMPDIR=folder)
             self.assertEqual(os.listdir(folder), ["page.html"])
+
+    def test_a_signal_ends_all_of_it(self) -> None:
+        """The programs that it runs end, and what holds plaintext goes."""
+        with tempfile.TemporaryDirectory() as folder, tempfile.TemporaryDirectory() as place:
+            slow = pathlib.Path(place, "slow")
+            slow.write_text(f"#!/bin/sh\necho $$ > {place}/number\nexec sleep 100\n")
+            slow.chmod(0o755)
+            environment = {**os.environ, "TMPDIR": folder, "H2AUDIT_WHY": str(slow)}
+            running = subprocess.Popen(
+                [PAGE, "-", "-o", "/dev/null"], stdin=subprocess.PIPE, stderr=subprocess.PIPE, env=environment
+            )
+            number = pathlib.Path(place, "number")
+            running.stdin and running.stdin.write(EXAMPLES[0].read_bytes())
+            running.stdin and running.stdin.close()
+            while not (number.exists() and number.read_text().strip()):
+                self.assertIsNone(running.poll())
+                time.sleep(0.02)
+            running.terminate()
+            said = running.stderr.read() if running.stderr else b""
+            self.assertEqual((running.wait(60), said, os.listdir(folder)), (-signal.SIGTERM, b"", []))
+            self.assertFalse(pathlib.Path("/proc", number.read_text().strip()).exists())
+            if running.stderr:
+                running.stderr.close()
 
     def test_nothing_audited(self) -> None:
         """The page says so, and which connections were not audited, and why."""

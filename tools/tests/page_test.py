@@ -617,6 +617,10 @@ class Contrast(unittest.TestCase):
         ("stall-edge", "ground"),
         ("rule", "ground"),
         ("rule", "raised"),
+        ("ink", "stream-stall"),
+        ("ink", "connection-stall"),
+        ("ink", "tcp"),
+        ("ink", "idle"),
     ]
 
     def test_both_schemes(self) -> None:

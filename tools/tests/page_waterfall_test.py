@@ -47,6 +47,7 @@ TOO_WIDE = """
       && !one.closest(".scroll, #rows, svg") && one.getBoundingClientRect().right > innerWidth + 1)
       .map(one => one.outerHTML.slice(0, 80));
 """
+LABELS_OF_HEIGHTS = "return [...document.querySelectorAll('.dygraph-axis-label-y')].map(one => one.textContent)"
 CUT_LABELS = """
     return [...document.querySelectorAll("#windows .dygraph-axis-label-y")]
       .filter(one => one.scrollWidth > one.clientWidth + 1).map(one => one.textContent);
@@ -193,7 +194,7 @@ class Widths(OfAnswers):
             self.open(text)
             for width in (1280, 800, 390):
                 self.wide(width)
-                self.browser.run("const table = document.getElementById('requests-table'); if (table) table.open = true")
+                self.browser.run("document.querySelectorAll('#requests-table').forEach(one => { one.open = true; })")
                 self.assertEqual(self.browser.run(BROKEN_WORDS), [], (number, width))
                 self.assertEqual(self.browser.run(TOO_WIDE), [], (number, width))
 
@@ -211,7 +212,7 @@ class Widths(OfAnswers):
         )
         self.open(page_of(HEAD + opening(1) + FLOWS + line + "audit of all frames\n"))
         self.drawn()
-        labels = self.browser.run("return [...document.querySelectorAll('.dygraph-axis-label-y')].map(x => x.textContent)")
+        labels = self.browser.run(LABELS_OF_HEIGHTS)
         self.assertIn("-2,000,000,000", labels)
         self.assertEqual(self.browser.run(CUT_LABELS), [])
 
@@ -247,8 +248,9 @@ class Paper(OfAnswers):
         for wide, high, pixels in pages:
             ground = sum(pixels[at : at + 3] == b"\xff\xff\xff" for at in range(0, len(pixels), 3))
             self.assertGreater(ground, wide * high // 2)  # it is light
-            margin = [pixels[3 * (row * wide + column)] for row in range(high) for column in (*range(8), *range(wide - 8, wide))]
-            self.assertEqual(set(margin), {255})  # nothing goes on beyond the paper
+            edges = (*range(8), *range(wide - 8, wide))
+            margins = {pixels[3 * (row * wide + column)] for row in range(high) for column in edges}
+            self.assertEqual(margins, {255})  # nothing goes on beyond the paper
 
     def test_from_a_dark_screen(self) -> None:
         for width in (1280, 390):

@@ -14,7 +14,8 @@ function sortBy(table, head, column) {
   const isDown = head.getAttribute("aria-sort") === "ascending";
   table.querySelectorAll("th").forEach(one => one.removeAttribute("aria-sort"));
   head.setAttribute("aria-sort", isDown ? "descending" : "ascending");
-  const keyed = [...table.tBodies[0].rows].map(row => ({ row, key: row.cells[column].textContent.replaceAll(",", "") }));
+  const keyOf = row => row.cells[column].textContent.replaceAll(",", "");
+  const keyed = [...table.tBodies[0].rows].map(row => ({ row, key: keyOf(row) }));
   const isRest = ({ row }) => !row.querySelector("a") && row.cells[0].textContent.endsWith(" more");
   keyed.sort((one, other) => isRest(one) - isRest(other) || (isDown ? -1 : 1) * ORDER.compare(one.key, other.key));
   table.tBodies[0].replaceChildren(...keyed.map(({ row }) => row));

@@ -43,7 +43,8 @@ class Waterfall {
   // The rows that were asked for: each connection, and then its requests, by the order of the first of them.
   list(want) {
     const held = field("held").value, order = field("order").value;
-    const key = { rank: one => one.rank, time: one => one.connection.begin + one.begin, life: one => -one.nanos }[order];
+    const keys = { rank: one => one.rank, time: one => one.connection.begin + one.begin, life: one => -one.nanos };
+    const key = keys[order];
     const groups = new Map();
     const found = this.requests.filter(one => isRequestAsked(one, want, held)).sort((a, b) => key(a) - key(b));
     for (const one of found) {
@@ -141,9 +142,11 @@ class Waterfall {
     row.style.top = `${at * this.height}px`;
     row.style.height = `${this.height}px`;
     const area = this.graph.getArea();
-    const button = make("button", "", { type: "button", tabIndex: at === this.chosen ? 0 : -1, ariaLabel: wordsOfRow(one) });
+    const button = make("button", "", { type: "button", ariaLabel: wordsOfRow(one) });
+    button.tabIndex = at === this.chosen ? 0 : -1;
     button.style.width = `${this.isNarrow ? this.box.clientWidth : area.x - 6}px`;
-    button.append(make("span", titleOf(one), { className: "title" }), make("span", underTitle(one), { className: "facts" }));
+    button.append(make("span", titleOf(one), { className: "title" }));
+    button.append(make("span", underTitle(one), { className: "facts" }));
     const drawing = svg("svg", { width: Math.max(area.w, 1), height: 26, "aria-hidden": "true" }, row);
     drawing.style.left = `${area.x}px`;
     this.bars(drawing, one, area);
@@ -251,7 +254,8 @@ function merged(spans, x, begin, wide) {
 
 // How many requests are under way after each beginning and each end; of very many points some are left out.
 function underWay(requests, beginOf, end, size) {
-  const steps = requests.flatMap(one => [[beginOf(one), 1], [beginOf(one) + one.nanos, -1]]).sort((a, b) => a[0] - b[0]);
+  const steps = requests.flatMap(one => [[beginOf(one), 1], [beginOf(one) + one.nanos, -1]]);
+  steps.sort((one, other) => one[0] - other[0]);
   const points = [[0, 0]];
   let number = 0;
   for (const [time, by] of steps) {
@@ -283,8 +287,9 @@ function wordsOfRow(one) {
   return `${one.name}, connection ${one.connection.number}, ${underTitle(one)}${one.hung ? ", hung" : ""}${faults}`;
 }
 
-const isStalled = ({ spans }) => spans.some((kind, at) => at % 2 && (kind === STREAM_STALL || kind === CONNECTION_STALL));
 const STREAM_STALL = 2, CONNECTION_STALL = 3;
+const isStalled = ({ spans }) =>
+  spans.some((kind, at) => at % 2 && (kind === STREAM_STALL || kind === CONNECTION_STALL));
 
 function isRequestAsked(one, want, held) {
   one.words ??= `${wordsOfRow(one)} connection ${one.connection.number}, stream ${one.stream} ${one.connection.client} `
@@ -302,9 +307,9 @@ function isRequestAsked(one, want, held) {
 function openRequest(one) {
   const panel = field("request"), connection = one.connection.number, stream = one.isConnection ? 0 : one.stream;
   closeRequest();
-  const close = make("button", "Close", { type: "button", onclick: () => { closeRequest(); falls.choose(falls.chosen); } });
-  const head = make("h3", one.isConnection ? titleOf(one) : `${one.name}, stream ${stream} of connection ${connection}`,
-    { tabIndex: -1 });
+  const close = make("button", "Close", { type: "button", onclick: () => leaveRequest() });
+  const name = one.isConnection ? titleOf(one) : `${one.name}, stream ${stream} of connection ${connection}`;
+  const head = make("h3", name, { tabIndex: -1 });
   const words = one.isConnection ? `Client ${one.client}, server ${one.server}.`
     : `${one.text[0].toUpperCase()}${one.text.slice(1)}. Opened in ${one.packet}.`;
   const charted = charts.windows.filter(window => window.connection === connection
@@ -321,6 +326,12 @@ function openRequest(one) {
   panel.scrollIntoView({ block: "nearest" });
 }
 
+// Back to the row from which it was opened.
+function leaveRequest() {
+  closeRequest();
+  falls.choose(falls.chosen);
+}
+
 function closeRequest() {
   forget("request-");
   field("request").replaceChildren();
@@ -332,9 +343,10 @@ function findingsOf(connection, stream) {
   const place = `section.connection tr[data-connection="${connection}"]`;
   const rows = document.querySelectorAll(`${place}[data-stream="${stream}"], ${place}[data-stream="0"]`);
   if (!rows.length) return make("p", "No finding of it stands in the tables of this page.");
-  const box = make("div", "", { className: "scroll", tabIndex: 0, role: "region", ariaLabel: "Findings of its windows" });
+  const ariaLabel = "Findings of its windows";
+  const box = make("div", "", { className: "scroll", tabIndex: 0, role: "region", ariaLabel });
   const table = rows[0].closest("table").cloneNode(true), body = table.tBodies[0];
-  table.caption.textContent = "Findings of its windows";
+  table.caption.textContent = ariaLabel;
   body.replaceChildren(...[...rows].map(row => Object.assign(row.cloneNode(true), { id: "", hidden: false })));
   body.querySelectorAll("[id]").forEach(row => row.removeAttribute("id"));
   box.append(table);
