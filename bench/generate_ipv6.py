@@ -1,5 +1,5 @@
-"""Generates a capture of HTTP/2 in the clear over IPv6, in pcapng: a download in DATA frames of 160 bytes, each in a packet,
-and an acknowledgement for every second one.
+"""Generates a capture of HTTP/2 in the clear over IPv6, in pcapng: a download in DATA frames of 160 bytes, each in a
+packet, and an acknowledgement for every second one.
 """
 
 import pathlib

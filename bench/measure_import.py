@@ -4,10 +4,11 @@
     bench/measure_import.py [--runs N] [--before COMMIT] [SHAPE=MEGABYTES ..]
 
 For each shape the least processor and wall seconds of N runs each in turn (3 without --runs), and the greatest peak of
-memory: of h2audit-import as `make companions` built it; of the program in Python, from a folder of its own that is made of
-a COMMIT of this repository; and of tshark's two ways to the same bytes, `-z follow,tls` of one connection and a tap in Lua
-over all. Each has the capture in memory. Behind them stands how many megabytes of records of the shape's size `openssl
-speed` opens or seals in a second. Shapes are those of generate_tls.py, and `ipv6`, HTTP/2 in the clear over IPv6 in pcapng.
+memory: of h2audit-import as `make companions` built it; of the program in Python, from a folder of its own that is made
+of a COMMIT of this repository; and of tshark's two ways to the same bytes, `-z follow,tls` of one connection and a tap
+in Lua over all. Each has the capture in memory. Behind them stands how many megabytes of records of the shape's size
+`openssl speed` seals in a second. Shapes are those of generate_tls.py, and `ipv6`, HTTP/2 in the clear over IPv6 in
+pcapng.
 """
 
 import argparse

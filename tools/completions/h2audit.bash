@@ -52,7 +52,7 @@ _h2audit_page() {
     --title | -t) COMPREPLY=() ;;
     *)
         case $word in
-        -*) _h2audit_offer -W '--output --title --help --version -o -t -h -V' -- "$word" ;;
+        -*) _h2audit_offer -W '--key-log --output --title --sort --no-requests --help --version -k -o -t -h -V' -- "$word" ;;
         *) _h2audit_offer -f -- "$word" ;;
         esac
         ;;

@@ -51,10 +51,11 @@ class Packed:
     left_out: list[Window]
 
 
-def packed(audit: Audit) -> Packed:
+def packed(audit: Audit, taken: int = 0) -> Packed:
+    """All charts, below a size of which some may be taken."""
     windows = [window for window in audit.windows if window.frames]
     whole = [series_of(window) for window in windows]
-    series, elsewhere, compressed = fitting(audit, windows, whole)
+    series, elsewhere, compressed = fitting(audit, windows, whole, MOST_BYTES - taken)
     return Packed(
         base64.b64encode(compressed).decode(),
         sum(len(one.frames) for one in series),
@@ -75,20 +76,20 @@ class Fitting(NamedTuple):
     packed: bytes
 
 
-def fitting(audit: Audit, windows: list[Window], whole: list[Series]) -> Fitting:
+def fitting(audit: Audit, windows: list[Window], whole: list[Series], most: int) -> Fitting:
     """The first that is small enough: all points, fewer points, fewer marks, and at last fewer windows."""
     size = 0
     for level in LEVELS:
         series = [thinned(one, *level) for one in whole]
         size = estimated(audit, windows, series)
-        if size <= MOST_BYTES * DOUBT:
+        if size <= most * DOUBT:
             found = cut(audit, windows, series)
             size = len(found.packed)
-            if size <= MOST_BYTES:
+            if size <= most:
                 return found
     number = len(windows)
-    while size > MOST_BYTES:
-        number = min(number - 1, int(number * MARGIN * MOST_BYTES / size))
+    while size > most:
+        number = min(number - 1, int(number * MARGIN * most / size))
         found = cut(audit, windows[:number], series[:number])
         size = len(found.packed)
     return found
@@ -132,9 +133,9 @@ def json_of(
     used = sorted({places[id(window.connection)] for window in windows})
     new = {place: number for number, place in enumerate(used)}
     kinds = sorted({fault[1] for one in series for fault in one.faults})
-    times = [list(onward(time - window.connection.start for time in one.times)) for window, one in zip(windows, series)]
+    times = [list(onward(time - window.connection.zero for time in one.times)) for window, one in zip(windows, series)]
     waits = [max(window.waits, default=0) for window in windows]
-    others = [(new[places[id(one)]], finding.frame, one.since_start(finding)) for one, finding in elsewhere]
+    others = [(new[places[id(one)]], finding.frame, one.since_zero(finding)) for one, finding in elsewhere]
     unit = gcd(*waits, *(other[2] for other in others), *(time for column in times for time in column)) or 1
     openings = [audit.connections[place].opening for place in used]
     said = {
@@ -151,6 +152,7 @@ def json_of(
         "faulty": [len(one.faults) for one in series],
         "waits": [wait // unit for wait in waits],
         "unit": unit,
+        "from": "SYN" if audit.answer else "first finding",
         "frames": list(columns(one.frames for one in series)),
         "times": [time // unit for time in columns(times)],
         "credits": [step for one in series for step in steps(one.credits)],

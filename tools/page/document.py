@@ -10,12 +10,14 @@ from page.chart_data import Packed, packed
 from page.library import Library
 from page.markup import Markup, element, markup
 from page.model import Audit
-from page.tables import Choice, chosen, connections, left_out, others, section, summary, thinning
+from page.summary import summary
+from page.tables import Choice, chosen, connections, left_out, others, section, thinning
+from page.waterfall import Waterfall, waterfall, waterfall_section
 
 MOST_BYTES = 4_950_000
 # How many times their least size the tables may have, the first that fits.
 ROWS = (4, 2, 1, 0.5, 0.1, 0.02)
-SCRIPTS = ("data.js", "chart.js", "filters.js", "main.js")
+SCRIPTS = ("data.js", "chart.js", "filters.js", "waterfall.js", "tables.js", "main.js")
 
 
 def asset(name: str) -> str:
@@ -36,15 +38,19 @@ def policy(scripts: list[str], styles: list[str]) -> str:
 
 def page(audit: Audit, title: str, library: Library) -> str:
     """The page with as much of the report in its tables as a size allows; at least it has very little."""
-    charts = packed(audit) if audit.has_credit else None
+    requests = waterfall(audit) if audit.has_credit else None
+    # What the waterfall takes is not there for charts.
+    charts = packed(audit, len(requests.text) * 3 // 4 if requests else 0) if audit.has_credit else None
     for times in ROWS:
-        text = page_with(audit, title, library, charts, times)
+        text = page_with(audit, title, library, charts, times, requests)
         if len(text.encode()) <= MOST_BYTES:
             break
     return text
 
 
-def page_with(audit: Audit, title: str, library: Library, charts: Packed | None, times: float) -> str:
+def page_with(
+    audit: Audit, title: str, library: Library, charts: Packed | None, times: float, requests: Waterfall | None = None
+) -> str:
     own = "(() => {\n\"use strict\";\n" + "\n".join(map(asset, SCRIPTS)) + "\n})();\n"
     scripts = [library.script, own] if charts else []
     styles = [library.style, asset("page.css")]
@@ -52,7 +58,7 @@ def page_with(audit: Audit, title: str, library: Library, charts: Packed | None,
         [
             "<!DOCTYPE html>\n<html lang=\"en\">\n",
             head(title, policy(scripts, styles), styles),
-            body(audit, title, charts, chosen(audit, times)),
+            body(audit, title, charts, chosen(audit, times), requests_markup(requests, times)),
             licence(library) if charts else "",
             *[element("script", Markup(script)) for script in scripts],
             "</body>\n</html>\n",
@@ -74,17 +80,24 @@ def head(title: str, rules: str, styles: list[str]) -> Markup:
     )
 
 
-def body(audit: Audit, title: str, charts: Packed | None, choice: Choice) -> Markup:
+def requests_markup(requests: Waterfall | None, times: float) -> Markup:
+    return waterfall_section(requests, times, asset_markup("waterfall.html")) if requests else Markup("")
+
+
+def body(audit: Audit, title: str, charts: Packed | None, choice: Choice, requests: Markup) -> Markup:
     shown = [section(one, choice) for one in audit.connections if id(one) in choice.sections]
     main = [
-        summary(audit, choice),
+        summary(audit, choice.notes),
         left_out(choice, audit.lines, charts),
+        asset_markup("filters.html") if charts else "",
+        requests,
         chart_section(audit, charts),
         connections(audit, choice),
         *shown,
         others(audit, choice),
     ]
-    about = element("p", "Made by h2audit-page from a report of h2audit. The rules are those of RFC 9113, HTTP/2.")
+    source = "a capture, by h2audit and h2audit-why" if audit.answer else "a report of h2audit"
+    about = element("p", f"Made by h2audit-page from {source}. The rules are those of RFC 9113, HTTP/2.")
     return Markup(
         "<body>\n"
         + element("header", [element("h1", title), about])
@@ -103,7 +116,7 @@ def chart_section(audit: Audit, charts: Packed | None) -> Markup:
     parts += [
         element("p", Markup("Charts need JavaScript; the tables below do not."), id="no-charts"),
         thinning(charts),
-        asset_markup("filters.html"),
+        asset_markup("help.html"),
         element("div", "", id="windows"),
         element("script", Markup(charts.text), type="text/plain", id="chart-data"),
     ]

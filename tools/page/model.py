@@ -12,6 +12,8 @@ from report.blame import CREDIT_KINDS, STALL_BEGIN
 from report.lines import Audited, Capture, Finding, Flow, Opening, PassedOver, Refused, Stall, Unopened, read_lines
 from report.notes import Note, Pairing
 
+from page.answer import Answer
+
 # The credit of a connection's window before any line (RFC 9113, 6.9.2).
 FIRST_CONNECTION_CREDIT = 65535
 
@@ -31,10 +33,7 @@ class Window:
 
     @property
     def waits(self) -> list[int]:
-        """The nanoseconds of each stall; one without an end goes up to the connection's last finding."""
-        return [
-            self.connection.end - stall.finding.time if stall.waited is None else stall.waited for stall in self.stalls
-        ]
+        return [self.connection.wait(stall) for stall in self.stalls]
 
     @property
     def trouble(self) -> tuple[int, int, int]:
@@ -65,6 +64,12 @@ class Connection:
     has_findings: bool = False
     audited: Audited | None = None
     pairing: Pairing = field(default_factory=Pairing)
+    # Where the capture is known: the times of its SYN and of its last packet, up to when each open stall lasted by its
+    # side, stream and first frame, and why each stall was one.
+    opened: int | None = None
+    until: int | None = None
+    open_until: dict[tuple[str, int, int], int] = field(default_factory=dict)
+    why: dict[tuple[str, int, int], str] = field(default_factory=dict)
 
     @property
     def faults(self) -> list[Note]:
@@ -101,8 +106,26 @@ class Connection:
         window.times.append(finding.time)
         window.credits.append(finding.value)
 
-    def since_start(self, finding: Finding) -> int:
-        return finding.time - self.start
+    @property
+    def zero(self) -> int:
+        """From when on times count: the SYN, or the first finding where the report is all there is."""
+        return self.start if self.opened is None else self.opened
+
+    def since_zero(self, finding: Finding) -> int:
+        return finding.time - self.zero
+
+    def open_end(self, finding: Finding) -> int:
+        """Up to when a stall without an end lasted: by the capture, or at least up to the last finding."""
+        return self.open_until.get((*finding.window, finding.frame), self.end)
+
+    def wait(self, stall: Note) -> int:
+        """The nanoseconds of a stall, as far as they are known."""
+        return self.open_end(stall.finding) - stall.finding.time if stall.waited is None else stall.waited
+
+    @property
+    def waiting(self) -> list[Note]:
+        """The stalls in which a side had to wait: not those that ended in the instant in which they began."""
+        return [stall for stall in self.stalls if stall.waited != 0]
 
 
 @dataclass
@@ -116,6 +139,8 @@ class Audit:
     unopened: int = 0
     unopened_segments: int = 0
     connections: list[Connection] = field(default_factory=list)
+    # What h2audit-why says of the capture, where it was given.
+    answer: Answer | None = None
 
     @cached_property
     def windows(self) -> list[Window]:

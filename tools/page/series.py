@@ -57,6 +57,10 @@ def series_of(window: Window) -> Series:
     frames.extend(window.frames[at:])
     times.extend(window.times[at:])
     credits.extend(window.credits[at:])
+    if stands_to_the_end(window) and times and last_time(window) > times[-1]:
+        frames.append(max(frames[-1], window.connection.opening.frames))
+        times.append(last_time(window))
+        credits.append(credits[-1])
     return Series(frames, times, credits, *marks(window, frames), len(window.frames))
 
 
@@ -68,13 +72,21 @@ def extra_points(window: Window) -> list[tuple[int, int]]:
     if connection.has_findings and stands_to_the_end(window):
         points.setdefault(connection.last_frame, connection.end)
     if window.stream == 0 and connection.has_findings:
-        points.setdefault(0, connection.start)
+        points.setdefault(0, connection.zero)
     return sorted(points.items())
 
 
 def stands_to_the_end(window: Window) -> bool:
     """Whether the last credit is known to stand up to the last finding; of a stream without a stall nothing says so."""
     return window.stream == 0 or (bool(window.stalls) and window.stalls[-1].other is None)
+
+
+def last_time(window: Window) -> int:
+    """Up to when the last credit stands: an open stall's end, or the connection's last packet."""
+    connection = window.connection
+    if window.stalls and window.stalls[-1].other is None:
+        return connection.open_end(window.stalls[-1].finding)
+    return connection.end if connection.until is None else connection.until
 
 
 Marks = tuple[list[tuple[int, int | None, int]], list[tuple[int, str, int, int]]]

@@ -1,29 +1,19 @@
-"""The parts of the page that need no script: summary, connections, findings and windows, in tables."""
+"""The parts of the page that need no script: connections, findings and windows, in tables."""
 
 from __future__ import annotations
 
 from dataclasses import dataclass
 
 from report.blame import duration
-from report.notes import Note, sentence
+from report.notes import Note
+from why.words import count
 
 from page.chart_data import Packed
 from page.markup import Content, Markup, element, items, markup, row, table
 from page.model import Audit, Connection, Window
-from page.words import (
-    audited,
-    breaches,
-    clock,
-    count,
-    doubts,
-    endpoint,
-    flow_words,
-    longest_stalls,
-    verdict,
-    wait,
-    waited,
-    whom_to_ask,
-)
+from page.sentences import moment, sentence, zero
+from page.summary import row_id
+from page.words import breaches, flow_words, longest_stalls, verdict
 
 # So many rows of each table, times what the room of a page of 5 MB allows.
 MOST_FINDINGS, MOST_WINDOWS, MOST_SECTIONS, MOST_CONNECTIONS = 1500, 500, 100, 500
@@ -45,7 +35,8 @@ def chosen(audit: Audit, times: float) -> Choice:
     findings, windows, sections, connections = (
         int(times * most) for most in (MOST_FINDINGS, MOST_WINDOWS, MOST_SECTIONS, MOST_CONNECTIONS)
     )
-    first = [breach.first for breach in breaches(audit)] + longest_stalls(audit)
+    first = [breach.first for breach in breaches(audit)]
+    first += [(one, stalls[0]) for one, stalls in longest_stalls(audit)]
     in_full = ranked_connections(audit, {id(one) for one, _ in first})[:sections]
     shown = {id(one) for one in in_full}
     notes = ranked_notes(in_full, {id(note) for _, note in first})[:findings]
@@ -84,69 +75,9 @@ def ranked_notes(connections: list[Connection], first: set[int]) -> list[tuple[C
     def rank(pair: tuple[Connection, Note]) -> tuple[bool, bool, int]:
         note = pair[1]
         is_fault = note.finding.is_fault
-        return id(note) not in first, not is_fault, 0 if is_fault else -abs(wait(*pair))
+        return id(note) not in first, not is_fault, 0 if is_fault else -abs(pair[0].wait(note))
 
     return sorted([(one, note) for one in connections for note in one.notes], key=rank)
-
-
-def summary(audit: Audit, choice: Choice) -> Markup:
-    parts = [element("h2", "Summary"), items(audited(audit))]
-    if any(one.faults for one in audit.connections):
-        parts.append(breach_table(audit, choice))
-    if any(one.stalls for one in audit.connections):
-        parts.append(stall_table(audit, choice))
-    if lacks := doubts(audit):
-        parts += [element("h3", "Before you rely on it"), items(lacks)]
-    return element("section", parts, id="summary")
-
-
-def breach_table(audit: Audit, choice: Choice) -> Markup:
-    rows = [
-        row(
-            [
-                f"the {breach.side}",
-                breach.kind,
-                f"RFC 9113, {breach.section}" if breach.section else "",
-                breach.times,
-                breach.connections,
-                [place(*breach.first, choice), f" by {endpoint(breach.first[0].opening, breach.side)}"],
-            ]
-        )
-        for breach in breaches(audit)
-    ]
-    return table("Who broke which rule", ["Who", "Rule", "Section", "Times", "Connections", "First"], rows)
-
-
-def stall_table(audit: Audit, choice: Choice) -> Markup:
-    rows = [
-        row(
-            [
-                waited(one, stall),
-                f"{stall.finding.side}, {endpoint(one.opening, stall.finding.side)}",
-                f"stream {stall.finding.stream}" if stall.finding.stream else "the whole connection",
-                place(one, stall, choice),
-                whom_to_ask(one, stall),
-            ]
-        )
-        for one, stall in longest_stalls(audit)
-    ]
-    note = element(
-        "p",
-        "A stall breaks no rule: a receiver may choose any window (RFC 9113, 5.2.1). "
-        "Ask the one who gave no credit.",
-    )
-    return markup([table("The longest stalls", ["How long", "Who waited", "Where", "From", "Whom to ask"], rows), note])
-
-
-def place(connection: Connection, note: Note, choice: Choice) -> Content:
-    """Where a finding is, as a link to its row if it has one."""
-    name = f"connection {connection.opening.number}, frame {note.finding.frame}, packet {note.packet}"
-    return element("a", name, href=f"#{row_id(connection, note)}") if id(note) in choice.notes else name
-
-
-def row_id(connection: Connection, note: Note) -> str:
-    finding = note.finding
-    return f"c{connection.opening.number}-f{finding.frame}-{finding.side}-{finding.kind}-{finding.stream}"
 
 
 def window_id(window: Window) -> str:
@@ -204,9 +135,10 @@ def section(one: Connection, choice: Choice) -> Markup:
         items(flow_words(one)),
     ]
     if one.has_findings:
-        parts.append(element("p", f"Times count from the first finding of the connection, at {clock(one.start)}."))
+        parts.append(element("p", zero(one)))
     parts += [finding_table(one, choice), window_table(one, choice)]
-    return element("section", parts, class_="connection", aria_labelledby=number)
+    peers = {"data_client": opening.client, "data_server": opening.server}
+    return element("section", parts, class_="connection", aria_labelledby=number, **peers)
 
 
 def finding_table(one: Connection, choice: Choice) -> Markup:
@@ -219,13 +151,17 @@ def finding_table(one: Connection, choice: Choice) -> Markup:
     return table(f"Findings of connection {one.opening.number}", heads, rows, class_="findings")
 
 
+def packet(note: Note) -> Content:
+    return f"{note.packet:,} of {note.file}" if note.file else note.packet
+
+
 def finding_row(one: Connection, note: Note, choice: Choice) -> Markup:
     finding = note.finding
     window = one.windows.get(finding.window)
     place = f"#{window_id(window)}" if window and id(window) in choice.windows else f"#c{one.opening.number}"
     link = element("a", f"{finding.frame:,}", href=place) if window else markup(finding.frame)
     return row(
-        [link, note.packet, duration(one.since_start(finding)), sentence(note)],
+        [link, packet(note), moment(one, finding), sentence(one, note)],
         id=row_id(one, note),
         class_="fault" if finding.is_fault else None,
         data_connection=one.opening.number,

@@ -1,4 +1,4 @@
-"""What the page says in words at its top: what was audited, what came of it, and what to doubt."""
+"""What the page says in words: how much there was, what came of it, and what to doubt."""
 
 from __future__ import annotations
 
@@ -9,43 +9,39 @@ from datetime import datetime, timezone
 from report.blame import OTHER_SIDE, duration, section_of
 from report.lines import Opening
 from report.notes import Note
+from why.words import REASONS, count, streams_named
 
 from page.model import Audit, Connection
 
 MOST_STALLS = 10
 FORMS = {
-    "not-http2": "not HTTP/2: TLS, or an upgrade from HTTP/1.1",
-    "no-preface": "not audited: the client's preface was not captured whole",
-    "no-handshake": "not audited: the server's side was not captured",
+    "not-http2": "it is not HTTP/2, but TLS or an upgrade from HTTP/1.1",
+    "no-preface": "the client's preface was not captured whole",
+    "no-handshake": "the server's side was not captured",
 }
+MOST_NAMED = 8
 
 
-def count(number: int, one: str, many: str = "") -> str:
-    return f"{number:,} {one if number == 1 else many or one + 's'}"
+def reason_of(form: str) -> str:
+    """Why a connection was not audited, in words."""
+    if form in FORMS:
+        return FORMS[form]
+    reason = form.removeprefix("refused ")
+    known = REASONS.get(reason) or REASONS.get(reason.split(" ")[0])
+    return known.removeprefix("{n} of ") if known else f"TLS that could not be read ({reason})"
 
 
-def audited(audit: Audit) -> list[str]:
-    """What was audited, and how much came of it."""
+def counts(audit: Audit) -> str:
+    """How much there was."""
     capture, connections = audit.capture, audit.connections
     http2 = [one for one in connections if one.opening.form == "http2"]
     frames = sum(one.opening.frames for one in http2)
-    faults = sum(len(one.faults) for one in connections)
-    broken = sum(1 for one in connections if one.faults)
-    stalls = sum(len(one.stalls) for one in connections)
-    said = [
-        f"The capture has {count(capture.records, 'record')}, {capture.segments:,} of them TCP segments.",
-        f"{count(len(connections), 'connection was', 'connections were')} opened in it; HTTP/2 was spoken in "
-        f"{len(http2):,}, with {count(frames, 'frame')}.",
-    ]
-    if not http2:
-        return said + ["Nothing was audited, so nothing is said of flow control."]
-    said.append(f"{count(faults, 'fault')} in {count(broken, 'connection')}." if faults else "No rule was broken.")
-    said.append(
-        f"{count(stalls, 'stall')}: a side used up its credit and had to wait."
-        if stalls
-        else "No side used up its credit."
+    said = (
+        f"{count(capture.records, 'packet')}, {capture.segments:,} of them TCP segments; "
+        f"{count(len(connections), 'connection')}, {len(http2):,} of them audited, with {count(frames, 'frame')}"
     )
-    return said
+    faults, stalls = sum(len(one.faults) for one in http2), sum(len(one.waiting) for one in http2)
+    return f"{said}; {count(faults, 'fault')}, {count(stalls, 'stall')}."
 
 
 def doubts(audit: Audit) -> list[str]:
@@ -80,39 +76,63 @@ class Breach:
     section: str
     times: int
     connections: int
+    peer: str
     first: tuple[Connection, Note]
 
 
 def breaches(audit: Audit) -> list[Breach]:
-    """Who broke which rule, the most frequent first."""
-    times: Counter[tuple[str, str, str]] = Counter()
-    connections: Counter[tuple[str, str, str]] = Counter()
-    first: dict[tuple[str, str, str], tuple[Connection, Note]] = {}
+    """Which peer broke which rule, the most frequent first."""
+    times: Counter[tuple[str, str, str, str]] = Counter()
+    connections: Counter[tuple[str, str, str, str]] = Counter()
+    first: dict[tuple[str, str, str, str], tuple[Connection, Note]] = {}
     for one in audit.connections:
-        broken = Counter(
-            (note.finding.who_broke_it or "", note.finding.kind, section_of(note.finding)) for note in one.faults
-        )
-        times.update(broken)
-        connections.update(broken.keys())
-        for note in one.faults:
-            key = note.finding.who_broke_it or "", note.finding.kind, section_of(note.finding)
+        keys = [breach_of(one, note) for note in one.faults]
+        times.update(keys)
+        connections.update(set(keys))
+        for key, note in zip(keys, one.faults):
             first.setdefault(key, (one, note))
-    return [Breach(*key, number, connections[key], first[key]) for key, number in times.most_common()]
+    return [Breach(*key[:3], number, connections[key], key[3], first[key]) for key, number in times.most_common()]
 
 
-def wait(connection: Connection, stall: Note) -> int:
-    """How long a stall took, or has taken at the last finding."""
-    return connection.end - stall.finding.time if stall.waited is None else stall.waited
+def breach_of(one: Connection, note: Note) -> tuple[str, str, str, str]:
+    side = note.finding.who_broke_it or ""
+    return side, note.finding.kind, section_of(note.finding), peer(one.opening, side)
 
 
-def longest_stalls(audit: Audit) -> list[tuple[Connection, Note]]:
-    found = [(one, stall) for one in audit.connections for stall in one.stalls]
-    return sorted(found, key=lambda pair: -wait(*pair))[:MOST_STALLS]
+def peer(opening: Opening, side: str) -> str:
+    """A server by its endpoint, and a client by its address, since its port is another one each time."""
+    return opening.server if side == "server" else opening.client.rpartition(":")[0]
+
+
+Together = tuple[Connection, list[Note]]
+
+
+def longest_stalls(audit: Audit) -> list[Together]:
+    """The longest, those together that began in the same instant of one connection."""
+    found: dict[tuple[int, str, int], Together] = {}
+    for one in audit.connections:
+        for stall in one.waiting:
+            key = one.opening.number, stall.finding.side, stall.finding.time
+            found.setdefault(key, (one, []))[1].append(stall)
+    for one, stalls in found.values():
+        stalls.sort(key=lambda stall: -one.wait(stall))
+    return sorted(found.values(), key=lambda pair: -pair[0].wait(pair[1][0]))[:MOST_STALLS]
 
 
 def waited(connection: Connection, stall: Note) -> str:
-    said = duration(wait(connection, stall))
-    return said if stall.waited is not None else f"{said} up to the last finding, and no end was seen"
+    nanos = connection.wait(stall)
+    if stall.waited is not None:
+        return duration(nanos)
+    until = "the connection's end" if connection.until is not None else "the last finding"
+    return f"{duration(nanos)} up to {until}, and no end was seen" if nanos else "no end was seen"
+
+
+def windows_named(stalls: list[Note]) -> str:
+    """The windows of stalls that began together."""
+    streams = sorted(stall.finding.stream for stall in stalls)
+    said = ["the whole connection"] * (streams[0] == 0)
+    streams = [stream for stream in streams if stream]
+    return " and ".join(said + [streams_named(streams)] * bool(streams))
 
 
 def endpoint(opening: Opening, side: str) -> str:
@@ -127,10 +147,10 @@ def whom_to_ask(connection: Connection, stall: Note) -> str:
 def verdict(one: Connection) -> str:
     """How the audit of a connection ended."""
     if one.opening.form != "http2":
-        return FORMS.get(one.opening.form, f"not audited: {one.opening.form.removeprefix('refused ')}")
+        return f"not audited: {reason_of(one.opening.form)}"
     said = [count(len(one.faults), "fault") if one.faults else "no fault"]
-    if one.stalls:
-        said.append(count(len(one.stalls), "stall"))
+    if one.waiting:
+        said.append(count(len(one.waiting), "stall"))
     if one.audited is not None and one.audited.stopped_at is not None:
         said.append(f"broken by frame {one.audited.stopped_at:,}, after which nothing is judged")
     if any(flow.gap is not None for flow in one.flows):

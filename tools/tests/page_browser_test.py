@@ -28,7 +28,7 @@ TOP = pathlib.Path(__file__).resolve().parents[2]
 PROGRAM = TOP / "tools" / "h2audit-page"
 EXAMPLES = TOP / "examples"
 PICTURES = TOP / "docs" / "pictures"
-PICTURED, TITLE = "stream_overrun_go", "An upload past its credit"
+PICTURED, TITLE = "leaked_connection_credit_nginx", "Downloads that stood still"
 sys.path[:0] = [str(TOP / "tools"), str(TOP / "tools" / "tests")]
 sys.dont_write_bytecode = True
 
@@ -491,19 +491,37 @@ def data_of(text: str) -> dict[str, Any]:
     return found
 
 
+# Each picture's name, with the width and height of the window, the scheme, and a script before it is taken.
+OPENED = "document.querySelector('#rows .row[data-at=\"1\"] svg').dispatchEvent(new Event('click', { bubbles: true }));"
+SHOTS = (
+    ("page_light", 1100, 1240, "light", "scrollTo(0, 0)"),
+    ("page_dark", 1100, 1240, "dark", "scrollTo(0, 0)"),
+    ("page_request", 1280, 900, "light", OPENED + "document.getElementById('request').scrollIntoView()"),
+    ("page_800", 800, 1240, "dark", "document.getElementById('requests').scrollIntoView()"),
+    ("page_390", 390, 1000, "light", "document.getElementById('overview').scrollIntoView()"),
+)
+
+
 def write_pictures() -> None:
-    browser = Browser()
-    browser.command("Emulation.setDeviceMetricsOverride", width=1100, height=1170, deviceScaleFactor=1, mobile=False)
     with tempfile.TemporaryDirectory() as folder:
         path = pathlib.Path(folder, "page.html")
-        subprocess.run([PROGRAM, EXAMPLES / f"{PICTURED}.frames.report", "-o", path, "--title", TITLE], check=True)
-        for scheme in ("light", "dark"):
+        subprocess.run([PROGRAM, EXAMPLES / f"{PICTURED}.pcap", "-o", path, "--title", TITLE], check=True)
+        browser = Browser()
+        for name, width, height, scheme, script in SHOTS:
+            browser.command(
+                "Emulation.setDeviceMetricsOverride", width=width, height=height, deviceScaleFactor=1, mobile=False
+            )
             browser.scheme(scheme)
             browser.load(path)
             browser.until(IS_DRAWN, FIRST)
-            browser.run("scrollTo(0, 0)")
-            browser.driver.save_screenshot(str(PICTURES / f"page_{scheme}.png"))
-    browser.close()
+            browser.run(script)
+            browser.driver.save_screenshot(str(PICTURES / f"{name}.png"))
+        browser.scheme("dark")
+        printed = pathlib.Path(folder, "page.pdf")
+        printed.write_bytes(base64.b64decode(browser.command("Page.printToPDF", printBackground=True)["data"]))
+        words = ["pdftoppm", "-png", "-r", "80", "-f", "1", "-singlefile", printed, PICTURES / "page_printed"]
+        subprocess.run(words, check=True)
+        browser.close()
 
 
 if __name__ == "__main__":

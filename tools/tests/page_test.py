@@ -135,15 +135,17 @@ class Examples(unittest.TestCase):
         text = page_of((EXAMPLES / "connection_overflow_nginx.frames.report").read_text())
         rows = ["|".join(cells) for _, cells in Tags(text).rows]
         self.assertIn(
-            "the client|connection-overflow|RFC 9113, 6.9.1|1|1|connection 1, frame 9, packet 15| by 127.0.0.1:42816",
+            "the client, 127.0.0.1|connection-overflow|RFC 9113, 6.9.1|1|1|connection 1, frame 9, packet 15",
             rows,
         )
         text = page_of((EXAMPLES / "negative_window_tomcat.frames.report").read_text())
         rows = ["|".join(cells) for _, cells in Tags(text).rows]
         self.assertIn(
-            "804.434 ms|server, 127.0.0.1:20840|stream 1|connection 1, frame 10, packet 18|the client, 127.0.0.1:53340",
+            "804.434 ms|server, 127.0.0.1:20840|stream 1|connection 1, frame 10, packet 18",
             rows,
         )
+        # The stalls of two streams, of which one lies in part within the other: each instant counts once.
+        self.assertIn("the client, 127.0.0.1|its window of a stream|4|1|804.434 ms|1.609575 s", rows)
         self.assertIn("No rule was broken.", text)
 
     def test_without_credit(self) -> None:
@@ -156,7 +158,8 @@ class Examples(unittest.TestCase):
         text = page_of(HEAD + "connection 1 client 1.2.3.4:5 server 1.2.3.4:6 record 1 not-http2\n" + BOTH_FLOWS)
         self.assertIn("Nothing was audited", text)
         text = page_of(HEAD + "connection 1 client [::1]:5 server [::1]:6 record 1 refused no-key\n")
-        self.assertIn("Verdict: not audited: no-key.", text)
+        self.assertIn("Verdict: not audited: TLS without a key in the key logs (-k).", text)
+        self.assertIn("Not audited, TLS without a key in the key logs (-k): connection 1 ([::1]:5 to [::1]:6).", text)
 
     def test_doubts(self) -> None:
         text = page_of(
@@ -310,7 +313,7 @@ class Refusals(unittest.TestCase):
         )
 
     def test_words(self) -> None:
-        for words in ((), ("a",), ("a", "-o"), ("a", "b", "-o", "c"), ("a", "-o", "c", "--none")):
+        for words in ((), ("a",), ("a", "-o"), ("a", "-o", "c", "b"), ("a", "-o", "c", "--none")):
             done = subprocess.run([PROGRAM, *words], capture_output=True, text=True)
             self.assertEqual((done.returncode, done.stderr.count("\n"), done.stdout), (2, 1, ""), words)
 

@@ -11,17 +11,8 @@ from why.course import Back, Courses
 from why.origin import Origin
 from why.rounds import NEAR
 from why.seen import Seen
-from why.words import count, time_of
+from why.words import count, reason_words, time_of
 
-# Reasons of the map and forms of the report, in words; {n} is "3 connections".
-REASONS = {
-    "no-key": "{n} of TLS without a key in the key logs (-k)",
-    "wrong-key": "{n} of TLS whose keys in the key logs are those of another run",
-    "no-handshake": "{n} of which one direction alone was captured",
-    "not-http2": "{n} that spoke no HTTP/2, or began by an upgrade",
-    "no-preface": "{n} whose client sent no whole preface of HTTP/2",
-    "handshake-unfinished": "{n} of TLS that ended before the handshake did",
-}
 PASSED = {
     "not-ipv4": "neither IPv4 nor IPv6",
     "fragments": "IP fragments",
@@ -40,12 +31,6 @@ def not_audited(answer: Answer, origin: Origin) -> list[NotAudited]:
         if number := origin.capture.get(name, 0):
             said.append(NotAudited(name, number, f"{count(number, 'packet')} {words}"))
     return said
-
-
-def reason_words(why: str, number: int) -> str:
-    known = REASONS.get(why) or REASONS.get(why.split(" ")[0])
-    connections = count(number, "connection")
-    return known.format(n=connections) if known else f"{connections} of TLS that could not be read ({why})"
 
 
 def doubts_of(answer: Answer, origin: Origin, courses: Courses) -> list[Warning]:

@@ -15,6 +15,15 @@ GRPC = (
     "INTERNAL", "UNAVAILABLE", "DATA_LOSS", "UNAUTHENTICATED",
 )  # fmt: skip
 MOST_NAMED = 8
+# Reasons of the map and forms of the report, in words; {n} is "3 connections".
+REASONS = {
+    "no-key": "{n} of TLS without a key in the key logs (-k)",
+    "wrong-key": "{n} of TLS whose keys in the key logs are those of another run",
+    "no-handshake": "{n} of which one direction alone was captured",
+    "not-http2": "{n} that spoke no HTTP/2, or began by an upgrade",
+    "no-preface": "{n} whose client sent no whole preface of HTTP/2",
+    "handshake-unfinished": "{n} of TLS that ended before the handshake did",
+}
 
 
 def code_name(code: int) -> str:
@@ -57,6 +66,12 @@ def percent(part: int, whole: int) -> str:
 
 def count(number: int, one: str, many: str = "") -> str:
     return f"{number:,} {one if number == 1 else many or one + 's'}"
+
+
+def reason_words(why: str, number: int) -> str:
+    known = REASONS.get(why) or REASONS.get(why.split(" ")[0])
+    connections = count(number, "connection")
+    return known.format(n=connections) if known else f"{connections} of TLS that could not be read ({why})"
 
 
 def streams_named(streams: Sequence[int]) -> str:

@@ -42,6 +42,11 @@ class Chart {
     this.draw();
   }
 
+  fit(isPrinted) {
+    this.box.classList.toggle("printed", isPrinted);
+    this.draw();
+  }
+
   // Where a place of the connection stands on the axis.
   at({ frame, nanos }) {
     return this.isByFrame ? frame : nanos / this.size;
@@ -54,7 +59,7 @@ class Chart {
 
   draw() {
     const colour = colours();
-    const label = this.isByFrame ? "frame" : `${this.unit} since the first finding of the connection`;
+    const label = this.isByFrame ? "frame" : `${this.unit} since the ${charts.from} of the connection`;
     this.graph?.destroy();
     this.graph = new Dygraph(this.box, this.rows(), {
       labels: [label, "credit", "fault"], colors: [colour.line, colour.fault],
@@ -63,8 +68,8 @@ class Chart {
       gridLineColor: colour.grid, axisLineColor: colour.text, xlabel: label, ylabel: "bytes", xLabelHeight: 18,
       series: { fault: FAULTS },
       axes: {
-        x: { axisLabelFormatter: grouped, axisLabelWidth: 80 },
-        y: { axisLabelFormatter: grouped, axisLabelWidth: 92 },
+        x: { axisLabelFormatter: grouped, axisLabelWidth: 100 },
+        y: { axisLabelFormatter: grouped, axisLabelWidth: 124, pixelsPerLabel: 24 },
       },
       underlayCallback: (canvas, area, graph) => this.shade(canvas, area, graph, colour),
       highlightCallback: (event, x, points, row) => this.tell(row),

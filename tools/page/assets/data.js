@@ -1,12 +1,22 @@
 // Unpacks the windows of the page. Numbers are differences to the ones before, and are summed when a window is drawn.
 
 async function unpackedCharts() {
-  const letters = atob(document.getElementById("chart-data").textContent);
+  const said = await unpacked("chart-data");
+  return { ...said, windows: windowsOf(said) };
+}
+
+// By promises alone, and no task: so what is printed as soon as the page is loaded has its charts.
+async function unpacked(id) {
+  const letters = atob(document.getElementById(id).textContent);
   const bytes = new Uint8Array(letters.length);
   for (let at = 0; at < letters.length; at += 1) bytes[at] = letters.charCodeAt(at);
-  const stream = new Blob([bytes]).stream().pipeThrough(new DecompressionStream("deflate"));
-  const said = await new Response(stream).json();
-  return { ...said, windows: windowsOf(said) };
+  const stream = new DecompressionStream("deflate"), writer = stream.writable.getWriter();
+  writer.write(bytes).then(() => writer.close());
+  const reader = stream.readable.getReader(), decoder = new TextDecoder(), parts = [];
+  for (let part = await reader.read(); !part.done; part = await reader.read()) {
+    parts.push(decoder.decode(part.value, { stream: true }));
+  }
+  return JSON.parse(parts.join(""));
 }
 
 const OF_STALL = 3, OF_FAULT = 4;
@@ -82,7 +92,10 @@ const inAll = marks => marks.reduce((sum, { times }) => sum + times, 0);
 function troubleOf(one) {
   const stalls = stallsOf(charts, one), faults = inAll(faultsOf(charts, one)), words = [];
   if (faults) words.push(counted(faults, "fault"));
-  if (stalls.length) words.push(`${counted(inAll(stalls), "stall")}, the longest ${duration(one.longest)}`);
+  if (stalls.length) {
+    const longest = one.longest ? `, the longest ${duration(one.longest)}` : " that took no time";
+    words.push(counted(inAll(stalls), "stall") + longest);
+  }
   if (stalls.at(-1)?.end === null) words.push("the last one has no end");
   return words.join("; ") || "no trouble";
 }

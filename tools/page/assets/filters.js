@@ -3,17 +3,26 @@
 const field = name => document.getElementById(name);
 
 function asked() {
+  const words = field("search").value.trim().toLowerCase();
   return {
-    words: field("search").value.trim().toLowerCase(),
+    words, finds: finderOf(words),
     side: field("side").value, kind: field("kind").value, stream: field("stream").value,
   };
+}
+
+// Words that end or begin in a digit are whole numbers: connection 7 is not connection 70.
+function finderOf(words) {
+  const whole = words.replace(/[.*+?^${}()|[\]\\]/g, "\\$&");
+  const expression = new RegExp(`${/^\d/.test(words) ? "(?<!\\d)" : ""}${whole}${/\d$/.test(words) ? "(?!\\d)" : ""}`);
+  return text => expression.test(text);
 }
 
 const kindsOf = one => faultsOf(charts, one).map(fault => fault.kind);
 
 // What a search looks through; it is kept, since a page may have a hundred thousand windows.
 function wordsOf(one) {
-  one.words ??= [nameOf(one), one.client, one.server, troubleOf(one), ...kindsOf(one)].join(" ").toLowerCase();
+  const stalls = one.stalls ? (one.stream ? "stream-stall-begin" : "connection-stall-begin") : "";
+  one.words ??= [nameOf(one), one.client, one.server, troubleOf(one), stalls, ...kindsOf(one)].join(" ").toLowerCase();
   return one.words;
 }
 
@@ -24,7 +33,7 @@ function hasKind(one, kind) {
 }
 
 function isWindowAsked(one, want) {
-  return (!want.words || wordsOf(one).includes(want.words))
+  return (!want.words || want.finds(wordsOf(one)))
     && (!want.side || one.side === want.side)
     && (!want.stream || String(one.stream) === want.stream)
     && hasKind(one, want.kind);
@@ -33,8 +42,10 @@ function isWindowAsked(one, want) {
 function isRowAsked(row, want) {
   const { side, kind, stream, connection } = row.dataset;
   const isStall = /-stall-(begin|end)$/.test(kind);
-  const text = () => `connection ${connection}, ${side}, stream ${stream} ${row.textContent}`.toLowerCase();
-  return (!want.words || text().includes(want.words))
+  const { client, server } = row.closest("section").dataset;
+  const place = `connection ${connection}, ${side}, ${Number(stream) ? `stream ${stream}` : "connection window"}`;
+  const text = () => `${place} ${client} ${server} ${row.textContent}`.toLowerCase();
+  return (!want.words || want.finds(text()))
     && (!want.side || side === want.side)
     && (!want.stream || stream === want.stream)
     && (!want.kind || (want.kind === "fault" ? !isStall : want.kind === "stall" ? isStall : kind === want.kind));
@@ -49,7 +60,7 @@ function offerKinds(charts) {
 }
 
 function filterRows(want) {
-  const rows = [...document.querySelectorAll("tr[data-kind]")];
+  const rows = [...document.querySelectorAll("section.connection tr[data-kind]")];
   rows.forEach(row => { row.hidden = !isRowAsked(row, want); });
   return rows.filter(row => !row.hidden).length;
 }

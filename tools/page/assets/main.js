@@ -1,6 +1,6 @@
 // Puts the charts into the page, those with trouble first, and draws each when it comes into sight.
 
-const AT_ONCE = 6, MORE = 12, MOST_LINES = 500, MOST_PRINTED = 24;
+const AT_ONCE = 6, MORE = 12, MOST_LINES = 500;
 const KEYS = {
   "+": chart => chart.zoom(0.5), "=": chart => chart.zoom(0.5), "-": chart => chart.zoom(2),
   ArrowLeft: chart => chart.move(-0.25), ArrowRight: chart => chart.move(0.25), "0": chart => chart.graph.resetZoom(),
@@ -21,8 +21,11 @@ function make(name, content = "", more = {}) {
   return Object.assign(document.createElement(name), { textContent: content, ...more });
 }
 
-function figureOf(one) {
-  const figure = make("figure", "", { id: `chart-${one.number}`, className: "window", tabIndex: 0 });
+// The figure of a window; the windows of a request have another one, whose name begins by its place.
+function figureOf(one, place = "") {
+  const figure = make("figure", "", { id: `${place}chart-${one.number}`, tabIndex: 0 });
+  figure.dataset.window = one.number;
+  figure.className = one.faults || one.stalls ? "window" : "window calm";
   const caption = make("figcaption");
   const trouble = troubleOf(one);
   caption.append(make("h3", nameOf(one)), make("p", `${trouble}. Client ${one.client}, server ${one.server}.`));
@@ -47,7 +50,7 @@ function press(figure, key) {
 // The chart of a figure, which is drawn now if it was not.
 function draw(figure) {
   if (!drawn.has(figure.id)) {
-    const one = charts.windows[Number(figure.id.slice("chart-".length))];
+    const one = charts.windows[Number(figure.dataset.window)];
     const chart = new Chart(figure.querySelector(".plot"), one, seriesOf(charts, one), faultLines(one), isByFrame());
     drawn.set(figure.id, chart);
   }
@@ -73,20 +76,29 @@ function faultLines(one) {
 function list() {
   const want = asked();
   listed = JSON.stringify(want);
+  falls?.list(want);
   shown = charts.windows.filter(one => isWindowAsked(one, want));
   const rows = filterRows(want);
   const windows = `${grouped(shown.length)} of ${grouped(charts.windows.length)} windows`;
-  field("found").textContent = `${windows}, ${grouped(rows)} findings`;
+  field("found").textContent = `${windows}, ${grouped(rows)} finding${rows === 1 ? "" : "s"}`;
   limit = AT_ONCE;
   place();
+}
+
+// Of the charts whose names begin so.
+function forget(place) {
+  for (const [id, chart] of drawn) {
+    if (!id.startsWith(place)) continue;
+    chart.graph.destroy();
+    drawn.delete(id);
+  }
 }
 
 // Shows the first of the windows that were asked for, and a button for more of them.
 function place() {
   sight.disconnect();
-  drawn.forEach(chart => chart.graph.destroy());
-  drawn.clear();
-  const figures = shown.slice(0, limit).map(figureOf);
+  forget("chart-");
+  const figures = shown.slice(0, limit).map(one => figureOf(one));
   const rest = shown.length - figures.length;
   const more = rest > 0 ? [make("button", `Show ${Math.min(rest, MORE)} of ${grouped(rest)} windows more`,
     { type: "button", id: "more", onclick: showMore })] : [];
@@ -96,7 +108,7 @@ function place() {
 
 function showMore() {
   const rest = shown.length - limit;
-  const added = shown.slice(limit, limit + MORE).map(figureOf);
+  const added = shown.slice(limit, limit + MORE).map(one => figureOf(one));
   limit += MORE;
   field("more").before(...added);
   added.forEach(figure => sight.observe(figure));
@@ -138,14 +150,23 @@ function listen() {
     if (row && !String(getSelection()) && go(row)) event.preventDefault();
   });
   matchMedia("(prefers-color-scheme: dark)").addEventListener("change", () => drawn.forEach(chart => chart.draw()));
-  addEventListener("beforeprint", () => document.querySelectorAll("figure.window").forEach((figure, number) => {
-    if (number < MOST_PRINTED) draw(figure);
-  }));
+  addEventListener("beforeprint", () => print(true));
+  addEventListener("afterprint", () => print(false));
+}
+
+// On paper all charts that are listed stand drawn, in light colours, and as wide as any paper is.
+function print(isPrinted) {
+  document.documentElement.toggleAttribute("data-printing", isPrinted);
+  if (isPrinted) document.querySelectorAll("figure.window").forEach(draw);
+  drawn.forEach(chart => chart.fit(isPrinted));
+  falls?.print(isPrinted);
 }
 
 async function start() {
   charts = await unpackedCharts();
+  await startWaterfall();
   offerKinds(charts);
+  document.querySelectorAll("#connections table").forEach(makeSortable);
   field("no-charts").hidden = true;
   field("filters").hidden = field("help").hidden = false;
   listen();

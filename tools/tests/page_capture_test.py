@@ -1,0 +1,120 @@
+#!/usr/bin/python3
+"""Tests of h2audit-page on captures, by the programs that it runs: it says what h2audit-why says.
+
+    tools/tests/page_capture_test.py [H2AUDIT] [TEST..]
+"""
+
+from __future__ import annotations
+
+import html
+import os
+import pathlib
+import re
+import subprocess
+import sys
+import tempfile
+import unittest
+
+from why_tools import TOP, answer, has_programs, programs_of
+
+PAGE = TOP / "tools" / "h2audit-page"
+EXAMPLES = sorted((TOP / "examples").glob("*.pcap"))
+
+
+def ran(*words: str | pathlib.Path, stdin: bytes = b"", **more: str) -> subprocess.CompletedProcess[bytes]:
+    environment = {**os.environ, **more}
+    return subprocess.run([PAGE, *words], input=stdin, capture_output=True, timeout=200, env=environment)
+
+
+def page(*words: str | pathlib.Path, stdin: bytes = b"") -> str:
+    done = ran(*words, "-o", "-", stdin=stdin)
+    assert (done.returncode, done.stderr) == (0, b""), done.stderr
+    return done.stdout.decode()
+
+
+def text_of(document: str) -> str:
+    return html.unescape(re.sub(r"<script.*?</script>|<style.*?</style>|<[^>]*>", "\n", document, flags=re.S))
+
+
+class Examples(unittest.TestCase):
+    def test_page_and_terminal_say_the_same(self) -> None:
+        """The sentence on top, each request with its cause, and each fault."""
+        for capture in EXAMPLES:
+            with self.subTest(capture.name):
+                said, shown = answer(capture), text_of(page(capture))
+                self.assertIn(f"\n{said['summary']['text']}\n", shown)
+                for one in said["connections"]:
+                    for request in one["requests"]:
+                        self.assertIn(f"\n{request['cause']['text']}\n", shown)
+                        self.assertIn(f"\n{request['name'] or 'request'}\n", shown)
+                    for fault in one["faults"]:
+                        self.assertIn(f"\n{fault['text']}\n", shown)
+
+    def test_no_requests(self) -> None:
+        capture = TOP / "examples" / "leaked_connection_credit_nginx.pcap"
+        self.assertIn("GET /f20k.bin", page(capture))
+        document = page(capture, "--no-requests", "--title", "A page")
+        self.assertNotIn("f20k", text_of(document))
+        self.assertIn("Requests, those with trouble first", document)
+
+    def test_standard_input(self) -> None:
+        capture = TOP / "examples" / "leaked_connection_credit_nginx.pcap"
+        words = ("--title", "A page")
+        self.assertEqual(page("-", *words, stdin=capture.read_bytes()), page(capture, *words))
+
+    def test_several_files(self) -> None:
+        """Findings are named by the packet of their file, as the terminal names them."""
+        first, second = (TOP / "examples" / f"{name}.pcap" for name in ("tiny_window_lighttpd", "stream_overrun_go"))
+        shown = text_of(page(first, second, "--sort"))
+        self.assertIn("frame 7, packet 12 of ", shown)
+
+    def test_of_a_report_as_before(self) -> None:
+        report = TOP / "examples" / "stream_overrun_go.frames.report"
+        self.assertIn("Made by h2audit-page from a report of h2audit.", page(report))
+
+
+class Endings(unittest.TestCase):
+    def test_refusals(self) -> None:
+        """The reasons of the programs that it runs, on one line."""
+        capture = str(EXAMPLES[0])
+        with tempfile.NamedTemporaryFile() as damaged:
+            damaged.write(b"\xd4\xc3\xb2\xa1" + bytes(5))
+            damaged.flush()
+            for status, words in (
+                (3, [damaged.name]),
+                (4, [capture, "/nowhere/at all"]),
+                (4, ["-k", "/nowhere/keys", capture]),
+                (2, [str(TOP / "examples" / "stream_overrun_go.report"), capture]),
+            ):
+                done = ran(*words, "-o", "/dev/null")
+                self.assertEqual((done.returncode, done.stderr.count(b"\n")), (status, 1), done.stderr)
+                self.assertTrue(done.stderr.startswith(b"h2audit-page: "), done.stderr)
+                self.assertNotIn(b"Traceback", done.stderr)
+
+    def test_a_program_that_is_missing(self) -> None:
+        done = ran(EXAMPLES[0], "-o", "/dev/null", H2AUDIT_ANY="/nowhere/h2audit-any")
+        self.assertEqual((done.returncode, done.stderr.count(b"\n")), (4, 1))
+
+    def test_nothing_is_left_behind(self) -> None:
+        with tempfile.TemporaryDirectory() as folder:
+            ran(EXAMPLES[0], "-o", f"{folder}/page.html", TMPDIR=folder)
+            self.assertEqual(os.listdir(folder), ["page.html"])
+            ran("-", "-o", f"{folder}/other.html", stdin=b"\xd4\xc3\xb2\xa1" + bytes(5), TMPDIR=folder)
+            self.assertEqual(os.listdir(folder), ["page.html"])
+
+    def test_nothing_audited(self) -> None:
+        """The page says so, and which connections were not audited, and why."""
+        capture = TOP / "examples" / "stream_overrun_go.pcap"
+        with tempfile.NamedTemporaryFile(suffix=".pcap") as begun:
+            begun.write(capture.read_bytes()[:24])
+            begun.flush()
+            shown = text_of(page(begun.name))
+        self.assertIn("Nothing was audited", shown)
+        self.assertNotIn("No rule was broken", shown)
+
+
+if __name__ == "__main__":
+    words = programs_of(sys.argv)
+    if not has_programs():
+        sys.exit("page_capture_test: h2audit or h2audit-import is not built")
+    unittest.main(argv=words)
