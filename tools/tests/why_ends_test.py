@@ -9,6 +9,7 @@ from __future__ import annotations
 import json
 import os
 import pathlib
+import random
 import re
 import struct
 import subprocess
@@ -198,6 +199,34 @@ class Generated(OnCaptures):
         self.assertEqual(run.returncode, 0, run.stderr)
         self.assertIn("stream 1: the server stalled", run.stdout)
         self.assertIn("Ask the client", run.stdout)
+
+    def test_damaged(self) -> None:
+        """Captures with random bytes changed, as two ends and as before and after: a status and one line at most."""
+        chance = random.Random(12)
+        captures = self.captures([*ASKED, granted(703 + 50 + 400, 0, 1)])
+        damaged = self.folder / "damaged.pcap"
+        statuses = set()
+        for turn in range(40):
+            octets = bytearray(captures[turn % 2].read_bytes())
+            for _ in range(chance.randint(1, 12)):
+                octets[chance.randrange(24, 1100)] = chance.randrange(256)  # the rest is content, of zeros
+            damaged.write_bytes(octets[: chance.randint(24, 1100)] if turn % 4 == 0 else octets)
+            pair = (damaged, captures[1]) if turn % 2 == 0 else (captures[0], damaged)
+            for option in ("--ends", "--compare"):
+                run = ran(option, *pair)
+                self.assertNotIn(b"Traceback", run.stderr)
+                self.assertNotIn(b"an error of the program", run.stderr)
+                self.assertIn(run.returncode, (0, 1, 3, 6), run.stderr)
+                statuses.add(run.returncode)
+        self.assertLessEqual({0, 3, 6}, statuses)
+
+    def test_nothing_audited(self) -> None:
+        captures = self.captures(ASKED)
+        nothing = self.folder / "nothing.pcap"
+        nothing.write_bytes(captures[0].read_bytes()[:24])
+        run = ran("--ends", captures[0], nothing)
+        self.assertEqual((run.returncode, run.stdout), (6, b""))
+        self.assertEqual(run.stderr, b"h2audit-why: nothing was audited in the server's capture\n")
 
     def test_words(self) -> None:
         one = TOP / "examples" / "paused_stream_node.pcap"

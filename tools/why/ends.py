@@ -14,7 +14,7 @@ from why.making import Failed
 from why.seen import Seen
 from why.words import count, printable_list
 
-REFUSED = 3
+REFUSED, NOTHING_AUDITED = 3, 6
 # So far may the quickest packets of a pair that was captured at one place seem to go back.
 AT_ONE_PLACE = 1_000_000
 
@@ -90,6 +90,9 @@ def joined(client: Answer, server: Answer) -> Joined:
             pairs.append(both_of(end, other))
     met = [{pair.ends[side].said.number for pair in pairs} for side in (CLIENT, SERVER)]
     alone = [[end.said for end in found[side] if end.said.number not in met[side]] for side in (CLIENT, SERVER)]
+    for side in (CLIENT, SERVER):
+        if not found[side]:
+            raise Failed(NOTHING_AUDITED, f"nothing was audited in the {SIDES[side]}'s capture")
     if not pairs:
         raise Failed(REFUSED, "no connection is in both captures: " + why_none(found))
     return Joined(answers, pairs, (alone[CLIENT], alone[SERVER]))
@@ -100,9 +103,6 @@ def ends_of(answer: Answer) -> list[End]:
 
 
 def why_none(found: list[list[End]]) -> str:
-    for side in (CLIENT, SERVER):
-        if not found[side]:
-            return f"nothing was audited in the {SIDES[side]}'s"
     endpoints = [{(end.said.client, end.said.server) for end in ends} for ends in found]
     if same := sorted(endpoints[CLIENT] & endpoints[SERVER]):
         return f"{same[0][0]} -> {same[0][1]} is in both, with other initial sequence numbers, so it is another one"

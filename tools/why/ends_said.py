@@ -49,8 +49,10 @@ def of_connection(both: Both, page: Page) -> Iterator[str]:
     if not stalls:
         yield "  no side used up its credit"
     most = len(stalls) if page.is_all else MOST_STALLS
+    names = [{request.stream: request.name for request in end.said.requests} for end in both.ends]
     for one in stalls[:most]:
-        yield from page.folded(f"  {stall_words(both, one, page)}", "      ")
+        name = names[one.stall.side].get(one.stall.stream)
+        yield from page.folded(f"  {stall_words(one, name, page)}", "      ")
     if len(stalls) > most:
         yield f"  {count(len(stalls) - most, 'stall')} more: --all"
 
@@ -68,9 +70,10 @@ def head_of(both: Both) -> str:
     )
 
 
-def stall_words(both: Both, one: StallOfBoth, page: Page) -> str:
+def stall_words(one: StallOfBoth, name: str | None, page: Page) -> str:
     stall, sender = one.stall, SIDES[one.stall.side]
-    where = f"stream {stall.stream}{name_of(both, one)}" if stall.stream else "the connection"
+    where = f"stream {stall.stream}" if stall.stream else "the connection"
+    where += f" {escaped(name)}" if name else ""
     lasts = time_of(stall.nanos) + " without an end" * stall.is_hung
     shows = "shows at both ends" if one.shows_there else f"shows at the {sender} alone"
     said = f"{where}: the {sender} stalled for {lasts}, {page.packets(stall.begin, stall.end)}; {shows}. On its way: "
@@ -79,12 +82,6 @@ def stall_words(both: Both, one: StallOfBoth, page: Page) -> str:
         said += f"Way out {time_of(one.out)}, answer {time_of(one.answer)}, way back {time_of(one.back)}. "
     ask = f". Ask the {one.ask}" if one.ask else ""
     return f"{said}{one.verdict}: {one.text}{ask}"
-
-
-def name_of(both: Both, one: StallOfBoth) -> str:
-    requests = both.ends[one.stall.side].said.requests
-    name = next((request.name for request in requests if request.stream == one.stall.stream), None)
-    return f" {escaped(name)}" if name else ""
 
 
 def fault_words(both: Both, one: FaultOfBoth) -> str:
