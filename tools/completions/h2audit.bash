@@ -96,7 +96,7 @@ _h2audit_any() {
 _h2audit_why() {
     local word=${COMP_WORDS[COMP_CWORD]} before=${COMP_WORDS[COMP_CWORD - 1]}
     local options='--key-log -k --sort --all --query --no-requests --json --json-lines --color --width --h2audit --import'
-    options+=' --fail-on --fail-stall --require-http2 --junit --quiet --compare --help -h --version -V'
+    options+=' --fail-on --fail-stall --require-http2 --junit --quiet --compare --ends --help -h --version -V'
     [[ $word == = ]] && word=
     [[ $before == = ]] && before=${COMP_WORDS[COMP_CWORD - 2]}
     case $before in

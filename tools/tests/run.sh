@@ -121,6 +121,8 @@ try_built 'the answer in words: captures' tools/tests/why_test.py "$built"
 try_built 'the answer in words: hostile captures' tools/tests/why_hostile_test.py "$built"
 try_built 'the answer in words: jobs of CI' tools/tests/why_ci_test.py "$built"
 try_built 'the answer in words: before and after' tools/tests/why_compare_test.py "$built"
+try_built 'the answer in words: two ends, generated' tools/tests/why_ends_test.py "$built" Generated
+try_built 'the answer in words: two ends of a wire' tools/tests/why_ends_test.py "$built" Wire
 try_built 'the answer in words: words' tools/tests/why_words_test.py "$built"
 try_built 'the answer in words: damaged captures' tools/tests/why_mutations_test.py "$built"
 try_built 'the answer in words: both ends of a wire' tools/tests/why_place_test.py "$built"

@@ -46,14 +46,15 @@ def turns(found: Json) -> list[tuple[str, int, int | None, int | None]]:
 
 class Generated(OnCaptures):
     def capture(self, name: str, *asked: str) -> pathlib.Path:
-        """A capture of requests for these paths, one after the other, on streams 1, 3, .."""
+        """A capture of requests for these paths, by GET or the method before them, on streams 1, 3, .."""
         made = Capture()
         made.syn("C", 1000, SYN)
         made.syn("S", 5000, SYN_ACK)
         made.send("C", PREFACE + frame(4, 0, 0))
         made.send("S", frame(4, 0, 0) + frame(4, 1, 0))
-        for turn, path in enumerate(asked):
-            fields = ((b":method", b"GET"), (b":scheme", b"http"), (b":path", path.encode()), (b":authority", b"x"))
+        for turn, words in enumerate(asked):
+            method, path = (word.encode() for word in words.rpartition(" ")[::2])
+            fields = ((b":method", method or b"GET"), (b":scheme", b"http"), (b":path", path), (b":authority", b"x"))
             made.send("C", frame(1, 5, 2 * turn + 1, block(*fields)))
             made.send("S", frame(1, 5, 2 * turn + 1, b"\x88"))
         file = self.folder / name
@@ -75,6 +76,12 @@ class Generated(OnCaptures):
             self.assertIn(line, text)
         with_query = turns(self.with_query(before, after))
         self.assertIn(("GET /a?x=1", 1, 5, None), with_query)
+
+    def test_methods(self) -> None:
+        """Another method of the same path is another request."""
+        found = compare(self.capture("before", "/a", "HEAD /a"), self.capture("after", "HEAD /a", "PUT /a"))
+        self.assertEqual(turns(found), [("GET /a", 1, 1, None), ("HEAD /a", 1, 3, 1), ("PUT /a", 1, None, 3)])
+        self.assertEqual([one["method"] for one in found["requests"]], ["GET", "HEAD", "PUT"])
 
     def with_query(self, before: pathlib.Path, after: pathlib.Path) -> Json:
         found: Json = json.loads(ran("--json", "--query", "--compare", before, after).stdout)

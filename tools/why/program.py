@@ -154,7 +154,7 @@ def read(asked: argparse.Namespace, place: Path, audit_ends: object, progress: P
     if status not in AUDITED:
         raise failure("h2audit", status, said)
     with open(place / "report", "rb") as report:
-        wanted = Wanted(not asked.no_requests, asked.query, asked.json or asked.json_lines)
+        wanted = Wanted(not asked.no_requests, asked.query, asked.json or asked.json_lines, bool(asked.ends))
         return answer_of(Sources(made, report, origin, courses), wanted, progress.connections)
 
 
@@ -179,9 +179,10 @@ def page_of(answer: Answer, asked: argparse.Namespace) -> Page:
 
 
 def answers(asked: argparse.Namespace, progress: Progress) -> tuple[list[Answer], Iterator[str]]:
-    """The answers on the captures, and what is said of them. The last one may fail the run."""
-    if asked.compare:
-        return two.compare(asked, lambda one: answered(one, progress), lambda answer: page_of(answer, asked))
+    """The answers on the captures, and what is said of them."""
+    if asked.compare or asked.ends:
+        say = two.compare if asked.compare else two.ends
+        return say(asked, lambda one: answered(one, progress), lambda answer: page_of(answer, asked))
     answer = answered(asked, progress)
     return [answer], written(answer, asked)
 
@@ -192,11 +193,12 @@ def work(asked: argparse.Namespace) -> int:
         found, said = answers(asked, progress)
     finally:
         progress.end()
-    answer = found[-1]
     wanted = gates.gates_of(asked)
-    failures = gates.failures_of(answer, wanted)
+    # Of a comparison the capture after the change may fail the run, of two ends both.
+    judged = found if asked.ends else found[-1:]
+    failures = [failure for one in judged for failure in gates.failures_of(one, wanted)]
     if asked.junit:
-        write_junit(answer, failures, asked.junit)
+        write_junit(judged[0], failures, asked.junit)
     if not asked.quiet:
         sys.stdout.writelines(said)
         sys.stdout.flush()
