@@ -18,10 +18,10 @@ BESIDE = $(RUST_PROGRAMS) $(PYTHON_PROGRAMS) h2audit-split
 FIRST = examples/negative_window_tomcat.pcap examples/stream_overrun_go.pcap
 # The parts of "make check", the longest first.
 CHECKS = tests split sources layout believed storeys
-RUST_SOURCES := $(shell find companions -name target -prune -o -type f -print)
+RUST_SOURCES := tools/report/kinds.txt $(shell find companions -name target -prune -o -type f -print)
 SOURCES := crates.txt $(shell find crates -name out -prune -o -name '*.rt' -print -o -name '*.antt' -print)
 
-.PHONY: run build companions install deb check $(CHECKS:%=check-%) test test-tools bench believed pictures
+.PHONY: run deps build companions install deb check $(CHECKS:%=check-%) test test-tools bench believed pictures
 
 # Shows two reports at once, from a build without proof: of a connection with stalls and a window below zero, and of one
 # with an overrun, whose status of 1 is the program's answer.
@@ -31,6 +31,10 @@ run:
 		cd crates/h2audit_cli && rt try --cases "$$captures" -- {}
 	@echo 'Nothing of this build was proved. "make build" proves the program and builds it (some 20 minutes on four processors),'
 	@echo 'and "make install" puts it in place as h2audit.'
+
+# Installs the Debian packages that the programs in Rust and the tests need, as root.
+deps:
+	tools/deps.sh
 
 # Proves all that the programs stand on, builds them, and leaves them as PROGRAM and SPLIT; and builds those in Rust.
 build: $(PROGRAM) $(SPLIT) companions
@@ -119,7 +123,7 @@ check-sources check-believed check-storeys: check-%:
 # The gate: proves the crates, tries the must-fail edits, runs the tests and the programs; and asks the programs, as
 # both compilers built them, for whole reports and for parts. The first "rt ci" on a machine proves and tries all, a
 # later one what changed and what stands above it; "rt ci --anew" does all again.
-test:
+test: companions
 	RT_JOBS=$(RT_JOBS) rt ci
 	tests/command_test.py $(PROGRAM) $(PROGRAM).by-rattle
 	tests/reports_test.py $(PROGRAM) $(PROGRAM).by-rattle
@@ -137,10 +141,13 @@ pictures:
 	tools/tests/wireshark_picture.sh docs/pictures/wireshark_comments.png
 
 # Measures time and memory on generated captures, beside cat. BENCH has more words for bench/measure.py, as
-# make bench BENCH='--peer PROGRAM --shapes bulk,chatty 40'. Then h2audit-fleet beside xargs, over sets of captures that
-# BENCH_FLEET names, as BENCH_FLEET='1000 0.05 20 20'.
-bench: $(PROGRAM)
+# make bench BENCH='--peer PROGRAM --shapes bulk,chatty 40'. Then the programs beside it, each beside what a user would
+# take instead: imports beside the program in Python that they were, tshark and openssl; any, comment and merge;
+# h2audit-fleet beside xargs, over sets of captures that BENCH_FLEET names, as BENCH_FLEET='1000 0.05 20 20'.
+bench: $(PROGRAM) companions
 	python3 bench/measure.py $(PROGRAM) $(BENCH)
+	python3 bench/measure_import.py $(BENCH_IMPORT)
+	python3 bench/measure_companions.py $(PROGRAM) $(BENCH_COMPANIONS)
 	python3 bench/measure_fleet.py $(PROGRAM) $(BENCH_FLEET)
 
 # Lists the definitions that a reader has to believe, with their lines, and marks those that the report of a capture

@@ -124,8 +124,8 @@ class Rows:
         return "connections", (number, client, server, record, form, held, *flows, self.stopped_at)
 
 
-def flow_values(flow: Flow | None) -> tuple[int | None, ...]:
-    return (flow.bytes, flow.gap, flow.tail) if flow else (None, None, None)
+def flow_values(flow: Flow | None) -> tuple[int | str | None, ...]:
+    return (flow.bytes, flow.gap, flow.tail, flow.end) if flow else (None, None, None, None)
 
 
 def rows_of(report: BinaryIO, rows: Rows) -> Iterator[Row]:

@@ -56,9 +56,11 @@ CREATE TABLE connections (
     client_bytes INTEGER,
     client_gap INTEGER,
     client_tail INTEGER,
+    client_end TEXT,
     server_bytes INTEGER,
     server_gap INTEGER,
     server_tail INTEGER,
+    server_end TEXT,
     stopped_at INTEGER,
     PRIMARY KEY (capture, number)
 ) WITHOUT ROWID;
@@ -173,8 +175,8 @@ JOIN captures ON captures.id = stalls.capture
 WHERE stalls.nanos IS NOT NULL
 GROUP BY stalls.capture, stalls.connection, stalls.side, stalls.stream;
 
--- What was not audited, and why: whole captures, those without a connection too, connections, segments whose connection
--- began before the capture, and records that were passed over.
+-- What was not audited, and why: whole captures, those without a connection too, connections, flows of TLS that were
+-- read no further, segments whose connection began before the capture, and records that were passed over.
 CREATE VIEW not_audited AS
 SELECT path, 'capture' AS what, NULL AS sender, NULL AS receiver, outcome || ': ' || reason AS reason
 FROM captures
@@ -200,6 +202,18 @@ FROM connections
 JOIN captures ON captures.id = connections.capture
 WHERE connections.holds <> 'http2'
 UNION ALL
+SELECT captures.path, 'rest of connection ' || connections.number, connections.client, connections.server,
+       connections.client_end
+FROM connections
+JOIN captures ON captures.id = connections.capture
+WHERE connections.client_end IS NOT NULL
+UNION ALL
+SELECT captures.path, 'rest of connection ' || connections.number, connections.server, connections.client,
+       connections.server_end
+FROM connections
+JOIN captures ON captures.id = connections.capture
+WHERE connections.server_end IS NOT NULL
+UNION ALL
 SELECT captures.path, 'segments ' || unopened.segments, unopened.sender, unopened.receiver, 'unopened'
 FROM unopened
 JOIN captures ON captures.id = unopened.capture
@@ -215,12 +229,12 @@ CREATE VIEW lost_bytes AS
 SELECT captures.path, connections.number AS connection, 'client' AS side, connections.client_gap AS gap
 FROM connections
 JOIN captures ON captures.id = connections.capture
-WHERE connections.client_gap IS NOT NULL
+WHERE connections.client_gap IS NOT NULL AND connections.client_end IS NULL
 UNION ALL
 SELECT captures.path, connections.number, 'server', connections.server_gap
 FROM connections
 JOIN captures ON captures.id = connections.capture
-WHERE connections.server_gap IS NOT NULL;
+WHERE connections.server_gap IS NOT NULL AND connections.server_end IS NULL;
 
 -- Of each capture what a CI job asks: is there a fault, and was there anything to audit.
 CREATE VIEW verdicts AS

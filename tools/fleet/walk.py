@@ -59,7 +59,7 @@ class Walk:
         for path in paths:
             self.named(path)
         if not paths:
-            self.empty.append(f"{name}: this list names nothing")
+            self.empty.append(f"{'standard input' if name == '-' else name}: this list names nothing")
 
     def folder(self, top: bytes) -> None:
         """All captures below a folder. One that cannot be read is entered as it is, and the others go on.

@@ -14,7 +14,7 @@ from typing import IO, BinaryIO, NoReturn
 from report import VERSION
 from report.interrupts import Waiting
 
-# 5 is want of memory alone, and 6 that nothing could be read; 7 is that a library or a program is missing.
+# 5 is want of memory alone, 6 that nothing could be read, and 7 that a library, a program or a worker is missing.
 OK, WRONG_WORDS, REFUSED, IO_FAILED, NO_MEMORY, MISSING = 0, 2, 3, 4, 5, 7
 # No number of a command line has more digits.
 DIGITS = r"\d{1,20}"

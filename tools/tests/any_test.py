@@ -154,11 +154,12 @@ class Endings(InFolder):
             path.chmod(0o755)
         temporary = self.folder / "temporary"
         temporary.mkdir()
-        path = f"{self.folder}:{os.environ['PATH']}"
-        for more in ([], ["--parts", "1"]):
+        folders = f"{self.folder}:{os.environ['PATH']}"
+        ways: tuple[list[str], ...] = ([], ["--parts", "1"])
+        for more in ways:
             for number in SIGNALS:
                 pid.unlink(missing_ok=True)
-                words = ["env", f"TMPDIR={temporary}", f"PATH={path}", tools.ANY, "--h2audit", program, *more, "-"]
+                words = ["env", f"TMPDIR={temporary}", f"PATH={folders}", tools.ANY, "--h2audit", program, *more, "-"]
                 status, said = self.ended_by([*words], number, pid)
                 self.assertEqual((status, said, os.listdir(temporary)), (-number, b"", []), (more, number))
                 until(lambda: not pathlib.Path("/proc", pid.read_text().strip()).exists())

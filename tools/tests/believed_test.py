@@ -256,20 +256,22 @@ class Definitions(unittest.TestCase):
     NEVER_RUN = {f"h2audit/specs/{name}.antt" for name in ("Account", "Asked", "CommandLine", "Program")}
 
     def test_modules_within_reach(self) -> None:
-        """The reports of a capture with a stall, and of one with a packet that is refused, use all that it says."""
+        """The reports of a capture with a stall, of one with a packet that is refused, and the refusal of an empty one
+        use all that it says."""
         rows = believed.read(TOP / "crates", believed.CALLS | believed.VIEWS).by_crate()
         names = {believed.name_of(module) for _, modules in rows for module, _, _ in modules}
         never = {name for name in names if name.startswith("input_output/")} | self.NEVER_RUN
         (row,) = [row for name, row in reports_test.rows() if name == "short_ethernet"]
         script = row.partition("-- ")[0].encode()
         used = self.used("examples/negative_window.pcap") | self.used("--script", given=script)
+        used |= self.used("/dev/null", status=3)
         self.assertEqual(used, names - never)
         self.assertIn(f"{len(used)} of the {len(names)} are within its reach", self.PROOFS)
 
-    def used(self, *words: str, given: bytes = b"") -> set[str]:
+    def used(self, *words: str, given: bytes = b"", status: int = 0) -> set[str]:
         program = TOP / "tools" / "by-definition"
         run = subprocess.run([program, "--modules", *words], input=given, capture_output=True, cwd=TOP, timeout=120)
-        self.assertEqual((run.returncode, run.stderr), (0, b""))
+        self.assertEqual((run.returncode, run.stderr), (status, b""))
         return set(run.stdout.decode().split())
 
     def test_lines(self) -> None:

@@ -25,6 +25,7 @@ sys.path[:0] = [str(TOP / "tests"), str(TOP / "bench")]
 import captures as scripts  # noqa: E402
 import generate  # noqa: E402
 import reports_test  # noqa: E402
+from companions import companion  # noqa: E402
 
 FLEET = TOP / "tools" / "h2audit-fleet"
 # The first word of a test may name h2audit.

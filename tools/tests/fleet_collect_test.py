@@ -67,12 +67,6 @@ class Collected(unittest.TestCase):
                 found = [one if one[5] else (*one[:6], None, one[7]) for one in found]
             self.assertEqual(found, rows, f"{sample.name}: {table}")
 
-    def open_nanos(self) -> int | None:
-        """How long the open stall lasted, where the import writes a course that tells it."""
-        asked = subprocess.run([beside("h2audit-import"), "--help"], capture_output=True)
-        tells = PROGRAM and b"--course" in asked.stdout
-        return OPEN_NANOS if tells else None
-
     def test_parallel(self) -> None:
         """GNU parallel, and then the same tables; what is changed and audited anew is collected anew."""
         commands = block("h2audit_job()") + block("export -f")
@@ -81,7 +75,7 @@ class Collected(unittest.TestCase):
         self.assertEqual((ran.returncode, ran.stdout), (1, wanted), ran.stderr)
         for place in range(6):
             self.check(place)
-        self.assertIn((self.open_nanos(),), self.machine.ask("SELECT nanos FROM open_stalls"))
+        self.assertIn((OPEN_NANOS if PROGRAM else None,), self.machine.ask("SELECT nanos FROM open_stalls"))
         again = self.machine.run("--collect", "jobs")
         self.assertEqual((again[0], again[2].count("\n")), (4, 1))
         self.assertEqual(self.machine.run("--collect", "jobs", "--resume")[:2], (1, ran.stdout))

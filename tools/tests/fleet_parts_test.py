@@ -174,8 +174,7 @@ class Parts(Beside):
         self.assertEqual(self.machine.run("--jobs", "2", "--retries", "1", "--split-above", "1", "captures")[0], 3)
         asked = "SELECT outcome, reason, tries FROM captures"
         self.assertEqual(self.machine.ask(asked), [("failed", "part 2: out-of-memory", 2)])
-        cannot = "echo \"h2audit-split: cannot write: $4/part-001.pcap\" >&2; exit 4\n"
-        self.machine.script("h2audit-split", cannot)
+        self.machine.script("h2audit-split", "echo \"h2audit-split: cannot write: $4/part-001.pcap\" >&2; exit 4\n")
         words = ("--jobs", "2", "--retries", "0", "--resume", "--split-above", "1", "captures")
         self.assertEqual(self.machine.run(*words)[0], 3)
         self.assertEqual(self.machine.ask(asked), [("failed", "write-failed", 1)])

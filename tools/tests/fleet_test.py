@@ -22,7 +22,7 @@ from fleet_captures import PATIENCE, PROGRAM, TOP, Machine, Row, Sample, by_hand
 
 sys.path.insert(0, str(TOP / "tools"))
 
-from fleet import database, names, programs, tasks  # noqa: E402
+from fleet import database, names, pool, programs, tasks  # noqa: E402
 
 CAPTURES = 200
 OTHER = {"client": "server", "server": "client"}
@@ -71,8 +71,8 @@ def rows_by_hand(report: str) -> dict[str, list[Row]]:
                 connection = int(number)
                 held = int(frames[1]) if frames else None
                 connections.append([connection, client, server, int(record), holds, held])
-            case ["flow", _, _, size, _, gap, _, tail]:
-                connections[-1] += [int(size), None if gap == "none" else int(gap), int(tail)]
+            case ["flow", _, _, size, _, gap, _, tail, *end]:
+                connections[-1] += [int(size), None if gap == "none" else int(gap), int(tail), end[1] if end else None]
             case ["frame", frame, _, record, _, moment, side, kind, _, stream, _, value]:
                 position += 1
                 broke = "nobody" if "-stall-" in kind else OTHER[side] if kind in OVERFLOWS else side
@@ -85,7 +85,7 @@ def rows_by_hand(report: str) -> dict[str, list[Row]]:
                     (connection, position, side, int(stream), int(first), last, nanos, OTHER[side]))
             case ["audit", *how]:
                 connections[-1].append(int(how[-1]) if how[0] == "stopped" else None)
-    rows["connections"] = [tuple([*row, None][:13]) for row in connections]
+    rows["connections"] = [tuple([*row, None][:15]) for row in connections]
     return rows
 
 
@@ -440,6 +440,59 @@ class Writer(OneCapture):
         self.assertEqual((answer["outcome"], answer["reason"]), ("failed", "timeout"))
 
 
+class Workers(unittest.TestCase):
+    """The pool of this machine."""
+
+    ORDER: ClassVar[tasks.Order] = {"keys": [], "imports": "never", "timeout": 60.0, "split_above": 5}
+
+    def done(self, task: pool.Task) -> pool.Task:
+        until(lambda: task.status != pool.WAITS)
+        return task
+
+    def test_answers(self) -> None:
+        """A task answers, or raises what it raised; one whose worker is gone is lost, and the next has another."""
+        with pool.Pool(1) as workers:
+            self.assertEqual(self.done(workers.submit(tasks.parts_of, 10, self.ORDER, priority=0)).result(0), 4)
+            with self.assertRaisesRegex(TypeError, "NoneType"):
+                self.done(workers.submit(tasks.audit, None, self.ORDER, priority=0)).result(0)
+            (before,) = workers.workers
+            before.process.kill()
+            with self.assertRaises(workers.lost):
+                self.done(workers.submit(tasks.parts_of, 10, self.ORDER, priority=0)).result(0)
+            self.assertEqual(self.done(workers.submit(tasks.parts_of, 10, self.ORDER, priority=0)).result(0), 4)
+            (after,) = workers.workers
+        self.assertNotEqual(before.process.pid, after.process.pid)
+        self.assertEqual([one.process.poll() for one in (before, after)], [-signal.SIGKILL] * 2)
+
+    def test_order(self) -> None:
+        """The most urgent goes first, and what was given up is not done."""
+        workers = pool.Pool(1)
+        asked = [workers.submit(tasks.parts_of, size, self.ORDER, priority=priority)
+                 for size, priority in ((10, -1), (20, 0), (30, 5), (40, 0))]
+        ended: list[object] = []
+        for task in asked:
+            task.add_done_callback(ended.append)
+        workers.cancel([asked[1]])
+        with workers:
+            until(lambda: len(ended) == 3)
+        self.assertEqual(ended, [asked[2], asked[3], asked[0]])
+
+
+class FlowsOfTls(OneCapture):
+    def test_ends(self) -> None:
+        """A gap where plaintext ended for another reason is no loss of bytes, and the rest was not audited."""
+        first = self.machine.samples[0]
+        ends = ("gap 104 tail 0 end renegotiation\n", "gap 7 tail 0\n")
+        report = (first.report.replace("flow client bytes 15112 gap none tail 0\n", f"flow client bytes 7 {ends[1]}")
+                  .replace("flow server bytes 104 gap none tail 0\n", f"flow server bytes 104 {ends[0]}"))
+        self.machine.samples[0] = Sample(first.name, first.capture, first.status, "", report)
+        self.assertEqual(self.machine.run("--jobs", "1", "captures")[::2], (1, ""))
+        self.assertEqual(self.machine.ask("SELECT client_end, server_end FROM connections"), [(None, "renegotiation")])
+        self.assertEqual(self.machine.ask("SELECT side, gap FROM lost_bytes"), [("client", 7)])
+        self.assertEqual(self.machine.ask("SELECT what, sender, reason FROM not_audited"),
+                         [("rest of connection 1", "127.0.0.1:21100", "renegotiation")])
+
+
 class Schema(unittest.TestCase):
     def test_documented(self) -> None:
         """The document names each table, column and view, and the versions of the schema."""
@@ -447,7 +500,7 @@ class Schema(unittest.TestCase):
         base.executescript((TOP / "tools" / "fleet" / "schema.sql").read_text())
         text = (TOP / "docs" / "FLEET.md").read_text()
         named = set(re.findall(r"`([a-z0-9_]+)`", text)) | {"capture"}
-        named |= {f"{side}_{word}" for side in ("client", "server") for word in ("bytes", "gap", "tail")}
+        named |= {f"{side}_{word}" for side in ("client", "server") for word in ("bytes", "gap", "tail", "end")}
         for kind, name in base.execute("SELECT type, name FROM sqlite_master WHERE type IN ('table', 'view')"):
             columns = {row[1] for row in base.execute(f"PRAGMA table_info({name})")} if kind == "table" else set()
             self.assertEqual(({name} | columns) - named, set(), name)

@@ -100,7 +100,10 @@ class Unread(parts.Beside):
         self.assertEqual(found["empty.pcap"], ("capture", "empty"))
         self.assertEqual(found["nothing.pcap"], ("capture", "refused: short-header"))
         self.assertEqual(found["text.pcap"], ("capture", "refused: bad-magic"))
-        self.assertEqual({found[name][0] for name in ("mpls.pcap", "udp.pcap")}, {"capture"})
+        for name in ("mpls", "udp"):
+            self.assertRegex(str(found[f"{name}.pcap"]), rf"^\('capture', 'passed over: \d+ packets {name}'\)$")
+        cut = self.machine.ask("SELECT what FROM not_audited WHERE reason = 'cut' AND path LIKE '%/cut.pcap.gz'")
+        self.assertRegex(str(cut), r"^\[\('record \d+',\)\]$")
         for name in ("packed.pcap.xz", "unnamed"):
             self.assertRegex(str(found.pop(name)[1]), "^refused: bad-")
         wanted = {"empty.pcap", "nothing.pcap", "mpls.pcap", "udp.pcap", "cut.pcap.gz", "text.pcap"}
@@ -124,6 +127,19 @@ class Unread(parts.Beside):
         self.assertEqual(self.machine.run("--jobs", "2", "--resume", "--require-http2", "captures")[0], 3)
         self.machine.database.unlink()
         self.assertEqual(self.machine.run("--jobs", "2", "-k", "keys", "--require-http2", "captures")[::2], (0, ""))
+
+    def test_open_stall(self) -> None:
+        """An open stall lasts up to the same last packet in each form of a capture."""
+        content = (TOP / "examples" / "zero_increment_nginx.pcap").read_bytes()
+        self.capture("plain.pcap", content)
+        self.capture("six.pcap", parts.over_ipv6(content))
+        self.capture("two.pcap", rewritten(content, bytes.fromhex("8100000588a80006")))
+        subprocess.run(["editcap", "-F", "pcapng", "plain.pcap", "a.pcapng"], cwd=self.machine.captures, check=True)
+        self.capture("packed.pcap.gz", gzip.compress(content))
+        self.assertEqual(self.machine.run("--jobs", "2", "captures")[::2], (1, ""))
+        found = self.rows("nanos", "open_stalls")
+        names = ("plain.pcap", "six.pcap", "two.pcap", "a.pcapng", "packed.pcap.gz")
+        self.assertEqual(found, {name: (201057000,) for name in names})
 
     def test_import_refused(self) -> None:
         """What h2audit audited stands where an import that might read more is refused."""
@@ -158,6 +174,8 @@ class Said(unittest.TestCase):
         self.assertEqual(self.machine.run("empty"), (3, nothing, empty))
         self.assertEqual(self.machine.run("--list", "list"),
                          (3, nothing, "h2audit-fleet: list: this list names nothing\n"))
+        self.assertEqual(self.machine.run("--list", "-"),
+                         (3, nothing, "h2audit-fleet: standard input: this list names nothing\n"))
         self.assertEqual(self.machine.run("empty", "captures"), (3, self.summary, empty))
         self.assertEqual(self.machine.run("--resume", "captures/stream_overrun_go.pcap", "captures"),
                          (1, f"{self.summary[:-1]}; 1 were there\n", ""))

@@ -254,7 +254,8 @@ class Course(unittest.TestCase):
     def test_lines(self) -> None:
         datagrams = opening() + [
             segment(0, 101, flags=ACK), segment(0, 101, PREFACE), segment(0, 101, PREFACE),
-            segment(0, 101 + 40, b"later"), segment(0, 101 + len(PREFACE), b"1234567"), segment(0, 101 + 35, b"12345" + b"later!"),
+            segment(0, 101 + 40, b"later"), segment(0, 101 + len(PREFACE), b"1234567"),
+            segment(0, 101 + 35, b"12345" + b"later!"),
             segment(1, 901, flags=ACK)[:34] + b"\0\0" + segment(1, 901, flags=ACK)[36:], segment(1, 901, b"answer"),
             segment(1, 907, flags=1 | ACK), segment(0, 147, flags=4),
         ]  # fmt: skip

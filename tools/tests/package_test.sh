@@ -43,7 +43,7 @@ installed() {
 
 # By the repository, and not by the Makefile: each module and asset.
 modules() {
-    (cd tools && find comment fleet import page plot report split why -name __pycache__ -prune -o -type f \
+    (cd tools && find fleet page plot report why -name __pycache__ -prune -o -type f \
         -printf "./$1/share/h2audit/%p\n")
 }
 

@@ -54,10 +54,9 @@ def tools_folder(folder: str, program: pathlib.Path, awk: str) -> pathlib.Path:
     bin_of = pathlib.Path(folder, awk)
     bin_of.mkdir()
     (bin_of / "h2audit").symlink_to(program)
-    for name in ("h2audit-fleet", "h2audit-page", "h2audit-plot", "h2audit-why"):
-        (bin_of / name).symlink_to(TOP / "tools" / name)
-    for name in ("h2audit-any", "h2audit-comment", "h2audit-import", "h2audit-merge"):
-        (bin_of / name).symlink_to(companion(name))
+    for name in ("any", "comment", "fleet", "import", "merge", "page", "plot", "why"):
+        script = TOP / "tools" / f"h2audit-{name}"
+        (bin_of / script.name).symlink_to(script if script.exists() else companion(script.name))
     (bin_of / "awk").symlink_to(AWKS[awk])
     return bin_of
 

@@ -5,28 +5,11 @@
 #
 # It proves nothing, and builds the library's example alone. Where the program is not built, or is older than its
 # sources, the recipes read the stored reports of examples/, and install and package have another program in its place;
-# what needs the program then does not run, and so the tests fail at their end. As root it installs the Debian packages
-# that it needs and that are missing.
+# what needs the program then does not run, and so the tests fail at their end. Where a Debian package is missing, it
+# fails with the list: make deps installs what is needed.
 set -euo pipefail
 cd "$(dirname "$0")/../.."
 
-needed=(python3-matplotlib mandoc lintian zsh fish gawk mawk original-awk tshark binutils gcc libc6-dev)
-# Of costs.
-needed+=(valgrind)
-# Of types.
-needed+=(mypy)
-# Of the page and its tests.
-needed+=(libjs-dygraphs chromium chromium-driver python3-selenium poppler-utils)
-# Of imports and their tests.
-needed+=(python3-cryptography python3-zstandard zstd tcpdump openssl)
-# Of the programs in Rust.
-needed+=(cargo rustc rustfmt rust-clippy clang pkg-config libssl-dev libzstd-dev liblzma-dev libbz2-dev)
-needed+=(librust-{atty,bzip2,flate2,itoa,lexopt,memchr,once-cell,openssl,rlimit,signal-hook,tempfile,xz2,zstd}-dev)
-# Of many captures and their tests.
-needed+=(python3-distributed sqlite3 parallel iproute2)
-# Of the answer in words and its tests: real servers and clients.
-needed+=(python3-hpack python3-jsonschema python3-grpcio)
-needed+=(nginx-light nghttp2-client nghttp2-server h2o caddy nodejs curl)
 built=crates/h2audit_cli/out/h2audit_cli
 split=crates/h2audit_split/out/h2audit_split
 work=$(mktemp -d)
@@ -37,35 +20,11 @@ fail() {
     exit 1
 }
 
-missing() {
-    local package
-    for package in "${needed[@]}"; do
-        dpkg-query -W -f '${Status}\n' "$package" 2> /dev/null | grep -qx 'install ok installed' || echo "$package"
-    done
-}
-
-# Where there is no network this fails within two minutes, and does not hang.
-install_packages() {
-    local packages
-    mapfile -t packages < <(missing)
-    [[ ${#packages[@]} -eq 0 ]] && return
-    [[ $(id -u) -eq 0 ]] || fail "install these Debian packages first, or run it as root: ${packages[*]}"
-    echo "installing ${packages[*]}"
-    export DEBIAN_FRONTEND=noninteractive
-    local patience=(-o Acquire::Retries=1 -o Acquire::http::Timeout=20 -o DPkg::Lock::Timeout=60)
-    timeout 60 apt-get "${patience[@]}" update > "$work/apt" 2>&1 || true
-    timeout 240 apt-get "${patience[@]}" -o Dpkg::Options::=--force-unsafe-io install -y --no-install-recommends \
-        "${packages[@]}" < /dev/null >> "$work/apt" 2>&1 || {
-        tail -n 5 "$work/apt" >&2
-        fail "these Debian packages are missing and could not be installed: ${packages[*]}"
-    }
-}
-
-# Runs one test for at most four minutes; what it says is shown where it fails.
+# Runs one test, for at most eight minutes; most take less than one. What it says is shown where it fails.
 try() {
     local name=$1 start=$SECONDS
     shift
-    timeout 240 "$@" > "$work/said" 2>&1 < /dev/null || {
+    timeout "${limit:-480}" "$@" > "$work/said" 2>&1 < /dev/null || {
         cat "$work/said" >&2
         fail "$name: failed"
     }
@@ -90,8 +49,8 @@ try_split() {
     fi
 }
 
+tools/deps.sh --check
 left_out=()
-install_packages
 if make -q "$built" > /dev/null 2>&1; then
     echo "with the program that is built"
     program=$built
@@ -105,8 +64,8 @@ else
 fi
 make -q "$split" > /dev/null 2>&1 || split=$program
 PATH=/usr/bin:/bin make --no-print-directory companions || fail 'the programs in Rust could not be built'
-try 'programs in Rust: form' tools/tests/rust_test.sh form
-try 'programs in Rust: their own tests' tools/tests/rust_test.sh tests
+limit=1200 try 'programs in Rust: form' tools/tests/rust_test.sh form
+limit=1200 try 'programs in Rust: their own tests' tools/tests/rust_test.sh tests
 try 'types of Python, and lines' tools/tests/sources_test.py
 try 'man pages and completions' tools/tests/words_test.py
 try 'definitions to believe' tools/tests/believed_test.py
@@ -135,6 +94,7 @@ try 'library example' tools/tests/library_example_test.py
 try 'captures of TLS' tools/tests/import_test.py "${audits[@]}"
 try 'forms of captures' tools/tests/import_forms_test.py
 try 'cipher suites, resumption, PSK, early data' tools/tests/import_tls_test.py "${audits[@]}"
+try 'what h2audit-any says of an original' tools/tests/any_test.py "${audits[@]}"
 try_built 'reports of earlier imports' tools/tests/import_map_test.py "$built"
 try 'mutated captures and key logs' tools/tests/import_mutations_test.py
 try 'imports: what was once read wrongly, preambles, the course of TCP' tools/tests/import_corpus_test.py
@@ -143,7 +103,7 @@ try 'many captures: tables' tools/tests/fleet_test.py "${audits[@]}" Tables
 try 'many captures: lost workers, memory, time' tools/tests/fleet_test.py \
     Course.test_{killed_worker,worker_killed_each_time,memory_and_time}
 try 'many captures: Ctrl-C and resumption' tools/tests/fleet_test.py Course.test_{interrupted,ended_at_start,resumed}
-try 'many captures: names and refusals' tools/tests/fleet_test.py Words Schema
+try 'many captures: names and refusals' tools/tests/fleet_test.py Words Schema Workers FlowsOfTls
 try 'many captures: the database and its writer' tools/tests/fleet_test.py Writer
 try 'many captures: open stalls' tools/tests/fleet_stalls_test.py
 try 'many captures: folders and lists that bring nothing' tools/tests/fleet_unread_test.py Said
@@ -159,6 +119,10 @@ try_split 'splitter: full parts and disks, names' tools/tests/splitter_test.py "
 try 'install and package' tools/tests/package_test.sh "$program" "$split"
 try_built 'the answer in words: captures' tools/tests/why_test.py "$built"
 try_built 'the answer in words: hostile captures' tools/tests/why_hostile_test.py "$built"
+try_built 'the answer in words: jobs of CI' tools/tests/why_ci_test.py "$built"
+try_built 'the answer in words: before and after' tools/tests/why_compare_test.py "$built"
+try_built 'the answer in words: two ends, generated' tools/tests/why_ends_test.py "$built" Generated
+try_built 'the answer in words: two ends of a wire' tools/tests/why_ends_test.py "$built" Wire
 try_built 'the answer in words: words' tools/tests/why_words_test.py "$built"
 try_built 'the answer in words: damaged captures' tools/tests/why_mutations_test.py "$built"
 try_built 'the answer in words: both ends of a wire' tools/tests/why_place_test.py "$built"

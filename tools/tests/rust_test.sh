@@ -8,8 +8,8 @@ export PATH=/usr/bin:/bin
 
 case ${1-} in
 form)
-    cargo fmt --all --check
-    cargo clippy --quiet --release --locked --all-targets -- -D warnings
+    cargo-fmt --all --check
+    cargo-clippy clippy --quiet --release --locked --all-targets -- -D warnings
     ;;
 tests) cargo test --quiet --release --locked ;;
 *)

@@ -56,7 +56,7 @@ def said_of(path: pathlib.Path, keys: pathlib.Path) -> Answer | None:
             if why.status != 3 or "refused" not in str(why):
                 raise
             return None
-    document.text_of(document.document_of(answer))
+    document.document_of(answer)
     for line in Page(answer, False, 100, True).lines():
         if not line.isprintable():
             raise AssertionError(repr(line))

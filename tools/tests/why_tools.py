@@ -78,10 +78,7 @@ def request_of(connection: Json, path: str) -> Json:
 
 def said_of(*words: str) -> Json:
     """What --json says, without a start of the program."""
-    found: Json = json.loads(
-        document.text_of(document.document_of(answered(arguments(["--json", *words]), Progress())))
-    )
-    return found
+    return document.document_of(answered(arguments(["--json", *words]), Progress()))
 
 
 class OnCaptures(unittest.TestCase):

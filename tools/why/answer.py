@@ -3,10 +3,14 @@
 from __future__ import annotations
 
 from dataclasses import dataclass, field
+from typing import TYPE_CHECKING
 
 from report.lines import Finding
 
 from why.spans import KINDS, Span
+
+if TYPE_CHECKING:
+    from why.seen import Seen
 
 
 @dataclass(frozen=True, slots=True)
@@ -179,6 +183,8 @@ class ConnectionSaid:
     notes: list[str] = field(default_factory=list)
     stopped_at: At | None = None
     gaps: list[tuple[int, int]] = field(default_factory=list)
+    seen: Seen | None = None  # what it was said from, where that is wanted
+
 
     @property
     def is_audited(self) -> bool:

@@ -91,7 +91,9 @@ def connection_said(number: int, outcome: Outcome, audit: Audit, opened: Opened,
     if len(frames) != audit.opening.frames:
         raise Broken(f"connection {number} has {audit.opening.frames} frames by the report, and {len(frames)} here")
     told = Reader(frames, wanted.names).read()
-    fill(said, seen_of(sources, opened, frames, told, audit, course), wanted)
+    seen = seen_of(sources, opened, frames, told, audit, course)
+    fill(said, seen, wanted)
+    said.seen = seen if wanted.seen else None
     return said
 
 

@@ -31,18 +31,49 @@ Json = dict[str, Any]
 
 
 def document_of(answer: Answer) -> Json:
-    summary = summary_of(answer)
-    return {
+    found: Json = json.loads("".join(pieces_of(answer)))
+    return found
+
+
+def pieces_of(answer: Answer) -> Iterator[str]:
+    """The document on one line of ASCII, piece by piece, since of some captures it is far larger than the answer."""
+    members: Json = {
         "h2audit_why": VERSION,
         "files": answer.files,
-        "summary": summary_json(answer, summary),
+        "summary": summary_json(answer, summary_of(answer)),
         "warnings": [
             {"kind": one.kind, "text": one.text, "connection": one.connection, "at": at_json(one.at)}
             for one in answer.warnings
         ],
         "not_audited": [{"reason": one.reason, "count": one.count, "text": one.text} for one in answer.not_audited],
-        "connections": [connection_json(one) for one in answer.connections],
+        "connections": (pieces_of_object(connection_json(one)) for one in answer.connections),
     }
+    yield from pieces_of_object(members)
+
+
+def pieces_of_object(members: Json) -> Iterator[str]:
+    """An object of which some members are lists that are made as they are written."""
+    begun = "{"
+    for name, value in members.items():
+        yield f"{begun}{text_of(name)}:"
+        begun = ","
+        if isinstance(value, Iterator):
+            yield from pieces_of_list(value)
+        else:
+            yield text_of(value)
+    yield "}"
+
+
+def pieces_of_list(values: Iterator[Any]) -> Iterator[str]:
+    begun = "["
+    for value in values:
+        yield begun
+        begun = ","
+        if isinstance(value, Iterator):
+            yield from value
+        else:
+            yield text_of(value)
+    yield "[]" if begun == "[" else "]"
 
 
 def summary_json(answer: Answer, summary: Summary) -> Json:
@@ -70,7 +101,7 @@ def lines_of(answer: Answer) -> Iterator[Json]:
             yield {"h2audit_why": VERSION, **of, **request_json(request)}
 
 
-def text_of(value: Json) -> str:
+def text_of(value: Any) -> str:
     """On one line of ASCII; the same answer always gives the same bytes."""
     return json.dumps(value, separators=(",", ":"))
 
@@ -104,10 +135,10 @@ def connection_json(one: ConnectionSaid) -> Json:
             {"side": SIDES[said.side], "initial_window": said.value, "at": at_json(said.at),
              "acknowledged": at_json(said.acknowledged)} for said in one.settings
         ],  # fmt: skip
-        "faults": [fault_json(said) for said in one.faults],
-        "stalls": [stall_json(said) for said in one.stalls],
-        "requests": [request_json(said) for said in one.requests],
-        "signals": [signal_json(said) for said in one.signals],
+        "faults": map(fault_json, one.faults),
+        "stalls": map(stall_json, one.stalls),
+        "requests": map(request_json, one.requests),
+        "signals": map(signal_json, one.signals),
         "ended": ended_json(one.ended),
         "stopped_at": at_json(one.stopped_at),
         "gaps": [{"side": SIDES[side], "offset": offset} for side, offset in one.gaps],

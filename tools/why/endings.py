@@ -14,6 +14,7 @@ FIRST_WINDOW = 65535
 MOST_SIGNALS = 10_000
 # Settings without an acknowledgement that are looked at; a peer that answers none is told by the first ones.
 MOST_UNANSWERED = 8
+MOST_SETTINGS = 1000
 # Codes that say no error: NO_ERROR, REFUSED_STREAM, CANCEL.
 ORDINARY = (0, 7, 8)
 
@@ -40,9 +41,9 @@ def ended_of(seen: Seen) -> Ended:
 
 
 def settings_said(seen: Seen) -> list[SettingSaid]:
-    """The initial windows that were announced."""
+    """The initial windows that were announced; of a connection with more SETTINGS, those of the first ones."""
     said = []
-    for one in seen.told.settings:
+    for one in seen.told.settings[:MOST_SETTINGS]:
         value = one.value(INITIAL_WINDOW_SIZE)
         if value is not None:
             answer = seen.told.acknowledged.get(one.frame)

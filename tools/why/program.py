@@ -5,8 +5,9 @@
 It imports captures as people have them (TLS with its key log, pcapng, IPv6, several files), audits them by h2audit, and
 reads the frames and the course of TCP beside the report. Names of requests are shown without their query.
 
-Exit status: 0 if no rule was broken, 1 if one was, 2 for an invalid command line, 3 if a capture is refused, 4 if
-reading or writing failed, 5 if there was not enough memory, 6 if nothing was audited, 7 if python3-hpack is missing.
+Exit status: 0 if no rule was broken, 1 if one was, or for what --fail-on and others name, 2 for an invalid command
+line, 3 if a capture is refused, 4 if reading or writing failed, 5 if there was not enough memory, 6 if nothing was
+audited, 7 if python3-hpack is missing.
 """
 
 from __future__ import annotations
@@ -23,12 +24,13 @@ from report.command import IO_FAILED, MISSING, NO_MEMORY, OK, REFUSED, Words, fa
 from report.interrupts import Interrupted, end_by, signals_raise
 from report.lines import Refused
 
-from why import VERSION
+from why import VERSION, gates, two
 from why.answer import Answer
 from why.making import Failed, folder, program_named, run, running, without_name
+from why.text import Page
 
 NAME = "h2audit-why"
-FAULTS, NOTHING_AUDITED = 1, 6
+FAILED, NOTHING_AUDITED = 1, 6
 IMPORTED, AUDITED = (0, 6), (0, 1)
 SECONDS_BEFORE_PROGRESS = 2.0
 # What the import says, and the answer says too.
@@ -68,7 +70,11 @@ def arguments(words: list[str]) -> argparse.Namespace:
     parser.add_argument("--import", dest="importer", metavar="PROGRAM", help="the program that imports")
     parser.add_argument("-V", "--version", action="version", version=f"{NAME} {VERSION}",
                         help="print the name and the version, and nothing else")  # fmt: skip
-    return parser.parse_args(words)
+    gates.add_options(parser)
+    two.add_options(parser)
+    asked = parser.parse_args(words)
+    two.check(parser, asked)
+    return asked
 
 
 class Progress:
@@ -148,38 +154,67 @@ def read(asked: argparse.Namespace, place: Path, audit_ends: object, progress: P
     if status not in AUDITED:
         raise failure("h2audit", status, said)
     with open(place / "report", "rb") as report:
-        wanted = Wanted(not asked.no_requests, asked.query, asked.json or asked.json_lines)
+        wanted = Wanted(not asked.no_requests, asked.query, asked.json or asked.json_lines, bool(asked.ends))
         return answer_of(Sources(made, report, origin, courses), wanted, progress.connections)
 
 
 def written(answer: Answer, asked: argparse.Namespace) -> Iterator[str]:
-    """The answer in the form that is asked for, line by line."""
+    """The answer in the form that is asked for, piece by piece."""
     from why import document
-    from why.text import Page
 
     if asked.json:
-        yield document.text_of(document.document_of(answer))
+        yield from document.pieces_of(answer)
+        yield "\n"
     elif asked.json_lines:
-        yield from map(document.text_of, document.lines_of(answer))
+        yield from (document.text_of(line) + "\n" for line in document.lines_of(answer))
     else:
-        is_terminal = sys.stdout.isatty()
-        colours = asked.color == "always" or asked.color == "auto" and is_terminal and not os.environ.get("NO_COLOR")
-        width = asked.width or (shutil.get_terminal_size().columns if is_terminal else None)
-        yield from Page(answer, colours, width, asked.all).lines()
+        yield from (line + "\n" for line in page_of(answer, asked).lines())
+
+
+def page_of(answer: Answer, asked: argparse.Namespace) -> Page:
+    is_terminal = sys.stdout.isatty()
+    colours = asked.color == "always" or asked.color == "auto" and is_terminal and not os.environ.get("NO_COLOR")
+    width = asked.width or (shutil.get_terminal_size().columns if is_terminal else None)
+    return Page(answer, colours, width, asked.all)
+
+
+def answers(asked: argparse.Namespace, progress: Progress) -> tuple[list[Answer], Iterator[str]]:
+    """The answers on the captures, and what is said of them."""
+    if asked.compare or asked.ends:
+        say = two.compare if asked.compare else two.ends
+        return say(asked, lambda one: answered(one, progress), lambda answer: page_of(answer, asked))
+    answer = answered(asked, progress)
+    return [answer], written(answer, asked)
 
 
 def work(asked: argparse.Namespace) -> int:
     progress = Progress()
     try:
-        answer = answered(asked, progress)
+        found, said = answers(asked, progress)
     finally:
         progress.end()
-    for line in written(answer, asked):
-        sys.stdout.write(line + "\n")
-    sys.stdout.flush()
-    if not answer.audited:
-        return failed(NAME, NOTHING_AUDITED, "nothing was audited")
-    return FAULTS if any(one.faults for one in answer.audited) else OK
+    wanted = gates.gates_of(asked)
+    # Of a comparison the capture after the change may fail the run, of two ends both.
+    judged = found if asked.ends else found[-1:]
+    failures = [failure for one in judged for failure in gates.failures_of(one, wanted)]
+    if asked.junit:
+        write_junit(judged[0], failures, asked.junit)
+    if not asked.quiet:
+        sys.stdout.writelines(said)
+        sys.stdout.flush()
+    for line in gates.lines_of(failures) if wanted.is_asked else ():
+        failed(NAME, FAILED, line)
+    if failures:
+        return FAILED
+    return OK if all(one.audited for one in found) else failed(NAME, NOTHING_AUDITED, "nothing was audited")
+
+
+def write_junit(answer: Answer, failures: list[gates.Failure], path: str) -> None:
+    from report import output
+    from why import junit
+
+    with output.written(path) as file:
+        file.writelines(junit.pieces_of(answer, failures))
 
 
 def outcome_of(asked: argparse.Namespace) -> int:

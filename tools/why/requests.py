@@ -17,11 +17,14 @@ from why.words import escaped
 
 @dataclass(frozen=True, slots=True)
 class Wanted:
-    """What the command line wants of requests: their names, with the query of the path, and spans of their lives."""
+    """What the command line wants of requests: their names, with the query of the path, and spans of their lives;
+    and whether all that was seen is kept.
+    """
 
     names: bool = True
     query: bool = False
     spans: bool = True
+    seen: bool = False
 
 
 def requests_of(seen: Seen, wanted: Wanted) -> list[Request]:

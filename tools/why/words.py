@@ -83,6 +83,12 @@ def streams_named(streams: Sequence[int]) -> str:
     return f"{len(streams):,} streams, {streams[0]} to {streams[-1]}"
 
 
+def printable_list(names: Sequence[str]) -> str:
+    """The first names of several, and how many more there are."""
+    more = len(names) - MOST_NAMED
+    return ", ".join(names[:MOST_NAMED]) + (f" and {more:,} more" if more > 0 else "")
+
+
 def escaped(text: str) -> str:
     """What a terminal would act on, or what is no text, as an escape."""
     return "".join(letter if letter.isprintable() else ascii(letter)[1:-1] for letter in text)

@@ -43,7 +43,9 @@ pub fn words_of(words: Vec<OsString>) -> Result<Words, Failure> {
             Short('h') | Long("help") => return Ok(Words::Help),
             Short('V') | Long("version") => return Ok(Words::Version),
             Short('k') | Long("key-log") => asked.key_logs.push(parser.value().map_err(wrong)?),
-            Short('j') | Long("jobs") => drop(count(&mut parser, "-j/--jobs", MOST_JOBS)?),
+            Short('j') | Long("jobs") => {
+                count(&mut parser, "-j/--jobs", MOST_JOBS)?;
+            }
             Long("sort") => asked.is_sorted = true,
             Long("workers") => workers = Some(count(&mut parser, "--workers", MOST_WORKERS)?),
             Long("groups") => groups = Some(count(&mut parser, "--groups", MOST_GROUPS)?),

@@ -14,6 +14,7 @@ fn array<const N: usize>(data: &[u8], at: usize) -> [u8; N] {
 }
 
 impl Order {
+    #[inline]
     pub fn u16(self, data: &[u8], at: usize) -> u16 {
         match self {
             Order::Little => u16::from_le_bytes(array(data, at)),
@@ -21,6 +22,7 @@ impl Order {
         }
     }
 
+    #[inline]
     pub fn u32(self, data: &[u8], at: usize) -> u32 {
         match self {
             Order::Little => u32::from_le_bytes(array(data, at)),
@@ -28,6 +30,7 @@ impl Order {
         }
     }
 
+    #[inline]
     pub fn i64(self, data: &[u8], at: usize) -> i64 {
         match self {
             Order::Little => i64::from_le_bytes(array(data, at)),
@@ -58,14 +61,17 @@ impl Order {
 }
 
 /// The numbers of network protocols.
+#[inline]
 pub fn u16_at(data: &[u8], at: usize) -> u16 {
     Order::Big.u16(data, at)
 }
 
+#[inline]
 pub fn u32_at(data: &[u8], at: usize) -> u32 {
     Order::Big.u32(data, at)
 }
 
+#[inline]
 pub fn array_at<const N: usize>(data: &[u8], at: usize) -> [u8; N] {
     array(data, at)
 }

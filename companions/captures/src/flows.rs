@@ -54,11 +54,13 @@ struct Active<'a> {
 
 impl Flow {
     /// The offset up to which all bytes came.
+    #[inline]
     pub fn next(&self) -> u32 {
         self.next
     }
 
     /// Whether bytes came behind a hole which is still there.
+    #[inline]
     pub fn has_hole(&self) -> bool {
         self.lost.is_some() || self.held.is_some()
     }
@@ -70,6 +72,7 @@ impl Flow {
     }
 
     /// The bytes that are in order now.
+    #[inline]
     pub fn add<'a>(&mut self, offset: u32, data: &'a [u8], arrival: Arrival) -> Cow<'a, [u8]> {
         let end = (u64::from(offset) + data.len() as u64).min(u64::from(END_OF_OFFSETS)) as u32;
         if end <= self.next || self.lost.is_some() {

@@ -37,6 +37,7 @@ const TCP_HEADER: usize = 20;
 pub type Ends = [u8; 12];
 
 /// The ends of what the other side sends.
+#[inline]
 pub fn swapped(ends: &Ends) -> Ends {
     let mut other = [0; 12];
     other[..4].copy_from_slice(&ends[4..8]);
@@ -71,23 +72,28 @@ pub struct Segment<'a> {
 
 impl<'a> Segment<'a> {
     /// The datagram, in two parts.
+    #[inline]
     pub fn datagram(&self) -> [&[u8]; 2] {
         [&self.front[..self.front_length], self.rest]
     }
 
+    #[inline]
     pub fn datagram_length(&self) -> usize {
         self.front_length + self.rest.len()
     }
 
     /// The bytes of the datagram before the payload.
+    #[inline]
     pub fn headers(&self) -> [&[u8]; 2] {
         [&self.front[..self.front_length], &self.rest[..self.start - self.front_length]]
     }
 
+    #[inline]
     pub fn payload(&self) -> &'a [u8] {
         &self.rest[self.start - self.front_length..self.end - self.front_length]
     }
 
+    #[inline]
     pub fn has_payload(&self) -> bool {
         self.end > self.start
     }
@@ -108,6 +114,7 @@ pub struct HeldSegment {
 }
 
 impl HeldSegment {
+    #[inline]
     pub fn segment(&self) -> Segment<'_> {
         Segment { rest: &self.bytes, ..self.fields }
     }
@@ -150,6 +157,7 @@ pub struct Decoder {
 
 impl Decoder {
     /// An error where the capture is refused, as with addresses that clash.
+    #[inline]
     pub fn segment<'a>(&mut self, packet: &Packet<'a>) -> Decoded<'a> {
         let link = match packet.link {
             None => return refused("no-packet"),

@@ -18,6 +18,7 @@ pub const IPV6_TYPE: u16 = 0x86DD;
 const VLAN_TAGS: [u16; 3] = [0x8100, 0x88A8, 0x9100];
 
 /// Whether packets of this link type are read.
+#[inline]
 pub fn is_read(link: u16) -> bool {
     matches!(link, ETHERNET | LOOP | NULL | LINUX_COOKED | LINUX_COOKED_2) || BY_VERSION.contains(&link)
 }
@@ -26,6 +27,7 @@ pub fn is_read(link: u16) -> bool {
 pub type Payload = (Option<u16>, usize);
 
 /// EtherType and place of what a packet carries, or why there is none.
+#[inline]
 pub fn payload_of(link: u16, data: &[u8]) -> Result<Payload, &'static str> {
     match link {
         ETHERNET if data.len() < 14 => Err("short-ethernet"),

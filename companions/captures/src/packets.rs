@@ -51,6 +51,7 @@ impl Reader {
 
     /// The next item; none at the end.
     #[allow(clippy::should_implement_trait)] // an item borrows from the reader, which no Iterator's may
+    #[inline]
     pub fn next(&mut self) -> Result<Option<Item<'_>>, Error> {
         match self {
             Reader::Pcap(reader) => reader.next(),

@@ -38,7 +38,7 @@ impl Header {
         if head.len() < HEADER_LENGTH {
             return Err(Error::refused("short-header"));
         }
-        let (order, unit) = format_of(head).ok_or(Error::refused("bad-magic"))?;
+        let (order, unit) = format_of(head).ok_or_else(|| Error::refused("bad-magic"))?;
         if (order.u16(head, 4), order.u16(head, 6)) != (2, 4) {
             return Err(Error::refused("bad-version"));
         }
@@ -73,6 +73,7 @@ impl Reader {
     }
 
     #[allow(clippy::should_implement_trait)] // an item borrows from the reader, which no Iterator's may
+    #[inline]
     pub fn next(&mut self) -> Result<Option<Item<'_>>, Error> {
         if self.has_ended {
             return Ok(None);
@@ -145,6 +146,7 @@ impl<W: Write> Writer<W> {
     }
 
     /// Writes a packet, which may stand in two parts. Its time is in seconds of 32 bits, and nanoseconds below a second.
+    #[inline]
     pub fn write(&mut self, time: (u32, u32), original: u32, parts: [&[u8]; 2]) -> io::Result<()> {
         let length = (parts[0].len() + parts[1].len()) as u32;
         self.head.clear();

@@ -51,6 +51,7 @@ pub struct Block<'a> {
 
 impl<'a> Block<'a> {
     /// What stands between its lengths.
+    #[inline]
     pub fn body(&self) -> &'a [u8] {
         &self.whole[8..self.whole.len() - 4]
     }
@@ -82,6 +83,7 @@ impl Blocks {
 
     /// The next block; none at the end.
     #[allow(clippy::should_implement_trait)] // a block borrows from the reader, which no Iterator's item may
+    #[inline]
     pub fn next(&mut self) -> Result<Option<Block<'_>>, Error> {
         self.source.consume(self.pending);
         self.pending = 0;
@@ -105,7 +107,7 @@ impl Blocks {
             self.order = [Order::Little, Order::Big]
                 .into_iter()
                 .find(|order| order.u32(head, 8) == BYTE_ORDER_MAGIC)
-                .ok_or(Error::refused("bad-block"))?;
+                .ok_or_else(|| Error::refused("bad-block"))?;
         }
         let (kind, length) = (self.order.u32(head, 0), self.order.u32(head, 4) as usize);
         if length < shortest + 4 || length % 4 != 0 {
@@ -166,6 +168,7 @@ impl Clock {
     }
 
     /// Nanoseconds since 1970; a time that no 64 bits hold is the nearest one that they do.
+    #[inline]
     pub fn nanos(&self, ticks: u64) -> i64 {
         if let (Some(1_000_000), 0, Ok(ticks)) = (self.units, self.offset, i64::try_from(ticks)) {
             return ticks.saturating_mul(1000);
@@ -269,6 +272,7 @@ impl Reader {
     }
 
     #[allow(clippy::should_implement_trait)] // an item borrows from the reader, which no Iterator's may
+    #[inline]
     pub fn next(&mut self) -> Result<Option<Item<'_>>, Error> {
         if self.has_ended {
             return Ok(None);

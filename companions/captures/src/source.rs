@@ -65,17 +65,20 @@ impl Source {
     }
 
     /// As many of the next bytes as are asked for, fewer at the end alone.
+    #[inline]
     pub fn fill(&mut self, size: usize) -> Result<&[u8], Error> {
         while self.end - self.start < size && self.read_more()? {}
         Ok(self.view(size))
     }
 
     /// As many of the next bytes as are asked for, of those that were filled in.
+    #[inline]
     pub fn view(&self, size: usize) -> &[u8] {
         &self.window[self.start..self.end.min(self.start + size)]
     }
 
     /// Passes over bytes that are in view.
+    #[inline]
     pub fn consume(&mut self, size: usize) {
         self.start = self.end.min(self.start + size);
     }

@@ -104,7 +104,7 @@ fn placed(findings: &mut Findings, map: &Path, capture: &Path) -> Result<u64, Fa
 }
 
 /// What there was in the capture.
-struct Copied {
+pub struct Copied {
     packets: u64,
     is_cut: bool,
     has_bytes_behind: bool,

@@ -9,6 +9,8 @@ use crate::merging::MergeError;
 use crate::part_report::PartReport;
 
 const CONNECTION: &[u8] = b"connection ";
+/// Lines that name no record.
+const KNOWN: [&[u8]; 3] = [b"flow ", b"stall ", b"audit "];
 
 /// The opening of the connection whose line is at hand, and the number of its record in the whole.
 pub fn opening(report: &mut PartReport) -> Result<(u64, Opening), Failure> {
@@ -30,9 +32,8 @@ impl<'a, W: Write> Writer<'a, W> {
         Writer { output, number: 0, has_faults: false }
     }
 
-    /// Writes the connection whose line is at hand, and goes to that of the next.
-    pub fn write(&mut self, report: &mut PartReport) -> Result<(), MergeError> {
-        let (record, opening) = opening(report)?;
+    /// Writes the connection whose line is at hand, with its record in the whole, and goes to that of the next.
+    pub fn write(&mut self, report: &mut PartReport, record: u64, opening: &Opening) -> Result<(), MergeError> {
         self.number += 1;
         let (client, server) = (&opening.client, &opening.server);
         write!(self.output, "connection {} client {client} server {server} record {record} ", self.number)?;
@@ -59,7 +60,9 @@ impl<'a, W: Write> Writer<'a, W> {
 
     /// A line that names no record of the part. One of a later version that did would need a number of the whole.
     fn other(&mut self, report: &PartReport) -> Result<(), MergeError> {
-        if !report.line.is_ascii() || memchr::memmem::find(&report.line, b" record ").is_some() {
+        let is_known = KNOWN.iter().any(|word| report.line.starts_with(word));
+        let names_record = !is_known && memchr::memmem::find(&report.line, b" record ").is_some();
+        if !report.line.is_ascii() || names_record {
             return Err(report.broken().into());
         }
         self.output.write_all(&report.line)?;

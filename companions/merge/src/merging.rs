@@ -8,7 +8,7 @@ use std::collections::BinaryHeap;
 use std::io::{self, Write};
 
 use programs::Failure;
-use reports::Capture;
+use reports::{Capture, Opening};
 
 use crate::connections::{opening, Writer};
 use crate::part_report::{Numbered, PartReport};
@@ -67,21 +67,26 @@ fn merge_lines(
 /// Writes the connections in the order of their openings (section 5), numbered anew.
 fn write_connections(reports: &mut [PartReport], output: &mut impl Write) -> Result<bool, MergeError> {
     let mut writer = Writer::new(output);
-    let mut heap = BinaryHeap::new();
+    let (mut heap, mut openings) = (BinaryHeap::new(), Vec::new());
     for (index, report) in reports.iter_mut().enumerate() {
-        heap.extend(next_opening(report)?.map(|record| Reverse((record, index))));
+        openings.push(next_opening(report)?);
+        heap.extend(openings[index].as_ref().map(|(record, _)| Reverse((*record, index))));
     }
     while let Some(Reverse((_, index))) = heap.pop() {
-        writer.write(&mut reports[index])?;
-        heap.extend(next_opening(&mut reports[index])?.map(|record| Reverse((record, index))));
+        let report = &mut reports[index];
+        if let Some((record, opening)) = openings[index].take() {
+            writer.write(report, record, &opening)?;
+        }
+        openings[index] = next_opening(report)?;
+        heap.extend(openings[index].as_ref().map(|(record, _)| Reverse((*record, index))));
     }
     Ok(writer.has_faults)
 }
 
-/// The record, in the whole, of the connection that comes next in a report.
-fn next_opening(report: &mut PartReport) -> Result<Option<u64>, Failure> {
-    if report.line.is_empty() {
-        return Ok(None);
+/// The connection that comes next in a report, with its record in the whole.
+fn next_opening(report: &mut PartReport) -> Result<Option<(u64, Opening)>, Failure> {
+    match report.line.is_empty() {
+        true => Ok(None),
+        false => opening(report).map(Some),
     }
-    opening(report).map(|(record, _)| Some(record))
 }

@@ -24,7 +24,7 @@ pub fn printable(name: impl AsRef<OsStr>) -> String {
         whole.chars().for_each(|letter| push(&mut text, letter));
         rest = &rest[behind..];
         if let Some((byte, more)) = rest.split_first() {
-            text.push_str(&format!("\\x{byte:02x}"));
+            text += &escape('x', u32::from(*byte), 2);
             rest = more;
         }
     }
@@ -38,10 +38,14 @@ fn push(text: &mut String, letter: char) {
         '\n' => text.push_str("\\n"),
         '\r' => text.push_str("\\r"),
         '\t' => text.push_str("\\t"),
-        _ if code < 0x100 => text.push_str(&format!("\\x{code:02x}")),
-        _ if code < 0x10000 => text.push_str(&format!("\\u{code:04x}")),
-        _ => text.push_str(&format!("\\U{code:08x}")),
+        _ if code < 0x100 => *text += &escape('x', code, 2),
+        _ if code < 0x10000 => *text += &escape('u', code, 4),
+        _ => *text += &escape('U', code, 8),
     }
+}
+
+fn escape(kind: char, code: u32, digits: usize) -> String {
+    format!("\\{kind}{code:0digits$x}")
 }
 
 /// By the standard library's table. A mark that combines is printable behind a letter.

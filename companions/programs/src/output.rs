@@ -11,7 +11,7 @@ use crate::process;
 use crate::signals::{Cleanup, Guard};
 
 /// So many bytes are written at a time.
-pub const BUFFER: usize = 1 << 20;
+pub const BUFFER: usize = 1 << 17;
 /// Of the name that a file has before it is whole.
 const HIDDEN: &str = ".h2audit-";
 
@@ -99,6 +99,10 @@ impl Replaced {
 impl Write for Output {
     fn write(&mut self, bytes: &[u8]) -> io::Result<usize> {
         self.writer.write(bytes)
+    }
+
+    fn write_all(&mut self, bytes: &[u8]) -> io::Result<()> {
+        self.writer.write_all(bytes)
     }
 
     fn flush(&mut self) -> io::Result<()> {

@@ -44,6 +44,7 @@ pub struct Side {
 
 impl Side {
     /// The bytes of TCP.
+    #[inline]
     pub fn flow(&self) -> &Flow {
         &self.flow
     }
@@ -54,6 +55,7 @@ impl Side {
     }
 
     /// Why reading ended before the bytes did, and at which packet.
+    #[inline]
     pub fn end(&self) -> Option<(Reason, Arrival)> {
         self.end
     }
@@ -132,15 +134,18 @@ impl Connection {
         }
     }
 
+    #[inline]
     pub fn handshake(&self) -> &Handshake {
         &self.handshake
     }
 
+    #[inline]
     pub fn side(&self, index: usize) -> &Side {
         &self.sides[index]
     }
 
     /// Why nothing of it can be read.
+    #[inline]
     pub fn refused(&self) -> Option<Reason> {
         self.refused
     }
@@ -150,11 +155,13 @@ impl Connection {
         self.count
     }
 
+    #[inline]
     pub fn is_waiting(&self) -> bool {
         self.queue.is_some()
     }
 
     /// Takes bytes at an offset of a side.
+    #[inline]
     pub fn segment(
         &mut self,
         shared: &mut Shared,

@@ -81,6 +81,7 @@ impl Handshake {
         Handshake { opening, more_keys, ..Handshake::default() }
     }
 
+    #[inline]
     pub fn stage(&self, side: usize) -> Stage {
         self.halves[side].stage
     }
@@ -105,6 +106,7 @@ impl Handshake {
     }
 
     /// How many records were opened.
+    #[inline]
     pub fn opened(&self) -> u64 {
         self.opened
     }
@@ -114,6 +116,7 @@ impl Handshake {
         self.alert
     }
 
+    #[inline]
     pub fn waits_for_key(&self) -> bool {
         self.waits_for_key
     }

@@ -69,7 +69,7 @@ struct Blocks {
 
 thread_local! {
     /// Finding a cipher takes longer than opening a small record.
-    static FETCHED: RefCell<Vec<(&'static str, Rc<Cipher>)>> = const { RefCell::new(Vec::new()) };
+    static FETCHED: RefCell<Vec<(&'static str, Rc<Cipher>)>> = RefCell::default();
 }
 
 fn fetched(name: &'static str) -> Result<Rc<Cipher>, ErrorStack> {

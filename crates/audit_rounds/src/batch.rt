@@ -14,6 +14,7 @@ use crate::crew::{Crew, LONG};
 use crate::gathering::none_of_each;
 use crate::halves::{in_halves, together};
 use crate::prepared::{MadeReady, prepare_each};
+use audit_core::shown_in_one_pass;
 use audit_terms::{Finding, Frame};
 use split_merge::{pending_of, put_back};
 use std::alloc::{AllocError, Global};
@@ -57,13 +58,44 @@ fn found_after<R: Threads + Sync, G: Gate>(
     ensures { IfOk result (λ all. AreShownAfter crew.now.credits_shown connections.now found.items all.items) }
 {
     let pending = pending_of(crew.alloc, connections, found.as_slice())?;
-    let made = prepare_each(crew, pending.as_slice())?;
+    let later = shown_of(crew, pending.as_slice())?;
+    Ok(put_back(connections, found, later))
+}
+
+/// What is shown of each connection, all of which are gone through. One worker needs no rounds for one connection: it
+/// meets the frames one by one, if that takes little time.
+fn shown_of<R: Threads + Sync, G: Gate>(
+    crew: &Crew<'_, R, G>,
+    connections: &[&[Frame]],
+) -> Result<Vec<Vec<Finding>>, AllocError>
+    requires { IsBatch connections.now }
+    ensures { IfOk result (λ found. AreShown crew.now.credits_shown connections.now found.items) }
+{
+    if crew.division.workers == 1 && connections.len() == 1 {
+        let frames = connections[0];
+        if let Some(found) = shown_in_one_pass(crew.alloc, crew.credits_shown, frames)? {
+            let all = vec![in crew.alloc; found]?;
+            return Ok(all);
+        }
+    }
+    shown_in_rounds(crew, connections)
+}
+
+/// The same, by the rounds.
+fn shown_in_rounds<R: Threads + Sync, G: Gate>(
+    crew: &Crew<'_, R, G>,
+    connections: &[&[Frame]],
+) -> Result<Vec<Vec<Finding>>, AllocError>
+    requires { IsBatch connections.now }
+    ensures { IfOk result (λ found. AreShown crew.now.credits_shown connections.now found.items) }
+{
+    let made = prepare_each(crew, connections)?;
     let MadeReady {
         prepared,
         found: before,
     } = made;
-    let later = findings_of_prepared(crew, prepared.as_slice(), before)?;
-    Ok(put_back(connections, found, later))
+    let found = findings_of_prepared(crew, prepared.as_slice(), before)?;
+    Ok(found)
 }
 
 /// What is shown of a front of each connection: of none of its frames, where no connection is long.

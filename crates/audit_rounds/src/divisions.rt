@@ -47,8 +47,13 @@ impl Division {
 /// beside the frames is there for one batch at a time, and so many frames are enough to keep all workers at work.
 const BATCH: usize = 1 << 22;
 
-/// The next batch: the first of these connections.
-fn next_batch<'a, 'b>(connections: &'b [&'a [Frame]]) -> &'b [&'a [Frame]]
+/// One worker goes over one connection after the other.
+fn most_for(workers: u32) -> usize {
+    if workers == 1 { 1 } else { BATCH }
+}
+
+/// The next batch: the first of these connections, so many at most, and one at least.
+fn next_batch<'a, 'b>(connections: &'b [&'a [Frame]], most: usize) -> &'b [&'a [Frame]]
     requires some { 0 < length connections.now }
     requires frames { All (λ frames. IsOrderly frames.now) connections.now }
     ensures some { 0 < length result.now }
@@ -56,7 +61,7 @@ fn next_batch<'a, 'b>(connections: &'b [&'a [Frame]]) -> &'b [&'a [Frame]]
     ensures front { result.now ≡ take (length result.now) connections.now }
     ensures batch { IsBatch result.now }
 {
-    let most = connections.len().min(BATCH);
+    let most = connections.len().min(most);
     let mut count = 1;
     let mut together = connections[0].len();
     while count < most && together + connections[count].len() <= BATCH {
@@ -86,7 +91,7 @@ pub fn findings_of_each<R: Threads + Sync, G: Gate>(
     let mut done = 0;
     while done < connections.len() {
         let (_, rest) = connections.split_at(done);
-        let batch = next_batch(rest);
+        let batch = next_batch(rest, most_for(division.workers));
         let mut found = by_halves(&crew, batch)?;
         all.append(&mut found)?;
         done += batch.len();

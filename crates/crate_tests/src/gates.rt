@@ -28,7 +28,8 @@ fn has_jobs(
         && gate.counts() == Some(want)
 }
 
-/// Whether an audit by each of these numbers of workers has so many jobs in each round.
+/// Whether an audit by each of some numbers of workers has so many jobs in each round. One worker has none after that
+/// of the flows: it meets the frames one by one.
 fn have_jobs(
     rt: &(impl Sync + Threads + RandomSource),
     alloc: Global,
@@ -36,7 +37,8 @@ fn have_jobs(
     capture: &Capture,
     want: [u32; 4],
 ) -> bool {
-    for workers in [1, 2, 64] {
+    let alone = [want[0], 0, 0, 0];
+    for (workers, want) in [(1, alone), (2, want), (64, want)] {
         let options = Options::of(workers, groups, block, credits_shown);
         if !has_jobs(rt, alloc, options, 0, capture, want) {
             return false;

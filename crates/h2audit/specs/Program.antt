@@ -1,12 +1,14 @@
 -- What the program does, by its words, with what it is lent.
-use Rattle.std.specs.Prelude.{◌≡◌, ◌≢◌, ◌⊎◌, ℕ, List, [], take, map, Option, None, Some, Result, Ok, Err, MatchResult}
-use Rattle.std.specs.Prelude.{String, Vec, string_bytes}
+use Rattle.std.specs.Prelude.{◌≡◌, ◌≢◌, ◌⊎◌, ℕ, List, [], drop, take, map, Option, None, Some, Result, Ok, Err}
+use Rattle.std.specs.Prelude.{MatchResult, String, Vec, string_bytes}
 use Rattle.std.specs.Global.{Global}
 use Rattle.std.specs.IoError.{error_kind}
 use Rattle.std.specs.Str.{trim_end}
 use Rattle.std.specs.declared.io.Error.{Error}
 use Rattle.std.specs.declared.io.ErrorKind.{ErrorKind}
 use Rattle.std.specs.declared.io.ErrorKind.TheVariants.{OutOfMemory}
+use Rattle.std.specs.declared.vec.IntoIter.{IntoIter}
+use Rattle.std.specs.Vec.Iter.{into_iter_items}
 use Rattle.input_output.specs.Account.{HasWriteFailed, IsFlushed, written}
 use Rattle.input_output.specs.declared.capture_reader.CaptureReader.{CaptureReader}
 use Rattle.input_output.specs.declared.report_writer.ReportWriter.{ReportWriter}
@@ -20,6 +22,13 @@ use Rattle.h2audit.specs.declared.fault.AuditFault.TheVariants as fault
 use Rattle.h2audit.specs.declared.program.Outside.{Outside}
 use Rattle.h2audit.specs.declared.verdict.Verdict.{Verdict}
 use Rattle.h2audit.specs.declared.verdict.Verdict.TheVariants.{Clean}
+
+-- all words but the first, in order; or why there are none, which may be want of memory for them
+abbrev pub AreBehindName :
+    Result (IntoIter (String Global) Global) Error → Result (Vec (String Global) Global) Error → Type 0
+AreBehindName (Ok all) (Ok words) = words.items ≡ drop 1 (into_iter_items all)
+AreBehindName (Ok all) (Err e) = error_kind e ≡ OutOfMemory
+AreBehindName (Err e) words = words ≡ Err e
 
 -- what these words ask for; words that could not be had as text are refused, unless it was for want of memory
 abbrev pub AreAsked : Result (Vec (String Global) Global) Error → Parsed → Type 0

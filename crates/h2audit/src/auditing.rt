@@ -103,17 +103,15 @@ fn audit_records<R: Threads + Sync, G: Gate>(
     // `--frames` asks for credit lines. From here on the word is what they are.
     let credits_shown = options.frames_shown();
     let Connections { opened, strays } = connections;
-    let made = lines_and_flows(
+    // From here on there are no packets and strays, whose memory frames may take.
+    let (lines, parts) = lines_and_flows(
         team,
         credits_shown,
         capture,
-        &found,
+        found,
         strays,
         opened.as_slice(),
-    );
-    // From here on there are no packets and strays, whose memory frames may take.
-    drop(found);
-    let (lines, parts) = made?;
+    )?;
     // Nor are there lists of members.
     let headings = headings_of(team.alloc, opened)?;
     let division = Division {
@@ -132,21 +130,19 @@ fn audit_records<R: Threads + Sync, G: Gate>(
     )
 }
 
-/// The lines of a capture, and what the flows of its connections hold.
+/// The lines of a capture, and what the flows of its connections hold. Packets and strays are gone when it answers.
 fn lines_and_flows<R: Threads + Sync, G: Gate>(
     team: &Team<'_, R, G>,
     credits_shown: bool,
     capture: &Capture<'_>,
-    found: &CapturePackets,
+    found: CapturePackets,
     strays: Vec<Stray>,
     opened: &[Connection],
 ) -> Result<(Vec<u8>, Vec<Part<Told>>), AllocError>
     requires few { length opened.now < 2 ^ 32 }
-    requires sources { All (AreSources capture.now (packets_in found.now)) opened.now }
-    ensures lines { IfOk result (λ r. AreLinesOf (packets_in found.now) found.now.cut strays.items
-        r.0.items) }
-    ensures flows { IfOk result (λ r. AreToldFlows credits_shown capture.now (packets_in found.now) opened.now
-        r.1.items) }
+    requires sources { All (AreSources capture.now (packets_in found)) opened.now }
+    ensures lines { IfOk result (λ r. AreLinesOf (packets_in found) found.cut strays.items r.0.items) }
+    ensures flows { IfOk result (λ r. AreToldFlows credits_shown capture.now (packets_in found) opened.now r.1.items) }
 {
     let packets = Packets::of(team.alloc, &found.packets)?;
     let lines = capture_lines(team.alloc, found.cut, &packets, strays)?;

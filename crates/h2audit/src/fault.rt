@@ -17,3 +17,8 @@ pub enum AuditFault {
     #[error("fault 4")]
     OutOfMemory,
 }
+
+/// A word of the command line is not text, so it is no option and no path.
+#[derive(Clone, Copy, Debug, Error)]
+#[error("error: a word is not text")]
+pub(crate) struct NotText;

@@ -13,9 +13,9 @@
 //!   `Tells` of `specs/Account.antt`), for every reader and writer, also of files and pipes. Where these tell their
 //!   bytes themselves, they are those of the accounts (`given`, `taken`); what a run then leaves in the writer follows
 //!   ([`laws::runs_leave`], [`laws::faults_are_silent`]).
-//! - [`run_program`] is the program, over the words that [`program_words`] reads and what it is lent ([`Outside`]): a
-//!   way to open FILE and to say a line, and the accounts of standard input, of FILE and of standard output. It does
-//!   what the words ask for and nothing else (`Ends` of `specs/Program.antt`).
+//! - [`run_program`] is the program, over its words and what it is lent ([`Outside`]): a way to open FILE and to say a
+//!   line, and the accounts of standard input, of FILE and of standard output. It does what the words ask for and
+//!   nothing else (`Ends` of `specs/Program.antt`). [`program_words`] leaves out the program's name.
 //! - [`parse`] says what the words of a command line ask for, by `clap`'s own definition of the command (`Asks` of
 //!   `specs/Asked.antt`): an audit with its [`Options`], help, the version or why the words are refused. [`Options`]
 //!   refuses numbers out of range. [`worked_examples`] compute eight command lines. [`ending`] is status and line.

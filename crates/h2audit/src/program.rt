@@ -1,38 +1,54 @@
-ghost use Rattle.std.specs.Prelude.{◌≡◌, ◌≢◌, [], map, IfErr, IfOk, IfSome, None, Some, string_bytes};
+ghost use Rattle.std.specs.Prelude.{◌≡◌, ◌≢◌, [], drop, map, IfErr, IfOk, IfSome, None, Some, string_bytes};
 ghost use Rattle.std.specs.Fn.{CalledAt};
 ghost use Rattle.std.specs.Io.KnownBytes.{Appends};
 ghost use Rattle.std.specs.IoError.{error_kind};
 ghost use Rattle.std.specs.Process.{exit_status};
+ghost use Rattle.std.specs.Vec.Iter.{into_iter_items};
 ghost use Rattle.input_output.specs.declared.capture_reader.CaptureReader.{CaptureReader as CaptureReaderTerm};
 ghost use Rattle.input_output.specs.Account.{IsUnread, IsUnwritten, written};
 ghost use Rattle.h2audit.specs.Asked.{Asks};
 ghost use Rattle.h2audit.specs.Account.{HasGiven, Tells};
 ghost use Rattle.h2audit.specs.Ending.{ending_of};
-ghost use Rattle.h2audit.specs.Program.{AreAsked, Does, Ends, IsShown, IsUnopened};
+ghost use Rattle.h2audit.specs.Program.{AreAsked, AreBehindName, Does, Ends, IsShown, IsUnopened};
 ghost use Rattle.h2audit.specs.code.Inputs.{HasAuditedFile, HasAuditedInput};
 
 use crate::command_line::{Options, Parsed, parse};
-use crate::fault::AuditFault;
+use crate::fault::{AuditFault, NotText};
 use crate::running::{run, write_out};
 use crate::status::ending;
 use crate::verdict::Verdict;
 use input_output::{CaptureReader, ReportWriter};
 use std::alloc::{AllocError, Global};
-use std::io::{ErrorKind, Read, Write};
+use std::env::Args;
+use std::io::{self, ErrorKind, Read, Write};
 use std::process::ExitCode;
 use std::random::RandomSource;
-use std::rt::Env;
 use std::thread::Threads;
-use std::{env, io};
 use stop_desk::NoGate;
 
 /// The exit status for words that do not parse.
 const WORDS_REFUSED: u8 = 2;
 
-/// The words of the command line, without the program's name. An error is a word that is not text, or want of memory.
-pub fn program_words(rt: &(impl Env + AllocGlobal)) -> io::Result<Vec<String>> {
-    let words: Vec<String> = env::args(rt)?.skip(1).collect(rt.alloc())?;
-    Ok(words)
+/// The words of the command line behind the first, which is the program's name. An error is a word that is not text, or
+/// want of memory.
+pub fn program_words(alloc: Global, words: io::Result<Args>) -> io::Result<Vec<String>>
+    ensures { AreBehindName words result }
+{
+    match behind_name(alloc, words?) {
+        Ok(words) => Ok(words),
+        Err(_) => Err(io::Error::from(ErrorKind::OutOfMemory)),
+    }
+}
+
+fn behind_name(alloc: Global, mut words: Args) -> Result<Vec<String>, AllocError>
+    ensures { IfOk result (λ behind. behind.items ≡ drop 1 (into_iter_items words)) }
+{
+    words.next();
+    let mut behind = Vec::new(alloc);
+    for word in words {
+        behind.push(word)?;
+    }
+    Ok(behind)
 }
 
 /// What the program is lent: ways to open FILE and to say a line on standard error, and accounts of reads and writes.
@@ -96,7 +112,7 @@ fn asked(alloc: Global, words: io::Result<Vec<String>>) -> Result<Parsed, AllocE
     match words {
         Ok(words) => parse_strings(alloc, words.as_slice()),
         Err(error) if error.kind() == ErrorKind::OutOfMemory => Err(AllocError),
-        Err(_) => Ok(Parsed::Refused(String::from_str(alloc, "error: a word is not text")?)),
+        Err(_) => Ok(Parsed::Refused(NotText.to_string(alloc)?)),
     }
 }
 

@@ -3,7 +3,7 @@ ghost use Rattle.h2audit.specs.Ending.{ending_of};
 
 use crate::fault::AuditFault;
 use crate::verdict::Verdict;
-use pcap_records::PcapFault;
+use pcap_records::{PcapFault, fault_text};
 
 /// The program's exit status and its line on standard error, without a line feed, for what a run
 /// answered. The line is empty where nothing is to be said.
@@ -32,11 +32,7 @@ fn refused(refusal: PcapFault) -> (u8, &'static str)
     ensures line { result.1.now ≡ (ending_of (Err (AuditFault.Pcap refusal))).1 }
 {
     match refusal {
-        PcapFault::ShortHeader => (3, "h2audit: capture refused: short-header"),
-        PcapFault::BadMagic => (3, "h2audit: capture refused: bad-magic"),
-        PcapFault::BadVersion => (3, "h2audit: capture refused: bad-version"),
-        PcapFault::LinkType => (3, "h2audit: capture refused: link-type"),
-        PcapFault::TooLarge => (3, "h2audit: capture refused: too-large"),
         PcapFault::OutOfMemory => (5, OUT_OF_MEMORY),
+        _ => (3, fault_text!("h2audit: capture refused: ", refusal)),
     }
 }

@@ -2,13 +2,14 @@
 #![tactic(auto)]
 
 use h2audit::{CaptureReader, Outside, ReportWriter, program_words, run_program};
+use std::env;
 use std::fs::File;
 use std::process::ExitCode;
 
 fn main(rt: HostRuntime) -> ExitCode {
     run_program(
         &rt,
-        program_words(&rt),
+        program_words(rt.alloc(), env::args(&rt)),
         &mut Outside {
             open_file: |path: &str| File::open(&rt, path),
             say: |line: &str| {

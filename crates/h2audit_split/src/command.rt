@@ -18,6 +18,11 @@ const VERSION: &str = "1.0.0";
 const ABOUT: &str =
     "Splits a capture of any size into captures that h2audit reads, by pairs of endpoints";
 
+const STATUS: &str = concat!(
+    "Exit status: 0 where all parts stand; 2 for wrong words; 3 for a refused capture or part; 4 for a failed read\n",
+    "or write; 5 for want of memory.",
+);
+
 /// What the words of the command line ask for.
 #[derive(Drop)]
 pub enum Asked {
@@ -93,6 +98,7 @@ fn described<'a>(alloc: Global) -> Command<'a> {
     Command::new(alloc, "h2audit-split")
         .version(VERSION)
         .about(ABOUT)
+        .after_help(STATUS)
         .no_binary_name(true)
 }
 

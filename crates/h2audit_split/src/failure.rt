@@ -5,7 +5,6 @@ ghost use Rattle.std.specs.Process.{exit_status};
 ghost use Rattle.h2audit_split.specs.Ending.{status_of};
 
 use crate::printable::printable;
-use capture_parts::SplitFault;
 use pcap_records::PcapFault;
 use std::alloc::{AllocError, AllocFailed, Global};
 use std::io;
@@ -77,22 +76,10 @@ impl<T: Drop> From<AllocFailed<T>> for Failure {
 
 impl From<PcapFault> for Failure {
     fn from(fault: PcapFault) -> Failure {
-        match refusal_name(fault) {
-            Some(name) => Failure::Capture(name),
-            None => Failure::OutOfMemory,
+        match fault {
+            PcapFault::OutOfMemory => Failure::OutOfMemory,
+            fault => Failure::Capture(fault.name()),
         }
-    }
-}
-
-/// The name by which a capture is refused; none is of want of memory.
-pub fn refusal_name(fault: PcapFault) -> Option<&'static str> {
-    match fault {
-        PcapFault::ShortHeader => Some("short-header"),
-        PcapFault::BadMagic => Some("bad-magic"),
-        PcapFault::BadVersion => Some("bad-version"),
-        PcapFault::LinkType => Some("link-type"),
-        PcapFault::TooLarge => Some("too-large"),
-        PcapFault::OutOfMemory => None,
     }
 }
 

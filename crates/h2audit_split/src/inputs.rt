@@ -1,9 +1,9 @@
 //! The files that the program reads.
 
-use crate::failure::{Failure, refusal_name};
+use crate::failure::Failure;
 use crate::outputs::part_failure;
 use capture_parts::{FileFault, SplitFault, read_header};
-use pcap_records::{FILE_HEADER, refusal};
+use pcap_records::{FILE_HEADER, PcapFault, refusal};
 use std::alloc::Global;
 use std::fs::File;
 use std::io::Read;
@@ -44,10 +44,8 @@ pub fn split_failure(alloc: Global, files: &[String], folder: &str, wrong: FileF
     let path = path_of(files, wrong.file);
     match wrong.fault {
         SplitFault::Open => Failure::at(alloc, "cannot open", path),
-        SplitFault::Refused(fault) => match refusal_name(fault) {
-            Some(name) => Failure::of_file(alloc, path, name),
-            None => Failure::OutOfMemory,
-        },
+        SplitFault::Refused(PcapFault::OutOfMemory) => Failure::OutOfMemory,
+        SplitFault::Refused(fault) => Failure::of_file(alloc, path, fault.name()),
         SplitFault::AnotherFormat => Failure::of_file(alloc, path, "another-format"),
         SplitFault::AnotherLinkType => Failure::of_file(alloc, path, "another-link-type"),
         SplitFault::CutRecord => Failure::of_file(alloc, path, "cut-record"),

@@ -19,8 +19,8 @@
 //! - Refused by the prover: content of a reset stream that the connection does not count (5.1).
 //! - Tested, in `threads_test.py`: that connections of which nothing is shown go through no round, so that it does not
 //!   give up there. By whole reports: that it succeeds where there is memory.
-//! - Neither proved nor tested: that it gives up only where something may be shown. Where it does, the rounds say what
-//!   is.
+//! - Tested, in `crate_tests`, over random frames, and not proved: that it gives up only where something is shown.
+//!   Where it does, the rounds say what is.
 #![tactic(auto)]
 
 mod connections;

@@ -53,8 +53,11 @@ fn arguments<'a>(alloc: Global) -> Result<Vec<Arg<'a>>, AllocError>
 /// The version of the program and of its report.
 const VERSION: &str = "1.0.0";
 
-const BLAME: &str =
-    "Overflow lines name the victim: see \"Who is to blame\" in README.md, or \"Who broke the rule\" in h2audit(1).";
+const STATUS_AND_BLAME: &str = concat!(
+    "Exit status: 0 without a fault, also where nothing was audited; 1 with a fault; 2 for wrong words; ",
+    "3 for a refused\ncapture; 4 for a failed read or write; 5 for want of memory.\n\n",
+    "Overflow lines name the victim: see \"Who is to blame\" in README.md, or \"Who broke the rule\" in h2audit(1).",
+);
 
 const ABOUT: &str =
     "Audits the HTTP/2 flow control of a classic pcap capture (Ethernet or raw IP, IPv4)";
@@ -75,7 +78,7 @@ fn bare_command<'a>(alloc: Global) -> Command<'a>
     Command::new(alloc, "h2audit")
         .version(VERSION)
         .about(ABOUT)
-        .after_help(BLAME)
+        .after_help(STATUS_AND_BLAME)
         .no_binary_name(true)
 }
 

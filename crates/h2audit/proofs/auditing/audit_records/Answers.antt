@@ -33,14 +33,14 @@ decisions-length link rows capture =
     (λ (numbered : ℕ × Record). packet_decision link numbered.0 numbered.1 capture)
     ∙ length-enumerate_from 1 rows
 
-pub lines_and_flows-made-requires-clause-few : goal.lines_and_flows-made-requires-clause-few
-lines_and_flows-made-requires-clause-few g c κs within =
+pub lines_and_flows-requires-clause-few : goal.lines_and_flows-requires-clause-few
+lines_and_flows-requires-clause-few g c κs within =
     let few = opened-few (packets_in c.args.found) c.args.connections.opened.items c.requires.opened in
     let lent = ap length c.as_slice.ensures.value in
     omega (arith, few, lent, c.requires.order.few)
 
-pub lines_and_flows-made-requires-clause-sources : goal.lines_and_flows-made-requires-clause-sources
-lines_and_flows-made-requires-clause-sources g c κs within = λ k d low. record {
+pub lines_and_flows-requires-clause-sources : goal.lines_and_flows-requires-clause-sources
+lines_and_flows-requires-clause-sources g c κs within = λ k d low. record {
   size = c.requires.size;
   numbered = c.requires.order.numbered;
   payloads = c.requires.order.payloads;

@@ -1,0 +1,282 @@
+#!/usr/bin/python3
+"""Tests of what h2audit-why does for jobs of CI: reasons to fail, statuses, and the JUnit file.
+
+    tools/tests/why_ci_test.py [H2AUDIT] [TEST..]
+"""
+
+from __future__ import annotations
+
+import os
+import pathlib
+import re
+import struct
+import subprocess
+import sys
+import unittest
+import xml.etree.ElementTree as ElementTree
+from collections import Counter
+
+from why_tools import TOP, Json, OnCaptures, has_programs, programs_of, ran
+
+from captures import PREFACE, SYN, SYN_ACK, Capture, capture_of, frame
+from reports_test import rows
+from why import document, gates
+from why.answer import Answer
+from why.making import Failed
+from why.program import Progress, answered, arguments
+
+SCHEMA = pathlib.Path(__file__).with_name("junit.xsd")
+EXAMPLES = sorted((TOP / "examples").glob("*.pcap"))
+TLS = sorted((TOP / "tests" / "tls").glob("*.pcap"))
+# The reasons that hold in each example: found by hand, from the descriptions in examples/README.md.
+BROKEN = {"fault", "certain-fault"}
+BY_HAND = {
+    "connection_overflow_nginx": BROKEN | {"error", "not-audited", "stall"},
+    "leaked_connection_credit_nginx": {"stall"},
+    "lost_segment": {"gap", "not-audited"},
+    "negative_window": set[str](),
+    "negative_window_tomcat": {"stall"},
+    "paused_stream_node": {"stall"},
+    "round_trip_client_side": {"stall"},
+    "round_trip_server_side": {"stall"},
+    "stream_overrun_go": BROKEN | {"error"},
+    "stream_stalls_nghttpd": set[str](),
+    "tiny_window_lighttpd": set[str](),
+    "use_after_reset": BROKEN | {"not-audited"},
+    "zero_increment_nginx": BROKEN | {"error", "not-audited", "stall"},
+}
+SECOND = 1_000_000
+# The place of TCP's window in a record, behind its time.
+WINDOW = 8 + 14 + 20 + 14
+FIELDS = "HEX 000003 01 05 00000001 828684"
+# By the reason that holds in it alone; each record is a tenth of a second after the one before.
+ALONE = {
+    "hung": f"opened\nC {FIELDS}\nS HEADERS 1\n" + 4 * "S DATA 1 16383\n" + "S DATA 1 3\nS PING\nC PING\n",
+    "tcp": f"opened\nC {FIELDS}\nS HEADERS 1\nS AT 5128 DATA 1 100\nS AT 5028 HEX 00005b 00 00 00000001 {91 * '00'}\n"
+           "S AT 5237 DATA 1 0 END_STREAM\n",
+    "error": f"opened\nC {FIELDS}\nS HEX 000004 03 00 00000001 00000002\n",
+    "gap": f"opened\nC {FIELDS}\nS HEADERS 1\nS AT 9000 PING\n",
+    "not-audited": "opened\nC PING\nSEGMENT 1 2 3 4 5 16 PING\n",
+}  # fmt: skip
+
+# No row of tests/reports has TCP that holds back a request, nor an error's code.
+ALONE_ONLY = ("tcp", "error")
+
+
+def slower(octets: bytes, step: int = SECOND // 10) -> bytes:
+    """The same capture, with so many microseconds from each record to the next, and TCP windows that are wide."""
+    made, at, number = bytearray(octets[:24]), 24, 0
+    while at < len(octets):
+        kept = struct.unpack_from("<I", octets, at + 8)[0]
+        number += 1
+        time = 1_000 * SECOND + number * step
+        record = bytearray(octets[at + 8 : at + 16 + kept])
+        if kept >= 54:
+            record[WINDOW : WINDOW + 2] = b"\xff\xff"
+        made += struct.pack("<II", time // SECOND, time % SECOND) + record
+        at += 16 + kept
+    return bytes(made)
+
+
+def expected(found: Json) -> set[str]:
+    """The reasons that hold, by the document of --json."""
+    audited = [one for one in found["connections"] if one["outcome"] == "http2"]
+    requests = [request for one in audited for request in one["requests"]]
+    faults = [fault for one in audited for fault in one["faults"]]
+    kinds = {request["cause"]["kind"] for request in requests}
+    holds = {
+        "fault": bool(faults),
+        "certain-fault": any(fault["certainty"] == "certain" for fault in faults),
+        "stall": bool(kinds & {"stream-window", "connection-window"}),
+        "hung": any(request["hung"] for request in requests),
+        "tcp": "tcp" in kinds,
+        "error": any(signal["code"] for one in audited for signal in one["signals"]),
+        "gap": any(one["gaps"] for one in audited),
+        "not-audited": not audited or bool(found["not_audited"]) or "the audit stopped" in str(stops(audited)),
+    }
+    return {reason for reason, is_so in holds.items() if is_so}
+
+
+def stops(audited: list[Json]) -> list[str]:
+    return ["the audit stopped" for one in audited if one["stopped_at"]]
+
+
+def held(answer: Answer) -> set[str]:
+    """The reasons of which each fails the run by itself."""
+    return {one for one in gates.REASONS if gates.failures_of(answer, gates.Gates(frozenset((one,))))}
+
+
+class Jobs(OnCaptures):
+    def capture(self, octets: bytes) -> pathlib.Path:
+        path = self.folder / "capture.pcap"
+        path.write_bytes(octets)
+        return path
+
+    def answer(self, *words: str) -> Answer:
+        return answered(arguments(["--json", *words]), Progress())
+
+    def junit(self, path: pathlib.Path, *words: str) -> tuple[int, ElementTree.Element]:
+        """The status of a run, and its JUnit file, which is valid."""
+        file = self.folder / "junit.xml"
+        run = ran("--junit", file, "--quiet", *words, path)
+        self.assertEqual(run.stdout, b"")
+        check = subprocess.run(["xmllint", "--noout", "--schema", SCHEMA, file], capture_output=True, text=True)
+        self.assertEqual(check.returncode, 0, check.stderr)
+        return run.returncode, ElementTree.fromstring(file.read_bytes())
+
+
+class Reasons(Jobs):
+    def test_examples(self) -> None:
+        """Each reason fails the examples of which it holds, and no other; found by hand, and by --json."""
+        self.assertEqual({path.stem for path in EXAMPLES}, set(BY_HAND))
+        for path in EXAMPLES:
+            with self.subTest(path.name):
+                answer = self.answer(str(path))
+                self.assertEqual(held(answer), BY_HAND[path.stem])
+                self.assertEqual(held(answer), expected(document.document_of(answer)))
+
+    def test_alone(self) -> None:
+        """A capture for each reason beside the rest."""
+        for reason, script in ALONE.items():
+            with self.subTest(reason):
+                answer = self.answer(str(self.capture(slower(capture_of(script)))))
+                others = {"stall"} if reason == "hung" else set()
+                self.assertEqual(held(answer), {reason} | others)
+
+    def test_rows(self) -> None:
+        """The captures of tests/reports, slowed so that stalls count, and those of TLS without their keys."""
+        times: Counter[str] = Counter()
+        captures = [slower(capture_of(text.partition("-- ")[0])) if not text.startswith("bytes") else
+                    capture_of(text.partition("-- ")[0]) for _, text in rows()]  # fmt: skip
+        for octets in captures + [path.read_bytes() for path in TLS]:
+            try:
+                answer = self.answer(str(self.capture(octets)))
+            except Failed:  # refused
+                continue
+            self.assertEqual(held(answer), expected(document.document_of(answer)))
+            times.update(held(answer))
+            times["none"] += not held(answer)
+        self.assertTrue(all(times[reason] for reason in (*gates.REASONS, "none") if reason not in ALONE_ONLY), times)
+
+
+class Statuses(Jobs):
+    def test_each(self) -> None:
+        """What fails has status 1 and one line for each reason; what is not asked for does not fail."""
+        broken, stalled = TOP / "examples" / "stream_overrun_go.pcap", TOP / "examples" / "paused_stream_node.pcap"
+        cases: list[tuple[pathlib.Path, list[str], int, int]] = [
+            (broken, [], 1, 0),
+            (broken, ["--quiet"], 1, 1),
+            (broken, ["--fail-on", "fault,error"], 1, 2),
+            (broken, ["--fail-on", "stall"], 0, 0),
+            (stalled, [], 0, 0),
+            (stalled, ["--fail-on", "stall", "--fail-on", "fault"], 1, 1),
+            (stalled, ["--fail-on", "hung,tcp,gap,not-audited,error,certain-fault"], 0, 0),
+            (stalled, ["--fail-stall", "2.3s"], 1, 1),
+            (stalled, ["--fail-stall", "2301ms"], 0, 0),
+            (stalled, ["--require-http2"], 0, 0),
+        ]
+        for path, words, status, lines in cases:
+            with self.subTest(words=words, path=path.name):
+                run = ran(*words, path)
+                said = run.stderr.decode().splitlines()
+                self.assertEqual((run.returncode, len(said)), (status, lines), said)
+                self.assertTrue(all(line.startswith("h2audit-why: failed: ") for line in said))
+                self.assertEqual(not run.stdout, "--quiet" in words)
+
+    def test_nothing_audited(self) -> None:
+        path = self.capture(capture_of("handshake"))
+        cases: list[tuple[list[str], int]] = [
+            ([], 6), (["--quiet"], 6), (["--fail-on", "fault"], 6), (["--require-http2"], 1),
+            (["--fail-on", "not-audited"], 1),
+        ]  # fmt: skip
+        for words, status in cases:
+            self.assertEqual(ran(*words, path).returncode, status, words)
+
+    def test_wrong_words(self) -> None:
+        for words in (["--fail-on", "slow"], ["--fail-on", ""], ["--fail-stall", "100"], ["--fail-stall", "-1ms"]):
+            run = ran(*words, EXAMPLES[0])
+            self.assertEqual((run.returncode, run.stdout, len(run.stderr.splitlines())), (2, b"", 1), words)
+
+    def test_no_file(self) -> None:
+        """A JUnit file that cannot be written is status 4; of a capture that is refused there is none."""
+        run = ran("--junit", self.folder / "nowhere" / "junit.xml", EXAMPLES[0])
+        self.assertEqual((run.returncode, run.stdout, len(run.stderr.splitlines())), (4, b"", 1))
+        file = self.folder / "junit.xml"
+        self.assertEqual(ran("--junit", file, self.capture(b"no capture at all, but text")).returncode, 3)
+        self.assertFalse(file.exists())
+
+
+class JUnit(Jobs):
+    def test_names(self) -> None:
+        """The file is valid, and names each connection and each request; its counts are those of what it holds."""
+        for path in EXAMPLES + TLS:
+            with self.subTest(path.name):
+                status, top = self.junit(path, "--fail-on", "fault,stall,error,not-audited")
+                found = document.document_of(self.answer(str(path)))
+                suites = {suite.get("name"): [case.get("name") for case in suite] for suite in top}
+                wanted = {found["files"][0]: ["capture"]}
+                for one in found["connections"]:
+                    names = [f"stream {request['stream']} {request['name'] or ''}".strip()
+                             for request in one["requests"]]  # fmt: skip
+                    wanted[f"connection {one['number']} {one['client']} -> {one['server']}"] = ["connection", *names]
+                self.assertEqual(suites, wanted)
+                self.counts(top, top.findall("testsuite/testcase"))
+                for suite in top:
+                    self.counts(suite, suite.findall("testcase"))
+                self.assertEqual(status == 1, top.find(".//failure") is not None)
+
+    def counts(self, of: ElementTree.Element, cases: list[ElementTree.Element]) -> None:
+        failed = sum(case.find("failure") is not None for case in cases)
+        skipped = sum(case.find("skipped") is not None for case in cases)
+        numbers = [of.get(name) for name in ("tests", "failures", "errors", "skipped")]
+        self.assertEqual(numbers, [str(len(cases)), str(failed), "0", str(skipped)])
+
+    def test_hostile(self) -> None:
+        """Paths, debug texts and names of files with whatever bytes there are make valid XML; secrets stay out."""
+        fields = bytearray(b"\x82\x86\x00\x05:path")
+        path = bytes(range(1, 256)).replace(b"?", b"") + "\ufffe\U0001f600]]>&\"'<".encode() + b"\xed\xa0\x80?secret=1"
+        fields += b"\x7f" + bytes([0x80 | (len(path) - 127) & 127, (len(path) - 127) >> 7]) + path
+        capture = Capture()
+        capture.syn("C", 1000, SYN)
+        capture.syn("S", 5000, SYN_ACK)
+        capture.send("C", PREFACE + frame(4, 0, 0) + frame(1, 5, 1, bytes(fields)))
+        capture.send("S", frame(4, 0, 0) + frame(7, 0, 0, struct.pack(">II", 0, 2) + bytes(range(256))))
+        strange = self.folder / "a\x1b\n<b>\udcff.pcap"
+        strange.write_bytes(capture.bytes)
+        status, top = self.junit(strange, "--fail-on", "error")
+        self.assertEqual(status, 1)
+        names = [case.get("name") or "" for case in top.findall("testsuite/testcase")]
+        self.assertTrue(names[2].startswith("stream 1 GET "), names)
+        self.assertIn("\\x1b", names[2])
+        self.assertNotIn("secret", ElementTree.tostring(top, "unicode"))
+        hidden = self.junit(strange, "--no-requests")[1]
+        self.assertEqual([case.get("name") for case in hidden.findall("testsuite/testcase")][2], "stream 1")
+
+
+class Recipes(Jobs):
+    """The line of h2audit-why in each job of docs/RECIPES.md."""
+
+    LINE = re.compile(r"h2audit-why [^'\n]*")
+
+    def test_jobs(self) -> None:
+        text = (TOP / "docs" / "RECIPES.md").read_text().partition("\n## A job of CI")[2].partition("\n## ")[0]
+        jobs = re.findall(r"^```(?:yaml|groovy)\n(.*?)^```$", text, re.M | re.S)
+        self.assertEqual(len(jobs), 3)
+        for job in jobs:
+            (line,) = self.LINE.findall(job)
+            (file,) = set(re.findall(r"\S+\.xml", job.replace("'", " ")))
+            for name, status in (("stream_stalls_nghttpd", 0), ("paused_stream_node", 1), ("lost_segment", 1)):
+                (self.folder / "capture.pcap").write_bytes((TOP / "examples" / f"{name}.pcap").read_bytes())
+                (self.folder / "keys.log").write_text("# no secrets\n")
+                surroundings = {**os.environ, "PATH": f"{TOP / 'tools'}:{os.environ['PATH']}"}
+                run = subprocess.run(["bash", "-c", line], cwd=self.folder, env=surroundings, capture_output=True)
+                self.assertEqual(run.returncode, status, run.stderr)
+                top = ElementTree.fromstring((self.folder / file).read_bytes())
+                self.assertEqual(top.find(".//failure") is not None, status == 1)
+
+
+if __name__ == "__main__":
+    sys.argv = programs_of(sys.argv)
+    if not has_programs():
+        sys.exit("h2audit or h2audit-import is not built")
+    unittest.main()
