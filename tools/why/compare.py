@@ -96,7 +96,7 @@ def compared(before: Answer, after: Answer) -> Compared:
 def by_name(answer: Answer) -> dict[Key, list[One]]:
     """The requests by method and path, each list in the order in which they were opened."""
     ones = [One(one.number, request) for one in answer.audited for request in one.requests]
-    ones.sort(key=lambda one: (-one.request.opened.time, one.connection, one.request.opened.frame))
+    ones.sort(key=lambda one: (one.request.opened.time, one.connection, one.request.opened.frame))
     found: dict[Key, list[One]] = {}
     for one in ones:
         request = one.request
