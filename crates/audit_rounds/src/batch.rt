@@ -62,8 +62,8 @@ fn found_after<R: Threads + Sync, G: Gate>(
     Ok(put_back(connections, found, later))
 }
 
-/// What is shown of each connection, all of which are gone through. One worker needs no rounds for one connection: it
-/// meets the frames one by one, if that takes little time.
+/// What is shown of each connection, all of which are gone through. Where credits are shown, which most frames change,
+/// one worker needs no rounds for one connection: it meets the frames one by one, if that takes little time.
 fn shown_of<R: Threads + Sync, G: Gate>(
     crew: &Crew<'_, R, G>,
     connections: &[&[Frame]],
@@ -71,7 +71,7 @@ fn shown_of<R: Threads + Sync, G: Gate>(
     requires { IsBatch connections.now }
     ensures { IfOk result (λ found. AreShown crew.now.credits_shown connections.now found.items) }
 {
-    if crew.division.workers == 1 && connections.len() == 1 {
+    if crew.credits_shown && crew.division.workers == 1 && connections.len() == 1 {
         let frames = connections[0];
         if let Some(found) = shown_in_one_pass(crew.alloc, crew.credits_shown, frames)? {
             let all = vec![in crew.alloc; found]?;

@@ -47,9 +47,13 @@ impl Division {
 /// beside the frames is there for one batch at a time, and so many frames are enough to keep all workers at work.
 const BATCH: usize = 1 << 22;
 
-/// One worker goes over one connection after the other.
-fn most_for(workers: u32) -> usize {
-    if workers == 1 { 1 } else { BATCH }
+/// So many connections are in a batch at most. Where credits are shown, one worker goes over one after the other.
+fn most_for(credits_shown: bool, workers: u32) -> usize {
+    if credits_shown && workers == 1 {
+        1
+    } else {
+        BATCH
+    }
 }
 
 /// The next batch: the first of these connections, so many at most, and one at least.
@@ -91,7 +95,7 @@ pub fn findings_of_each<R: Threads + Sync, G: Gate>(
     let mut done = 0;
     while done < connections.len() {
         let (_, rest) = connections.split_at(done);
-        let batch = next_batch(rest, most_for(division.workers));
+        let batch = next_batch(rest, most_for(credits_shown, division.workers));
         let mut found = by_halves(&crew, batch)?;
         all.append(&mut found)?;
         done += batch.len();
