@@ -61,7 +61,7 @@ class Capture:
         total = 40 + len(payload)
         ends = (ADDRESSES[side], ADDRESSES[1 - side])
         ip = struct.pack(">BBHIBBHII", 0x45, 0, total, 0, 64, 6, 0, *ends)
-        tcp = struct.pack(">HHIIBBHHH", ports[side], ports[1 - side], seq % 2 ** 32, 0, 0x50, flags, 0, 0, 0)
+        tcp = struct.pack(">HHIIBBHHH", ports[side], ports[1 - side], seq % 2**32, 0, 0x50, flags, 0, 0, 0)
         self.record(bytes(12) + b"\x08\x00" + ip + tcp + payload)
 
     def record(self, packet: bytes) -> None:
@@ -85,7 +85,7 @@ class Connection:
 
     def send(self, side: int, data: bytes, most: int = 1460) -> None:
         for start in range(0, len(data), most):
-            piece = data[start:start + most]
+            piece = data[start : start + most]
             self.capture.segment(self.ports, side, self.next[side], ACK, piece)
             self.next[side] += len(piece)
 
@@ -150,7 +150,7 @@ def streams(capture: Capture, size: int) -> None:
 
 def early(capture: Capture, size: int) -> None:
     one = Connection(capture, 40000)
-    one.send(CLIENT, window_update(0, 2 ** 31 - 1))
+    one.send(CLIENT, window_update(0, 2**31 - 1))
     three_frames_each(capture, size, one)
 
 
@@ -272,7 +272,7 @@ def live(capture: Capture, size: int) -> None:
 
 def live_early(capture: Capture, size: int) -> None:
     one = Connection(capture, 40000)
-    one.send(CLIENT, window_update(0, 2 ** 31 - 1))
+    one.send(CLIENT, window_update(0, 2**31 - 1))
     many_moves(capture, size, one)
 
 
@@ -296,7 +296,18 @@ def next_client() -> None:
 
 USUAL = (bulk, small, connections, chatty, calls, streams, early)
 HOSTILE = (
-    closed, strays, colliding, empty, hollow, openings, backwards, overlapping, grants, settings, waiting, crumbs,
+    closed,
+    strays,
+    colliding,
+    empty,
+    hollow,
+    openings,
+    backwards,
+    overlapping,
+    grants,
+    settings,
+    waiting,
+    crumbs,
     promised,
 )
 QUADRATIC = (live, live_early)

@@ -101,15 +101,26 @@ def line_of(shape: str, path: str, programs: Programs, runs: int, before: Run | 
     peak = max(one.peak, four.peak)
     grown = (one.processor / before.processor, peak / before.peak) if before else (0, 0)
     text = "%-11s %5.3g  %8.3f %5.0f %6.1f  %8.2f  %8.1f %6.2f %6.1f" % (
-        shape, size, one.processor, one.processor / cat.processor, grown[0], four.wall / one.wall,
-        peak, peak / size, grown[1])
+        shape,
+        size,
+        one.processor,
+        one.processor / cat.processor,
+        grown[0],
+        four.wall / one.wall,
+        peak,
+        peak / size,
+        grown[1],
+    )
     if programs.peer:
         peer = others.pop(0)
         text += "  %6.2f %6.2f" % (one.processor / peer.processor, peak / peer.peak)
     if programs.beside:
         alone, shared = others
         text += "  %6.2f %6.2f %6.2f" % (
-            one.processor / alone.processor, four.wall / shared.wall, peak / max(alone.peak, shared.peak))
+            one.processor / alone.processor,
+            four.wall / shared.wall,
+            peak / max(alone.peak, shared.peak),
+        )
     print(text, flush=True)
     return one._replace(peak=peak)
 

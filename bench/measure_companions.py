@@ -59,8 +59,11 @@ def parts_in(folder: pathlib.Path, program: str, capture: pathlib.Path) -> tuple
 def show(what: str, megabytes: float, names: list[str], found: list[Run]) -> None:
     for name, run in zip(names, found):
         rate = megabytes / run.processor if run.processor else 0.0
-        print(f"{what:28} {megabytes:6.0f} MB  {name:24} {run.wall:6.2f} s {run.processor:6.2f} s of processor "
-              f"{rate:6.0f} MB/s {run.peak:6.0f} MB", flush=True)
+        print(
+            f"{what:28} {megabytes:6.0f} MB  {name:24} {run.wall:6.2f} s {run.processor:6.2f} s of processor "
+            f"{rate:6.0f} MB/s {run.peak:6.0f} MB",
+            flush=True,
+        )
 
 
 class Measuring:

@@ -62,8 +62,10 @@ def measure(program: pathlib.Path, number: int, megabytes: float) -> None:
             with open(folder / "captures" / f"{place:05d}.pcap", "wb") as file:
                 SHAPES[USUAL[place % len(USUAL)].__name__](Capture(file), int(megabytes * 1000000) + place)
         size = sum(path.stat().st_size for path in (folder / "captures").iterdir()) / 1000000
-        print(f"\n{number} captures of {megabytes} MB\n"
-              "                          seconds  captures/s    MB/s  processor, ms a capture")
+        print(
+            f"\n{number} captures of {megabytes} MB\n"
+            "                          seconds  captures/s    MB/s  processor, ms a capture"
+        )
         report(folder, folder / "bin" / "h2audit", number, size)
 
 
@@ -79,8 +81,11 @@ def report(folder: pathlib.Path, program: pathlib.Path, number: int, size: float
     for jobs, runs in fleets.items():
         line(f"h2audit-fleet --jobs {jobs}", number, size, min(runs))
     most, took = TIMES * min(shell)[0] + BEGIN_SECONDS, min(fleets[JOBS[-1]])[0]
-    print(f"{took:.2f} s of {most:.2f}, which is {TIMES} times xargs and {BEGIN_SECONDS:.0f} seconds to begin: "
-          f"{'within' if took <= most else 'ABOVE'}", flush=True)
+    print(
+        f"{took:.2f} s of {most:.2f}, which is {TIMES} times xargs and {BEGIN_SECONDS:.0f} seconds to begin: "
+        f"{'within' if took <= most else 'ABOVE'}",
+        flush=True,
+    )
 
 
 def main() -> None:

@@ -28,8 +28,11 @@ def timed(step: str, size: float, words: list[object], output: str | pathlib.Pat
         _, status, usage = os.wait4(child.pid, 0)
         child.returncode = os.waitstatus_to_exitcode(status)
     wall, work = time.monotonic() - start, usage.ru_utime + usage.ru_stime
-    print(f"{step}: {size:.0f} MB, wall {wall:.2f} s, processor {work:.2f} s ({size / work:.0f} MB/s), "
-          f"peak {usage.ru_maxrss * 1024 / 1e6:.1f} MB", flush=True)
+    print(
+        f"{step}: {size:.0f} MB, wall {wall:.2f} s, processor {work:.2f} s ({size / work:.0f} MB/s), "
+        f"peak {usage.ru_maxrss * 1024 / 1e6:.1f} MB",
+        flush=True,
+    )
     return child.returncode
 
 

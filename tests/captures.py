@@ -106,13 +106,7 @@ class Capture:
         self.bytes += captured
 
     def segment(
-        self,
-        source: Endpoint,
-        target: Endpoint,
-        seq: int,
-        flags: int,
-        payload: bytes = b"",
-        kept: int | None = None,
+        self, source: Endpoint, target: Endpoint, seq: int, flags: int, payload: bytes = b"", kept: int | None = None
     ) -> None:
         whole = packet(source, target, seq, flags, payload)
         self.record(len(whole), whole if kept is None else whole[: HEADERS + kept])

@@ -83,7 +83,7 @@ REFUSED = {
     "--workers 2 --groups 3 --block 4 --frames one.pcap two.pcap": unexpected("two.pcap"),
     "-- one.pcap --frames": unexpected("--frames"),
     "--frames=1": "unexpected value '1' for '--frames' found; no more were expected\n\n"
-                  "Usage: h2audit --frames [FILE]\n\n",
+    "Usage: h2audit --frames [FILE]\n\n",
     "--frames --frames": twice("--frames"),
     "--workers 1 --workers 2": twice("--workers <N>"),
     "--groups=7 --groups=7": twice("--groups <N>"),

@@ -37,7 +37,7 @@ def endpoints_of(link: int, packet: bytes) -> tuple[bytes, bytes] | None:
     datagram = front[start:]
     if len(datagram) < 20 or datagram[0] >> 4 != 4 or datagram[9] != 6:
         return None
-    segment = datagram[4 * (datagram[0] & 15):]
+    segment = datagram[4 * (datagram[0] & 15) :]
     if len(segment) < 4:
         return None
     return datagram[12:16] + segment[:2], datagram[16:20] + segment[2:4]

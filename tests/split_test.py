@@ -88,7 +88,7 @@ class Traffic:
         if kind == 1:
             return datagram_of(source, 0x0A000100, 6, segment, flags=0x2000)
         if kind == 2:
-            return self.tcp()[:dice.randrange(60)]
+            return self.tcp()[: dice.randrange(60)]
         if kind == 3:
             return b"\x60" + bytes(dice.randrange(80))
         if kind == 4:
@@ -105,7 +105,7 @@ class Traffic:
                 packet = bytes(12) + tag + (b"\x08\x00" if packet[:1] != b"\x60" else b"\x86\xdd") + packet
             original = len(packet)
             if dice.random() < 0.05:
-                packet = packet[:dice.randrange(len(packet) + 1)]
+                packet = packet[: dice.randrange(len(packet) + 1)]
             records.append(record_of(order, number, packet, original))
         return header_of(order, magic, link) + b"".join(records)
 
@@ -178,7 +178,7 @@ def rotated(capture: bytes) -> list[bytes]:
     """The capture in three files, each with the header."""
     records, rest = records_of(capture)
     third = len(records) // 3
-    bodies = [b"".join(records[:third]), b"".join(records[third:2 * third]), b"".join(records[2 * third:]) + rest]
+    bodies = [b"".join(records[:third]), b"".join(records[third : 2 * third]), b"".join(records[2 * third :]) + rest]
     return [capture[:24] + body for body in bodies]
 
 
@@ -205,8 +205,14 @@ def refusals(program: pathlib.Path) -> list[str]:
     nanos, raw = header_of("<", 0xA1B23C4D, 1), header_of("<", 0xA1B2C3D4, 101)
     record = record_of("<", 1, bytes(60))
     files = {
-        "good": little + record, "cut": little + record[:-1], "big": big, "nanos": nanos, "raw": raw,
-        "short": little[:23], "magic": b"notes" * 8, "version": little[:4] + b"\x03" + little[5:],
+        "good": little + record,
+        "cut": little + record[:-1],
+        "big": big,
+        "nanos": nanos,
+        "raw": raw,
+        "short": little[:23],
+        "magic": b"notes" * 8,
+        "version": little[:4] + b"\x03" + little[5:],
         "cooked": header_of("<", 0xA1B2C3D4, 113),
     }
     calls = [
@@ -224,9 +230,13 @@ def refusals(program: pathlib.Path) -> list[str]:
         ("--parts 2 -o out .", 4, "h2audit-split: cannot read: .\n"),
         ("--parts 2 -o good good", 4, "h2audit-split: cannot make folder: good\n"),
         ("--parts 2 -o none/out good", 4, "h2audit-split: cannot make folder: none/out\n"),
-        ("--parts 0 -o out good", 2, None), ("--parts 501 -o out good", 2, None), ("--parts 2 good", 2, None),
-        ("-o out good", 2, None), ("--unknown", 2, None),
-        ("--help", 0, HELP), ("--version", 0, "h2audit-split 1.0.0\n"),
+        ("--parts 0 -o out good", 2, None),
+        ("--parts 501 -o out good", 2, None),
+        ("--parts 2 good", 2, None),
+        ("-o out good", 2, None),
+        ("--unknown", 2, None),
+        ("--help", 0, HELP),
+        ("--version", 0, "h2audit-split 1.0.0\n"),
     ]
     wrong = []
     for words, status, text in calls:

@@ -56,8 +56,9 @@ class Dask(Client):
         self.client: Any = distributed.Client(scheduler, **more)
         self.dashboard_link = str(self.client.dashboard_link)
 
-    def __exit__(self, kind: type[BaseException] | None, error: BaseException | None,
-                 trace: TracebackType | None) -> None:
+    def __exit__(
+        self, kind: type[BaseException] | None, error: BaseException | None, trace: TracebackType | None
+    ) -> None:
         self.client.close()
 
     def submit(self, work: Callable[..., object], *words: object, priority: int) -> Future:
@@ -144,8 +145,15 @@ def local_cluster(dashboard: str, folder: str) -> Any:
     try:
         with deaf():
             return distributed.LocalCluster(
-                n_workers=0, threads_per_worker=1, host=HERE, security=security.Security.temporary(), silence_logs=50,
-                local_directory=folder, dashboard_address=dashboard, worker_dashboard_address=f"{HERE}:0")
+                n_workers=0,
+                threads_per_worker=1,
+                host=HERE,
+                security=security.Security.temporary(),
+                silence_logs=50,
+                local_directory=folder,
+                dashboard_address=dashboard,
+                worker_dashboard_address=f"{HERE}:0",
+            )
     except (OSError, ImportError, RuntimeError) as why:
         raise NoWorkers(f"the workers cannot be started: {first_line(why)}") from None
 
@@ -171,5 +179,8 @@ def security_of(certificates: Certificates | None) -> Any:
         with open(name, "rb"):
             pass
     return security.Security(
-        require_encryption=True, tls_ca_file=certificates.authority, tls_client_cert=certificates.certificate,
-        tls_client_key=certificates.key)
+        require_encryption=True,
+        tls_ca_file=certificates.authority,
+        tls_client_cert=certificates.certificate,
+        tls_client_key=certificates.key,
+    )

@@ -185,8 +185,14 @@ class Course:
         else:
             self.import_first(capture)
 
-    def submit(self, capture: Capture, after: Callable[[Capture, Answer], None], work: Callable[..., Answer],
-               *words: Any, tries: int = 1) -> None:
+    def submit(
+        self,
+        capture: Capture,
+        after: Callable[[Capture, Answer], None],
+        work: Callable[..., Answer],
+        *words: Any,
+        tries: int = 1,
+    ) -> None:
         priority = LAST if max(capture.tries, tries) > 1 else FIRST if capture.is_large else USUAL
         future = self.client.submit(work, *words, priority=priority)
         capture.futures.add(future)

@@ -27,8 +27,25 @@ SCHEMA_VERSION = 2
 APPLICATION = 1748123206
 TABLES = ("passed_over", "unopened", "findings", "stalls", "connections")
 HEADS = ("records", "segments", "snapped", "not_ipv4", "fragments", "not_tcp", "refused")
-COLUMNS = ("path", "size", "modified", "sha256", "outcome", "status", "reason", "program", "version", "options",
-           "tries", "seconds", "worker", "entered", "report_sha256", "report_bytes", *HEADS)
+COLUMNS = (
+    "path",
+    "size",
+    "modified",
+    "sha256",
+    "outcome",
+    "status",
+    "reason",
+    "program",
+    "version",
+    "options",
+    "tries",
+    "seconds",
+    "worker",
+    "entered",
+    "report_sha256",
+    "report_bytes",
+    *HEADS,
+)
 ROWS_AT_ONCE = 10000
 VERDICTS = f"""
     SELECT outcome, status, EXISTS (SELECT 1 FROM connections WHERE capture = id AND holds = '{HTTP2}') AS has_http2,
@@ -67,8 +84,10 @@ class Database:
             raise Unusable("it is no database of h2audit-fleet")
         if (version := self.pragma("user_version")) != SCHEMA_VERSION:
             whose = "an older" if version < SCHEMA_VERSION else "a newer"
-            raise Unusable(f"its schema is {version}, of {whose} h2audit-fleet, and this one writes {SCHEMA_VERSION}: "
-                           "name a new file")
+            raise Unusable(
+                f"its schema is {version}, of {whose} h2audit-fleet, and this one writes {SCHEMA_VERSION}: "
+                "name a new file"
+            )
 
     def pragma(self, name: str) -> int:
         return int(self.base.execute(f"PRAGMA {name}").fetchone()[0])
@@ -148,7 +167,8 @@ class Database:
         found = self.base.execute(
             f"INSERT INTO captures ({', '.join(COLUMNS)}) VALUES ({marks}) "
             f"ON CONFLICT (path) DO UPDATE SET {changes} RETURNING id",
-            [row[column] for column in COLUMNS]).fetchone()
+            [row[column] for column in COLUMNS],
+        ).fetchone()
         return int(found[0])
 
     def put_rows(self, capture: int, rows: Iterable[Row]) -> None:
@@ -219,7 +239,7 @@ def write_all(file: int, piece: bytes, folder: str) -> None:
     rest = memoryview(piece)
     try:
         while rest:
-            rest = rest[os.write(file, rest):]
+            rest = rest[os.write(file, rest) :]
     except OSError as why:
         raise OSError(why.errno, why.strerror, folder) from None
 

@@ -108,8 +108,8 @@ def packets(capture: BinaryIO) -> Iterator[tuple[int, int, bytes]]:
 
 def of_ethernet(packet: bytes) -> bytes:
     """The datagram of a frame with no tag, or one."""
-    at = sniff.TYPE_AT + 4 * (packet[sniff.TYPE_AT:sniff.TYPE_AT + 2] == sniff.VLAN_TAG)
-    return packet[at + 2:] if packet[at:at + 2] == sniff.IPV4 else b""
+    at = sniff.TYPE_AT + 4 * (packet[sniff.TYPE_AT : sniff.TYPE_AT + 2] == sniff.VLAN_TAG)
+    return packet[at + 2 :] if packet[at : at + 2] == sniff.IPV4 else b""
 
 
 def ends_and_ports_of(datagram: bytes) -> bytes:
@@ -117,7 +117,7 @@ def ends_and_ports_of(datagram: bytes) -> bytes:
     if len(datagram) < sniff.IPV4_HEADER or datagram[9] != sniff.TCP or datagram[6] & 0x3F or datagram[7]:
         return b""
     at = 4 * (datagram[0] & 15)
-    return datagram[12:20] + datagram[at:at + TCP_PORTS]
+    return datagram[12:20] + datagram[at : at + TCP_PORTS]
 
 
 # The course of an import

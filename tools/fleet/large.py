@@ -18,8 +18,28 @@ from typing import IO
 
 from fleet import programs
 from fleet.tasks import (
-    AUDIT, IMPORT, IMPORT_ALONE, MERGE, REFUSED, SPLIT, Answer, Order, Unread, ends_of, has_more, is_imported, kept,
-    named, on_capture, opened, parts_of, run_on, verdict, while_unchanged, words_of_keys, worker_name,
+    AUDIT,
+    IMPORT,
+    IMPORT_ALONE,
+    MERGE,
+    REFUSED,
+    SPLIT,
+    Answer,
+    Order,
+    Unread,
+    ends_of,
+    has_more,
+    is_imported,
+    kept,
+    named,
+    on_capture,
+    opened,
+    parts_of,
+    run_on,
+    verdict,
+    while_unchanged,
+    words_of_keys,
+    worker_name,
 )
 
 

@@ -108,8 +108,15 @@ def audited(asked: Asked, interruption: Interruption) -> int:
         database.close()
 
 
-def run(asked: Asked, client: Client, database: Database, walk: Walk, captures: list[Found], more: dict[str, str],
-        interruption: Interruption) -> int:
+def run(
+    asked: Asked,
+    client: Client,
+    database: Database,
+    walk: Walk,
+    captures: list[Found],
+    more: dict[str, str],
+    interruption: Interruption,
+) -> int:
     progress = Progress(len(captures), sum(found.size or 0 for found in captures))
 
     def enter(capture: Capture, answer: tasks.Answer) -> None:
@@ -121,8 +128,12 @@ def run(asked: Asked, client: Client, database: Database, walk: Walk, captures: 
 
     if asked.dashboard is not None or (asked.scheduler is not None and sys.stderr.isatty()):
         print(f"{NAME}: dashboard at {client.dashboard_link}", file=sys.stderr)
-    order: tasks.Order = {"keys": [os.path.abspath(key) for key in asked.keys], "imports": asked.imports,
-                          "timeout": asked.timeout, "split_above": asked.split_above * MEGABYTE}
+    order: tasks.Order = {
+        "keys": [os.path.abspath(key) for key in asked.keys],
+        "imports": asked.imports,
+        "timeout": asked.timeout,
+        "split_above": asked.split_above * MEGABYTE,
+    }
     shared = asked.scratch or (tempfile.gettempdir() if asked.scheduler is None else None)
     limits = Limits(asked.retries + 1, os.path.abspath(shared) if shared else None)
     course = Course(client, order, limits, enter)

@@ -20,8 +20,10 @@ from fleet import programs
 from fleet.carrier import Client, Future
 
 PACKAGES = Path(__file__).resolve().parents[1]
-BEGIN = ("import sys; sys.dont_write_bytecode = True; sys.path.insert(0, sys.argv[1]); "
-         "from fleet.worker import serve; serve(int(sys.argv[2]))")
+BEGIN = (
+    "import sys; sys.dont_write_bytecode = True; sys.path.insert(0, sys.argv[1]); "
+    "from fleet.worker import serve; serve(int(sys.argv[2]))"
+)
 WAITS, DONE, CANCELLED = "pending", "finished", "cancelled"
 NAME = "this machine"
 
@@ -77,8 +79,12 @@ class Worker:
         with there:
             self.process = subprocess.Popen(
                 [*programs.tied(), sys.executable, "-c", BEGIN, str(PACKAGES), str(there.fileno())],
-                pass_fds=[there.fileno()], stdin=subprocess.DEVNULL, stdout=subprocess.DEVNULL,
-                stderr=subprocess.DEVNULL, start_new_session=True)
+                pass_fds=[there.fileno()],
+                stdin=subprocess.DEVNULL,
+                stdout=subprocess.DEVNULL,
+                stderr=subprocess.DEVNULL,
+                start_new_session=True,
+            )
 
     def do(self, task: Task) -> None:
         """Does a task, which ends with what the worker says or, where that is lost, as such."""
@@ -116,8 +122,9 @@ class Pool(Client):
             keeper.start()
         return self
 
-    def __exit__(self, kind: type[BaseException] | None, error: BaseException | None,
-                 trace: TracebackType | None) -> None:
+    def __exit__(
+        self, kind: type[BaseException] | None, error: BaseException | None, trace: TracebackType | None
+    ) -> None:
         with self.lock:
             self.is_ending = True
             for worker in self.workers:

@@ -81,16 +81,23 @@ def tied() -> list[str]:
 
 
 @contextmanager
-def child_of(words: Sequence[str], has_input: bool, handed: tuple[int, ...], output: IO[bytes],
-             said: IO[bytes]) -> Iterator[subprocess.Popen[bytes]]:
+def child_of(
+    words: Sequence[str], has_input: bool, handed: tuple[int, ...], output: IO[bytes], said: IO[bytes]
+) -> Iterator[subprocess.Popen[bytes]]:
     """A child in a session of its own, which keys of the terminal do not reach.
 
     It does not outlive its worker for long: one that is fed comes to the end of its capture, and any other is tied to
     the worker.
     """
     child = subprocess.Popen(
-        [*([] if has_input else tied()), *words], stdin=subprocess.PIPE if has_input else subprocess.DEVNULL,
-        stdout=output, stderr=said, bufsize=0, pass_fds=handed, start_new_session=True)
+        [*([] if has_input else tied()), *words],
+        stdin=subprocess.PIPE if has_input else subprocess.DEVNULL,
+        stdout=output,
+        stderr=said,
+        bufsize=0,
+        pass_fds=handed,
+        start_new_session=True,
+    )
     try:
         yield child
     finally:
@@ -153,7 +160,7 @@ def digest_of(source: int, is_late: threading.Event) -> tuple[int, str]:
 def is_written(pipe: IO[bytes], rest: memoryview) -> bool:
     try:
         while rest:
-            rest = rest[pipe.write(rest):]
+            rest = rest[pipe.write(rest) :]
     except BrokenPipeError:
         return False
     return True

@@ -31,9 +31,13 @@ class Progress:
             self.next_line = now + LINE_SECONDS
             seconds = max(now - self.begin, 0.001)
             sizes = f"{self.done_size / MEGABYTE:,.0f} of {self.size / MEGABYTE:,.0f} MB"
-            print(f"{CLEAR}{self.done.captures:,} of {self.captures:,} captures, {sizes}, "
-                  f"{self.done.captures / seconds:.1f} captures a second, {self.done.words()}",
-                  end="", file=sys.stderr, flush=True)
+            print(
+                f"{CLEAR}{self.done.captures:,} of {self.captures:,} captures, {sizes}, "
+                f"{self.done.captures / seconds:.1f} captures a second, {self.done.words()}",
+                end="",
+                file=sys.stderr,
+                flush=True,
+            )
 
     def clear(self) -> None:
         if sys.stderr.isatty():

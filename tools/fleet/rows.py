@@ -6,9 +6,7 @@ from io import BufferedReader, RawIOBase
 from typing import BinaryIO
 
 from report.blame import OTHER_SIDE, STALL_BEGIN, STALL_END, who_broke_it
-from report.lines import (
-    Audited, Capture, Finding, Flow, Line, Opening, PassedOver, Stall, Unopened, read_lines,
-)
+from report.lines import Audited, Capture, Finding, Flow, Line, Opening, PassedOver, Stall, Unopened, read_lines
 
 # A table's name, and the values of a row but for the capture's number.
 Row = tuple[str, tuple[object, ...]]
@@ -35,7 +33,7 @@ class Unpacked(RawIOBase):
                 if not source:
                     break
             if text := self.packer.decompress(source, len(room)):
-                room[:len(text)] = text
+                room[: len(text)] = text
                 return len(text)
         return 0
 

@@ -9,10 +9,7 @@ from typing import BinaryIO
 PLAIN, OTHER, NONE = "plain", "other", "none"
 
 # Classic captures, of microseconds and of nanoseconds, in either byte order.
-CLASSIC = {
-    b"\xd4\xc3\xb2\xa1": "<", b"\x4d\x3c\xb2\xa1": "<",
-    b"\xa1\xb2\xc3\xd4": ">", b"\xa1\xb2\x3c\x4d": ">",
-}
+CLASSIC = {b"\xd4\xc3\xb2\xa1": "<", b"\x4d\x3c\xb2\xa1": "<", b"\xa1\xb2\xc3\xd4": ">", b"\xa1\xb2\x3c\x4d": ">"}
 # gzip, Zstandard, xz, lz4, bzip2; and pcapng.
 PACKED = (b"\x1f\x8b", b"\x28\xb5\x2f\xfd", b"\xfd7zXZ\x00", b"\x04\x22\x4d\x18", b"BZh")
 ELSE = (b"\x0a\x0d\x0d\x0a", *PACKED)
@@ -61,10 +58,10 @@ def holds_more(capture: BinaryIO) -> bool:
 def behind_tags(packet: bytes) -> bytes:
     """The datagram of an Ethernet frame behind VLAN tags; nothing where it is none of IP, or h2audit reads it."""
     at = TYPE_AT
-    while (ether_type := packet[at:at + 2]) in VLAN_TAGS:
+    while (ether_type := packet[at : at + 2]) in VLAN_TAGS:
         at += 4
-    is_read = ether_type == IPV4 and (at == TYPE_AT or at == TYPE_AT + 4 and packet[TYPE_AT:at - 2] == VLAN_TAG)
-    return packet[at + 2:] if ether_type in (IPV4, IPV6) and not is_read else b""
+    is_read = ether_type == IPV4 and (at == TYPE_AT or at == TYPE_AT + 4 and packet[TYPE_AT : at - 2] == VLAN_TAG)
+    return packet[at + 2 :] if ether_type in (IPV4, IPV6) and not is_read else b""
 
 
 def may_be_read(datagram: bytes) -> bool:

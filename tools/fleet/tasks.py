@@ -261,9 +261,15 @@ def kept(output: Any) -> Answer:
     report = programs.report_of(output)
     output.seek(0)
     first = output.readline(4096)
-    return {"report": report.packed, "report_sha256": report.digest, "report_bytes": report.size,
-            "not_ipv4": number_after(first, b"not-ipv4"), "not_tcp": number_after(first, b"not-tcp"),
-            "has_http2": holds(output, HTTP2), "has_others": holds(output, NOT_HTTP2)}
+    return {
+        "report": report.packed,
+        "report_sha256": report.digest,
+        "report_bytes": report.size,
+        "not_ipv4": number_after(first, b"not-ipv4"),
+        "not_tcp": number_after(first, b"not-tcp"),
+        "has_http2": holds(output, HTTP2),
+        "has_others": holds(output, NOT_HTTP2),
+    }
 
 
 def holds(output: IO[bytes], words: bytes) -> bool:
@@ -273,13 +279,13 @@ def holds(output: IO[bytes], words: bytes) -> bool:
     while piece := output.read(programs.PIECE):
         if words in rest + piece:
             return True
-        rest = piece[-len(words):]
+        rest = piece[-len(words) :]
     return False
 
 
 def number_after(line: bytes, word: bytes) -> int:
     words = line.split()
-    number = words[words.index(word) + 1:][:1] if word in words else []
+    number = words[words.index(word) + 1 :][:1] if word in words else []
     return int(number[0]) if number and number[0].isdigit() else 0
 
 
@@ -314,5 +320,6 @@ def version() -> str:
     if not programs.is_there(AUDIT):
         return ""
     said = subprocess.run(
-        [AUDIT, "--version"], capture_output=True, text=True, errors="replace", timeout=60, check=False)
+        [AUDIT, "--version"], capture_output=True, text=True, errors="replace", timeout=60, check=False
+    )
     return (said.stdout.splitlines() or ["unknown"])[0]

@@ -50,19 +50,35 @@ class Asked:
 
 
 def parser() -> Words:
-    words = Words(prog="h2audit-fleet", description="Audits many captures, and enters them into one SQLite database.",
-                  formatter_class=argparse.RawDescriptionHelpFormatter, epilog=EPILOG, allow_abbrev=False)
+    words = Words(
+        prog="h2audit-fleet",
+        description="Audits many captures, and enters them into one SQLite database.",
+        formatter_class=argparse.RawDescriptionHelpFormatter,
+        epilog=EPILOG,
+        allow_abbrev=False,
+    )
     words.add_argument("paths", nargs="*", metavar="PATH", help="captures, and folders of captures")
     words.add_argument("--db", metavar="FILE", required=True, help="the database")
-    words.add_argument("--list", dest="lists", metavar="FILE", action="append", default=[],
-                       help="a list of PATHs, one a line or each ended by a zero byte; - is standard input")
-    words.add_argument("--resume", action="store_true",
-                       help="go on with a database: do what is missing, failed or has changed")
-    words.add_argument("--require-http2", action="store_true",
-                       help="status 3 where a capture has no HTTP/2 connection that was audited")
+    words.add_argument(
+        "--list",
+        dest="lists",
+        metavar="FILE",
+        action="append",
+        default=[],
+        help="a list of PATHs, one a line or each ended by a zero byte; - is standard input",
+    )
+    words.add_argument(
+        "--resume", action="store_true", help="go on with a database: do what is missing, failed or has changed"
+    )
+    words.add_argument(
+        "--require-http2",
+        action="store_true",
+        help="status 3 where a capture has no HTTP/2 connection that was audited",
+    )
     words.add_argument("--reports", metavar="DIR", help="keep each report as DIR/SHA256.report")
-    words.add_argument("--collect", metavar="DIR",
-                       help="enter the reports that h2audit-any left in DIR, and audit nothing")
+    words.add_argument(
+        "--collect", metavar="DIR", help="enter the reports that h2audit-any left in DIR, and audit nothing"
+    )
     add_audit(words)
     add_workers(words)
     words.add_version()
@@ -70,31 +86,64 @@ def parser() -> Words:
 
 
 def add_audit(words: Words) -> None:
-    words.add_argument("-k", "--keys", metavar="FILE", action="append", default=[],
-                       help="a key log of TLS; all captures are imported then")
-    words.add_argument("--import", dest="imports", choices=("auto", "always", "never"), default="auto",
-                       help="import captures that an import may read more of (auto), all, or none")
-    words.add_argument("--timeout", metavar="SECONDS", type=number(1, 10**6), default=3600,
-                       help="end a program that takes longer (default: 3600)")
-    words.add_argument("--retries", metavar="N", type=number(0, 100), default=2,
-                       help="tries after the first where memory, time or a worker is lost (default: 2)")
-    words.add_argument("--split-above", metavar="MB", type=number(0, LARGEST), default=512,
-                       help="split captures, and imports, of more megabytes, and audit their parts side by side; "
-                            "0 never (default: 512)")
-    words.add_argument("--scratch", metavar="DIR",
-                       help="where imports and parts stand for a while: a folder that all workers share")
+    words.add_argument(
+        "-k",
+        "--keys",
+        metavar="FILE",
+        action="append",
+        default=[],
+        help="a key log of TLS; all captures are imported then",
+    )
+    words.add_argument(
+        "--import",
+        dest="imports",
+        choices=("auto", "always", "never"),
+        default="auto",
+        help="import captures that an import may read more of (auto), all, or none",
+    )
+    words.add_argument(
+        "--timeout",
+        metavar="SECONDS",
+        type=number(1, 10**6),
+        default=3600,
+        help="end a program that takes longer (default: 3600)",
+    )
+    words.add_argument(
+        "--retries",
+        metavar="N",
+        type=number(0, 100),
+        default=2,
+        help="tries after the first where memory, time or a worker is lost (default: 2)",
+    )
+    words.add_argument(
+        "--split-above",
+        metavar="MB",
+        type=number(0, LARGEST),
+        default=512,
+        help="split captures, and imports, of more megabytes, and audit their parts side by side; "
+        "0 never (default: 512)",
+    )
+    words.add_argument(
+        "--scratch", metavar="DIR", help="where imports and parts stand for a while: a folder that all workers share"
+    )
 
 
 def add_workers(words: Words) -> None:
-    words.add_argument("-j", "--jobs", metavar="N", type=number(1, 1024),
-                       help="workers on this machine (default: one for each processor)")
+    words.add_argument(
+        "-j",
+        "--jobs",
+        metavar="N",
+        type=number(1, 1024),
+        help="workers on this machine (default: one for each processor)",
+    )
     words.add_argument("--dashboard", metavar="ADDRESS", help="serve dask's dashboard of the workers on this machine")
     words.add_argument("--scheduler", metavar="ADDRESS", help="use the workers of this scheduler, as tls://HOST:8786")
     words.add_argument("--tls-ca", metavar="FILE", help="the authority that signs the scheduler's certificate")
     words.add_argument("--tls-cert", metavar="FILE", help="the certificate of this program")
     words.add_argument("--tls-key", metavar="FILE", help="the key of that certificate")
-    words.add_argument("--unencrypted", action="store_true",
-                       help="use a scheduler without TLS, which anybody may command")
+    words.add_argument(
+        "--unencrypted", action="store_true", help="use a scheduler without TLS, which anybody may command"
+    )
 
 
 def read_words(words: list[str]) -> Asked:

@@ -51,12 +51,12 @@ def page(audit: Audit, title: str, library: Library) -> str:
 def page_with(
     audit: Audit, title: str, library: Library, charts: Packed | None, times: float, requests: Waterfall | None = None
 ) -> str:
-    own = "(() => {\n\"use strict\";\n" + "\n".join(map(asset, SCRIPTS)) + "\n})();\n"
+    own = '(() => {\n"use strict";\n' + "\n".join(map(asset, SCRIPTS)) + "\n})();\n"
     scripts = [library.script, own] if charts else []
     styles = [library.style, asset("page.css")]
     return "".join(
         [
-            "<!DOCTYPE html>\n<html lang=\"en\">\n",
+            '<!DOCTYPE html>\n<html lang="en">\n',
             head(title, policy(scripts, styles), styles),
             body(audit, title, charts, chosen(audit, times), requests_markup(requests, times)),
             licence(library) if charts else "",

@@ -82,8 +82,15 @@ def draw_legend(panel: "Axes", windows: list[Window]) -> None:
         marks.append(Patch(facecolor=SHADE, edgecolor=SHADE_EDGE, linewidth=0.5, label="stalled: credit used up"))
     if any(window.connection.faults for window in windows):
         marks.append(Line2D([], [], color="tab:red", linewidth=0.8, linestyle="--", label="fault"))
-    legend = panel.legend(handles=marks, loc="lower right", bbox_to_anchor=(1, 1), ncol=len(marks), fontsize=7,
-                          frameon=False, borderaxespad=0.2)
+    legend = panel.legend(
+        handles=marks,
+        loc="lower right",
+        bbox_to_anchor=(1, 1),
+        ncol=len(marks),
+        fontsize=7,
+        frameon=False,
+        borderaxespad=0.2,
+    )
     legend.set_gid("legend")
 
 
@@ -139,16 +146,30 @@ def draw_stalls(panel: "Axes", window: Window, axis: Axis) -> None:
     """Shades the stalls; one that is open goes up to the last finding."""
     ends = [(axis.at(begin), axis.at(end or window.connection.findings[-1])) for begin, end in window.stalls]
     if ends:
-        panel.broken_barh([(left, right - left) for left, right in ends], (0, 1), transform=panel.get_xaxis_transform(),
-                          facecolor=SHADE, edgecolor=SHADE_EDGE, linewidth=0.5, gid=gid("stalls", window))
+        panel.broken_barh(
+            [(left, right - left) for left, right in ends],
+            (0, 1),
+            transform=panel.get_xaxis_transform(),
+            facecolor=SHADE,
+            edgecolor=SHADE_EDGE,
+            linewidth=0.5,
+            gid=gid("stalls", window),
+        )
 
 
 def draw_faults(panel: "Axes", window: Window, named: list[Finding], axis: Axis) -> None:
     """The faults of the connection as red lines, and the names of those that this panel has to tell."""
     faults = window.connection.faults
     if faults:
-        panel.vlines([axis.at(fault) for fault in faults], 0, 1, transform=panel.get_xaxis_transform(),
-                     color="tab:red", linewidth=0.8, linestyle="--")
+        panel.vlines(
+            [axis.at(fault) for fault in faults],
+            0,
+            1,
+            transform=panel.get_xaxis_transform(),
+            color="tab:red",
+            linewidth=0.8,
+            linestyle="--",
+        )
     for fault in window.faults:
         if fault.kind in AT_A_CREDIT:
             panel.plot([axis.at(fault)], [fault.value], marker="x", color="tab:red")
@@ -156,8 +177,14 @@ def draw_faults(panel: "Axes", window: Window, named: list[Finding], axis: Axis)
         panel.axhline(LARGEST_WINDOW, color="tab:red", linewidth=0.6, linestyle=":")
     for row, fault in enumerate(named[:MOST_LABELS]):
         more = len(named) - MOST_LABELS if row == MOST_LABELS - 1 else 0
-        draw_label(panel, row, label_of(fault, window) + f", and {more} more" * (more > 0), axis.at(fault), axis,
-                   gid("fault", window, fault.frame, fault.kind))
+        draw_label(
+            panel,
+            row,
+            label_of(fault, window) + f", and {more} more" * (more > 0),
+            axis.at(fault),
+            axis,
+            gid("fault", window, fault.frame, fault.kind),
+        )
 
 
 def label_of(fault: Finding, window: Window) -> str:
@@ -168,9 +195,18 @@ def label_of(fault: Finding, window: Window) -> str:
 def draw_label(panel: "Axes", row: int, label: str, at: float, axis: Axis, name: str) -> None:
     """A fault's name beside its line, on the side that has more room."""
     is_right = at > axis.middle
-    panel.annotate(label, (at, 1), xycoords=("data", "axes fraction"), xytext=(-4 if is_right else 4, -3 - 10 * row),
-                   textcoords="offset points", ha="right" if is_right else "left", va="top", color="tab:red",
-                   fontsize=8, gid=name)
+    panel.annotate(
+        label,
+        (at, 1),
+        xycoords=("data", "axes fraction"),
+        xytext=(-4 if is_right else 4, -3 - 10 * row),
+        textcoords="offset points",
+        ha="right" if is_right else "left",
+        va="top",
+        color="tab:red",
+        fontsize=8,
+        gid=name,
+    )
 
 
 def gid(what: str, window: Window, *more: int | str) -> str:

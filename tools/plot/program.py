@@ -30,14 +30,24 @@ FORMATS = ("svg", "png")
 def arguments(words: list[str]) -> argparse.Namespace:
     parser = Words(prog=NAME, description=__doc__, formatter_class=argparse.RawDescriptionHelpFormatter)
     parser.add_argument("report", nargs="?", default="-", help="made with --frames; standard input without it, or as -")
-    parser.add_argument("-o", "--output", default="-", metavar="FILE",
-                        help="the picture; standard output without it, or as -")
+    parser.add_argument(
+        "-o", "--output", default="-", metavar="FILE", help="the picture; standard output without it, or as -"
+    )
     parser.add_argument("--format", choices=FORMATS, help="without it by the name of the output, else svg")
     parser.add_argument("--connection", type=number(1, LARGEST_WINDOW), metavar="K", help="draw connection K alone")
-    parser.add_argument("--stream", type=number(0, LARGEST_WINDOW), metavar="S",
-                        help="draw the windows of stream S alone; 0 is the connection's")
-    parser.add_argument("--panels", type=number(1, MOST_PANELS), default=8, metavar="N",
-                        help=f"draw at most N windows, 1 to {MOST_PANELS}; 8 without it")
+    parser.add_argument(
+        "--stream",
+        type=number(0, LARGEST_WINDOW),
+        metavar="S",
+        help="draw the windows of stream S alone; 0 is the connection's",
+    )
+    parser.add_argument(
+        "--panels",
+        type=number(1, MOST_PANELS),
+        default=8,
+        metavar="N",
+        help=f"draw at most N windows, 1 to {MOST_PANELS}; 8 without it",
+    )
     parser.add_argument("--by-frame", action="store_true", help="draw over frame numbers, and not over time")
     parser.add_argument("-t", "--title", metavar="TITLE", default="", help="a heading above the picture")
     parser.add_version()

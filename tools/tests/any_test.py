@@ -76,10 +76,7 @@ class Originals(InFolder):
         self.assertGreater(len(payload), 40)
         pieces = [(0x2000, payload[:32]), (4, payload[32:])]
         parts = [
-            head[: start + 2]
-            + struct.pack(">HHH", 20 + len(piece), 7, offset)
-            + head[start + 8 : start + 20]
-            + piece
+            head[: start + 2] + struct.pack(">HHH", 20 + len(piece), 7, offset) + head[start + 8 : start + 20] + piece
             for offset, piece in pieces
         ]
         packets[number : number + 1] = [packets[number]._replace(data=part, original=len(part)) for part in parts]

@@ -122,11 +122,7 @@ class Reach(unittest.TestCase):
         """The base comes first; counted are signatures, clauses and fields, and the line that opens a group."""
         self.assertEqual(
             self.rows(),
-            [
-                ("base.Words", ["twice"], 2),
-                ("app.Answer", ["answer", "step"], 6),
-                ("app.Other", ["IsAllowed"], 4),
-            ],
+            [("base.Words", ["twice"], 2), ("app.Answer", ["answer", "step"], 6), ("app.Other", ["IsAllowed"], 4)],
         )
 
     def test_further_list(self) -> None:

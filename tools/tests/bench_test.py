@@ -47,8 +47,21 @@ class Measure(unittest.TestCase):
         self.assertEqual([9, 9], [len(line) for line in lines])
 
     def test_peer_and_older_program(self) -> None:
-        run = self.run_with("counts", "--peer", "same", "--beside", "other", "--runs", "1", "--shapes", "flat",
-                            "--generator", "generates", "10", "20")
+        run = self.run_with(
+            "counts",
+            "--peer",
+            "same",
+            "--beside",
+            "other",
+            "--runs",
+            "1",
+            "--shapes",
+            "flat",
+            "--generator",
+            "generates",
+            "10",
+            "20",
+        )
         self.assertEqual((0, ""), (run.returncode, run.stderr))
         lines = [line.split() for line in run.stdout.splitlines()[2:]]
         self.assertEqual([("flat", "0.01"), ("flat", "0.02")], [tuple(line[:2]) for line in lines])
@@ -61,12 +74,28 @@ class Measure(unittest.TestCase):
         self.refused("there is no shape flat", "counts", "--shapes", "flat")
 
     def test_another_report(self) -> None:
-        self.refused("of shape bulk, {0}/other has another report than {0}/counts", "counts", "--peer", "other",
-                     "--runs", "1", "--shapes", "bulk", "0.1")
+        self.refused(
+            "of shape bulk, {0}/other has another report than {0}/counts",
+            "counts",
+            "--peer",
+            "other",
+            "--runs",
+            "1",
+            "--shapes",
+            "bulk",
+            "0.1",
+        )
 
     def test_no_capture(self) -> None:
-        self.refused("{0}/generates makes no capture of shape round with 1 MB", "counts", "--generator", "generates",
-                     "--shapes", "round", "1")
+        self.refused(
+            "{0}/generates makes no capture of shape round with 1 MB",
+            "counts",
+            "--generator",
+            "generates",
+            "--shapes",
+            "round",
+            "1",
+        )
 
 
 class Fleet(unittest.TestCase):

@@ -55,12 +55,18 @@ class HelpAndVersion(unittest.TestCase):
         self.addCleanup(os.close, closed)
         for name in PROGRAMS:
             for word in ("--help", "--version"):
-                for script, why in ((f'python3 "$@" >&{closed}', "Broken pipe"),
-                                    (f'python3 -u "$@" >&{closed}', "Broken pipe"),
-                                    ('python3 "$@" > /dev/full', "No space left on device"),
-                                    ('python3 "$@" >&-', "Bad file descriptor")):
-                    run = subprocess.run(["bash", "-c", script, "bash", TOOLS / name, word], stderr=subprocess.PIPE,
-                                         pass_fds=[closed], timeout=100)
+                for script, why in (
+                    (f'python3 "$@" >&{closed}', "Broken pipe"),
+                    (f'python3 -u "$@" >&{closed}', "Broken pipe"),
+                    ('python3 "$@" > /dev/full', "No space left on device"),
+                    ('python3 "$@" >&-', "Bad file descriptor"),
+                ):
+                    run = subprocess.run(
+                        ["bash", "-c", script, "bash", TOOLS / name, word],
+                        stderr=subprocess.PIPE,
+                        pass_fds=[closed],
+                        timeout=100,
+                    )
                     self.assertEqual(run.returncode, 4, (name, word, script))
                     said = rf"^{name}: (standard output|input or output): {why}\n$"
                     self.assertRegex(run.stderr.decode(), said, (word, script))
@@ -69,8 +75,10 @@ class HelpAndVersion(unittest.TestCase):
 class Statuses(unittest.TestCase):
     def test_memory(self) -> None:
         """Want of memory is status 5, and nothing else is."""
-        script = "import sys; sys.path.insert(0, sys.argv.pop(1)); from report.command import run\n" \
+        script = (
+            "import sys; sys.path.insert(0, sys.argv.pop(1)); from report.command import run\n"
             "def main(words): raise MemoryError\nsys.argv[0] = '/a/h2audit-page'; run(main)"
+        )
         run = subprocess.run([sys.executable, "-c", script, str(TOOLS)], capture_output=True)
         self.assertEqual((run.returncode, run.stderr), (5, b"h2audit-page: out of memory\n"))
 
@@ -81,10 +89,27 @@ class Statuses(unittest.TestCase):
                 pathlib.Path(folder, f"{name}.py").write_text(f"raise ModuleNotFoundError('none', name='{name}')\n")
             pathlib.Path(folder, "a.pcap").write_bytes(b"")
             for words, why in (
-                (["h2audit-plot", str(TOP / "examples" / "stream_overrun_go.frames.report"), "-o", f"{folder}/a.svg"],
-                 "matplotlib is not installed (Debian: apt-get install python3-matplotlib)"),
-                (["h2audit-fleet", "--db", f"{folder}/a", "--scheduler", "tcp://127.0.0.1:1", "--unencrypted", folder],
-                 "distributed is not installed (Debian: apt-get install python3-distributed)"),
+                (
+                    [
+                        "h2audit-plot",
+                        str(TOP / "examples" / "stream_overrun_go.frames.report"),
+                        "-o",
+                        f"{folder}/a.svg",
+                    ],
+                    "matplotlib is not installed (Debian: apt-get install python3-matplotlib)",
+                ),
+                (
+                    [
+                        "h2audit-fleet",
+                        "--db",
+                        f"{folder}/a",
+                        "--scheduler",
+                        "tcp://127.0.0.1:1",
+                        "--unencrypted",
+                        folder,
+                    ],
+                    "distributed is not installed (Debian: apt-get install python3-distributed)",
+                ),
             ):
                 run = ran('"$@"', TOOLS / words[0], *words[1:], PYTHONPATH=folder)
                 self.assertEqual((run.returncode, run.stderr.decode()), (7, f"{words[0]}: {why}\n"))

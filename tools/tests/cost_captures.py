@@ -34,7 +34,7 @@ def headers(capture: Capture, streams: Iterable[int]) -> None:
     """Requests that open these streams, 40 in a segment."""
     requests = [frame_of(["HEADERS", str(stream)]) for stream in streams]
     for start in range(0, len(requests), 40):
-        capture.send("C", b"".join(requests[start:start + 40]))
+        capture.send("C", b"".join(requests[start : start + 40]))
 
 
 def take_turns(capture: Capture, streams: Iterable[int], rounds: int) -> None:
@@ -63,7 +63,7 @@ def loud_crowd() -> Capture:
     turn = [frame_of(["DATA", str(stream), "0"]) for stream in streams]
     for _ in range(60):
         for start in range(0, 1000, 100):
-            capture.send("C", b"".join(turn[start:start + 100]))
+            capture.send("C", b"".join(turn[start : start + 100]))
     return capture
 
 
@@ -84,7 +84,7 @@ def shuffled_streams() -> Capture:
     streams = [2 * (7919 * number % 20_011) + 1 for number in range(1, 20_011)]
     frames = [frame_of(["PRIORITY", str(stream), "5"]) for stream in streams]
     for start in range(0, len(frames), 90):
-        capture.send("C", b"".join(frames[start:start + 90]))
+        capture.send("C", b"".join(frames[start : start + 90]))
     return capture
 
 
@@ -168,14 +168,41 @@ def one_server_above() -> Capture:
 
 
 OWN: tuple[Callable[[], Capture], ...] = (
-    loud_turns, loud_crowd, loud_stream, shuffled_streams, loud_connections, short_connections, larger_windows,
-    stalls, far_streams, one_server_below, one_server_above,
+    loud_turns,
+    loud_crowd,
+    loud_stream,
+    shuffled_streams,
+    loud_connections,
+    short_connections,
+    larger_windows,
+    stalls,
+    far_streams,
+    one_server_below,
+    one_server_above,
 )
 # Those of bench/generate.py, with their size in megabytes.
 GENERATED = {
-    "bulk": 4, "small": 2, "connections": 2, "chatty": 2, "calls": 3, "streams": 2, "early": 2, "closed": 1,
-    "strays": 1, "colliding": 1, "empty": 1, "hollow": 1, "openings": 1, "backwards": 2, "overlapping": 2, "grants": 1,
-    "settings": 1, "waiting": 1, "crumbs": 1, "promised": 1, "live": 0.1,
+    "bulk": 4,
+    "small": 2,
+    "connections": 2,
+    "chatty": 2,
+    "calls": 3,
+    "streams": 2,
+    "early": 2,
+    "closed": 1,
+    "strays": 1,
+    "colliding": 1,
+    "empty": 1,
+    "hollow": 1,
+    "openings": 1,
+    "backwards": 2,
+    "overlapping": 2,
+    "grants": 1,
+    "settings": 1,
+    "waiting": 1,
+    "crumbs": 1,
+    "promised": 1,
+    "live": 0.1,
 }
 # How many workers share the work of those that are not shared by four.
 SEVERAL = {"short_connections": 16}

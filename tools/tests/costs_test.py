@@ -70,8 +70,10 @@ def store(found: dict[str, Figures]) -> None:
     rows: list[tuple[str, ...]] = [("capture", *FIGURES)]
     before = stored()
     for name, figures in found.items():
-        kept = (was if abs(now - was) <= noise * was else now
-                for was, now, noise in zip(before.get(name, figures), figures, NOISE))
+        kept = (
+            was if abs(now - was) <= noise * was else now
+            for was, now, noise in zip(before.get(name, figures), figures, NOISE)
+        )
         rows.append((name, *map(str, kept)))
     STORED.write_text("".join("\t".join(row) + "\n" for row in rows))
 

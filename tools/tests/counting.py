@@ -57,7 +57,10 @@ class Counter:
             file.write(bytes(8 * len(Counts._fields)))
             file.flush()
             ran = subprocess.run(
-                [self.program, *words], stdin=subprocess.DEVNULL, capture_output=True, timeout=self.most_seconds,
+                [self.program, *words],
+                stdin=subprocess.DEVNULL,
+                capture_output=True,
+                timeout=self.most_seconds,
                 env={"LD_PRELOAD": str(self.all_calls), "COUNTS": file.name, **surroundings},
             )
             file.seek(0)
@@ -68,8 +71,12 @@ class Counter:
         """How many instructions a run takes, of the program and of the C library."""
         valgrind = ["valgrind", "--tool=cachegrind", "--cache-sim=no", "--cachegrind-out-file=/dev/null"]
         ran = subprocess.run(
-            [*valgrind, self.program, *words], stdin=subprocess.DEVNULL, stdout=subprocess.DEVNULL,
-            stderr=subprocess.PIPE, text=True, timeout=self.most_seconds,
+            [*valgrind, self.program, *words],
+            stdin=subprocess.DEVNULL,
+            stdout=subprocess.DEVNULL,
+            stderr=subprocess.PIPE,
+            text=True,
+            timeout=self.most_seconds,
             env={"LD_PRELOAD": str(self.key_alone), "KEY": key, "GLIBC_TUNABLES": PLAIN},
         )
         found = re.search(r"I +refs: +([\d,]+)", ran.stderr)

@@ -127,10 +127,7 @@ CLAIMS = [
     ("(n : ℕ) → n < 9 → (k : ℕ) × (k ≡ n)", True),
     ("(k : ℕ) × ((n : ℕ) → n < 3 → k ≡ n)", False),
     ("(n k : ℕ) → n < k → n < 5", None),
-    (
-        "(n : ℕ) → n < 2 → IsSomeAnd (slice_get (4 ∷ 5 ∷ []) n) (λ x. slice_get (0 ∷ 4 ∷ 5 ∷ []) (n + 1) ≡ Some x)",
-        True,
-    ),
+    ("(n : ℕ) → n < 2 → IsSomeAnd (slice_get (4 ∷ 5 ∷ []) n) (λ x. slice_get (0 ∷ 4 ∷ 5 ∷ []) (n + 1) ≡ Some x)", True),
     ("(n : ℕ) → n < 3 → slice_get (4 ∷ 5 ∷ 6 ∷ []) n ≡ slice_get (4 ∷ 5 ∷ 7 ∷ []) n", False),
     # by induction
     ("(n : ℕ) → n < 2 ^ 31 → stays n ≡ (if nat_lt 5 n then 7 else 6)", True),

@@ -164,21 +164,36 @@ class Machine:
 
     @property
     def surroundings(self) -> dict[str, str]:
-        return {**os.environ, "PATH": f"{self.bin}:/usr/bin:/bin", "FLEET_ORDERS": str(self.folder / "orders.json"),
-                "TMPDIR": str(self.folder / "temporary")}
+        return {
+            **os.environ,
+            "PATH": f"{self.bin}:/usr/bin:/bin",
+            "FLEET_ORDERS": str(self.folder / "orders.json"),
+            "TMPDIR": str(self.folder / "temporary"),
+        }
 
     def write_orders(self) -> None:
-        orders = {"program": self.program, "notes": str(self.folder / "notes"), "acts": self.acts,
-                  "answers": {sample.digest: [sample.status, sample.error, sample.report] for sample in self.samples}}
+        orders = {
+            "program": self.program,
+            "notes": str(self.folder / "notes"),
+            "acts": self.acts,
+            "answers": {sample.digest: [sample.status, sample.error, sample.report] for sample in self.samples},
+        }
         (self.folder / "orders.json").write_text(json.dumps(orders))
 
-    def start(self, *words: object, before: tuple[str, ...] = (),
-              start_new_session: bool = False) -> subprocess.Popen[str]:
+    def start(
+        self, *words: object, before: tuple[str, ...] = (), start_new_session: bool = False
+    ) -> subprocess.Popen[str]:
         self.write_orders()
         return subprocess.Popen(
-            [*before, FLEET, "--db", self.database, *map(str, words)], env=self.surroundings, cwd=self.folder,
-            stdout=subprocess.PIPE, stderr=subprocess.PIPE, stdin=subprocess.DEVNULL, text=True,
-            start_new_session=start_new_session)
+            [*before, FLEET, "--db", self.database, *map(str, words)],
+            env=self.surroundings,
+            cwd=self.folder,
+            stdout=subprocess.PIPE,
+            stderr=subprocess.PIPE,
+            stdin=subprocess.DEVNULL,
+            text=True,
+            start_new_session=start_new_session,
+        )
 
     def run(self, *words: object, before: tuple[str, ...] = ()) -> tuple[int, str, str]:
         """Status, standard output and standard error of h2audit-fleet."""

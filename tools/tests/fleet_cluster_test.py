@@ -38,8 +38,24 @@ class Cluster:
 
     def certify(self, name: str, authority: str | None = None) -> None:
         """A key of its own, and a certificate that itself or the authority signs."""
-        words = ["openssl", "req", "-x509", "-newkey", "ec", "-pkeyopt", "ec_paramgen_curve:P-256", "-nodes", "-days",
-                 "2", "-subj", f"/CN={name}", "-keyout", f"{name}.key", "-out", f"{name}.pem"]
+        words = [
+            "openssl",
+            "req",
+            "-x509",
+            "-newkey",
+            "ec",
+            "-pkeyopt",
+            "ec_paramgen_curve:P-256",
+            "-nodes",
+            "-days",
+            "2",
+            "-subj",
+            f"/CN={name}",
+            "-keyout",
+            f"{name}.key",
+            "-out",
+            f"{name}.pem",
+        ]
         if authority:
             words += ["-CA", f"{authority}.pem", "-CAkey", f"{authority}.key"]
             words += ["-addext", "basicConstraints=critical,CA:false"]
@@ -51,18 +67,38 @@ class Cluster:
 
     def start(self, program: str, *words: str, before: tuple[str, ...] = ()) -> subprocess.Popen[bytes]:
         log = self.folder / f"{program}.{next(self.numbers)}"
-        surroundings = {**self.machine.surroundings, "DASK_DISTRIBUTED__COMM__TIMEOUTS__TCP": "15s",
-                        "DASK_DISTRIBUTED__SCHEDULER__WORKER_TTL": "15s"}
+        surroundings = {
+            **self.machine.surroundings,
+            "DASK_DISTRIBUTED__COMM__TIMEOUTS__TCP": "15s",
+            "DASK_DISTRIBUTED__SCHEDULER__WORKER_TTL": "15s",
+        }
         with open(log, "wb") as said:
             child = subprocess.Popen(
-                [*TIED, *before, program, *self.words_of_tls("scheduler"), *words], stdin=subprocess.DEVNULL,
-                stdout=said, stderr=said, env=surroundings, cwd=self.folder, start_new_session=True)
+                [*TIED, *before, program, *self.words_of_tls("scheduler"), *words],
+                stdin=subprocess.DEVNULL,
+                stdout=said,
+                stderr=said,
+                env=surroundings,
+                cwd=self.folder,
+                start_new_session=True,
+            )
         self.children.append(child)
         return child
 
     def scheduler(self, host: str, before: tuple[str, ...] = ()) -> None:
-        child = self.start("dask-scheduler", "--host", host, "--port", "0", "--scheduler-file", "scheduler.json",
-                           "--no-dashboard", "--protocol", "tls", before=before)
+        child = self.start(
+            "dask-scheduler",
+            "--host",
+            host,
+            "--port",
+            "0",
+            "--scheduler-file",
+            "scheduler.json",
+            "--no-dashboard",
+            "--protocol",
+            "tls",
+            before=before,
+        )
         until(lambda: self.is_found() or child.poll() is not None, self.said)
         assert self.address, self.said()
 
@@ -75,13 +111,25 @@ class Cluster:
         return bool(self.address)
 
     def worker(self, *words: str, before: tuple[str, ...] = ()) -> subprocess.Popen[bytes]:
-        return self.start("dask-worker", self.address, "--nthreads", "1", "--no-dashboard", "--local-directory",
-                          str(self.folder / "temporary"), *words, before=before)
+        return self.start(
+            "dask-worker",
+            self.address,
+            "--nthreads",
+            "1",
+            "--no-dashboard",
+            "--local-directory",
+            str(self.folder / "temporary"),
+            *words,
+            before=before,
+        )
 
     def wait_for(self, workers: int) -> None:
         """Until so many workers say that they have found their scheduler."""
-        until(lambda: self.said("dask-worker").count("Registered to") == workers
-              or any(child.poll() is not None for child in self.children), self.said)
+        until(
+            lambda: self.said("dask-worker").count("Registered to") == workers
+            or any(child.poll() is not None for child in self.children),
+            self.said,
+        )
         assert self.said("dask-worker").count("Registered to") == workers, self.said()
 
     def said(self, program: str = "dask-*") -> str:

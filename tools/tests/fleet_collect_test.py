@@ -19,8 +19,14 @@ sys.path.insert(0, str(TOP / "tools"))
 from fleet import names  # noqa: E402
 
 BLOCK = re.compile(r"^```\n(.*?)^```$", re.M | re.S)
-EXAMPLES = ("stream_overrun_go", "use_after_reset", "connection_overflow_nginx", "lost_segment",
-            "stream_stalls_nghttpd", "zero_increment_nginx")
+EXAMPLES = (
+    "stream_overrun_go",
+    "use_after_reset",
+    "connection_overflow_nginx",
+    "lost_segment",
+    "stream_stalls_nghttpd",
+    "zero_increment_nginx",
+)
 # How long the last of them had a stall that did not end.
 OPEN_NANOS = 201057000
 PATHS = "replace(replace(path, '/captures/', ''), '.pcap', '')"
@@ -48,8 +54,14 @@ class Collected(unittest.TestCase):
     def bash(self, commands: str, **more: str) -> subprocess.CompletedProcess[str]:
         self.machine.write_orders()
         surroundings = {**self.machine.surroundings, "HOME": str(self.machine.folder), **more}
-        return subprocess.run(["bash", "-c", commands], cwd=self.machine.folder, env=surroundings, capture_output=True,
-                              text=True, timeout=PATIENCE)
+        return subprocess.run(
+            ["bash", "-c", commands],
+            cwd=self.machine.folder,
+            env=surroundings,
+            capture_output=True,
+            text=True,
+            timeout=PATIENCE,
+        )
 
     def name_of(self, place: int) -> str:
         name = "a\n'b $(c).pcap" if place == 0 else f"{self.machine.samples[place].name}.pcap"
@@ -113,16 +125,25 @@ class Collected(unittest.TestCase):
         self.job("unended", None)
         self.job("unread", "no status\n")
         status, said, error = self.machine.run("--collect", "jobs")
-        wanted = ("7 captures: 0 with faults, 7 in which nothing was audited (1 refused, 6 failed); "
-                  "2 did not come to their end\n")
+        wanted = (
+            "7 captures: 0 with faults, 7 in which nothing was audited (1 refused, 6 failed); "
+            "2 did not come to their end\n"
+        )
         self.assertEqual((status, said, error), (3, wanted, ""))
         rows = self.machine.ask(f"SELECT {PATHS}, outcome || ' ' || reason FROM captures")
         found = {name: why for name, why in rows}
         self.assertRegex(found.pop("torn"), r"^failed bad-report: line \d+ is no line of a report$")
-        self.assertEqual(found, {
-            "late": "failed timeout", "killed": "failed signal 9", "poor": "failed out-of-memory",
-            "odd": "refused link-type 105", "huge": "failed bad-report: a number of the report is too large",
-            "empty": "failed bad-report: not a report of h2audit"})
+        self.assertEqual(
+            found,
+            {
+                "late": "failed timeout",
+                "killed": "failed signal 9",
+                "poor": "failed out-of-memory",
+                "odd": "refused link-type 105",
+                "huge": "failed bad-report: a number of the report is too large",
+                "empty": "failed bad-report: not a report of h2audit",
+            },
+        )
         for table in ("connections", "findings", "stalls", "unopened", "passed_over"):
             self.assertEqual(self.machine.ask(f"SELECT * FROM {table}"), [])
 

@@ -60,7 +60,7 @@ def noise() -> bytes:
     """Records that no compression makes smaller."""
     maker = random.Random(1)
     records = [(1, at, 1054, maker.randbytes(1054)) for at in range(500)]
-    return pcapng_blocks.classic(records, 1)[pcapng_blocks.EXAMPLE_HEAD:]
+    return pcapng_blocks.classic(records, 1)[pcapng_blocks.EXAMPLE_HEAD :]
 
 
 class Imported(parts.Beside):
@@ -83,14 +83,14 @@ class Imported(parts.Beside):
         return content
 
     def pcapng(self) -> pathlib.Path:
-        path = self.capture("plain", self.plain()[:-len(b"cut")])
+        path = self.capture("plain", self.plain()[: -len(b"cut")])
         records, _ = pcapng_blocks.records_of(path)
         path.unlink()
         return self.capture("large.pcapng", in_pcapng(records))
 
     def instead(self, name: str, program: object, script: str) -> None:
         """A shell goes through a script before the program."""
-        self.machine.script(name, f"cd {self.machine.folder}\n{script}\nexec {program} \"$@\"\n")
+        self.machine.script(name, f'cd {self.machine.folder}\n{script}\nexec {program} "$@"\n')
 
     def everything(self, name: str = "audits.sqlite", but: tuple[str, ...] = ()) -> dict[str, list[tuple[object, ...]]]:
         """All rows of a database, but for what is of one run alone."""
@@ -120,7 +120,8 @@ class Imported(parts.Beside):
         self.assertEqual(found, self.everything("whole.sqlite"))
         self.assertTrue(found["connections"] and found["findings"])
         rows = self.machine.ask(
-            "SELECT path, program, outcome, reason, status, sha256, report_sha256, report_bytes FROM captures")
+            "SELECT path, program, outcome, reason, status, sha256, report_sha256, report_bytes FROM captures"
+        )
         self.assertEqual(len(rows), len(list(self.machine.captures.iterdir())))
         for path, *row in rows:
             alone = self.any(*words, path)
@@ -135,10 +136,10 @@ class Imported(parts.Beside):
 class Forms(Imported):
     def test_without_keys(self) -> None:
         """IPv6 that h2audit passes over, pcapng and gzip: what is imported goes in parts, and no row shows it."""
-        self.instead("h2audit", PROGRAM, "echo \"$*\" >> runs")
+        self.instead("h2audit", PROGRAM, 'echo "$*" >> runs')
         self.capture("six.pcap", parts.over_ipv6(self.plain()))
         self.pcapng()
-        packed = self.capture("packed.pcap.gz", gzip.compress(self.plain()[:-len(b"cut")] + noise()))
+        packed = self.capture("packed.pcap.gz", gzip.compress(self.plain()[: -len(b"cut")] + noise()))
         self.assertLess(packed.stat().st_size, 1000000)
         self.by_one_worker()
         (self.machine.folder / "runs").unlink()
@@ -283,8 +284,10 @@ class OnCluster(Imported):
             capture = self.capture(name, content)
             answer = large.in_parts(os.fsencode(capture), 3, order)
             alone = self.any(capture)
-            self.assertEqual((answer["outcome"], answer["status"], answer["program"], answer["report_sha256"]),
-                             ("audited", alone.returncode, "h2audit-any", hashlib.sha256(alone.stdout).hexdigest()))
+            self.assertEqual(
+                (answer["outcome"], answer["status"], answer["program"], answer["report_sha256"]),
+                ("audited", alone.returncode, "h2audit-any", hashlib.sha256(alone.stdout).hexdigest()),
+            )
 
 
 if __name__ == "__main__":

@@ -32,7 +32,7 @@ def over_ipv6(capture: bytes) -> bytes:
     found, at = bytearray(capture[:24]), 24
     while at + 16 <= len(capture):
         seconds, moment, length, _ = struct.unpack_from("<IIII", capture, at)
-        packet = capture[at + 16:at + 16 + length]
+        packet = capture[at + 16 : at + 16 + length]
         if packet[12:14] == b"\x08\x00" and len(packet) == length:
             ends = [bytes.fromhex("20010db8") + bytes(11) + address[3:] for address in (packet[26:30], packet[30:34])]
             head = struct.pack(">IHBB", 6 << 28, length - 34, 6, 64)
@@ -51,8 +51,11 @@ class Beside(unittest.TestCase):
         self.machine.__enter__()
         self.addCleanup(self.machine.__exit__)
         programs: dict[str, str | pathlib.Path] = {
-            "h2audit": str(PROGRAM), "h2audit-any": beside("h2audit-any"), "h2audit-merge": beside("h2audit-merge"),
-            "h2audit-split": SPLIT if SPLIT.exists() else STAND_IN}
+            "h2audit": str(PROGRAM),
+            "h2audit-any": beside("h2audit-any"),
+            "h2audit-merge": beside("h2audit-merge"),
+            "h2audit-split": SPLIT if SPLIT.exists() else STAND_IN,
+        }
         for name, program in programs.items():
             self.machine.link(name, program)
 
@@ -72,8 +75,9 @@ class Beside(unittest.TestCase):
 
     def any(self, *words: object, **more: str) -> Ran:
         line = [beside("h2audit-any"), "--h2audit", PROGRAM, *words]
-        return subprocess.run(list(map(str, line)), capture_output=True, timeout=PATIENCE,
-                              env={**self.machine.surroundings, **more})
+        return subprocess.run(
+            list(map(str, line)), capture_output=True, timeout=PATIENCE, env={**self.machine.surroundings, **more}
+        )
 
 
 class Imports(Beside):
@@ -98,8 +102,10 @@ class Imports(Beside):
             self.assertEqual((self.machine.folder / "reports" / f"{digest}.report").read_text(), report, path)
         peers = self.machine.ask("SELECT DISTINCT endpoint FROM faults WHERE path LIKE '%six.pcap' ORDER BY 1")
         self.assertEqual(peers, [("[2001:db8::1]:40000",), ("[2001:db8::2]:80",)])
-        self.assertEqual(self.machine.ask("SELECT peer FROM faults_by_peer WHERE peer LIKE '[%' ORDER BY 1"),
-                         [("[2001:db8::1]",), ("[2001:db8::2]:80",)])
+        self.assertEqual(
+            self.machine.ask("SELECT peer FROM faults_by_peer WHERE peer LIKE '[%' ORDER BY 1"),
+            [("[2001:db8::1]",), ("[2001:db8::2]:80",)],
+        )
 
     def test_no_import(self) -> None:
         """A program that the path does not have is found beside this one; where it is nowhere, the row says so."""
@@ -135,7 +141,8 @@ class Parts(Beside):
         status, said, error = self.machine.run("--jobs", "2", "--split-above", "1", "captures")
         self.assertEqual((status, error), (wanted.returncode, ""), said)
         row = self.machine.ask(
-            "SELECT program, outcome, reason, status, sha256, report_sha256, report_bytes FROM captures")
+            "SELECT program, outcome, reason, status, sha256, report_sha256, report_bytes FROM captures"
+        )
         digests = [hashlib.sha256(text).hexdigest() for text in (large.read_bytes(), wanted.stdout)]
         self.assertEqual(row, [("h2audit-merge", "audited", None, wanted.returncode, *digests, len(wanted.stdout))])
         self.assertEqual(list((self.machine.folder / "temporary").iterdir()), [])
@@ -148,8 +155,10 @@ class Parts(Beside):
         os.environ["PATH"] = f"{self.machine.bin}:/usr/bin:/bin"
         order: tasks.Order = {"keys": [], "imports": "auto", "timeout": 60.0, "split_above": 1000000}
         answer = tasks_of_large.in_parts(os.fsencode(large), 3, order)
-        self.assertEqual((answer["outcome"], answer["report_sha256"]),
-                         ("audited", hashlib.sha256(self.report_of(large).stdout).hexdigest()))
+        self.assertEqual(
+            (answer["outcome"], answer["report_sha256"]),
+            ("audited", hashlib.sha256(self.report_of(large).stdout).hexdigest()),
+        )
 
     def test_too_large(self) -> None:
         """A part that would be too large is named, and the other parts stand."""
@@ -170,11 +179,11 @@ class Parts(Beside):
     def test_misfortunes(self) -> None:
         """A part that runs out of memory, a splitter that fails: the capture is entered as failed, nothing is left."""
         self.large()
-        self.machine.script("h2audit", f"case $* in *part-002*) exit 5 ;; esac\nexec {PROGRAM} \"$@\"\n")
+        self.machine.script("h2audit", f'case $* in *part-002*) exit 5 ;; esac\nexec {PROGRAM} "$@"\n')
         self.assertEqual(self.machine.run("--jobs", "2", "--retries", "1", "--split-above", "1", "captures")[0], 3)
         asked = "SELECT outcome, reason, tries FROM captures"
         self.assertEqual(self.machine.ask(asked), [("failed", "part 2: out-of-memory", 2)])
-        self.machine.script("h2audit-split", "echo \"h2audit-split: cannot write: $4/part-001.pcap\" >&2; exit 4\n")
+        self.machine.script("h2audit-split", 'echo "h2audit-split: cannot write: $4/part-001.pcap" >&2; exit 4\n')
         words = ("--jobs", "2", "--retries", "0", "--resume", "--split-above", "1", "captures")
         self.assertEqual(self.machine.run(*words)[0], 3)
         self.assertEqual(self.machine.ask(asked), [("failed", "write-failed", 1)])

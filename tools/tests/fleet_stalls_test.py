@@ -34,8 +34,10 @@ def opening(number: int, record: int, client: Endpoint = CLIENT, holds: str = "h
 
 def open_stall(begin: int) -> str:
     """A stall that begins at a time, and does not end."""
-    return (f"frame 3 record 4 time {begin} server stream-stall-begin stream 1 value 0\n"
-            "stall server stream 1 from 3 open\naudit of all frames\n")
+    return (
+        f"frame 3 record 4 time {begin} server stream-stall-begin stream 1 value 0\n"
+        "stall server stream 1 from 3 open\naudit of all frames\n"
+    )
 
 
 def packet(source: Endpoint, target: Endpoint, tags: int = 0, protocol: int = 6, fragment: int = 0) -> bytes:
@@ -50,7 +52,8 @@ def capture(packets: list[tuple[int, bytes]], order: str = "<", magic: int = 0xA
     unit = 10**9 if magic == 0xA1B23C4D else 10**6
     file = struct.pack(order + "IHHIIII", magic, 2, 4, 0, 0, 65535, 1)
     return file + b"".join(
-        struct.pack(order + "IIII", *divmod(time, unit), len(one), len(one)) + one for time, one in packets)
+        struct.pack(order + "IIII", *divmod(time, unit), len(one), len(one)) + one for time, one in packets
+    )
 
 
 class Walk(unittest.TestCase):
@@ -61,9 +64,15 @@ class Walk(unittest.TestCase):
 
     def test_last_packet(self) -> None:
         """Of either side, with a tag or none; not one of UDP, a fragment, or of another connection."""
-        packets = [(1, packet(CLIENT, SERVER)), (5, packet(SERVER, CLIENT)), (7, packet(CLIENT, SERVER, tags=1)),
-                   (9, packet(OTHER, SERVER)), (11, packet(CLIENT, SERVER, protocol=17)),
-                   (12, packet(CLIENT, SERVER, fragment=5)), (13, packet(CLIENT, SERVER, tags=2))]
+        packets = [
+            (1, packet(CLIENT, SERVER)),
+            (5, packet(SERVER, CLIENT)),
+            (7, packet(CLIENT, SERVER, tags=1)),
+            (9, packet(OTHER, SERVER)),
+            (11, packet(CLIENT, SERVER, protocol=17)),
+            (12, packet(CLIENT, SERVER, fragment=5)),
+            (13, packet(CLIENT, SERVER, tags=2)),
+        ]
         report = opening(1, 1) + open_stall(2) + opening(2, 4, OTHER) + "audit of all frames\n"
         for order in "<>":
             self.assertEqual(self.ends(report, capture(packets, order)), {1: 7})
@@ -72,12 +81,12 @@ class Walk(unittest.TestCase):
     def test_opened_again(self) -> None:
         """The same endpoints open several connections: each lasts up to the next."""
         packets = [(time, packet(CLIENT, SERVER)) for time in range(1, 10)]
-        report = (opening(1, 2) + open_stall(2) + opening(2, 5, holds="not-http2") + opening(3, 8) + open_stall(8))
+        report = opening(1, 2) + open_stall(2) + opening(2, 5, holds="not-http2") + opening(3, 8) + open_stall(8)
         self.assertEqual(self.ends(report, capture(packets)), {1: 4, 2: 7, 3: 9})
 
     def test_cut(self) -> None:
         content = capture([(1, packet(CLIENT, SERVER)), (2, packet(SERVER, CLIENT))])
-        self.assertEqual(self.ends(opening(1, 1) + open_stall(1), content[:-50 - 16 - 1]), {1: 1})
+        self.assertEqual(self.ends(opening(1, 1) + open_stall(1), content[: -50 - 16 - 1]), {1: 1})
         self.assertEqual(self.ends(opening(1, 1) + open_stall(1), b""), {})
 
 
@@ -108,23 +117,30 @@ class Course(unittest.TestCase):
 
     def test_imported(self) -> None:
         """The row of an imported capture has the time that the course tells; nothing where the import writes none."""
-        course = "case $* in *--course*) ;; *) exit 2 ;; esac\n" \
+        course = (
+            "case $* in *--course*) ;; *) exit 2 ;; esac\n"
             'while [ "$1" != --course ]; do shift; done; cat > "$2" << END\n' + COURSE + "END\n"
+        )
         for script, nanos in ((course, 3100), ("echo 'h2audit-import: unrecognized arguments' >&2; exit 2\n", None)):
             with Machine([], None) as machine:
                 for name, does in (("h2audit-any", f"cat << END\n{HEAD}{OF_SIX}END\n"), ("h2audit-import", script)):
                     machine.script(name, does)
                 (machine.captures / "a.pcapng").write_bytes(bytes.fromhex("0a0d0d0a") + bytes(40))
                 self.assertEqual(machine.run("--jobs", "1", "captures")[::2], (0, ""))
-                self.assertEqual(machine.ask("SELECT nanos, milliseconds FROM open_stalls"),
-                                 [(nanos, nanos and nanos / 1e6)])
+                self.assertEqual(
+                    machine.ask("SELECT nanos, milliseconds FROM open_stalls"), [(nanos, nanos and nanos / 1e6)]
+                )
                 self.assertEqual(list((machine.folder / "temporary").iterdir()), [])
 
     def test_collected(self) -> None:
         """A job's course tells the same."""
         with Machine([], None) as machine:
-            for name, text in (("path", "/captures/a"), ("report", HEAD + OF_SIX), ("course", COURSE),
-                               ("status", "0 1\n")):
+            for name, text in (
+                ("path", "/captures/a"),
+                ("report", HEAD + OF_SIX),
+                ("course", COURSE),
+                ("status", "0 1\n"),
+            ):
                 (machine.folder / "jobs").mkdir(exist_ok=True)
                 (machine.folder / "jobs" / f"a.{name}").write_text(text)
             self.assertEqual(machine.run("--collect", "jobs")[::2], (0, ""))
@@ -134,26 +150,35 @@ class Course(unittest.TestCase):
 class Rows(unittest.TestCase):
     def test_views(self) -> None:
         """Each view of stalls counts an open one up to the last packet, as the longest of all here."""
-        ended = ("frame 1 record 2 time 2 client stream-stall-begin stream 1 value 0\n"
-                 "frame 2 record 3 time 4 client stream-stall-end stream 1 value 9\n")
+        ended = (
+            "frame 1 record 2 time 2 client stream-stall-begin stream 1 value 0\n"
+            "frame 2 record 3 time 4 client stream-stall-end stream 1 value 9\n"
+        )
         first = "stall client stream 1 from 1 to 2 nanos 2\n"
         report = HEAD + opening(1, 1) + ended + open_stall(5).replace("stall s", f"{first}stall s", 1)
         packets = [(time, packet(CLIENT, SERVER)) for time in (1, 2, 4, 5, 105)]
         with Machine([Sample("a", capture(packets), 0, "", report)], None) as machine:
             self.assertEqual(machine.run("--jobs", "1", "captures")[::2], (0, ""))
-            self.assertEqual(machine.ask("SELECT waited, first, last, open, nanos, endpoint FROM longest_stalls"),
-                             [("server", 3, None, 1, 100, words(CLIENT)), ("client", 1, 2, 0, 2, words(SERVER))])
+            self.assertEqual(
+                machine.ask("SELECT waited, first, last, open, nanos, endpoint FROM longest_stalls"),
+                [("server", 3, None, 1, 100, words(CLIENT)), ("client", 1, 2, 0, 2, words(SERVER))],
+            )
             self.assertEqual(machine.ask("SELECT first, nanos FROM open_stalls"), [(3, 100)])
             wanted = "peer, stalls, open, longest_milliseconds, total_milliseconds"
-            self.assertEqual(machine.ask(f"SELECT {wanted} FROM stalls_by_peer ORDER BY peer"), [
-                ("10.0.0.1", 1, 1, 1e-4, 1e-4), ("10.0.0.2:80", 1, 0, 2e-6, 2e-6)])
+            self.assertEqual(
+                machine.ask(f"SELECT {wanted} FROM stalls_by_peer ORDER BY peer"),
+                [("10.0.0.1", 1, 1, 1e-4, 1e-4), ("10.0.0.2:80", 1, 0, 2e-6, 2e-6)],
+            )
             windows = machine.ask("SELECT waited, stalls, open, milliseconds FROM still_windows ORDER BY waited")
             self.assertEqual(windows, [("client", 1, 0, 2e-6), ("server", 1, 1, 1e-4)])
 
     def test_examples(self) -> None:
         """The open stalls of examples/, whose connections are alone in their captures."""
-        samples = [sample for sample in by_hand() if " open\n" in sample.report and
-                   (TOP / "examples" / f"{sample.name}.pcap").exists()]
+        samples = [
+            sample
+            for sample in by_hand()
+            if " open\n" in sample.report and (TOP / "examples" / f"{sample.name}.pcap").exists()
+        ]
         self.assertGreater(len(samples), 1)
         with Machine(samples, None) as machine:
             machine.run("--jobs", "2", "--import", "never", "captures")

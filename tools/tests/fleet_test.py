@@ -76,13 +76,24 @@ def rows_by_hand(report: str) -> dict[str, list[Row]]:
             case ["frame", frame, _, record, _, moment, side, kind, _, stream, _, value]:
                 position += 1
                 broke = "nobody" if "-stall-" in kind else OTHER[side] if kind in OVERFLOWS else side
-                rows["findings"].append((connection, position, int(frame), int(record), int(moment), side, kind,
-                                         int(stream), int(value), broke))
+                rows["findings"].append(
+                    (
+                        connection,
+                        position,
+                        int(frame),
+                        int(record),
+                        int(moment),
+                        side,
+                        kind,
+                        int(stream),
+                        int(value),
+                        broke,
+                    )
+                )
             case ["stall", side, _, stream, _, first, *end]:
                 position += 1
                 last, nanos = (None, None) if end == ["open"] else (int(end[1]), int(end[3]))
-                rows["stalls"].append(
-                    (connection, position, side, int(stream), int(first), last, nanos, OTHER[side]))
+                rows["stalls"].append((connection, position, side, int(stream), int(first), last, nanos, OTHER[side]))
             case ["audit", *how]:
                 connections[-1].append(int(how[-1]) if how[0] == "stopped" else None)
     rows["connections"] = [tuple([*row, None][:15]) for row in connections]
@@ -241,8 +252,10 @@ class Course(unittest.TestCase):
             until(lambda: machine.database.exists() and any((machine.folder / "temporary").iterdir()))
             os.killpg(child.pid, number)
             _, error = child.communicate(timeout=PATIENCE)
-            self.assertEqual((child.returncode, error),
-                             (128 + number, "h2audit-fleet: ended early: --resume goes on with the database\n"))
+            self.assertEqual(
+                (child.returncode, error),
+                (128 + number, "h2audit-fleet: ended early: --resume goes on with the database\n"),
+            )
             self.assertEqual(list((machine.folder / "temporary").iterdir()), [])
         self.assertEqual(machine.run("--jobs", "2", "--resume", "captures")[0], 1)
 
@@ -264,7 +277,8 @@ class Course(unittest.TestCase):
         self.assertEqual(machine.run("--resume", "--jobs", "2", "captures")[0], 1)
         self.assertEqual(set(machine.notes()), {failed.digest, other.digest, new.digest, touched.digest})
         rows = machine.ask(
-            "SELECT kind, value, broke, faults.record FROM faults WHERE path LIKE ?", f"%/{changed.name}.pcap")
+            "SELECT kind, value, broke, faults.record FROM faults WHERE path LIKE ?", f"%/{changed.name}.pcap"
+        )
         self.assertEqual(rows, [("stream-overrun", -5000, "client", 12)])
         self.assertEqual(machine.ask("PRAGMA foreign_key_check"), [])
 
@@ -284,8 +298,16 @@ class Words(OneCapture):
 
     def test_hostile_names(self) -> None:
         """A name may hold any byte but 0, and each stands in one word of the database."""
-        hostile = [b"--help", b"-o a.pcap", b"a\nb.pcap", b"\xff\xfe.pcap", b"%41.pcap", "Köln.pcap".encode(), b" ",
-                   b"'; DROP TABLE"]
+        hostile = [
+            b"--help",
+            b"-o a.pcap",
+            b"a\nb.pcap",
+            b"\xff\xfe.pcap",
+            b"%41.pcap",
+            "Köln.pcap".encode(),
+            b" ",
+            b"'; DROP TABLE",
+        ]
         for name in hostile:
             with open(os.path.join(os.fsencode(self.machine.captures), name), "wb") as file:
                 file.write(self.capture)
@@ -320,8 +342,7 @@ class Words(OneCapture):
         self.machine.samples.append(next(sample for sample in by_hand() if sample.error.endswith("short-header\n")))
         (self.machine.captures / "ring.pcap12").write_bytes(self.machine.samples[1].capture)
         status, said, _ = self.machine.run("--jobs", "1", "captures")
-        wanted = ("3 captures: 2 with faults, 1 in which nothing was audited (1 refused); "
-                  "2 other files passed over\n")
+        wanted = "3 captures: 2 with faults, 1 in which nothing was audited (1 refused); " "2 other files passed over\n"
         self.assertEqual((status, said), (3, wanted))
 
     def test_refused(self) -> None:
@@ -346,10 +367,14 @@ class Words(OneCapture):
             self.assertIn(wanted, found[2])
         self.machine.database.unlink(missing_ok=True)
         self.machine.database.write_bytes(b"of no interest")
-        self.assertEqual(self.machine.run("captures"), (4, "", f"h2audit-fleet: {self.machine.database}: file is not "
-                                                        "a database\n"))
-        self.assertEqual(self.machine.run("--resume", "captures"), (4, "", f"h2audit-fleet: {self.machine.database}: "
-                                                                  "file is not a database\n"))
+        self.assertEqual(
+            self.machine.run("captures"),
+            (4, "", f"h2audit-fleet: {self.machine.database}: file is not " "a database\n"),
+        )
+        self.assertEqual(
+            self.machine.run("--resume", "captures"),
+            (4, "", f"h2audit-fleet: {self.machine.database}: " "file is not a database\n"),
+        )
         self.assertEqual(self.machine.database.read_bytes(), b"of no interest")
 
     def test_dashboard(self) -> None:
@@ -404,13 +429,18 @@ class Writer(OneCapture):
     def test_no_database(self) -> None:
         """A folder, a pipe, a database of another version or of something else is refused, and stays as it was."""
         os.mkfifo(self.machine.folder / "pipe")
-        for name, why in (("pipe", "it is no file"), ("captures", "Is a directory"),
-                          ("none/a", "No such file or directory")):
+        for name, why in (
+            ("pipe", "it is no file"),
+            ("captures", "Is a directory"),
+            ("none/a", "No such file or directory"),
+        ):
             with self.assertRaisesRegex((database.Unusable, OSError), why):
                 database.Database(str(self.machine.folder / name), True)
-        for change, why in (("PRAGMA user_version = 1", "schema is 1, of an older h2audit-fleet, and this one writes"),
-                            ("PRAGMA user_version = 3", "schema is 3, of a newer h2audit-fleet, and this one writes"),
-                            ("PRAGMA application_id = 7", "it is no database of h2audit-fleet")):
+        for change, why in (
+            ("PRAGMA user_version = 1", "schema is 1, of an older h2audit-fleet, and this one writes"),
+            ("PRAGMA user_version = 3", "schema is 3, of a newer h2audit-fleet, and this one writes"),
+            ("PRAGMA application_id = 7", "it is no database of h2audit-fleet"),
+        ):
             self.machine.database.unlink(missing_ok=True)
             with contextlib.closing(sqlite3.connect(self.machine.database)) as base:
                 base.executescript((TOP / "tools" / "fleet" / "schema.sql").read_text() + change)
@@ -467,8 +497,10 @@ class Workers(unittest.TestCase):
     def test_order(self) -> None:
         """The most urgent goes first, and what was given up is not done."""
         workers = pool.Pool(1)
-        asked = [workers.submit(tasks.parts_of, size, self.ORDER, priority=priority)
-                 for size, priority in ((10, -1), (20, 0), (30, 5), (40, 0))]
+        asked = [
+            workers.submit(tasks.parts_of, size, self.ORDER, priority=priority)
+            for size, priority in ((10, -1), (20, 0), (30, 5), (40, 0))
+        ]
         ended: list[object] = []
         for task in asked:
             task.add_done_callback(ended.append)
@@ -483,14 +515,17 @@ class FlowsOfTls(OneCapture):
         """A gap where plaintext ended for another reason is no loss of bytes, and the rest was not audited."""
         first = self.machine.samples[0]
         ends = ("gap 104 tail 0 end renegotiation\n", "gap 7 tail 0\n")
-        report = (first.report.replace("flow client bytes 15112 gap none tail 0\n", f"flow client bytes 7 {ends[1]}")
-                  .replace("flow server bytes 104 gap none tail 0\n", f"flow server bytes 104 {ends[0]}"))
+        report = first.report.replace(
+            "flow client bytes 15112 gap none tail 0\n", f"flow client bytes 7 {ends[1]}"
+        ).replace("flow server bytes 104 gap none tail 0\n", f"flow server bytes 104 {ends[0]}")
         self.machine.samples[0] = Sample(first.name, first.capture, first.status, "", report)
         self.assertEqual(self.machine.run("--jobs", "1", "captures")[::2], (1, ""))
         self.assertEqual(self.machine.ask("SELECT client_end, server_end FROM connections"), [(None, "renegotiation")])
         self.assertEqual(self.machine.ask("SELECT side, gap FROM lost_bytes"), [("client", 7)])
-        self.assertEqual(self.machine.ask("SELECT what, sender, reason FROM not_audited"),
-                         [("rest of connection 1", "127.0.0.1:21100", "renegotiation")])
+        self.assertEqual(
+            self.machine.ask("SELECT what, sender, reason FROM not_audited"),
+            [("rest of connection 1", "127.0.0.1:21100", "renegotiation")],
+        )
 
 
 class Schema(unittest.TestCase):

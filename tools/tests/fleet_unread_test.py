@@ -35,7 +35,7 @@ def rewritten(capture: bytes, front: bytes, tail: bytes = b"") -> bytes:
     found, at = bytearray(capture[:24]), 24
     while at + 16 <= len(capture):
         seconds, moment, length, original = struct.unpack_from("<IIII", capture, at)
-        packet = capture[at + 16:at + 16 + length]
+        packet = capture[at + 16 : at + 16 + length]
         packet = packet[:12] + front + (tail or packet[12:14]) + packet[14:]
         more = len(packet) - length
         found += struct.pack("<IIII", seconds, moment, length + more, original + more) + packet
@@ -73,11 +73,11 @@ class Unread(parts.Beside):
         self.capture("arp.pcap", with_packet(self.example, "0806"))
         self.capture("tagged.pcap", rewritten(self.example, bytes.fromhex("81000005")))
         status, said, error = self.machine.run("--jobs", "2", "captures")
-        self.assertEqual((status, said, error),
-                         (1, "7 captures: 7 with faults, 0 in which nothing was audited\n", ""))
+        self.assertEqual((status, said, error), (1, "7 captures: 7 with faults, 0 in which nothing was audited\n", ""))
         found = self.rows("program, outcome")
-        self.assertEqual({name for name, row in found.items() if row == ("h2audit", "audited")},
-                         {"arp.pcap", "tagged.pcap"})
+        self.assertEqual(
+            {name for name, row in found.items() if row == ("h2audit", "audited")}, {"arp.pcap", "tagged.pcap"}
+        )
         self.assertEqual(set(found.values()), {("h2audit", "audited"), ("h2audit-any", "audited")})
 
     def test_not_audited(self) -> None:
@@ -87,7 +87,7 @@ class Unread(parts.Beside):
         self.capture("mpls.pcap", rewritten(self.example, b"", bytes.fromhex("8847")))
         udp = bytearray(self.example)
         udp[24 + 16 + 14 + 9] = 17
-        self.capture("udp.pcap", bytes(udp[:24 + 16 + struct.unpack_from("<I", udp, 32)[0]]))
+        self.capture("udp.pcap", bytes(udp[: 24 + 16 + struct.unpack_from("<I", udp, 32)[0]]))
         self.capture("cut.pcap.gz", gzip.compress(self.example)[:200])
         self.capture("clean.pcap", (TOP / "examples" / "stream_stalls_nghttpd.pcap").read_bytes())
         self.capture("text.pcap", b"of no interest, and longer than a header\n")
@@ -145,10 +145,14 @@ class Unread(parts.Beside):
         """What h2audit audited stands where an import that might read more is refused."""
         self.capture("both.pcap", self.example + parts.over_ipv6(self.example)[24:])
         self.machine.script("h2audit-any", "echo 'h2audit-any: capture refused: address-clash: a' >&2; exit 3\n")
-        self.assertEqual(self.machine.run("--jobs", "1", "captures"), (
-            3, "1 captures: 1 with faults, 0 in which nothing was audited, 1 in part\n", ""))
-        self.assertEqual(self.rows("program, outcome, reason"),
-                         {"both.pcap": ("h2audit", "partial", "import refused: address-clash: a")})
+        self.assertEqual(
+            self.machine.run("--jobs", "1", "captures"),
+            (3, "1 captures: 1 with faults, 0 in which nothing was audited, 1 in part\n", ""),
+        )
+        self.assertEqual(
+            self.rows("program, outcome, reason"),
+            {"both.pcap": ("h2audit", "partial", "import refused: address-clash: a")},
+        )
 
 
 class Said(unittest.TestCase):
@@ -172,15 +176,21 @@ class Said(unittest.TestCase):
         empty = "h2audit-fleet: empty: no capture is in this folder\n"
         nothing = "0 captures: 0 with faults, 0 in which nothing was audited\n"
         self.assertEqual(self.machine.run("empty"), (3, nothing, empty))
-        self.assertEqual(self.machine.run("--list", "list"),
-                         (3, nothing, "h2audit-fleet: list: this list names nothing\n"))
-        self.assertEqual(self.machine.run("--list", "-"),
-                         (3, nothing, "h2audit-fleet: standard input: this list names nothing\n"))
+        self.assertEqual(
+            self.machine.run("--list", "list"), (3, nothing, "h2audit-fleet: list: this list names nothing\n")
+        )
+        self.assertEqual(
+            self.machine.run("--list", "-"), (3, nothing, "h2audit-fleet: standard input: this list names nothing\n")
+        )
         self.assertEqual(self.machine.run("empty", "captures"), (3, self.summary, empty))
-        self.assertEqual(self.machine.run("--resume", "captures/stream_overrun_go.pcap", "captures"),
-                         (1, f"{self.summary[:-1]}; 1 were there\n", ""))
-        self.assertEqual(self.machine.run("--collect", "empty", "--resume"),
-                         (3, nothing, "h2audit-fleet: empty: no job is in this folder\n"))
+        self.assertEqual(
+            self.machine.run("--resume", "captures/stream_overrun_go.pcap", "captures"),
+            (1, f"{self.summary[:-1]}; 1 were there\n", ""),
+        )
+        self.assertEqual(
+            self.machine.run("--collect", "empty", "--resume"),
+            (3, nothing, "h2audit-fleet: empty: no job is in this folder\n"),
+        )
 
     def test_require_http2(self) -> None:
         """Status 3 where nothing was audited in one; a run that goes on says so by the same words."""
@@ -204,8 +214,9 @@ class Said(unittest.TestCase):
             self.skipTest("a folder that cannot be read: root cannot give up its rights here")
         said = "2 captures: 1 with faults, 1 in which nothing was audited (1 failed)\n"
         self.assertEqual(self.machine.run("captures", before=before), (3, said, ""))
-        self.assertEqual(self.machine.ask("SELECT path, reason FROM not_audited"),
-                         [(str(secret), "failed: not-allowed")])
+        self.assertEqual(
+            self.machine.ask("SELECT path, reason FROM not_audited"), [(str(secret), "failed: not-allowed")]
+        )
         secret.chmod(0o755)
         found = self.machine.run("--resume", "captures")
         self.assertEqual(found, (1, "2 captures: 2 with faults, 0 in which nothing was audited; 1 were there\n", ""))

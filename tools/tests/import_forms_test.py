@@ -335,7 +335,9 @@ class Order(unittest.TestCase):
             last = packets[-1]
             reset = last._replace(data=last.data[:33] + b"\x04" + last.data[34:])
             opening = packets[0].data
-            other = reset._replace(data=opening[:20] + b"\x00\x07" + opening[22:], nanos=reset.nanos + seconds * 10**9)
+            other = reset._replace(
+                data=opening[:20] + b"\x00\x07" + opening[22:], nanos=reset.nanos + seconds * 10**9
+            )
             late = [one._replace(nanos=other.nanos) for one in packets[14:]]
             made = given(tools.pcap_of([*packets[:14], reset, other, *late], RAW), *KEYS)
             self.assertEqual(len(tools.rows_of(made)) == rows, is_kept, seconds)

@@ -52,9 +52,16 @@ class Back(unittest.TestCase):
         whole = self.map.read_bytes()
         lines = whole.splitlines(True)
         record = next(line for line in lines if line.startswith(b"record "))
-        for text in (b"", b"\xff", b"h2audit-map 2\n" + whole[14:], b"".join(lines[:3]), whole.replace(record, b""),
-                     whole.replace(b"record 1 ", b"record one "), whole.replace(record, b"record 1\n"),
-                     *(whole[:-size] for size in (1, 20, 200, 2000))):
+        for text in (
+            b"",
+            b"\xff",
+            b"h2audit-map 2\n" + whole[14:],
+            b"".join(lines[:3]),
+            whole.replace(record, b""),
+            whole.replace(b"record 1 ", b"record one "),
+            whole.replace(record, b"record 1\n"),
+            *(whole[:-size] for size in (1, 20, 200, 2000)),
+        ):
             self.map.write_bytes(text)
             status, said, error = run(tools.ANY, "--map", self.map, given=report)
             self.assertEqual((status, said, error), (4, b"", f"h2audit-any: {self.map}: {NO_MAP}\n"), text[-80:])

@@ -60,17 +60,27 @@ def lay_out(folder: pathlib.Path) -> None:
     (folder / "crates.txt").write_text((TOP / "crates.txt").read_text() + f"{NAME}: h2audit\n")
     (folder / "HANDLES").write_text((TOP / "HANDLES").read_text())
     capture = CAPTURE.with_suffix(".pcap").read_bytes()
-    (folder / "crates" / NAME / "src" / "lib.rt").write_text(TEST.format(
-        size=len(capture), bytes=", ".join(map(str, capture)), example=example(),
-        report=CAPTURE.with_suffix(".report").read_text()))
+    (folder / "crates" / NAME / "src" / "lib.rt").write_text(
+        TEST.format(
+            size=len(capture),
+            bytes=", ".join(map(str, capture)),
+            example=example(),
+            report=CAPTURE.with_suffix(".report").read_text(),
+        )
+    )
 
 
 def main() -> None:
     with tempfile.TemporaryDirectory() as room:
         folder = pathlib.Path(room)
         lay_out(folder)
-        ran = subprocess.run(["rt", "try", "--test"], cwd=folder / "crates" / NAME, capture_output=True, text=True,
-                             stdin=subprocess.DEVNULL)
+        ran = subprocess.run(
+            ["rt", "try", "--test"],
+            cwd=folder / "crates" / NAME,
+            capture_output=True,
+            text=True,
+            stdin=subprocess.DEVNULL,
+        )
         if ran.returncode != 0 or "library_example" not in ran.stdout + ran.stderr:
             sys.exit(f"the library example failed:\n{ran.stdout}{ran.stderr}")
     print("the library example gives its report")

@@ -135,15 +135,11 @@ class Examples(unittest.TestCase):
         text = page_of((EXAMPLES / "connection_overflow_nginx.frames.report").read_text())
         rows = ["|".join(cells) for _, cells in Tags(text).rows]
         self.assertIn(
-            "the client, 127.0.0.1|connection-overflow|RFC 9113, 6.9.1|1|1|connection 1, frame 9, packet 15",
-            rows,
+            "the client, 127.0.0.1|connection-overflow|RFC 9113, 6.9.1|1|1|connection 1, frame 9, packet 15", rows
         )
         text = page_of((EXAMPLES / "negative_window_tomcat.frames.report").read_text())
         rows = ["|".join(cells) for _, cells in Tags(text).rows]
-        self.assertIn(
-            "804.434 ms|server, 127.0.0.1:20840|stream 1|connection 1, frame 10, packet 18",
-            rows,
-        )
+        self.assertIn("804.434 ms|server, 127.0.0.1:20840|stream 1|connection 1, frame 10, packet 18", rows)
         # The stalls of two streams, of which one lies in part within the other: each instant counts once.
         self.assertIn("the client, 127.0.0.1|its window of a stream|4|1|804.434 ms|1.609575 s", rows)
         self.assertIn("No rule was broken.", text)
@@ -214,7 +210,7 @@ class Hostile(unittest.TestCase):
     """Text of a report never becomes markup."""
 
     EVIL = (
-        '<script>alert(1)</script>',
+        "<script>alert(1)</script>",
         '"><img/src=x/onerror=alert(1)>',
         "</script><b>",
         "'onload='x",
@@ -422,10 +418,7 @@ class Thinning(unittest.TestCase):
             for most in (1000, 60, 16):
                 less = thinned(whole, most, 10**9)
                 self.assertLess(len(less.frames), most + 3 * 2 * 80)
-                self.assertEqual(
-                    shades_of(less),
-                    shades_of(whole),
-                )
+                self.assertEqual(shades_of(less), shades_of(whole))
                 self.judge_extremes(whole, less, most)
 
     def judge_extremes(self, whole: Series, less: Series, most: int) -> None:

@@ -289,9 +289,7 @@ class Searches(OfAnswers):
             self.find("#search").clear()
             self.find("#search").send_keys(words)
             self.assertEqual(
-                self.find("#found").text,
-                f"{windows} of 2 windows, {findings} finding" + "s" * (findings != 1),
-                words,
+                self.find("#found").text, f"{windows} of 2 windows, {findings} finding" + "s" * (findings != 1), words
             )
 
 

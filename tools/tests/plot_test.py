@@ -95,7 +95,9 @@ class Examples(unittest.TestCase):
             drawn = sorted(
                 f"stall {window.side} stream {window.stream} from {begin.frame} "
                 + (f"to {end.frame} nanos {end.time - begin.time}" if end else "open")
-                for window in windows for begin, end in window.stalls)
+                for window in windows
+                for begin, end in window.stalls
+            )
             self.assertEqual(drawn, sorted(re.findall(r"^stall .*", text, re.M)), report.name)
 
     def test_who_broke_it(self) -> None:
@@ -200,20 +202,27 @@ class BadInput(unittest.TestCase):
         self.refuses(b"", "not a report of h2audit")
         self.refuses(b"\xff\xfe", "not a report of h2audit")
         self.refuses((EXAMPLES / "stream_overrun_go.pcap").read_bytes(), "not a report of h2audit")
-        self.refuses((EXAMPLES / "stream_overrun_go.report").read_bytes(),
-                     "the report has no credit lines: make it with h2audit --frames")
+        self.refuses(
+            (EXAMPLES / "stream_overrun_go.report").read_bytes(),
+            "the report has no credit lines: make it with h2audit --frames",
+        )
         self.refuses(good.replace(b"nanos", b"nano"), "line 16 is no line of a report")
-        self.refuses(good.split(b"\n", 1)[0] + b"\nframe 1 record 1 time 1 client stream-credit stream 1 value 1\n",
-                     "line 2 is no line of a report")
+        self.refuses(
+            good.split(b"\n", 1)[0] + b"\nframe 1 record 1 time 1 client stream-credit stream 1 value 1\n",
+            "line 2 is no line of a report",
+        )
         self.refuses(good[:-12], "line 17 is no line of a report")
         self.refuses(good.replace(b"value 10000", b"value " + b"9" * 5000), "line 5 is no line of a report")
 
     def test_nothing_to_draw(self) -> None:
         report = str(EXAMPLES / "stream_overrun_go.frames.report")
-        self.assertEqual(answer(report, "--connection", "2"),
-                         (3, "h2audit-plot: report refused: the report has no connection 2\n"))
-        self.assertEqual(answer(report, "--stream", "3"),
-                         (3, "h2audit-plot: report refused: the report tells no credit of stream 3\n"))
+        self.assertEqual(
+            answer(report, "--connection", "2"), (3, "h2audit-plot: report refused: the report has no connection 2\n")
+        )
+        self.assertEqual(
+            answer(report, "--stream", "3"),
+            (3, "h2audit-plot: report refused: the report tells no credit of stream 3\n"),
+        )
 
     def test_files(self) -> None:
         report = str(EXAMPLES / "stream_overrun_go.frames.report")
@@ -223,8 +232,15 @@ class BadInput(unittest.TestCase):
         self.assertEqual(answer("/", "-o", missing), (4, "h2audit-plot: /: Is a directory\n"))
 
     def test_words(self) -> None:
-        for words in (["--connection", "0"], ["--stream", "-1"], ["--stream"], ["--format", "gif"], ["one", "two"],
-                      ["--panels", "65"], ["--panels", "9" * 5000]):
+        for words in (
+            ["--connection", "0"],
+            ["--stream", "-1"],
+            ["--stream"],
+            ["--format", "gif"],
+            ["one", "two"],
+            ["--panels", "65"],
+            ["--panels", "9" * 5000],
+        ):
             status, said = answer(*words)
             self.assertEqual((status, said.count("\n"), said.startswith("h2audit-plot: ")), (2, 1, True), words)
 
@@ -232,9 +248,11 @@ class BadInput(unittest.TestCase):
         """The name of a picture says what it is: another ending is refused, and no file is left."""
         report = str(EXAMPLES / "stream_overrun_go.frames.report")
         with tempfile.TemporaryDirectory() as folder:
-            for words, why in ((["a.jpg"], "a.jpg: no jpg is drawn, but svg or png"),
-                               (["a.PDF"], "a.PDF: no pdf is drawn, but svg or png"),
-                               (["a.png", "--format", "svg"], "a.png: its name says png, and --format svg")):
+            for words, why in (
+                (["a.jpg"], "a.jpg: no jpg is drawn, but svg or png"),
+                (["a.PDF"], "a.PDF: no pdf is drawn, but svg or png"),
+                (["a.png", "--format", "svg"], "a.png: its name says png, and --format svg"),
+            ):
                 output = str(pathlib.Path(folder, words[0]))
                 status, said = answer(report, "-o", output, *words[1:])
                 self.assertEqual((status, said.replace(f"{folder}/", "")), (2, f"h2audit-plot: {why}\n"))
@@ -249,7 +267,8 @@ class BadInput(unittest.TestCase):
         """One while it reads, or while it draws, leaves no file and says nothing."""
         report = EXAMPLES / "stream_stalls_nghttpd.frames.report"
         begin = report.read_bytes().split(b"frame ", 1)[0] + b"".join(
-            b"frame %d record 1 time 1 server connection-credit stream 0 value 1\n" % frame for frame in range(1, 5000))
+            b"frame %d record 1 time 1 server connection-credit stream 0 value 1\n" % frame for frame in range(1, 5000)
+        )
         with tempfile.TemporaryDirectory() as folder:
             words = ["-o", f"{folder}/picture.svg"]
             for one in SIGNALS:

@@ -35,9 +35,12 @@ def documents() -> list[pathlib.Path]:
 
 def broken_links() -> list[str]:
     """The links of the documents that lead to no file."""
-    return [f"{document.relative_to(TOP)}: no file {link[1]}"
-            for document in documents() for link in LINK.finditer(document.read_text())
-            if not (document.parent / link[1]).exists()]
+    return [
+        f"{document.relative_to(TOP)}: no file {link[1]}"
+        for document in documents()
+        for link in LINK.finditer(document.read_text())
+        if not (document.parent / link[1]).exists()
+    ]
 
 
 def recipes() -> Iterator[tuple[str, str, str]]:
@@ -66,7 +69,8 @@ def printed(command: str, bin_of: pathlib.Path) -> str:
     with tempfile.TemporaryDirectory() as folder:
         surroundings = {**os.environ, "PATH": path, "LC_ALL": "C.UTF-8", "TMPDIR": folder}
         run = subprocess.run(
-            ["bash", "-c", command], cwd=TOP, env=surroundings, capture_output=True, text=True, timeout=150)
+            ["bash", "-c", command], cwd=TOP, env=surroundings, capture_output=True, text=True, timeout=150
+        )
     return run.stdout + run.stderr
 
 

@@ -27,8 +27,7 @@ OUT_OF_MEMORY = (5, b"", b"h2audit: out of memory\n")
 READ_FAILED = (4, b"", b"h2audit: read failed\n")
 WRITE_FAILED = (4, b"h2audit: write failed\n")
 WORDS_REFUSED = (
-    b"error: invalid value '0' for '--workers <N>': 0 is not in 1..=64\n\n"
-    b"For more information, try '--help'.\n"
+    b"error: invalid value '0' for '--workers <N>': 0 is not in 1..=64\n\n" b"For more information, try '--help'.\n"
 )
 Answer = tuple[int, bytes, bytes]  # status, standard output, standard error
 BAD_MAGIC = b"h2audit: capture refused: bad-magic\n"
@@ -125,8 +124,9 @@ class Refusals(unittest.TestCase):
 
         surroundings = dict(os.environ, LD_PRELOAD=str(self.shim), REFUSE=refused, MET=str(self.met))
         with open(source or os.devnull, "rb") as given:
-            ended = subprocess.run([PROGRAM, *words], stdin=given, capture_output=True, env=surroundings, timeout=60,
-                                   preexec_fn=bound)
+            ended = subprocess.run(
+                [PROGRAM, *words], stdin=given, capture_output=True, env=surroundings, timeout=60, preexec_fn=bound
+            )
         return (ended.returncode, ended.stdout, ended.stderr), self.met.exists()
 
     def each_refused(
@@ -160,7 +160,7 @@ class Refusals(unittest.TestCase):
         ):
             with self.subTest(words):
                 (ended, text, line), _ = self.run_program(words)
-                self.assertEqual((ended, text[:len(starts)], line), (status, starts, said))
+                self.assertEqual((ended, text[: len(starts)], line), (status, starts, said))
                 self.assertEqual(text == b"", starts == b"")
 
     def test_refused_header_is_all_that_is_kept(self) -> None:
@@ -217,7 +217,7 @@ class Refusals(unittest.TestCase):
                     self.assertEqual(len(answers), -(-len(whole[1]) // taken) if taken else 1)
                     for number, (status, text, line) in enumerate(answers):
                         self.assertEqual((status, line), WRITE_FAILED)
-                        self.assertEqual(text, whole[1][:number * taken])
+                        self.assertEqual(text, whole[1][: number * taken])
             whole, answers = self.each_refused("write-one", [path])
             self.assertEqual(set(answers), {whole})
 

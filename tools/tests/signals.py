@@ -16,8 +16,9 @@ def hidden_in(folder: pathlib.Path) -> list[str]:
     return [name for name in os.listdir(folder) if name.startswith(".")]
 
 
-def signalled(words: Iterable[object], begin: bytes, numbers: Sequence[int],
-              is_amid: Callable[[], object] = lambda: True) -> tuple[int, bytes]:
+def signalled(
+    words: Iterable[object], begin: bytes, numbers: Sequence[int], is_amid: Callable[[], object] = lambda: True
+) -> tuple[int, bytes]:
     """The status and the standard error of a program that gets signals once it is amid its work. Its standard input
     begins so, and has no end: it reads where that is longer than a pipe holds.
     """

@@ -54,10 +54,14 @@ class Sides:
 
     def opened(self, client: bytes, server: bytes) -> bytes:
         """Four records: the handshake, and what the client and the server send first."""
-        return b"".join((
-            self.sent("C", b"", SYN), self.sent("S", b"", SYN_ACK),
-            self.sent("C", PREFACE + SETTINGS + client), self.sent("S", SETTINGS + server),
-        ))
+        return b"".join(
+            (
+                self.sent("C", b"", SYN),
+                self.sent("S", b"", SYN_ACK),
+                self.sent("C", PREFACE + SETTINGS + client),
+                self.sent("S", SETTINGS + server),
+            )
+        )
 
 
 def many() -> Iterator[bytes]:

@@ -92,8 +92,15 @@ class Splits(unittest.TestCase):
                 signal.signal(signal.SIGXFSZ, signal.SIG_IGN)
                 resource.setrlimit(resource.RLIMIT_FSIZE, (most, most))
 
-        ran = subprocess.run([SPLIT, *map(str, words)], cwd=self.folder, stdin=given, capture_output=True,
-                             env=surroundings, timeout=200, preexec_fn=bound)
+        ran = subprocess.run(
+            [SPLIT, *map(str, words)],
+            cwd=self.folder,
+            stdin=given,
+            capture_output=True,
+            env=surroundings,
+            timeout=200,
+            preexec_fn=bound,
+        )
         self.assertEqual(ran.stdout, b"")
         return ran.returncode, ran.stderr.decode()
 
@@ -110,15 +117,30 @@ class FullParts(Splits):
         no_room = port_in(1, 3, after=fills)
         big, last = 2**31 - 60, record_of("<", 2, tcp(no_room))
         first = 24 + len(record_of("<", 1, tcp(other)))
-        self.write("big.pcap", (0, HEADER + record_of("<", 1, tcp(other)) + long_record(tcp(fills), big)),
-                   (first + big, last + record_of("<", 3, tcp(other)) + record_of("<", 4, tcp(fills))))
+        self.write(
+            "big.pcap",
+            (0, HEADER + record_of("<", 1, tcp(other)) + long_record(tcp(fills), big)),
+            (first + big, last + record_of("<", 3, tcp(other)) + record_of("<", 4, tcp(fills))),
+        )
         why = f"connection-too-large 10.0.0.1:{no_room} 10.0.1.0:80"
-        self.assertEqual(self.split("--parts", 3, "-o", "out", "big.pcap"),
-                         (3, f"h2audit-split: part 2 refused: {why}\n"))
-        self.assertEqual(self.names(), ["big.pcap", "out", "out/part-001.pcap", "out/part-001.records",
-                                        "out/part-003.pcap", "out/part-003.records", "out/split.txt"])
-        self.assertEqual((self.folder / "out" / "split.txt").read_text(),
-                         f"h2audit-split 1\nparts 3\npart 2 refused {why}\n")
+        self.assertEqual(
+            self.split("--parts", 3, "-o", "out", "big.pcap"), (3, f"h2audit-split: part 2 refused: {why}\n")
+        )
+        self.assertEqual(
+            self.names(),
+            [
+                "big.pcap",
+                "out",
+                "out/part-001.pcap",
+                "out/part-001.records",
+                "out/part-003.pcap",
+                "out/part-003.records",
+                "out/split.txt",
+            ],
+        )
+        self.assertEqual(
+            (self.folder / "out" / "split.txt").read_text(), f"h2audit-split 1\nparts 3\npart 2 refused {why}\n"
+        )
         stands = HEADER + record_of("<", 1, tcp(other)) + record_of("<", 3, tcp(other))
         self.assertEqual((self.folder / "out" / "part-001.pcap").read_bytes(), stands)
         self.assertEqual((self.folder / "out" / "part-001.records").read_bytes(), struct.pack(">QQ", 1, 4))
@@ -132,15 +154,17 @@ class FullParts(Splits):
             answer = self.split("--parts", 1, "-o", "out", given=cat.stdout.fileno())
         self.assertEqual(answer, (3, "h2audit-split: part 1 refused: too-large\n"))
         self.assertEqual(self.names(), ["big.pcap", "out", "out/split.txt"])
-        self.assertEqual((self.folder / "out" / "split.txt").read_text(),
-                         "h2audit-split 1\nparts 1\npart 1 refused too-large\n")
+        self.assertEqual(
+            (self.folder / "out" / "split.txt").read_text(), "h2audit-split 1\nparts 1\npart 1 refused too-large\n"
+        )
 
     def test_not_full(self) -> None:
         """A part of 2^31 - 1 bytes stands."""
         self.write("big.pcap", (0, HEADER + long_record(tcp(40000), MOST - 24)), size=MOST)
         self.assertEqual(self.split("--parts", 1, "-o", "out", "big.pcap"), (0, ""))
-        self.assertEqual(self.names(), ["big.pcap", "out", "out/part-001.pcap", "out/part-001.records",
-                                        "out/split.txt"])
+        self.assertEqual(
+            self.names(), ["big.pcap", "out", "out/part-001.pcap", "out/part-001.records", "out/split.txt"]
+        )
         self.assertEqual(self.sizes(1), (MOST, 8))
         self.assertEqual((self.folder / "out" / "split.txt").read_text(), "h2audit-split 1\nparts 1\n")
 
@@ -152,8 +176,9 @@ class Many(Splits):
         self.write("many.pcap", (0, HEADER), size=24 + 16 * count)
         self.assertEqual(self.split("--parts", 2, "-o", "out", "many.pcap"), (0, ""))
         half = count // 2
-        self.assertEqual((self.sizes(1), self.sizes(2)),
-                         ((24 + 16 * half, 8 * half), (24 + 16 * (half + 1), 8 * (half + 1))))
+        self.assertEqual(
+            (self.sizes(1), self.sizes(2)), ((24 + 16 * half, 8 * half), (24 + 16 * (half + 1), 8 * (half + 1)))
+        )
         with open(self.folder / "out" / "part-002.records", "rb") as numbers:
             numbers.seek(-8, os.SEEK_END)
             self.assertEqual(struct.unpack(">Q", numbers.read()), (count,))
@@ -202,8 +227,10 @@ class FullDisks(Splits):
         self.capture(10)
         (self.folder / "out").mkdir()
         (self.folder / "out" / "part-001.pcap").write_text("mine")
-        self.assertEqual(self.split("--parts", 1, "-o", "out", "a.pcap", full=".pcap"),
-                         (4, "h2audit-split: cannot make folder: out\n"))
+        self.assertEqual(
+            self.split("--parts", 1, "-o", "out", "a.pcap", full=".pcap"),
+            (4, "h2audit-split: cannot make folder: out\n"),
+        )
         self.assertEqual((self.folder / "out" / "part-001.pcap").read_text(), "mine")
 
     def test_later_files(self) -> None:
@@ -225,42 +252,55 @@ class FullDisks(Splits):
         for word in ("--help", "--version"):
             for form in (f"{word} > /dev/full", f"{word} >&-", f"{word} | true"):
                 with self.subTest(form):
-                    ran = subprocess.run(["bash", "-c", f'trap "" PIPE; "$0" {form}; exit ${{PIPESTATUS[0]}}', SPLIT],
-                                         capture_output=True, text=True, timeout=60)
+                    ran = subprocess.run(
+                        ["bash", "-c", f'trap "" PIPE; "$0" {form}; exit ${{PIPESTATUS[0]}}', SPLIT],
+                        capture_output=True,
+                        text=True,
+                        timeout=60,
+                    )
                     if form.endswith("true") and ran.returncode == 0:
                         continue  # written before the pipe was closed
-                    self.assertEqual((ran.returncode, ran.stdout, ran.stderr),
-                                     (4, "", "h2audit-split: write failed\n"))
+                    self.assertEqual((ran.returncode, ran.stdout, ran.stderr), (4, "", "h2audit-split: write failed\n"))
 
 
 class Names(Splits):
     def test_escaped(self) -> None:
         """What a terminal would act on is told by its code, and letters of any script are not."""
         for name, told in (
-            ("a\x1b[31mb", "a\\x1b[31mb"), ("a\nb\tc\rd", "a\\nb\\tc\\rd"), ("a\x7fb\x9bc", "a\\x7fb\\x9bc"),
-            ("a\u202eb", "a\\u202eb"), ("a\U000e0041b", "a\\U000e0041b"),
+            ("a\x1b[31mb", "a\\x1b[31mb"),
+            ("a\nb\tc\rd", "a\\nb\\tc\\rd"),
+            ("a\x7fb\x9bc", "a\\x7fb\\x9bc"),
+            ("a\u202eb", "a\\u202eb"),
+            ("a\U000e0041b", "a\\U000e0041b"),
             ("Zürich 東京 'x' \\ \"", "Zürich 東京 'x' \\ \""),
         ):
             with self.subTest(told):
-                self.assertEqual(self.split("--parts", 1, "-o", "out", name),
-                                 (4, f"h2audit-split: cannot open: {told}\n"))
+                self.assertEqual(
+                    self.split("--parts", 1, "-o", "out", name), (4, f"h2audit-split: cannot open: {told}\n")
+                )
                 (self.folder / "a.pcap").write_bytes(HEADER)
                 (self.folder / name).write_bytes(HEADER[:20])
-                self.assertEqual(self.split("--parts", 1, "-o", "out", "a.pcap", name),
-                                 (3, f"h2audit-split: {told} refused: short-header\n"))
-                self.assertEqual(self.split("--parts", 1, "-o", name, "a.pcap"),
-                                 (4, f"h2audit-split: cannot make folder: {told}\n"))
+                self.assertEqual(
+                    self.split("--parts", 1, "-o", "out", "a.pcap", name),
+                    (3, f"h2audit-split: {told} refused: short-header\n"),
+                )
+                self.assertEqual(
+                    self.split("--parts", 1, "-o", name, "a.pcap"), (4, f"h2audit-split: cannot make folder: {told}\n")
+                )
                 status, said = self.split("--parts", name)
                 self.assertEqual((status, told.replace("\\n", "\n") in said), (2, True))
 
     def test_full(self) -> None:
         (self.folder / "a.pcap").write_bytes(HEADER)
-        self.assertEqual(self.split("--parts", 1, "-o", "o\x1bt", "a.pcap", full="part-001.pcap"),
-                         (4, "h2audit-split: cannot write: o\\x1bt/part-001.pcap\n"))
+        self.assertEqual(
+            self.split("--parts", 1, "-o", "o\x1bt", "a.pcap", full="part-001.pcap"),
+            (4, "h2audit-split: cannot write: o\\x1bt/part-001.pcap\n"),
+        )
 
     def test_no_text(self) -> None:
-        ran = subprocess.run([SPLIT, b"--parts", b"1", b"-o", b"out", b"\xff\x1b"], cwd=self.folder,
-                             capture_output=True, timeout=60)
+        ran = subprocess.run(
+            [SPLIT, b"--parts", b"1", b"-o", b"out", b"\xff\x1b"], cwd=self.folder, capture_output=True, timeout=60
+        )
         self.assertEqual((ran.returncode, ran.stdout, ran.stderr), (2, b"", b"error: a word is not text\n"))
         self.assertEqual(self.names(), [])
 

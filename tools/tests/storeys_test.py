@@ -76,7 +76,6 @@ class Storeys(unittest.TestCase):
                 where = f"{file.relative_to(CRATES)} names {crate}.{'.'.join(path)}"
                 self.assertLessEqual(storey(path), highest, where)
 
-
     def test_lemmas(self) -> None:
         """Of the storeys code/ alone has lemmas, in the crates that ARCHITECTURE.md names."""
         crates = set()

@@ -39,7 +39,10 @@ def connections(count: int, last: bytes = b"") -> bytes:
         capture.syn("C", 1000, SYN)
         capture.syn("S", 5000, SYN_ACK)
         for side, payload in (
-            ("C", PREFACE + SETTINGS), ("S", SETTINGS), ("C", SETTINGS_ACK), ("S", SETTINGS_ACK + last),
+            ("C", PREFACE + SETTINGS),
+            ("S", SETTINGS),
+            ("C", SETTINGS_ACK),
+            ("S", SETTINGS_ACK + last),
         ):
             capture.send(side, payload)
     return bytes(capture.bytes)
@@ -59,37 +62,94 @@ ROWS: list[tuple[str, bytes, Ways]] = [
     ("--workers 2", TWO_LOUD_STREAMS, {"one side's flow": 1, "one of two groups": 1}),
     ("--workers 2", SHORT, {"a part ahead, from 256 KiB on": 1, "one side's flow": 1}),
     ("--workers 4 --block 64", SHORT, {"a part ahead": 1, "one side's flow": 1, "61 blocks are summed": 3}),
-    ("--workers 4", LONG, {
-        "a part ahead": 1, "one side's flow": 1, "faults beside the split, from 4,096 frames on": 1}),
-    ("--workers 4 --block 64", LONG, {
-        "a part ahead": 1, "one side's flow": 1, "faults beside the split": 1,
-        "two blocks of a front of 128 frames": 1, "64 blocks are summed": 3}),
-    ("--workers 4 --block 64", pings(4096, "S WINDOW_UPDATE 9 1"), {
-        "a part ahead": 1, "one side's flow": 1, "nothing behind an error in the front": 0}),
-    ("--workers 4", LONGER, {
-        "chunks ahead, one at each 256 KiB of the first MiB": 4, "packets of that MiB while reading goes on": 1,
-        "one side's flow": 1, "faults beside the split": 1, "faults in three pieces": 2, "five blocks are summed": 3}),
-    ("--workers 4", pings(70_000), {
-        "chunks ahead": 4, "one more at each MiB from the second on": 4, "packets of five MiB": 5,
-        "one side's flow": 1,
-        "each of six batches, of 128 KiB twice and then of 256 KiB, is taken by two": 6,
-        "each is met while the next one is taken": 6}),
+    (
+        "--workers 4",
+        LONG,
+        {"a part ahead": 1, "one side's flow": 1, "faults beside the split, from 4,096 frames on": 1},
+    ),
+    (
+        "--workers 4 --block 64",
+        LONG,
+        {
+            "a part ahead": 1,
+            "one side's flow": 1,
+            "faults beside the split": 1,
+            "two blocks of a front of 128 frames": 1,
+            "64 blocks are summed": 3,
+        },
+    ),
+    (
+        "--workers 4 --block 64",
+        pings(4096, "S WINDOW_UPDATE 9 1"),
+        {"a part ahead": 1, "one side's flow": 1, "nothing behind an error in the front": 0},
+    ),
+    (
+        "--workers 4",
+        LONGER,
+        {
+            "chunks ahead, one at each 256 KiB of the first MiB": 4,
+            "packets of that MiB while reading goes on": 1,
+            "one side's flow": 1,
+            "faults beside the split": 1,
+            "faults in three pieces": 2,
+            "five blocks are summed": 3,
+        },
+    ),
+    (
+        "--workers 4",
+        pings(70_000),
+        {
+            "chunks ahead": 4,
+            "one more at each MiB from the second on": 4,
+            "packets of five MiB": 5,
+            "one side's flow": 1,
+            "each of six batches, of 128 KiB twice and then of 256 KiB, is taken by two": 6,
+            "each is met while the next one is taken": 6,
+        },
+    ),
     ("--workers 2", connections(2), {"flows of one": 1, "nothing is shown, so there is no round": 0}),
-    ("--workers 2", connections(2, UNMATCHED), {
-        "flows of one": 1, "one is made ready": 1, "one of two blocks is summed": 1}),
+    (
+        "--workers 2",
+        connections(2, UNMATCHED),
+        {"flows of one": 1, "one is made ready": 1, "one of two blocks is summed": 1},
+    ),
     ("--workers 4", connections(63), {"flows": 3}),
     ("--workers 4", connections(63, UNMATCHED), {"flows": 3, "made ready by halves": 3, "blocks are summed": 3}),
-    ("--workers 4", connections(64, UNMATCHED), {
-        "flows": 3, "halves, from 64 connections on": 1, "each is made ready by halves": 2,
-        "blocks of each are summed": 2}),
-    ("--workers 4", connections(5000, UNMATCHED), {
-        "chunks ahead": 4, "one more at the second MiB": 1, "packets of two MiB": 2, "flows": 3,
-        "halves of one batch, and halves of these": 3, "halves of the text on two batches, and halves of these": 6}),
+    (
+        "--workers 4",
+        connections(64, UNMATCHED),
+        {
+            "flows": 3,
+            "halves, from 64 connections on": 1,
+            "each is made ready by halves": 2,
+            "blocks of each are summed": 2,
+        },
+    ),
+    (
+        "--workers 4",
+        connections(5000, UNMATCHED),
+        {
+            "chunks ahead": 4,
+            "one more at the second MiB": 1,
+            "packets of two MiB": 2,
+            "flows": 3,
+            "halves of one batch, and halves of these": 3,
+            "halves of the text on two batches, and halves of these": 6,
+        },
+    ),
     ("--workers 4", connections(255), {"flows": 3, "a text of so few is one worker's": 0}),
     ("--workers 4", connections(256), {"flows": 3, "halves of the text, from 256 connections on": 1}),
-    ("--workers 4", connections(8193), {
-        "chunks ahead": 4, "one more at the second and the third MiB": 2, "packets of three MiB": 3, "flows": 3,
-        "halves of the text on 8,192 connections, and halves of these; the last one is a batch of its own": 3}),
+    (
+        "--workers 4",
+        connections(8193),
+        {
+            "chunks ahead": 4,
+            "one more at the second and the third MiB": 2,
+            "packets of three MiB": 3,
+            "flows": 3,
+            "halves of the text on 8,192 connections, and halves of these; the last one is a batch of its own": 3,
+        },
+    ),
 ]
 
 

@@ -185,7 +185,6 @@ class ConnectionSaid:
     gaps: list[tuple[int, int]] = field(default_factory=list)
     seen: Seen | None = None  # what it was said from, where that is wanted
 
-
     @property
     def is_audited(self) -> bool:
         return self.outcome == "http2"

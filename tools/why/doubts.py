@@ -13,11 +13,7 @@ from why.rounds import NEAR
 from why.seen import Seen
 from why.words import count, reason_words, time_of
 
-PASSED = {
-    "not-ipv4": "neither IPv4 nor IPv6",
-    "fragments": "IP fragments",
-    "refused": "with damaged or cut headers",
-}
+PASSED = {"not-ipv4": "neither IPv4 nor IPv6", "fragments": "IP fragments", "refused": "with damaged or cut headers"}
 
 
 def not_audited(answer: Answer, origin: Origin) -> list[NotAudited]:
