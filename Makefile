@@ -11,14 +11,15 @@ RUN ?= examples/negative_window.pcap
 RUST_PROGRAMS = h2audit-any h2audit-comment h2audit-import h2audit-merge
 RUST_BUILT = companions/target/release
 CARGO ?= cargo
-# Programs in Python, and the packages that they share.
+# Programs in Python, the folders of their package, and what runs tests: Debian's, whose libraries they need.
+PYTHON ?= /usr/bin/python3
 PYTHON_PROGRAMS = h2audit-fleet h2audit-page h2audit-plot h2audit-why
-PYTHON_PACKAGES = fleet page page/assets plot report why
+PYTHON_PACKAGES = h2audit $(addprefix h2audit/,fleet page page/assets plot report why)
 BESIDE = $(RUST_PROGRAMS) $(PYTHON_PROGRAMS) h2audit-split
 FIRST = examples/negative_window_tomcat.pcap examples/stream_overrun_go.pcap
 # The parts of "make check", the longest first.
 CHECKS = tests split sources layout believed storeys
-RUST_SOURCES := tools/report/kinds.txt $(shell find companions -name target -prune -o -type f -print)
+RUST_SOURCES := h2audit/report/kinds.txt $(shell find companions -name target -prune -o -type f -print)
 SOURCES := crates.txt $(shell find crates -name out -prune -o -name '*.rt' -print -o -name '*.antt' -print)
 
 .PHONY: run deps build companions install deb check $(CHECKS:%=check-%) test test-tools bench believed pictures
@@ -83,7 +84,7 @@ install: $(PROGRAM) $(SPLIT) $(RUST_BUILT)/built
 	install -D -m 755 $(SPLIT) $(DESTDIR)$(PREFIX)/bin/h2audit-split
 	install -D -m 755 -t $(DESTDIR)$(PREFIX)/bin $(RUST_PROGRAMS:%=$(RUST_BUILT)/%) $(PYTHON_PROGRAMS:%=tools/%)
 	$(foreach folder,$(PYTHON_PACKAGES),install -D -m 644 -t $(share)/h2audit/$(folder) \
-		$(filter-out %/__pycache__,$(wildcard tools/$(folder)/*.*)) &&) true
+		$(filter-out %/__pycache__,$(wildcard $(folder)/*.*)) &&) true
 	install -D -m 644 -t $(share)/man/man1 tools/man/h2audit.1 $(BESIDE:%=tools/man/%.1)
 	install -D -m 644 tools/completions/h2audit.bash $(share)/bash-completion/completions/h2audit
 	$(foreach name,$(BESIDE),ln -sf h2audit $(share)/bash-completion/completions/$(name) &&) true
@@ -118,16 +119,16 @@ check-split:
 	@cd crates/h2audit_split && rt try -- $$(cat args) | diff stdout -
 
 check-sources check-believed check-storeys: check-%:
-	tools/tests/$*_test.py
+	$(PYTHON) -m tools.tests.$*_test
 
 # The gate: proves the crates, tries the must-fail edits, runs the tests and the programs; and asks the programs, as
 # both compilers built them, for whole reports and for parts. The first "rt ci" on a machine proves and tries all, a
 # later one what changed and what stands above it; "rt ci --anew" does all again.
 test: companions
 	RT_JOBS=$(RT_JOBS) rt ci
-	tests/command_test.py $(PROGRAM) $(PROGRAM).by-rattle
-	tests/reports_test.py $(PROGRAM) $(PROGRAM).by-rattle
-	tests/split_test.py $(PROGRAM) $(SPLIT) $(SPLIT).by-rattle
+	$(PYTHON) -m tests.command_test $(PROGRAM) $(PROGRAM).by-rattle
+	$(PYTHON) -m tests.reports_test $(PROGRAM) $(PROGRAM).by-rattle
+	$(PYTHON) -m tests.split_test $(PROGRAM) $(SPLIT) $(SPLIT).by-rattle
 
 # Tests what stands around the core: the programs in Rust and in Python, man pages, completions, recipes and package. It
 # proves nothing.
@@ -136,21 +137,21 @@ test-tools:
 
 # Draws the pictures of docs/ anew.
 pictures:
-	tools/tests/plot_test.py --write
-	tools/tests/page_browser_test.py --write
+	$(PYTHON) -m tools.tests.plot_test --write
+	$(PYTHON) -m tools.tests.page_browser_test --write
 	tools/tests/wireshark_picture.sh docs/pictures/wireshark_comments.png
 
-# Measures time and memory on generated captures, beside cat. BENCH has more words for bench/measure.py, as
+# Measures time and memory on generated captures, beside cat. BENCH has more words for bench.measure, as
 # make bench BENCH='--peer PROGRAM --shapes bulk,chatty 40'. Then the programs beside it, each beside what a user would
 # take instead: imports beside the program in Python that they were, tshark and openssl; any, comment and merge;
 # h2audit-fleet beside xargs, over sets of captures that BENCH_FLEET names, as BENCH_FLEET='1000 0.05 20 20'.
 bench: $(PROGRAM) companions
-	python3 bench/measure.py $(PROGRAM) $(BENCH)
-	python3 bench/measure_import.py $(BENCH_IMPORT)
-	python3 bench/measure_companions.py $(PROGRAM) $(BENCH_COMPANIONS)
-	python3 bench/measure_fleet.py $(PROGRAM) $(BENCH_FLEET)
+	$(PYTHON) -m bench.measure $(PROGRAM) $(BENCH)
+	$(PYTHON) -m bench.measure_import $(BENCH_IMPORT)
+	$(PYTHON) -m bench.measure_companions $(PROGRAM) $(BENCH_COMPANIONS)
+	$(PYTHON) -m bench.measure_fleet $(PROGRAM) $(BENCH_FLEET)
 
 # Lists the definitions that a reader has to believe, with their lines, and marks those that the report of a capture
 # used.
 believed:
-	@tools/by-definition --modules $(RUN) | python3 tools/believed.py --used
+	@tools/by-definition --modules $(RUN) | $(PYTHON) -m tools.believed --used

@@ -1,4 +1,3 @@
-#!/usr/bin/python3
 """Measures h2audit-page and h2audit-comment: around.py PROGRAM
 
 For captures of 40 and of 160 MB, prints the time and the peak of memory of h2audit-comment, and of editcap with one
@@ -12,14 +11,11 @@ import subprocess
 import sys
 import tempfile
 
-from generate import SHAPES, Capture
-from measure import once
+from bench.generate import SHAPES, Capture
+from bench.measure import once
+from tools.tests.browser import Browser
 
 TOP = pathlib.Path(__file__).resolve().parents[1]
-sys.path.insert(0, str(TOP / "tools" / "tests"))
-sys.dont_write_bytecode = True
-
-from browser import Browser
 
 PAGES = (("chatty", 10), ("small", 42), ("streams", 85), ("connections", 230), ("calls", 260))
 CAPTURES = (("bulk", 40), ("bulk", 160), ("small", 40), ("small", 160))
@@ -27,7 +23,7 @@ OPENINGS = 5
 # Reports of 400 windows with 48,000 stalls, and of 60,000 connections with 120,000 windows. A process of its own writes
 # them: what it takes would count for the next.
 WRITTEN = {"stalls": "large(400, 2400, 20)", "60,000": "crowded(60000, 7, 50)"}
-WRITE = "import sys; from page_test import crowded, large; sys.stdout.write({})"
+WRITE = "import sys; from tools.tests.page_test import crowded, large; sys.stdout.write({})"
 
 
 def capture_of(folder: pathlib.Path, shape: str, megabytes: int) -> pathlib.Path:
@@ -84,7 +80,7 @@ def main() -> None:
         for shape, report in WRITTEN.items():
             with open(folder / "made.report", "wb") as file:
                 words = [sys.executable, "-c", WRITE.format(report)]
-                subprocess.run(words, cwd=TOP / "tools" / "tests", stdout=file, check=True)
+                subprocess.run(words, cwd=TOP, stdout=file, check=True)
             measure_page(browser, shape, folder / "made.report")
         browser.close()
 

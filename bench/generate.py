@@ -1,4 +1,3 @@
-#!/usr/bin/env python3
 """Writes a capture for measuring: generate.py SHAPE MEGABYTES FILE.
 
 Shapes:
@@ -29,7 +28,6 @@ The same words always give the same bytes.
 """
 import struct
 import sys
-from collections.abc import Callable
 from typing import BinaryIO
 
 Ends = tuple[int, int]  # of the client and of the server

@@ -1,4 +1,3 @@
-#!/usr/bin/python3
 """Generates a capture of TLS with its key log: generate_tls.py SHAPE MEGABYTES OUT.pcap OUT.keys
 
 Both ends are OpenSSL's, TLS 1.3 with AES-128-GCM or what OpenSSL takes first.
@@ -9,8 +8,7 @@ import ssl
 import struct
 import sys
 
-sys.path.insert(0, str(pathlib.Path(__file__).resolve().parents[1] / "tools" / "tests"))
-import tls_talk  # noqa: E402
+from tools.tests import tls_talk
 
 PREFACE = b"PRI * HTTP/2.0\r\n\r\nSM\r\n\r\n"
 

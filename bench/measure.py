@@ -1,4 +1,3 @@
-#!/usr/bin/env python3
 """Measures a program: measure.py PROGRAM [--peer PEER] [--beside OTHER] [--generator GENERATOR] [--shapes NAME,..]
 [--runs N] [MEGABYTES ..]
 
@@ -24,7 +23,7 @@ import tempfile
 import time
 from typing import NamedTuple, NoReturn
 
-from generate import HOSTILE, QUADRATIC, SHAPES, USUAL
+from bench.generate import HOSTILE, QUADRATIC, SHAPES, USUAL
 
 HERE = os.path.dirname(os.path.abspath(__file__))
 SIZES = [(USUAL, (10, 40, 160)), (HOSTILE, (12.5, 25, 50, 100)), (QUADRATIC, (0.125, 0.25, 0.5, 1))]

@@ -1,4 +1,3 @@
-#!/usr/bin/python3
 """Measures h2audit-any, h2audit-comment and h2audit-merge: measure_companions.py H2AUDIT [--old FOLDER] [--runs N] [MB]
 
 For captures of MB megabytes (160 without it) of some shapes, the least times and the greatest peak of N runs (3 without
@@ -9,17 +8,13 @@ tools/ have the programs of an earlier commit: they take their turns too.
 import argparse
 import pathlib
 import subprocess
-import sys
 import tempfile
 
-from generate import SHAPES, Capture
-from measure import Run, best
+from bench.generate import SHAPES, Capture
+from bench.measure import Run, best
+from tests.parts import parts_of
 
 TOP = pathlib.Path(__file__).resolve().parents[1]
-sys.path.insert(0, str(TOP / "tests"))
-sys.dont_write_bytecode = True
-
-from parts import parts_of
 
 BUILT = TOP / "companions" / "target" / "release"
 SHOWN = ("bulk", "chatty", "small")

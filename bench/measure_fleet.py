@@ -1,4 +1,3 @@
-#!/usr/bin/env python3
 """Measures h2audit-fleet beside the shell: measure_fleet.py H2AUDIT [CAPTURES MEGABYTES]..
 
 For each set, of so many captures of so many megabytes each, in turn all usual shapes of generate.py: the whole of a run
@@ -15,7 +14,7 @@ import sys
 import tempfile
 import time
 
-from generate import SHAPES, USUAL, Capture
+from bench.generate import SHAPES, USUAL, Capture
 
 Seconds = tuple[float, float]  # of a clock on the wall, of the processors
 FLEET = pathlib.Path(__file__).resolve().parents[1] / "tools" / "h2audit-fleet"

@@ -1,7 +1,6 @@
-#!/usr/bin/python3
 """Measures h2audit-import beside the program in Python that it was, tshark and OpenSSL:
 
-    bench/measure_import.py [--runs N] [--before COMMIT] [SHAPE=MEGABYTES ..]
+    python3 -m bench.measure_import [--runs N] [--before COMMIT] [SHAPE=MEGABYTES ..]
 
 For each shape the least processor and wall seconds of N runs each in turn (3 without --runs), and the greatest peak of
 memory: of h2audit-import as `make companions` built it; of the program in Python, from a folder of its own that is made
@@ -20,10 +19,9 @@ import sys
 import tempfile
 import time
 
-import generate_ipv6
+from bench import generate_ipv6
 
-HERE = pathlib.Path(__file__).resolve().parent
-TOP = HERE.parent
+TOP = pathlib.Path(__file__).resolve().parents[1]
 IMPORT = TOP / "companions" / "target" / "release" / "h2audit-import"
 # The last commit whose h2audit-import is in Python.
 IN_PYTHON = "0d07e1842788a62f01245224be1694f74f0d62f9"
@@ -83,7 +81,9 @@ def generate(shape: str, megabytes: float, folder: pathlib.Path) -> tuple[pathli
         generate_ipv6.write(capture, int(megabytes * 1000000))
     else:
         capture = folder / "a.pcap"
-        subprocess.run([sys.executable, HERE / "generate_tls.py", shape, str(megabytes), capture, keys], check=True)
+        subprocess.run(
+            [sys.executable, "-m", "bench.generate_tls", shape, str(megabytes), capture, keys], cwd=TOP, check=True
+        )
     return capture, keys
 
 

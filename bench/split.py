@@ -1,4 +1,3 @@
-#!/usr/bin/env python3
 """Measures splitting and merging: split.py H2AUDIT SPLIT SHAPE MEGABYTES [--times K] [--parts N] [--frames]
 
 Generates a capture of this shape and size, names it K times as the files of one capture, splits that, audits the
@@ -14,7 +13,7 @@ import sys
 import tempfile
 import time
 
-from generate import SHAPES
+from bench.generate import SHAPES
 
 HERE = pathlib.Path(__file__).resolve().parent
 MERGE = HERE.parent / "companions" / "target" / "release" / "h2audit-merge"

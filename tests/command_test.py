@@ -1,4 +1,3 @@
-#!/usr/bin/env python3
 """Calls the program with words, and compares its exit status, standard output and standard error:
 command_test.py PROGRAM..
 """

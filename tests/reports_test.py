@@ -1,4 +1,3 @@
-#!/usr/bin/env python3
 """Audits whole captures by the program, in each mix of workers, groups and block lengths: reports_test.py PROGRAM..
 
 A file of reports/ has rows. A row begins with a line `== NAME`. Its script follows (captures.py says how it is
@@ -20,7 +19,7 @@ import sys
 from collections.abc import Callable, Iterator
 from concurrent.futures import ThreadPoolExecutor
 
-from captures import Capture, capture_of, frame_of
+from tests.captures import capture_of, frame_of
 
 TOP = pathlib.Path(__file__).resolve().parents[1]
 EXAMPLES = TOP / "examples"

@@ -1,4 +1,3 @@
-#!/usr/bin/env python3
 """Splits captures, audits the parts and merges their reports: split_test.py H2AUDIT SPLIT..
 
 Each part has to be what parts.py makes of the capture, byte for byte, and the merged report has to be that of h2audit
@@ -16,11 +15,10 @@ import sys
 import tempfile
 from collections.abc import Iterator
 
-from parts import parts_of, records_of
+from tests.parts import parts_of, records_of
+from tools.tests.companions import companion
 
 TOP = pathlib.Path(__file__).resolve().parents[1]
-sys.path.append(str(TOP / "tools" / "tests"))
-from companions import companion
 
 MERGE = companion("h2audit-merge")
 HELP = (pathlib.Path(__file__).parent / "split_help.txt").read_text()

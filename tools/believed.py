@@ -1,11 +1,10 @@
-#!/usr/bin/env python3
 """Lists the definitions that the contracts of the programs' calls rest on, in reading order: those of h2audit's
 calls, and then what those of the splitter rest on beside them.
 
-    python3 tools/believed.py            prints each module that is reached, and in it each definition with its lines
-    python3 tools/believed.py --write    puts list and sums into README.md and docs/PROOFS.md
-    python3 tools/believed.py --check    fails where these two say something else
-    python3 tools/believed.py --used     marks the modules that standard input names in lines (by-definition --modules)
+    python3 -m tools.believed            prints each module that is reached, and in it each definition with its lines
+    python3 -m tools.believed --write    puts list and sums into README.md and docs/PROOFS.md
+    python3 -m tools.believed --check    fails where these two say something else
+    python3 -m tools.believed --used     marks the modules that standard input names in lines (by-definition --modules)
 
 The exit status is 1 where a name cannot be followed, or a document says something else; 2 for wrong words, 4 where
 reading or writing failed, and 5 for want of memory.
@@ -25,7 +24,7 @@ import re
 import sys
 from dataclasses import dataclass, field
 
-from report.command import IO_FAILED, Words, failed, io_reason, run
+from h2audit.report.command import IO_FAILED, Words, failed, io_reason, run
 
 CALLS = {
     "h2audit/src/auditing.rt": ["audit"],

@@ -6,8 +6,8 @@ set -euo pipefail
 needed=(python3-matplotlib mandoc lintian zsh fish gawk mawk original-awk tshark binutils gcc libc6-dev)
 # Of costs.
 needed+=(valgrind)
-# Of types.
-needed+=(mypy)
+# Of the form and the types of Python.
+needed+=(black flake8 isort mypy)
 # Of the page and its tests.
 needed+=(libjs-dygraphs chromium chromium-driver python3-selenium poppler-utils)
 # Of imports and their tests.

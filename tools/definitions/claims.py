@@ -9,8 +9,8 @@ from collections.abc import Callable, Iterable
 from functools import partial
 from typing import NamedTuple
 
-from .ranges import Range, answers
-from .values import Data, Function, Hole, Joined, Made, NotYet, Stuck, Value
+from tools.definitions.ranges import Range, answers
+from tools.definitions.values import Data, Function, Hole, Joined, Made, NotYet, Stuck, Value
 
 Values = list[Value]  # the values at hand, by their places
 Claim = Callable[[Values], Value]

@@ -8,12 +8,12 @@ import pathlib
 from operator import itemgetter
 from typing import Any, Callable, NoReturn, Sequence
 
-from .claims import Claim, Claims, Factor, Values
-from .ranges import Kept, Key, Remembering
-from .reading import Function as Clauses
-from .reading import Module, Record, Term, Unreadable, read
-from .values import Data, Function, Made, Stuck, Value, apply, filled, known
-from .words import LOOPS, word
+from tools.definitions.claims import Claim, Claims, Factor, Values
+from tools.definitions.ranges import Kept, Key, Remembering
+from tools.definitions.reading import Function as Clauses
+from tools.definitions.reading import Module, Record, Term, Unreadable, read
+from tools.definitions.values import Data, Function, Made, Stuck, Value, apply, filled, known
+from tools.definitions.words import LOOPS, word
 
 Test = Callable[[Value, Values], bool]  # puts the parts of a value that a pattern names among the values at hand
 CONSTANTS: dict[str, Value] = {"true": True, "false": False, "zero": 0, "[]": ()}

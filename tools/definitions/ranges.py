@@ -9,7 +9,7 @@ import itertools
 from collections.abc import Callable, Iterator
 from typing import NoReturn
 
-from .values import Value
+from tools.definitions.values import Value
 
 EVER = float("inf")
 Key = tuple[Value, ...]  # a function, and what stands for each of its arguments

@@ -6,9 +6,9 @@ import threading
 from concurrent.futures import ThreadPoolExecutor
 from typing import Callable, NamedTuple, TypeVar
 
-from .evaluating import Definitions
-from .search import Search
-from .values import Hole, Made, NotYet, Stuck, Value, apply
+from tools.definitions.evaluating import Definitions
+from tools.definitions.search import Search
+from tools.definitions.values import Hole, Made, NotYet, Value, apply
 
 TOP = pathlib.Path(__file__).resolve().parents[2]
 CRATES = TOP / "crates"

@@ -8,7 +8,7 @@ definitions gives the value.
 from collections.abc import Callable, Iterable, Sequence
 from typing import Any, Literal
 
-from .values import Hole, Made, Value, known
+from tools.definitions.values import Hole, Made, Value, known
 
 Values = dict[str, Value]  # what the claim speaks of, by its names
 Fields = dict[str, Any]  # of a record of the definitions

@@ -7,9 +7,9 @@ import inspect
 from functools import partial
 from typing import Callable, Iterable
 
-from .claims import least
-from .ranges import Range, element
-from .values import Data, Function, Made, Stuck, Value, apply, joined, known
+from tools.definitions.claims import least
+from tools.definitions.ranges import element
+from tools.definitions.values import Data, Function, Made, Stuck, Value, apply, joined, known
 
 NONE, LESS, EQUAL, GREATER = (Made(name) for name in ("None", "Less", "Equal", "Greater"))
 TYPES = "ℕ ℤ Bool List Option".split()

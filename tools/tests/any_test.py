@@ -1,8 +1,7 @@
-#!/usr/bin/python3
 """Tests of what h2audit-any says of an original: why plaintext ends, fragments, times that go back, what was passed
 over; and of how it ends where its own files fail.
 
-    tools/tests/any_test.py [PROGRAM] [CLASS..]
+    python3 -m tools.tests.any_test [PROGRAM] [CLASS..]
 
 PROGRAM is h2audit; without it the tests of reports are skipped.
 """
@@ -16,10 +15,8 @@ import sys
 import tempfile
 import unittest
 
-sys.dont_write_bytecode = True
-
-import import_tools as tools
-from signals import SIGNALS, until
+from tools.tests import import_tools as tools
+from tools.tests.signals import SIGNALS, until
 
 PROGRAM = os.path.abspath(sys.argv.pop(1)) if len(sys.argv) > 1 and "/" in sys.argv[1] else None
 EXAMPLE = tools.EXAMPLES / "use_after_reset.pcap"

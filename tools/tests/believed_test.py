@@ -1,8 +1,6 @@
-#!/usr/bin/python3
 """Tests of tools/believed.py: what it reaches and refuses in small definitions, and that documents agree with it."""
 
 import ast
-import importlib.util
 import pathlib
 import re
 import subprocess
@@ -10,12 +8,10 @@ import sys
 import tempfile
 import unittest
 
-TOP = pathlib.Path(__file__).resolve().parents[2]
-sys.path.insert(0, str(TOP / "tests"))
-import reports_test  # noqa: E402
+from tests import reports_test
+from tools import believed
 
-sys.path.insert(0, str(TOP / "tools"))
-import believed  # noqa: E402
+TOP = pathlib.Path(__file__).resolve().parents[2]
 
 CODE = """\
 ghost use Rattle.std.specs.Prelude.{◌≡◌};
@@ -205,7 +201,7 @@ class Documents(unittest.TestCase):
 
     def test_written(self) -> None:
         """README.md and docs/PROOFS.md say what is reached today."""
-        run = subprocess.run([sys.executable, TOP / "tools" / "believed.py", "--check"], capture_output=True, text=True)
+        run = subprocess.run([sys.executable, "-m", "tools.believed", "--check"], capture_output=True, text=True)
         self.assertEqual((run.returncode, run.stderr), (0, ""))
 
 

@@ -1,4 +1,3 @@
-#!/usr/bin/python3
 """Tests bench/measure.py and measure_fleet.py with programs that stand in for those that they measure:
 tools/tests/bench_test.py
 """
@@ -10,7 +9,7 @@ import sys
 import tempfile
 import unittest
 
-MEASURE = pathlib.Path(__file__).resolve().parents[2] / "bench" / "measure.py"
+TOP = pathlib.Path(__file__).resolve().parents[2]
 COUNTS = "#!/bin/sh\nwc -c\n"
 OTHER = "#!/bin/sh\ncksum\n"
 GENERATES = '#!/bin/sh\n[ "$1" = flat ] && head -c "${2}000" /dev/zero\n'
@@ -33,7 +32,7 @@ class Measure(unittest.TestCase):
 
     def run_with(self, *words: str) -> subprocess.CompletedProcess[str]:
         names = [str(self.folder / word) if (self.folder / word).is_file() else word for word in words]
-        return subprocess.run([sys.executable, str(MEASURE), *names], capture_output=True, text=True)
+        return subprocess.run([sys.executable, "-m", "bench.measure", *names], cwd=TOP, capture_output=True, text=True)
 
     def refused(self, why: str, *words: str) -> None:
         run = self.run_with(*words)
@@ -105,8 +104,12 @@ class Fleet(unittest.TestCase):
             program = pathlib.Path(folder, "h2audit")
             program.write_text(AUDITS)
             program.chmod(0o755)
-            measure = MEASURE.with_name("measure_fleet.py")
-            run = subprocess.run([sys.executable, measure, program, "5", "0.01"], capture_output=True, text=True)
+            run = subprocess.run(
+                [sys.executable, "-m", "bench.measure_fleet", program, "5", "0.01"],
+                cwd=TOP,
+                capture_output=True,
+                text=True,
+            )
         self.assertEqual((0, ""), (run.returncode, run.stderr))
         _, _, _, *lines, last = run.stdout.splitlines()
         names = ["xargs -P 4", *(f"h2audit-fleet --jobs {jobs}" for jobs in (1, 2, 4))]

@@ -5,11 +5,11 @@ import json
 import os
 import pathlib
 import time
+from typing import Any
 
 from selenium import webdriver
 from selenium.webdriver.chrome.options import Options
 from selenium.webdriver.chrome.service import Service
-from typing import Any
 
 WORDS = [
     "--headless=new",

@@ -1,5 +1,4 @@
-#!/usr/bin/python3
-"""What a program does with answers of its system that vary: tools/tests/calls_test.py PROGRAM
+"""What a program does with answers of its system that vary: python3 -m tools.tests.calls_test PROGRAM
 
 Random bytes, with which tables are keyed so that nobody can choose colliding pairs; and reads of any length. No
 contract says that the bytes that were drawn are those that a table takes, or that a read of each length is taken.
@@ -11,8 +10,8 @@ import sys
 import tempfile
 import unittest
 
-import cost_captures
-from counting import Counter
+from tools.tests import cost_captures
+from tools.tests.counting import Counter
 
 # How much a read gives at most: beside powers of two lengths that are none. The greatest read asks for 1,048,576 bytes.
 LENGTHS = (

@@ -1,4 +1,3 @@
-#!/usr/bin/python3
 """Tests of what all programs in Python share: help and version, statuses, and names on a terminal."""
 
 import os
@@ -8,12 +7,10 @@ import sys
 import tempfile
 import unittest
 
+from h2audit.report import VERSION
+
 TOP = pathlib.Path(__file__).resolve().parents[2]
 TOOLS = TOP / "tools"
-sys.path.insert(0, str(TOOLS))
-sys.dont_write_bytecode = True
-
-from report import VERSION  # noqa: E402
 
 PROGRAMS = ("h2audit-fleet", "h2audit-page", "h2audit-plot", "h2audit-why", "by-definition", "believed.py")
 # Escapes of a terminal, a line feed, a bell, a right-to-left override, and what is no UTF-8.
@@ -21,6 +18,13 @@ HOSTILE = b"no\x1b[31m\nre\x07d\xe2\x80\xae\xff.txt"
 ESCAPED = "no\\x1b[31m\\nre\\x07d\\u202e\\udcff.txt"
 # A word of a command line.
 Word = str | pathlib.Path | bytes
+
+
+def words_of(name: str) -> tuple[Word, ...]:
+    """The words by which Python runs a program."""
+    if name.endswith(".py"):
+        return "-m", f"tools.{name.removesuffix('.py')}"
+    return (TOOLS / name,)
 
 
 def ran(script: str, *words: Word, **more: str) -> subprocess.CompletedProcess[bytes]:
@@ -33,13 +37,13 @@ class HelpAndVersion(unittest.TestCase):
     def test_version(self) -> None:
         for name in PROGRAMS:
             for word in ("-V", "--version"):
-                run = ran('python3 "$@"' if name.endswith(".py") else '"$@"', TOOLS / name, word)
+                run = ran('python3 "$@"' if name.endswith(".py") else '"$@"', *words_of(name), word)
                 self.assertEqual((run.returncode, run.stdout, run.stderr), (0, f"{name} {VERSION}\n".encode(), b""))
 
     def test_statuses(self) -> None:
         """Each help says what the statuses mean."""
         for name in PROGRAMS:
-            run = ran('python3 "$@"', TOOLS / name, "--help")
+            run = ran('python3 "$@"', *words_of(name), "--help")
             self.assertEqual((run.returncode, run.stderr), (0, b""))
             text = " ".join(run.stdout.decode().lower().split())
             self.assertIn("exit status", text, name)
@@ -62,7 +66,7 @@ class HelpAndVersion(unittest.TestCase):
                     ('python3 "$@" >&-', "Bad file descriptor"),
                 ):
                     run = subprocess.run(
-                        ["bash", "-c", script, "bash", TOOLS / name, word],
+                        ["bash", "-c", script, "bash", *words_of(name), word],
                         stderr=subprocess.PIPE,
                         pass_fds=[closed],
                         timeout=100,
@@ -76,10 +80,10 @@ class Statuses(unittest.TestCase):
     def test_memory(self) -> None:
         """Want of memory is status 5, and nothing else is."""
         script = (
-            "import sys; sys.path.insert(0, sys.argv.pop(1)); from report.command import run\n"
+            "import sys; from h2audit.report.command import run\n"
             "def main(words): raise MemoryError\nsys.argv[0] = '/a/h2audit-page'; run(main)"
         )
-        run = subprocess.run([sys.executable, "-c", script, str(TOOLS)], capture_output=True)
+        run = subprocess.run([sys.executable, "-c", script], cwd=TOP, capture_output=True)
         self.assertEqual((run.returncode, run.stderr), (5, b"h2audit-page: out of memory\n"))
 
     def test_missing_library(self) -> None:
@@ -133,7 +137,7 @@ class Names(unittest.TestCase):
                 (4, (TOOLS / "h2audit-fleet", "--db", f"{folder}/a", "--list", missing)),
                 (2, (TOOLS / "by-definition", missing)),
                 (2, (TOOLS / "by-definition", "--script", missing)),
-                (2, (TOOLS / "believed.py", missing)),
+                (2, (*words_of("believed.py"), missing)),
             )
             for status, words in runs:
                 run = ran('python3 "$@"', *words)

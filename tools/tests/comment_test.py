@@ -1,8 +1,7 @@
-#!/usr/bin/python3
 """Tests of h2audit-comment: what tshark says of captures before and after, and by which name bad input is refused.
 
-    tools/tests/comment_test.py [CLASS..]             runs the tests
-    tools/tests/comment_test.py PROGRAM [CLASS..]     with h2audit, which audits what an import made of TLS
+    python3 -m tools.tests.comment_test [CLASS..]             runs the tests
+    python3 -m tools.tests.comment_test PROGRAM [CLASS..]     with h2audit, which audits what an import made of TLS
 """
 
 import gzip
@@ -16,12 +15,10 @@ import sys
 import tempfile
 import unittest
 
-sys.dont_write_bytecode = True
-
 import zstandard
 
-from companions import companion
-from pcapng_blocks import (
+from tools.tests.companions import companion
+from tools.tests.pcapng_blocks import (
     block,
     classic,
     interface,
@@ -33,7 +30,7 @@ from pcapng_blocks import (
     section,
     simple_packet,
 )
-from signals import SIGNALS, hidden_in, signalled
+from tools.tests.signals import SIGNALS, hidden_in, signalled
 
 TOP = pathlib.Path(__file__).resolve().parents[2]
 PROGRAM = companion("h2audit-comment")

@@ -8,12 +8,10 @@ import sys
 from collections.abc import Callable, Iterable
 from typing import NamedTuple
 
+from tests.captures import ACK, BEGINNINGS, PREFACE, SYN, SYN_ACK, Capture, frame_of
+
 TOP = pathlib.Path(__file__).resolve().parents[2]
 GENERATE = TOP / "bench" / "generate.py"
-sys.path.insert(0, str(TOP / "tests"))
-sys.dont_write_bytecode = True
-
-from captures import ACK, BEGINNINGS, PREFACE, SYN, SYN_ACK, Capture, frame_of  # noqa: E402
 
 # An acknowledgement that answers nothing: it is told and ends nothing, so frames go through the rounds.
 UNMATCHED = frame_of(["ACK"])

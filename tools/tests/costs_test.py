@@ -1,5 +1,4 @@
-#!/usr/bin/python3
-"""Counts what audits cost, beside the figures of costs.tsv: tools/tests/costs_test.py PROGRAM [--write]
+"""Counts what audits cost, beside the figures of costs.tsv: python3 -m tools.tests.costs_test PROGRAM [--write]
 
 Of each capture of cost_captures.py four figures: the instructions of a run with one worker, the most memory that is
 allocated at once with one worker and with several, in bytes, and the threads that several start. Several are four, but
@@ -22,8 +21,8 @@ import pathlib
 import sys
 import tempfile
 
-import cost_captures
-from counting import KEY, Counter, Counts
+from tools.tests import cost_captures
+from tools.tests.counting import KEY, Counter, Counts
 
 STORED = pathlib.Path(__file__).with_name("costs.tsv")
 FIGURES = ("instructions", "memory of one worker", "memory of several", "threads of several")

@@ -1,4 +1,3 @@
-#!/usr/bin/python3
 """Reads small definitions by tools/definitions, and compares what they say with what is written here by hand: of claims
 whether they are shown (True), refuted (False) or neither (None), of text that cannot be read the file and the line."""
 
@@ -8,14 +7,13 @@ import sys
 import tempfile
 from random import Random
 
+from tools.definitions.evaluating import Definitions
+from tools.definitions.reading import Unreadable, read
+from tools.definitions.running import deeply
+from tools.definitions.values import NotYet, Stuck
+
 TOP = pathlib.Path(__file__).resolve().parents[2]
 DAMAGED = 300
-sys.path.insert(0, str(TOP / "tools"))
-
-from definitions.evaluating import Definitions  # noqa: E402
-from definitions.reading import Unreadable, read  # noqa: E402
-from definitions.running import deeply  # noqa: E402
-from definitions.values import NotYet, Stuck  # noqa: E402
 
 PRELUDE = """use Rattle.std.specs.Prelude.{ℕ, zero, suc, ◌+◌, ◌-◌, ◌*◌, ◌/◌, ◌%◌, ◌^◌, ◌<◌, ◌≤◌, ◌==◌, nat_lt}
 use Rattle.std.specs.Prelude.{ℤ, pos, ◌+ℤ◌}

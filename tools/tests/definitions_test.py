@@ -1,9 +1,10 @@
-#!/usr/bin/python3
 """Computes reports from the definitions (tools/by-definition), and compares them with known ones and with the
 program's.
 
-    tools/tests/definitions_test.py                            known reports
-    tools/tests/definitions_test.py [--seed N] PROGRAM [KIND]  the program's, of captures or connections, or of both
+    python3 -m tools.tests.definitions_test   known reports
+    python3 -m tools.tests.definitions_test [--seed N] PROGRAM [KIND]
+
+The latter compares the program's reports, of captures or connections, or of both.
 
 The known ones are those of examples/ up to 4,000 bytes and of each row of tests/reports. Then ten definitions are
 changed, one in each layer, and the search for witnesses is misled: each time a report has to be another one, or not
@@ -16,7 +17,6 @@ import os
 import pathlib
 import re
 import shutil
-import subprocess
 import sys
 import tempfile
 import time
@@ -26,15 +26,14 @@ from functools import partial
 from random import Random
 from typing import Any, NamedTuple, TypeVar
 
-TOP = pathlib.Path(__file__).resolve().parents[2]
-sys.path[:0] = [str(TOP / "tools"), str(TOP / "tests")]
+from tests import reports_test
+from tests.captures import capture_of
+from tools.definitions import search
+from tools.definitions.running import CRATES, NotShown, Reader, deeply
+from tools.definitions.values import Made, Stuck, Value
+from tools.tests import random_captures
 
-import random_captures  # noqa: E402
-import reports_test  # noqa: E402
-from captures import capture_of  # noqa: E402
-from definitions import search  # noqa: E402
-from definitions.running import CRATES, NotShown, Reader, deeply  # noqa: E402
-from definitions.values import Made, Stuck, Value  # noqa: E402
+TOP = pathlib.Path(__file__).resolve().parents[2]
 
 LARGE = 4000  # bytes of an example
 KINDS = 27

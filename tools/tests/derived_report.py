@@ -10,7 +10,7 @@ import subprocess
 from collections.abc import Iterator
 from typing import NamedTuple
 
-import import_tools as tools
+from tools.tests import import_tools as tools
 
 CLIENT, SERVER = 0, 1
 SIDES = ("client", "server")

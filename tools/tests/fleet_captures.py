@@ -17,15 +17,12 @@ from collections.abc import Callable
 from dataclasses import dataclass, field
 from typing import Any
 
-from companions import companion
+from bench import generate
+from tests import captures as scripts
+from tests import reports_test
+from tools.tests.companions import companion
 
 TOP = pathlib.Path(__file__).resolve().parents[2]
-sys.path[:0] = [str(TOP / "tests"), str(TOP / "bench")]
-
-import captures as scripts  # noqa: E402
-import generate  # noqa: E402
-import reports_test  # noqa: E402
-from companions import companion  # noqa: E402
 
 FLEET = TOP / "tools" / "h2audit-fleet"
 # The first word of a test may name h2audit.

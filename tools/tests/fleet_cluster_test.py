@@ -1,4 +1,3 @@
-#!/usr/bin/python3
 """Tests of h2audit-fleet on a cluster by its scheduler's address: with TLS, and on two machines.
 
 The certificates are made by openssl here. The machines are network namespaces that the test makes and takes away, which
@@ -13,7 +12,7 @@ import signal
 import subprocess
 import unittest
 
-from fleet_captures import PATIENCE, Machine, by_hand, count, summary, until
+from tools.tests.fleet_captures import PATIENCE, Machine, by_hand, count, summary, until
 
 # What is started ends with this program, however that ends.
 TIED = ("setpriv", "--pdeathsig", "KILL", "--")

@@ -1,4 +1,3 @@
-#!/usr/bin/python3
 """Tests of the way without daemons: fleet_collect_test.py [PROGRAM]
 
 The commands are those of docs/FLEET.md, run by bash and GNU parallel. With PROGRAM the captures go through h2audit-any;
@@ -8,15 +7,11 @@ without, a program that stands in for it answers what was written by hand.
 import os
 import re
 import subprocess
-import sys
 import unittest
 
-from fleet_captures import PATIENCE, PROGRAM, TOP, Machine, beside, by_hand
-from fleet_test import rows_by_hand
-
-sys.path.insert(0, str(TOP / "tools"))
-
-from fleet import names  # noqa: E402
+from h2audit.fleet import names
+from tools.tests.fleet_captures import PATIENCE, PROGRAM, TOP, Machine, beside, by_hand
+from tools.tests.fleet_test import rows_by_hand
 
 BLOCK = re.compile(r"^```\n(.*?)^```$", re.M | re.S)
 EXAMPLES = (

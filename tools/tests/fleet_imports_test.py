@@ -1,4 +1,3 @@
-#!/usr/bin/python3
 """Tests of large captures that have to be imported first, in h2audit-fleet: fleet_imports_test.py PROGRAM
 
 What is wanted of each is the report of h2audit-any alone, and every row of a run that splits nothing, where one worker
@@ -14,19 +13,14 @@ import signal
 import sqlite3
 import ssl
 import subprocess
-import sys
 import unittest
 
-import fleet_parts_test as parts
-import pcapng_blocks
-import tls_talk
-from fleet_captures import PATIENCE, PROGRAM, TOP, beside, until
-from fleet_cluster_test import Cluster
-
-sys.path[:0] = [str(TOP / "tools"), str(TOP / "bench")]
-
-import generate  # noqa: E402
-from fleet import large, tasks  # noqa: E402
+from bench import generate
+from h2audit.fleet import large, tasks
+from tools.tests import fleet_parts_test as parts
+from tools.tests import pcapng_blocks, tls_talk
+from tools.tests.fleet_captures import PATIENCE, PROGRAM, beside, until
+from tools.tests.fleet_cluster_test import Cluster
 
 # What two runs may differ in.
 OF_ONE_RUN = {"seconds", "worker", "entered"}

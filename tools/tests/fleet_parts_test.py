@@ -1,4 +1,3 @@
-#!/usr/bin/python3
 """Tests of imports, and of large captures in parts, in h2audit-fleet and h2audit-any: fleet_parts_test.py PROGRAM
 
 What is wanted is the report of PROGRAM for the whole, and what was written by hand. h2audit-split is the one that is
@@ -11,17 +10,14 @@ import os
 import pathlib
 import struct
 import subprocess
-import sys
 import unittest
 from unittest import mock
 
-from fleet_captures import PATIENCE, PROGRAM, TOP, Machine, Ran, beside, by_hand
-
-sys.path[:0] = [str(TOP / "tools"), str(TOP / "bench"), str(TOP / "tests")]
-
-import captures as scripts  # noqa: E402
-import generate  # noqa: E402
-from fleet import large as tasks_of_large, tasks  # noqa: E402
+from bench import generate
+from h2audit.fleet import large as tasks_of_large
+from h2audit.fleet import tasks
+from tests import captures as scripts
+from tools.tests.fleet_captures import PATIENCE, PROGRAM, TOP, Machine, Ran, beside, by_hand
 
 SPLIT = TOP / "crates" / "h2audit_split" / "out" / "h2audit_split"
 STAND_IN = TOP / "tools" / "tests" / "split_stand_in"

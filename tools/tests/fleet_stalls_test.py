@@ -1,4 +1,3 @@
-#!/usr/bin/python3
 """Tests of how long stalls lasted that did not end, in h2audit-fleet: up to the connection's last packet.
 
 The captures are of examples/ and made here; reports were written by hand.
@@ -8,15 +7,11 @@ import io
 import os
 import pathlib
 import struct
-import sys
 import tempfile
 import unittest
 
-from fleet_captures import TOP, Machine, Sample, by_hand
-
-sys.path.insert(0, str(TOP / "tools"))
-
-from fleet import ends, large, tasks  # noqa: E402
+from h2audit.fleet import ends, large, tasks
+from tools.tests.fleet_captures import TOP, Machine, Sample, by_hand
 
 CLIENT, SERVER, OTHER = ("10.0.0.1", 40000), ("10.0.0.2", 80), ("10.0.0.3", 40000)
 HEAD = "capture records 9 segments 9 snapped 0 not-ipv4 0 fragments 0 not-tcp 0 refused 0\n"

@@ -1,4 +1,3 @@
-#!/usr/bin/python3
 """Tests of h2audit-fleet on the workers of this machine: fleet_test.py [PROGRAM]
 
 What a capture's rows should be is taken from answers that were written by hand, as tests/reports and examples/ have
@@ -13,16 +12,24 @@ import shutil
 import signal
 import sqlite3
 import subprocess
-import sys
 import threading
 import unittest
 from typing import ClassVar
 
-from fleet_captures import PATIENCE, PROGRAM, TOP, Machine, Row, Sample, by_hand, count, generated, summary, until
-
-sys.path.insert(0, str(TOP / "tools"))
-
-from fleet import database, names, pool, programs, tasks  # noqa: E402
+from h2audit.fleet import database, names, pool, programs, tasks
+from tools.tests.fleet_captures import (
+    PATIENCE,
+    PROGRAM,
+    TOP,
+    Machine,
+    Row,
+    Sample,
+    by_hand,
+    count,
+    generated,
+    summary,
+    until,
+)
 
 CAPTURES = 200
 OTHER = {"client": "server", "server": "client"}
@@ -443,7 +450,7 @@ class Writer(OneCapture):
         ):
             self.machine.database.unlink(missing_ok=True)
             with contextlib.closing(sqlite3.connect(self.machine.database)) as base:
-                base.executescript((TOP / "tools" / "fleet" / "schema.sql").read_text() + change)
+                base.executescript((TOP / "h2audit" / "fleet" / "schema.sql").read_text() + change)
             before = self.machine.database.read_bytes()
             with self.assertRaisesRegex(database.Unusable, why):
                 database.Database(str(self.machine.database), True)
@@ -532,7 +539,7 @@ class Schema(unittest.TestCase):
     def test_documented(self) -> None:
         """The document names each table, column and view, and the versions of the schema."""
         base = sqlite3.connect(":memory:")
-        base.executescript((TOP / "tools" / "fleet" / "schema.sql").read_text())
+        base.executescript((TOP / "h2audit" / "fleet" / "schema.sql").read_text())
         text = (TOP / "docs" / "FLEET.md").read_text()
         named = set(re.findall(r"`([a-z0-9_]+)`", text)) | {"capture"}
         named |= {f"{side}_{word}" for side in ("client", "server") for word in ("bytes", "gap", "tail", "end")}

@@ -1,4 +1,3 @@
-#!/usr/bin/python3
 """Tests of what h2audit-fleet does not audit, and says so: fleet_unread_test.py [PROGRAM]
 
 What an import may read more of than h2audit is imported, and needs PROGRAM; what then is not audited has a row by its
@@ -12,18 +11,14 @@ import pathlib
 import ssl
 import struct
 import subprocess
-import sys
 import tempfile
 import unittest
 from unittest import mock
 
-import fleet_parts_test as parts
-import tls_talk
-from fleet_captures import TOP, Machine, beside, by_hand, summary
-
-sys.path.insert(0, str(TOP / "tools"))
-
-from fleet import tasks  # noqa: E402
+from h2audit.fleet import tasks
+from tools.tests import fleet_parts_test as parts
+from tools.tests import tls_talk
+from tools.tests.fleet_captures import TOP, Machine, beside, by_hand, summary
 
 EXAMPLE = "stream_overrun_go"
 # What root gives up, to be kept out as others are.

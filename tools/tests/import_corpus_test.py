@@ -1,4 +1,3 @@
-#!/usr/bin/python3
 """Tests of h2audit-import on captures that once were read wrongly (tests/corpus), and on forms that proxies, tunnels,
 packers and PowerShell make.
 
@@ -14,7 +13,7 @@ import tempfile
 import unittest
 from collections.abc import Iterable
 
-import import_tools as tools
+from tools.tests import import_tools as tools
 
 CORPUS = tools.TOP / "tests" / "corpus"
 RAW = 101

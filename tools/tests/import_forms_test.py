@@ -1,4 +1,3 @@
-#!/usr/bin/python3
 """Tests of h2audit-import on the forms that a capture may have: files, link types, IPv6, order of packets, holes,
 refusals.
 
@@ -23,8 +22,8 @@ import time
 import unittest
 from collections.abc import Callable, Iterable, Iterator
 
-import import_tools as tools
-from pcapng_blocks import block, interface, packet, section
+from tools.tests import import_tools as tools
+from tools.tests.pcapng_blocks import block, interface, packet, section
 
 NAME = "nghttp-nghttpd-13"
 PCAP = tools.capture_named(NAME).read_bytes()
@@ -500,9 +499,9 @@ class Hostile(unittest.TestCase):
         """What is small and becomes large takes no more memory than any capture: a packet of 600 MB, and a million of
         none.
         """
-        for name, packet, size in (("one", struct.pack("<IIII", 1, 0, 600 << 20, 9), 600), ("many", b"", 16)):
+        for name, record, size in (("one", struct.pack("<IIII", 1, 0, 600 << 20, 9), 600), ("many", b"", 16)):
             with gzip.open(f"{self.folder.name}/{name}", "wb", 1) as file:
-                file.write(PCAP[:24] + packet)
+                file.write(PCAP[:24] + record)
                 for _ in range(size):
                     file.write(bytes(1 << 20))
         said = "h2audit-any: h2audit: what it said is no report"

@@ -1,4 +1,3 @@
-#!/usr/bin/python3
 """Tests that memory and work of h2audit-import grow with what is read, and no faster, on captures made for the worst.
 
 Each limit of time is some hundred times what the work takes, and far below what it would take if it grew with the
@@ -16,8 +15,8 @@ import unittest
 from collections.abc import Iterator
 from typing import BinaryIO
 
-import import_tools as tools
-from pcapng_blocks import block, interface, packet, section
+from tools.tests import import_tools as tools
+from tools.tests.pcapng_blocks import block, interface, packet, section
 
 SECONDS = 60  # of the processor
 SYN, RST, ACK = 2, 4, 16

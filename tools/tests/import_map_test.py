@@ -1,4 +1,3 @@
-#!/usr/bin/python3
 """Tests of h2audit-any --map, which takes the report of an earlier import back: import_map_test.py PROGRAM
 
 PROGRAM is h2audit. What is wanted of a report is what h2audit-any prints of the original.
@@ -10,7 +9,7 @@ import sys
 import tempfile
 import unittest
 
-import import_tools as tools
+from tools.tests import import_tools as tools
 
 PROGRAM = pathlib.Path(sys.argv.pop(1)).resolve() if len(sys.argv) > 1 else pathlib.Path("h2audit")
 NO_MAP = "no map of h2audit-import, version 1"

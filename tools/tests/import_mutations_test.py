@@ -1,7 +1,6 @@
-#!/usr/bin/python3
 """Mutated captures and key logs: no panic, no hang, every fault named, and no plaintext but the original's.
 
-    tools/tests/import_mutations_test.py [COUNT [SEED [PROCESSES]]]
+    python3 -m tools.tests.import_mutations_test [COUNT [SEED [PROCESSES]]]
 
 A few hundred by default, by one process. The seed is printed: a count and that seed make the same mutations again, by
 however many processes, and number N of them alone with COUNT as N:N+1. The last line says how many ended how. Many
@@ -17,7 +16,7 @@ import subprocess
 import sys
 import tempfile
 
-import import_tools as tools
+from tools.tests import import_tools as tools
 
 SECONDS = 100  # for one mutation
 CAPTURE_REFUSED, NOTHING_READ = 3, 6

@@ -1,7 +1,6 @@
-#!/usr/bin/python3
 """Tests of h2audit-import and h2audit-any on real captures of TLS, with what their peers and tshark say of them.
 
-    tools/tests/import_test.py [PROGRAM]
+    python3 -m tools.tests.import_test [PROGRAM]
 
 PROGRAM is h2audit; without it the tests of reports are skipped. REPORTS=write in the environment writes the stored
 reports of tests/tls anew, to be read and compared with their truth.
@@ -20,8 +19,8 @@ import unittest
 from collections.abc import Iterator
 from typing import Any
 
-import derived_report
-import import_tools as tools
+from tools.tests import derived_report
+from tools.tests import import_tools as tools
 
 PROGRAM = os.path.abspath(sys.argv.pop()) if len(sys.argv) > 1 and not sys.argv[-1].startswith("-") else None
 # Frames of each connection, as the peers' logs and tshark count them.

@@ -1,11 +1,10 @@
-#!/usr/bin/python3
 """Tests of h2audit-import on connections that OpenSSL makes: each cipher suite, resumption, PSK, early data, and what
 may go wrong.
 
 What was said is known, and each record's plaintext has to be it. The connections of ``openssl s_server`` and
 ``s_client`` are captured by tcpdump on the loopback interface, which needs root; else these tests are skipped.
 
-    tools/tests/import_tls_test.py [PROGRAM]
+    python3 -m tools.tests.import_tls_test [PROGRAM]
 
 With PROGRAM, which is h2audit, the captures of examples/ are said over TLS, and have to give the frames that they
 have in the clear.
@@ -26,8 +25,8 @@ import time
 import unittest
 from collections.abc import Iterable, Iterator, Sequence
 
-import import_tools as tools
-import tls_talk
+from tools.tests import import_tools as tools
+from tools.tests import tls_talk
 
 PROGRAM = os.path.abspath(sys.argv.pop()) if len(sys.argv) > 1 and not sys.argv[-1].startswith("-") else None
 EXAMPLE = tools.EXAMPLES / "stream_overrun_go.pcap"
@@ -108,8 +107,12 @@ class Suites(Folder):
                 configuration.write_text(
                     f"openssl_conf = a\n[a]\nssl_conf = b\n[b]\nsystem_default = c\n[c]\nCiphersuites = TLS_{suite}\n"
                 )
-                run = subprocess.run([sys.executable, __file__, "--talk", self.folder], capture_output=True, text=True,
-                                     env={**os.environ, "OPENSSL_CONF": str(configuration)})  # fmt: skip
+                run = subprocess.run(
+                    [sys.executable, "-m", "tools.tests.import_tls_test", "--talk", self.folder],
+                    capture_output=True,
+                    text=True,
+                    env={**os.environ, "OPENSSL_CONF": str(configuration)},
+                )
                 self.assertEqual((run.returncode, run.stderr), (0, ""))
                 made = tools.imported("-k", self.path("13.keys"), self.path("13.pcap"))
                 self.assertIn(f" tls 1.3 TLS_{suite} ", tools.lines_of(made, "connection")[0])

@@ -6,9 +6,9 @@ import struct
 import subprocess
 import tempfile
 from collections.abc import Iterable, Iterator
-from typing import Any, NamedTuple
+from typing import NamedTuple
 
-from companions import companion
+from tools.tests.companions import companion
 
 TOP = pathlib.Path(__file__).resolve().parents[2]
 CAPTURES = TOP / "tests" / "tls"

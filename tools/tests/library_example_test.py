@@ -1,7 +1,6 @@
-#!/usr/bin/python3
 """Runs the library example of h2audit's lib.rt, by a build without proof.
 
-    tools/tests/library_example_test.py
+    python3 -m tools.tests.library_example_test
 
 The example is the block ```rust of the crate's comment. It stands as it is in a test of its own crate, over a capture
 of examples/, and has to give the report beside it.

@@ -1,4 +1,3 @@
-#!/usr/bin/python3
 """Tests of the page of a capture without a browser: what it takes from the answer of h2audit-why, which is made by
 hand here, and what it says of a report alone.
 """
@@ -6,22 +5,17 @@ hand here, and what it says of a report alone.
 import base64
 import json
 import pathlib
-import sys
 import unittest
 import zlib
 from typing import Any
 from unittest import mock
 
-TOP = pathlib.Path(__file__).resolve().parents[2]
-sys.path[:0] = [str(TOP / "tools"), str(TOP / "tools" / "tests")]
-sys.dont_write_bytecode = True
-
-from page import waterfall
-from page.series import series_of
-from page.summary import summary
-from page.top import asked, headline
-from page.waterfall import joined
-from page_answers import (
+from h2audit.page import waterfall
+from h2audit.page.series import series_of
+from h2audit.page.summary import summary
+from h2audit.page.top import asked, headline
+from h2audit.page.waterfall import joined
+from tools.tests.page_answers import (
     FLOWS,
     HEAD,
     MS,
@@ -37,7 +31,9 @@ from page_answers import (
     request,
     stalled,
 )
-from page_test import Tags
+from tools.tests.page_test import Tags
+
+TOP = pathlib.Path(__file__).resolve().parents[2]
 
 
 def rows(text: str) -> list[str]:

@@ -6,11 +6,11 @@ import io
 import json
 from typing import Any
 
-from page.answer import attach
-from page.document import page
-from page.library import library
-from page.model import Audit, read_audit
-from why.spans import NAMES
+from h2audit.page.answer import attach
+from h2audit.page.document import page
+from h2audit.page.library import library
+from h2audit.page.model import Audit, read_audit
+from h2audit.why.spans import NAMES
 
 Json = dict[str, Any]
 

@@ -1,8 +1,7 @@
-#!/usr/bin/python3
 """Tests of h2audit-page in a real headless Chromium: what it shows of each example, and what clicks, keys and drags do.
 
-    tools/tests/page_browser_test.py            runs the tests
-    tools/tests/page_browser_test.py --write    takes the pictures of docs/ anew
+    python3 -m tools.tests.page_browser_test            runs the tests
+    python3 -m tools.tests.page_browser_test --write    takes the pictures of docs/ anew
 """
 
 import base64
@@ -24,21 +23,20 @@ from selenium.webdriver.common.keys import Keys
 from selenium.webdriver.remote.webelement import WebElement
 from selenium.webdriver.support.ui import Select
 
+from h2audit.page import chart_data, document
+from h2audit.page.library import library
+from h2audit.page.model import read_audit
+from h2audit.report.blame import what_happened
+from h2audit.report.lines import Finding
+from tools.tests.browser import Browser
+from tools.tests.page_test import FINDING, crowded, large
+
 TOP = pathlib.Path(__file__).resolve().parents[2]
 PROGRAM = TOP / "tools" / "h2audit-page"
 EXAMPLES = TOP / "examples"
 PICTURES = TOP / "docs" / "pictures"
 PICTURED, TITLE = "leaked_connection_credit_nginx", "Downloads that stood still"
-sys.path[:0] = [str(TOP / "tools"), str(TOP / "tools" / "tests")]
-sys.dont_write_bytecode = True
 
-from browser import Browser
-from page import chart_data, document
-from page.library import library
-from page.model import read_audit
-from page_test import FINDING, crowded, large
-from report.lines import Finding
-from report.blame import what_happened
 
 # How many pixels of the canvases of the first chart have about this colour.
 PIXELS = """
@@ -70,7 +68,7 @@ FIRST = "#chart-0"
 
 
 def colour(name: str, scheme: str) -> list[int]:
-    style = (TOP / "tools" / "page" / "assets" / "page.css").read_text()
+    style = (TOP / "h2audit" / "page" / "assets" / "page.css").read_text()
     root = re.findall(r":root \{(.*?)\}", style, re.S)[0 if scheme == "light" else 1]
     value = re.findall(rf"--{name}: #([0-9a-f]{{6}})", root)[0]
     return [int(value[at : at + 2], 16) for at in (0, 2, 4)]

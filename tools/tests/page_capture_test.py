@@ -1,7 +1,6 @@
-#!/usr/bin/python3
 """Tests of h2audit-page on captures, by the programs that it runs: it says what h2audit-why says.
 
-    tools/tests/page_capture_test.py [H2AUDIT] [TEST..]
+    python3 -m tools.tests.page_capture_test [H2AUDIT] [TEST..]
 """
 
 from __future__ import annotations
@@ -18,11 +17,10 @@ import time
 import unittest
 from unittest import mock
 
-from why_tools import TOP, answer, has_programs, programs_of
-
-from page.program import arguments
-from page.sources import audit_of
-from page.top import asked
+from h2audit.page.program import arguments
+from h2audit.page.sources import audit_of
+from h2audit.page.top import asked
+from tools.tests.why_tools import TOP, answer, has_programs, programs_of
 
 PAGE = TOP / "tools" / "h2audit-page"
 EXAMPLES = sorted((TOP / "examples").glob("*.pcap"))

@@ -1,4 +1,3 @@
-#!/usr/bin/python3
 """Tests of h2audit-page without a browser: what the page holds, what a large report becomes, and hostile reports."""
 
 import base64
@@ -13,25 +12,21 @@ import pathlib
 import random
 import re
 import subprocess
-import sys
 import tempfile
 import unittest
 import zlib
 from typing import Any
 from unittest import mock
 
+from h2audit.page import chart_data, document, program, tables
+from h2audit.page.library import Missing, library
+from h2audit.page.model import Audit, read_audit
+from h2audit.page.series import Series, series_of, thinned
+from tools.tests.signals import SIGNALS, signalled
+
 TOP = pathlib.Path(__file__).resolve().parents[2]
 PROGRAM = TOP / "tools" / "h2audit-page"
 EXAMPLES = TOP / "examples"
-sys.path.insert(0, str(TOP / "tools"))
-sys.dont_write_bytecode = True
-
-import page.program
-from page import chart_data, document, tables
-from page.library import Missing, library
-from page.model import Audit, read_audit
-from page.series import Series, series_of, thinned
-from signals import SIGNALS, signalled
 
 FINDING = re.compile(
     r"^frame (\d+) record (\d+) time (\d+) (client|server) ([a-z-]+) stream (\d+) value (-?\d+)$", re.M
@@ -293,7 +288,7 @@ def answer(report: str, *words: str) -> tuple[int, str]:
         file.write(report.encode())
         file.flush()
         try:
-            status = page.program.main([file.name, "-o", "/dev/null", *words])
+            status = program.main([file.name, "-o", "/dev/null", *words])
         except SystemExit as ended:
             status = int(ended.code or 0)
     return status, said.getvalue()
@@ -340,7 +335,7 @@ class Refusals(unittest.TestCase):
             Missing, r"^/nowhere/dygraph.js is missing \(Debian: apt-get install libjs-dygraphs\)$"
         ):
             library("/nowhere")
-        with mock.patch("page.program.library", lambda: library("/nowhere")):
+        with mock.patch("h2audit.page.program.library", lambda: library("/nowhere")):
             status, said = answer(HEAD)
         self.assertEqual((status, said.count("\n")), (7, 1))
 
@@ -617,7 +612,7 @@ class Contrast(unittest.TestCase):
     ]
 
     def test_both_schemes(self) -> None:
-        style = (TOP / "tools" / "page" / "assets" / "page.css").read_text()
+        style = (TOP / "h2audit" / "page" / "assets" / "page.css").read_text()
         schemes = [
             dict(re.findall(r"--([a-z-]+): (#[0-9a-f]{6})", root))
             for root in re.findall(r":root \{(.*?)\}", style, re.S)

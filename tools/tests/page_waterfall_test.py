@@ -1,14 +1,12 @@
-#!/usr/bin/python3
 """Tests of the page in a real headless Chromium: its waterfall of requests, three widths, and paper.
 
-    tools/tests/page_waterfall_test.py [Waterfall | Widths | Paper | Searches | Lists | Many]
+    python3 -m tools.tests.page_waterfall_test [Waterfall | Widths | Paper | Searches | Lists | Many]
 """
 
 import base64
 import pathlib
 import re
 import subprocess
-import sys
 import unittest
 import zlib
 
@@ -16,12 +14,10 @@ from selenium.webdriver.common.by import By
 from selenium.webdriver.common.keys import Keys
 from selenium.webdriver.support.ui import Select
 
-TOP = pathlib.Path(__file__).resolve().parents[2]
-sys.path[:0] = [str(TOP / "tools"), str(TOP / "tools" / "tests")]
-sys.dont_write_bytecode = True
+from tools.tests.page_answers import FLOWS, HEAD, MS, finding, many, opening, page_of, stalled
+from tools.tests.page_browser_test import EXAMPLES, PIXELS, InBrowser, colour
 
-from page_answers import FLOWS, HEAD, MS, document_of, finding, many, opening, page_of, stalled
-from page_browser_test import EXAMPLES, FIRST, PIXELS, InBrowser, colour
+TOP = pathlib.Path(__file__).resolve().parents[2]
 
 ACCESSIBLE = (TOP / "tools" / "tests" / "accessible.js").read_text()
 NAMES = "return [...document.querySelectorAll('#rows .row')].sort((a, b) => a.dataset.at - b.dataset.at)"

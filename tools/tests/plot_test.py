@@ -1,8 +1,7 @@
-#!/usr/bin/python3
 """Tests of h2audit-plot over all reports with credit lines in examples/, over the pictures in docs/, and on bad input.
 
-    tools/tests/plot_test.py            runs the tests
-    tools/tests/plot_test.py --write    draws the pictures of docs/ anew
+    python3 -m tools.tests.plot_test            runs the tests
+    python3 -m tools.tests.plot_test --write    draws the pictures of docs/ anew
 """
 
 import contextlib
@@ -16,13 +15,11 @@ import tempfile
 import unittest
 import xml.etree.ElementTree as xml
 
-TOP = pathlib.Path(__file__).resolve().parents[2]
-sys.path.insert(0, str(TOP / "tools"))
-sys.dont_write_bytecode = True
+from h2audit.plot import drawing, program
+from h2audit.plot.windows import chosen, connections_of, windows_of
+from tools.tests.signals import SIGNALS, hidden_in, signalled
 
-from plot import drawing, program  # noqa: E402
-from plot.windows import chosen, connections_of, windows_of  # noqa: E402
-from signals import SIGNALS, hidden_in, signalled  # noqa: E402
+TOP = pathlib.Path(__file__).resolve().parents[2]
 
 PROGRAM = TOP / "tools" / "h2audit-plot"
 EXAMPLES = TOP / "examples"
@@ -123,7 +120,9 @@ class Pictures(unittest.TestCase):
             with tempfile.TemporaryDirectory() as folder:
                 again = pathlib.Path(folder, "again.svg")
                 draw(EXAMPLES / f"{picture.stem}.frames.report", again, *CHOICES.get(picture.stem, []))
-                self.assertTrue(text == again.read_text(), f"{picture.name} is old: tools/tests/plot_test.py --write")
+                self.assertTrue(
+                    text == again.read_text(), f"{picture.name} is old: python3 -m tools.tests.plot_test --write"
+                )
 
 
 class Choices(unittest.TestCase):

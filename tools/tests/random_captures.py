@@ -9,7 +9,7 @@ time and link type.
 import struct
 from random import Random
 
-from captures import ACK, CLIENT, PREFACE, SERVER, SYN, SYN_ACK, Capture, Endpoint, frame, number
+from tests.captures import ACK, CLIENT, PREFACE, SERVER, SYN, SYN_ACK, Capture, Endpoint, frame, number
 
 LARGEST = 2**31 - 1
 # Source, target, sequence number, flags, payload.

@@ -1,7 +1,6 @@
-#!/usr/bin/python3
 """Runs the commands of the documents, and compares what they print with what stands there. Follows links to files too.
 
-    tools/tests/recipes_test.py [PROGRAM]
+    python3 -m tools.tests.recipes_test [PROGRAM]
 
 A command is a block ```sh that a block ```text follows. It is run by bash at the top of the repository, where it has
 an awk once with each that is installed. The name h2audit is that of PROGRAM, and those of the programs beside it are
@@ -18,7 +17,7 @@ import sys
 import tempfile
 from collections.abc import Iterator
 
-from companions import companion
+from tools.tests.companions import companion
 
 TOP = pathlib.Path(__file__).resolve().parents[2]
 PAIR = re.compile(r"^```sh\n(.*?)^```\n+```text\n(.*?)^```$", re.M | re.S)

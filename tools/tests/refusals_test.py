@@ -1,5 +1,4 @@
-#!/usr/bin/python3
-"""Refuses each growth, thread, read and write of a program in turn: tools/tests/refusals_test.py PROGRAM
+"""Refuses each growth, thread, read and write of a program in turn: python3 -m tools.tests.refusals_test PROGRAM
 
 refuse.c is loaded before the C library and makes one call fail. A run whose call is refused either says so, with the
 status and the line that docs/STATUS.md names and nothing on standard output, or gives the same answer as a run that
@@ -16,11 +15,9 @@ import sys
 import tempfile
 import unittest
 
-TOP = pathlib.Path(__file__).resolve().parents[2]
-sys.path.insert(0, str(TOP / "bench"))
-sys.dont_write_bytecode = True
+from bench.generate import CLIENT, SERVER, Capture, Connection, frame, window_update
 
-from generate import CLIENT, SERVER, Capture, Connection, frame, window_update  # noqa: E402
+TOP = pathlib.Path(__file__).resolve().parents[2]
 
 HEADERS, PADDED, END_HEADERS = 1, 8, 4
 OUT_OF_MEMORY = (5, b"", b"h2audit: out of memory\n")

@@ -1,4 +1,3 @@
-#!/usr/bin/python3
 """Tests of what the programs beside h2audit share: the lines of a report, who is to blame, as the documents say, and
 files that are there only once they are whole.
 """
@@ -10,13 +9,11 @@ import sys
 import tempfile
 import unittest
 
-TOP = pathlib.Path(__file__).resolve().parents[2]
-sys.path.insert(0, str(TOP / "tools"))
-sys.dont_write_bytecode = True
+from h2audit.report import blame, lines
+from h2audit.report.notes import Pairing, sentence
+from tools.tests.signals import SIGNALS, hidden_in, signalled
 
-from report import blame, lines
-from report.notes import Pairing, sentence
-from signals import SIGNALS, hidden_in, signalled
+TOP = pathlib.Path(__file__).resolve().parents[2]
 
 DOCS = TOP / "docs"
 RANKED = re.compile(r"^\| \d+ \| `([a-z-]+)` \| [^|]* \| [^|]* \| ([^|]*) \|$", re.M)
@@ -213,12 +210,10 @@ class Lines(unittest.TestCase):
 
 
 # Writes a part of a file, and reads on.
-HALF = f"""
+HALF = """
 import sys
-sys.path.insert(0, {str(TOP / "tools")!r})
-sys.dont_write_bytecode = True
-from report.command import opened
-from report.output import written
+from h2audit.report.command import opened
+from h2audit.report.output import written
 with opened("-") as file, written(sys.argv[1]) as out:
     out.write(file.read(3))
     out.flush()

@@ -1,5 +1,4 @@
-#!/usr/bin/python3
-"""Audits large captures, with one worker and with four: tools/tests/sizes_test.py PROGRAM
+"""Audits large captures, with one worker and with four: python3 -m tools.tests.sizes_test PROGRAM
 
 One has more connections, and so more jobs of each round, than any other capture of the tests; the other has more
 bytes, and more frames than the rounds take at once. Their reports are those that a rule gives, and a limit of the
@@ -15,12 +14,10 @@ import tempfile
 import unittest
 from collections.abc import Iterator
 
-TOP = pathlib.Path(__file__).resolve().parents[2]
-sys.path.insert(0, str(TOP / "tests"))
-sys.dont_write_bytecode = True
+from tests.captures import ACK, END_HEADERS, FILE_HEADER, PREFACE, SYN, SYN_ACK, frame, frame_of, packet
+from tools.tests.counting import Counter
 
-from captures import ACK, END_HEADERS, FILE_HEADER, PREFACE, SYN, SYN_ACK, frame, frame_of, packet  # noqa: E402
-from counting import Counter  # noqa: E402
+TOP = pathlib.Path(__file__).resolve().parents[2]
 
 MIB = 1 << 20
 ADDRESS, SERVER = 0x0B000000, (0x0A000002, 80)

@@ -1,9 +1,8 @@
-#!/usr/bin/python3
-"""Tests of all sources: the types of Python, and the length of lines.
+"""Tests of all sources: the form and the types of Python, and the length of lines.
 
-    tools/tests/sources_test.py [Lines | Types]
+    python3 -m tools.tests.sources_test [Lines | Form | Types]
 
-The types are checked by mypy, as mypy.ini says.
+Python is formatted by black, its imports by isort; flake8 and mypy check it, as pyproject.toml and .flake8 say.
 """
 
 import pathlib
@@ -13,7 +12,7 @@ import subprocess
 import unittest
 
 TOP = pathlib.Path(__file__).resolve().parents[2]
-FOLDERS = (".ci", "bench", "tests", "tools")
+FOLDERS = (".ci", "bench", "h2audit", "tests", "tools")
 LONGEST = 120
 SHELL, PYTHON = re.compile(rb"#!.*sh\b"), re.compile(rb"#!.*python3?\b")
 # A list of tactics, which the toolchain lays out on one line, and rows of the table of packet decisions, which
@@ -53,12 +52,29 @@ class Lines(unittest.TestCase):
         self.assertEqual(too_long, [], f"more than {LONGEST} characters")
 
 
-@unittest.skipUnless(shutil.which("mypy"), "mypy is not installed")
-class Types(unittest.TestCase):
-    def test_all(self) -> None:
-        words = ["mypy", "--scripts-are-modules", *map(str, sources(".py", PYTHON))]
-        run = subprocess.run(words, cwd=TOP, capture_output=True, text=True, timeout=220)
+class Checked(unittest.TestCase):
+    def passes(self, program: str, *words: str) -> None:
+        """A Debian package that has this name says nothing against any source in Python."""
+        self.assertTrue(shutil.which(program), f"install the Debian package {program}, or run make deps as root")
+        files = map(str, sources(".py", PYTHON))
+        run = subprocess.run([program, *words, *files], cwd=TOP, capture_output=True, text=True, timeout=220)
         self.assertEqual(run.returncode, 0, f"\n{run.stdout}{run.stderr}")
+
+
+class Form(Checked):
+    def test_layout(self) -> None:
+        self.passes("black", "--check", "--quiet", "--diff")
+
+    def test_imports(self) -> None:
+        self.passes("isort", "--check-only", "--quiet", "--diff")
+
+    def test_faults(self) -> None:
+        self.passes("flake8")
+
+
+class Types(Checked):
+    def test_all(self) -> None:
+        self.passes("mypy", "--scripts-are-modules")
 
 
 if __name__ == "__main__":

@@ -1,5 +1,4 @@
-#!/usr/bin/python3
-"""What h2audit-split does with files, which no contract can say: tools/tests/splitter_test.py SPLIT
+"""What h2audit-split does with files, which no contract can say: python3 -m tools.tests.splitter_test SPLIT
 
 Parts that are full, disks that are full, names that a terminal would act on, and captures of more records and more
 reads than others have. Each run says what it left: all names below its folder, status and standard error.
@@ -19,12 +18,10 @@ import sys
 import tempfile
 import unittest
 
-TOP = pathlib.Path(__file__).resolve().parents[2]
-sys.path.insert(0, str(TOP / "tests"))
-sys.dont_write_bytecode = True
+from tests.parts import part_of
+from tests.split_test import datagram_of, header_of, record_of, segment_of
 
-from parts import part_of  # noqa: E402
-from split_test import datagram_of, header_of, record_of, segment_of  # noqa: E402
+TOP = pathlib.Path(__file__).resolve().parents[2]
 
 MOST = 2**31 - 1
 HEADER = header_of("<", 0xA1B2C3D4, 101)

@@ -1,15 +1,13 @@
-#!/usr/bin/python3
 """Tests that each storey of specs/ rests on those before it, and what ARCHITECTURE.md says of crates and lemmas."""
 
 import pathlib
 import re
-import sys
 import unittest
 from collections.abc import Iterator
 
+from tools import believed
+
 TOP = pathlib.Path(__file__).resolve().parents[2]
-sys.path.insert(0, str(TOP / "tools"))
-import believed  # noqa: E402
 
 CRATES = TOP / "crates"
 ARCHITECTURE = (TOP / "docs" / "ARCHITECTURE.md").read_text(encoding="utf-8")

@@ -1,5 +1,4 @@
-#!/usr/bin/python3
-"""Counts the threads that a program starts: tools/tests/threads_test.py PROGRAM
+"""Counts the threads that a program starts: python3 -m tools.tests.threads_test PROGRAM
 
 No contract says that threads run, since it could not say that they take turns. So each way in which
 docs/ARCHITECTURE.md divides the work has a capture here that takes it, and the number of threads that it adds,
@@ -15,12 +14,10 @@ import sys
 import tempfile
 import unittest
 
-TOP = pathlib.Path(__file__).resolve().parents[2]
-sys.path.insert(0, str(TOP / "tests"))
-sys.dont_write_bytecode = True
+from tests.captures import PREFACE, SERVER, SYN, SYN_ACK, Capture, capture_of, frame_of
+from tools.tests.counting import Counter
 
-from captures import PREFACE, SERVER, SYN, SYN_ACK, Capture, capture_of, frame_of  # noqa: E402
-from counting import Counter  # noqa: E402
+TOP = pathlib.Path(__file__).resolve().parents[2]
 
 SETTINGS, SETTINGS_ACK = frame_of(["SETTINGS"]), frame_of(["ACK"])
 

@@ -1,7 +1,6 @@
-#!/usr/bin/python3
 """Tests of h2audit-why with real servers and clients: each has a cause that is set, and the answer names it alone.
 
-    tools/tests/why_causes_test.py [H2AUDIT] [TEST..]
+    python3 -m tools.tests.why_causes_test [H2AUDIT] [TEST..]
 """
 
 from __future__ import annotations
@@ -15,8 +14,8 @@ from concurrent import futures
 from contextlib import ExitStack
 from typing import Any
 
-import why_peers
-from why_peers import (
+from tools.tests import why_peers
+from tools.tests.why_peers import (
     Peers,
     RawClient,
     caddy,
@@ -31,7 +30,7 @@ from why_peers import (
     proxy_to,
     ran,
 )
-from why_tools import Json, answer, by_port, has_programs, programs_of, request_of, text
+from tools.tests.why_tools import Json, answer, by_port, has_programs, programs_of, request_of, text
 
 # Far longer than a machine under load takes for an answer at once.
 ROUND_TRIP = 0.24

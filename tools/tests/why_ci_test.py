@@ -1,7 +1,6 @@
-#!/usr/bin/python3
 """Tests of what h2audit-why does for jobs of CI: reasons to fail, statuses, and the JUnit file.
 
-    tools/tests/why_ci_test.py [H2AUDIT] [TEST..]
+    python3 -m tools.tests.why_ci_test [H2AUDIT] [TEST..]
 """
 
 from __future__ import annotations
@@ -16,14 +15,13 @@ import unittest
 import xml.etree.ElementTree as ElementTree
 from collections import Counter
 
-from why_tools import TOP, Json, OnCaptures, has_programs, programs_of, ran
-
-from captures import PREFACE, SYN, SYN_ACK, Capture, capture_of, frame
-from reports_test import rows
-from why import document, gates
-from why.answer import Answer
-from why.making import Failed
-from why.program import Progress, answered, arguments
+from h2audit.why import document, gates
+from h2audit.why.answer import Answer
+from h2audit.why.making import Failed
+from h2audit.why.program import Progress, answered, arguments
+from tests.captures import PREFACE, SYN, SYN_ACK, Capture, capture_of, frame
+from tests.reports_test import rows
+from tools.tests.why_tools import TOP, Json, OnCaptures, has_programs, programs_of, ran
 
 SCHEMA = pathlib.Path(__file__).with_name("junit.xsd")
 EXAMPLES = sorted((TOP / "examples").glob("*.pcap"))

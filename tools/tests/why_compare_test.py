@@ -1,7 +1,6 @@
-#!/usr/bin/python3
 """Tests of h2audit-why --compare: requests before and after a change, of generated captures and of real peers.
 
-    tools/tests/why_compare_test.py [H2AUDIT] [TEST..]
+    python3 -m tools.tests.why_compare_test [H2AUDIT] [TEST..]
 """
 
 from __future__ import annotations
@@ -14,14 +13,13 @@ import sys
 import unittest
 from contextlib import ExitStack
 
-import why_peers
-from why_hostile_test import block
-from why_peers import Peers, can_capture, captured, nghttpd, nginx, proxy_to
-from why_tools import TOP, Json, OnCaptures, has_programs, programs_of, ran
+from tests.captures import PREFACE, SYN, SYN_ACK, Capture, frame
+from tools.tests import why_peers
+from tools.tests.why_hostile_test import block
+from tools.tests.why_peers import Peers, can_capture, captured, nghttpd, nginx, proxy_to
+from tools.tests.why_tools import TOP, Json, OnCaptures, has_programs, programs_of, ran
 
-from captures import PREFACE, SYN, SYN_ACK, Capture, frame
-
-SCHEMA = json.loads((TOP / "tools" / "why" / "schema.json").read_text())
+SCHEMA = json.loads((TOP / "h2audit" / "why" / "schema.json").read_text())
 ROUND_TRIP = 0.24
 EXAMPLES = TOP / "examples"
 

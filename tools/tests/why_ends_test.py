@@ -1,7 +1,6 @@
-#!/usr/bin/python3
 """Tests of h2audit-why --ends: a connection captured at both ends, generated with known times, and over a real wire.
 
-    tools/tests/why_ends_test.py [H2AUDIT] [TEST..]
+    python3 -m tools.tests.why_ends_test [H2AUDIT] [TEST..]
 """
 
 from __future__ import annotations
@@ -19,13 +18,12 @@ import unittest
 from collections.abc import Callable
 from contextlib import ExitStack
 
-from why_peers import Peers, can_capture, process
-from why_tools import TOP, Json, OnCaptures, has_programs, programs_of, ran
-from why_wire import SERVER, Loses, captured_at, wire
+from tests.captures import PREFACE, SYN, SYN_ACK, Capture, frame, number
+from tools.tests.why_peers import Peers, can_capture, process
+from tools.tests.why_tools import TOP, Json, OnCaptures, has_programs, programs_of, ran
+from tools.tests.why_wire import SERVER, Loses, captured_at, wire
 
-from captures import PREFACE, SYN, SYN_ACK, Capture, frame, number
-
-SCHEMA = json.loads((TOP / "tools" / "why" / "schema.json").read_text())
+SCHEMA = json.loads((TOP / "h2audit" / "why" / "schema.json").read_text())
 MS = 1_000_000
 DELAY, AHEAD = 50 * MS, 7_200_000 * MS
 ROUND_TRIP = 0.16
@@ -83,8 +81,8 @@ class Generated(OnCaptures):
         made = []
         for end in "CS":
             capture = Timed()
-            arrivals = [(0 if end == "C" else DELAY, -2, "C", b""), (100 * MS + (DELAY if end == "C" else 0), -1, "S",
-                                                                   b"")]  # fmt: skip
+            opened, answered = (0, 100 * MS + DELAY) if end == "C" else (DELAY, 100 * MS)
+            arrivals = [(opened, -2, "C", b""), (answered, -1, "S", b"")]
             for order, (when, side, octets) in enumerate(events):
                 delay = 0 if side == end else DELAY + late(order, side) * MS
                 arrivals.append((when * MS + delay, order, side, octets))

@@ -1,7 +1,6 @@
-#!/usr/bin/python3
 """Tests of h2audit-why on hostile captures, and of what it says of the certainty of a fault.
 
-    tools/tests/why_hostile_test.py [H2AUDIT] [TEST..]
+    python3 -m tools.tests.why_hostile_test [H2AUDIT] [TEST..]
 """
 
 from __future__ import annotations
@@ -11,9 +10,8 @@ import struct
 import sys
 import unittest
 
-from why_tools import TOP, Json, OnCaptures, has_programs, programs_of, ran, said_of
-
-from captures import PREFACE, SYN, SYN_ACK, Capture, frame, number
+from tests.captures import PREFACE, SYN, SYN_ACK, Capture, frame, number
+from tools.tests.why_tools import TOP, Json, OnCaptures, has_programs, programs_of, ran, said_of
 
 
 def block(*fields: tuple[bytes, bytes]) -> bytes:

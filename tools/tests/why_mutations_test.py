@@ -1,7 +1,6 @@
-#!/usr/bin/python3
 """Damages captures, and has h2audit-why say what it can: no damage ends in a traceback, and shares sum to each life.
 
-    tools/tests/why_mutations_test.py [H2AUDIT] [NUMBER [FIRST]]
+    python3 -m tools.tests.why_mutations_test [H2AUDIT] [NUMBER [FIRST]]
 """
 
 from __future__ import annotations
@@ -13,13 +12,12 @@ import random
 import sys
 import tempfile
 
-from why_tools import TOP, has_programs, programs_of
-
-from why import document
-from why.answer import Answer
-from why.making import Failed
-from why.program import Progress, answered, arguments
-from why.text import Page
+from h2audit.why import document
+from h2audit.why.answer import Answer
+from h2audit.why.making import Failed
+from h2audit.why.program import Progress, answered, arguments
+from h2audit.why.text import Page
+from tools.tests.why_tools import TOP, has_programs, programs_of
 
 USUAL = 300
 LONGEST = 60_000

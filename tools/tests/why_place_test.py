@@ -1,7 +1,6 @@
-#!/usr/bin/python3
 """Tests of h2audit-why on both ends of one connection over a wire that delays and loses packets.
 
-    tools/tests/why_place_test.py [H2AUDIT] [TEST..]
+    python3 -m tools.tests.why_place_test [H2AUDIT] [TEST..]
 """
 
 from __future__ import annotations
@@ -13,9 +12,9 @@ import sys
 import time
 import unittest
 
-from why_peers import Peers, can_capture, process
-from why_tools import Json, answer, has_programs, programs_of, request_of
-from why_wire import SERVER, Loses, captured_at, wire
+from tools.tests.why_peers import Peers, can_capture, process
+from tools.tests.why_tools import Json, answer, has_programs, programs_of, request_of
+from tools.tests.why_wire import SERVER, Loses, captured_at, wire
 
 ROUND_TRIP = 0.16
 PORT = 8080

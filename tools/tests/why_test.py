@@ -1,7 +1,6 @@
-#!/usr/bin/python3
 """Tests of h2audit-why on stored and random captures: shares, the report's numbers, names, JSON.
 
-    tools/tests/why_test.py [H2AUDIT] [TEST..]
+    python3 -m tools.tests.why_test [H2AUDIT] [TEST..]
 """
 
 from __future__ import annotations
@@ -16,15 +15,14 @@ import unittest
 from collections import Counter
 from collections.abc import Iterator
 
-from why_tools import TOP, OnCaptures, has_programs, programs_of, ran, said_of
-
-import random_captures
-from why.making import Failed
-from why.spans import IDLE, NAMES, SENDING, STREAM_STALL, TCP, UNSEEN, WAITING, Course, Life
+from h2audit.why.making import Failed
+from h2audit.why.spans import IDLE, NAMES, SENDING, STREAM_STALL, TCP, UNSEEN, WAITING, Course, Life
+from tools.tests import random_captures
+from tools.tests.why_tools import TOP, OnCaptures, has_programs, programs_of, ran, said_of
 
 EXAMPLES = sorted((TOP / "examples").glob("*.pcap"))
 TLS = sorted(path for path in (TOP / "tests" / "tls").iterdir() if path.suffix in (".pcap", ".pcapng"))
-SCHEMA = json.loads((TOP / "tools" / "why" / "schema.json").read_text())
+SCHEMA = json.loads((TOP / "h2audit" / "why" / "schema.json").read_text())
 RANDOM_CAPTURES = 300
 
 

@@ -7,18 +7,16 @@ import os
 import pathlib
 import shutil
 import subprocess
-import sys
 import tempfile
 import unittest
 from typing import Any
 
-TOP = pathlib.Path(__file__).resolve().parents[2]
-sys.path[:0] = [str(TOP / "tools"), str(TOP / "tests")]
+from h2audit.report.lines import Finding, Opening, Stall, read_lines
+from h2audit.why import document
+from h2audit.why.program import Progress, answered, arguments
+from h2audit.why.spans import NAMES
 
-from report.lines import Finding, Opening, Stall, read_lines
-from why import document
-from why.program import Progress, answered, arguments
-from why.spans import NAMES
+TOP = pathlib.Path(__file__).resolve().parents[2]
 
 WHY = TOP / "tools" / "h2audit-why"
 BUILT = {

@@ -1,7 +1,6 @@
-#!/usr/bin/python3
 """Tests of what h2audit-why says: its words, warnings, colours, files, statuses, and what is left behind.
 
-    tools/tests/why_words_test.py [H2AUDIT] [TEST..]
+    python3 -m tools.tests.why_words_test [H2AUDIT] [TEST..]
 """
 
 from __future__ import annotations
@@ -16,7 +15,7 @@ import sys
 import unittest
 from collections.abc import Iterator
 
-from why_tools import TOP, OnCaptures, has_programs, programs_of, ran, said_of
+from tools.tests.why_tools import TOP, OnCaptures, has_programs, programs_of, ran, said_of
 
 
 def records_of(capture: bytes) -> Iterator[bytes]:

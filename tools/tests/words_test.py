@@ -1,4 +1,3 @@
-#!/usr/bin/python3
 """Tests of the man pages and of the completions, each by its own program: all of them name the programs' options.
 
 The options of h2audit and h2audit-split are those of their help texts, which tests of the gate pin; those of the
@@ -15,7 +14,7 @@ import time
 import unittest
 from collections.abc import Callable
 
-from companions import companion
+from tools.tests.companions import companion
 
 TOP = pathlib.Path(__file__).resolve().parents[2]
 MAN = TOP / "tools" / "man"
@@ -51,7 +50,7 @@ class Version(unittest.TestCase):
         (version,) = re.findall(r'const VERSION: &str = "(.*)";', source)
         changelog = (TOP / "tools" / "package" / "changelog").read_text()
         self.assertTrue(changelog.startswith(f"h2audit ({version}) "))
-        self.assertIn(f'VERSION = "{version}"\n', (TOP / "tools" / "report" / "__init__.py").read_text())
+        self.assertIn(f'VERSION = "{version}"\n', (TOP / "h2audit" / "report" / "__init__.py").read_text())
 
 
 class Man(unittest.TestCase):

@@ -5,7 +5,7 @@ use std::rc::Rc;
 
 use once_cell::sync::Lazy;
 
-const TABLE: &str = include_str!("../../../tools/report/kinds.txt");
+const TABLE: &str = include_str!("../../../h2audit/report/kinds.txt");
 
 /// One of the two that talk.
 #[derive(Debug, Clone, Copy, PartialEq, Eq, Hash, PartialOrd, Ord)]

@@ -1,0 +1,85 @@
+"""Reports that h2audit-any made without this program, by GNU parallel or a Slurm array. docs/FLEET.md has the commands.
+
+A folder has for each capture, under one name of any kind:
+
+    NAME.path     the capture's path, its bytes as they are
+    NAME.file     its size, and the time of its last change in seconds, before the audit; may be missing
+    NAME.sha256   the digest of its bytes; may be missing
+    NAME.report   the report
+    NAME.error    what was said on standard error
+    NAME.course   where a stall is open, the course that h2audit-import wrote; may be missing
+    NAME.status   the status and the seconds that it took; written last, so what has none did not come to its end
+"""
+
+import os
+import re
+from collections.abc import Iterator
+from contextlib import suppress
+from pathlib import Path
+from typing import BinaryIO
+
+from h2audit.fleet import ends, programs, tasks
+from h2audit.fleet.tasks import Answer
+
+# timeout(1) ends with this status; a shell has those of signals above 128.
+TIME_IS_UP, SIGNALS = 124, 128
+MOST_OF_A_WORD = 4096
+
+
+def jobs_in(folder: str) -> list[Path]:
+    """The jobs of a folder, ended or not, by the names of their paths."""
+    return sorted(Path(folder).glob("*.path"))
+
+
+def read_job(named: Path, version: str) -> tuple[bytes, Answer] | None:
+    """A capture's path with its answer; nothing where the job did not come to its end."""
+    status = re.fullmatch(r"(\d{1,3}) (\d{1,12}(?:\.\d{1,9})?)\s*", text_of(named.with_suffix(".status")))
+    path = head_of(named)
+    if not status or not path:
+        return None
+    answer: Answer = {"program": tasks.IMPORT, "version": version, "options": "collected", "tries": 1}
+    answer |= {"seconds": float(status[2])} | file_of(named) | tasks.verdict(run_of(int(status[1]), named))
+    if answer["outcome"] == "audited":
+        with open(named.with_suffix(".report"), "rb") as report:
+            answer |= tasks.kept(report) | ends_of(named, report)
+    return os.path.abspath(path), answer
+
+
+def ends_of(named: Path, report: BinaryIO) -> Answer:
+    """When connections with an open stall had their last packets, as far as the course tells."""
+    with suppress(OSError), open(named.with_suffix(".course"), "rb") as course:
+        return {"ends": ends.by_course(course, ends.with_open_stalls(report))}
+    return {}
+
+
+def run_of(status: int, named: Path) -> programs.Run:
+    said = ""
+    with suppress(OSError), open(named.with_suffix(".error"), "rb") as error:
+        said = programs.last_line(error)
+    return programs.Run(SIGNALS - status if status > SIGNALS else status, said, 0, status == TIME_IS_UP)
+
+
+def file_of(named: Path) -> Answer:
+    answer: Answer = {}
+    if found := re.fullmatch(r"(\d{1,18}) (\d{1,10})\.(\d{9})\s*", text_of(named.with_suffix(".file"))):
+        answer |= {"size": int(found[1]), "modified": int(found[2] + found[3])}
+    if found := re.match(r"([0-9a-f]{64})\b", text_of(named.with_suffix(".sha256"))):
+        answer["sha256"] = found[1]
+    return answer
+
+
+def head_of(name: Path) -> bytes:
+    try:
+        with open(name, "rb") as file:
+            return file.read(MOST_OF_A_WORD)
+    except OSError:
+        return b""
+
+
+def text_of(name: Path) -> str:
+    return head_of(name).decode(errors="replace")
+
+
+def answers_in(folder: str, version: str) -> Iterator[tuple[bytes, Answer] | None]:
+    for named in jobs_in(folder):
+        yield read_job(named, version)

@@ -1,0 +1,168 @@
+"""The points of a window's chart, and how a long one is thinned: stalls, faults and extremes stay."""
+
+from __future__ import annotations
+
+from array import array
+from bisect import bisect_left
+from dataclasses import dataclass
+
+from h2audit.page.model import Window
+
+
+@dataclass(slots=True)
+class Series:
+    """Points by frame, time and credit, and what is marked at them."""
+
+    frames: array[int]
+    times: array[int]
+    credits: array[int]
+    # The two points of each shade, of which an open stall has no second, and how many stalls it stands for.
+    stalls: list[tuple[int, int | None, int]]
+    # The point of each cross, the kind and value of its first fault, and how many faults of the kind it stands for.
+    faults: list[tuple[int, str, int, int]]
+    # How many points the report has.
+    whole: int
+
+    @property
+    def stood_for(self) -> list[int]:
+        """Of each shade and each cross, for how many it stands."""
+        return [number for _, _, number in self.stalls] + [number for _, _, _, number in self.faults]
+
+    @property
+    def marked(self) -> int:
+        """How many stalls and faults the shades and crosses stand for."""
+        return sum(self.stood_for)
+
+    @property
+    def merged(self) -> int:
+        """How many of them share a shade or a cross with others."""
+        return sum(number for number in self.stood_for if number > 1)
+
+
+def series_of(window: Window) -> Series:
+    """Each credit line, and where the report tells no credit a point at each end of a stall, each fault and the end."""
+    frames, times, credits = array("q"), array("q"), array("q")
+    extra = extra_points(window)
+    at = 0
+    for frame, time in extra:
+        end = bisect_left(window.frames, frame, at)
+        frames.extend(window.frames[at:end])
+        times.extend(window.times[at:end])
+        credits.extend(window.credits[at:end])
+        at = end
+        if at == len(window.frames) or window.frames[at] != frame:
+            frames.append(frame)
+            times.append(time)
+            credits.append(window.credit_before(frame))
+    frames.extend(window.frames[at:])
+    times.extend(window.times[at:])
+    credits.extend(window.credits[at:])
+    if stands_to_the_end(window) and times and last_time(window) > times[-1]:
+        frames.append(max(frames[-1], window.connection.opening.frames))
+        times.append(last_time(window))
+        credits.append(credits[-1])
+    return Series(frames, times, credits, *marks(window, frames), len(window.frames))
+
+
+def extra_points(window: Window) -> list[tuple[int, int]]:
+    """The frames of a window, with their times, that need a point though they may have no credit line."""
+    connection = window.connection
+    notes = [note for stall in window.stalls for note in (stall, stall.other) if note] + window.faults
+    points = {note.finding.frame: note.finding.time for note in notes}
+    if connection.has_findings and stands_to_the_end(window):
+        points.setdefault(connection.last_frame, connection.end)
+    if window.stream == 0 and connection.has_findings:
+        points.setdefault(0, connection.zero)
+    return sorted(points.items())
+
+
+def stands_to_the_end(window: Window) -> bool:
+    """Whether the last credit is known to stand up to the last finding; of a stream without a stall nothing says so."""
+    return window.stream == 0 or (bool(window.stalls) and window.stalls[-1].other is None)
+
+
+def last_time(window: Window) -> int:
+    """Up to when the last credit stands: an open stall's end, or the connection's last packet."""
+    connection = window.connection
+    if window.stalls and window.stalls[-1].other is None:
+        return connection.open_end(window.stalls[-1].finding)
+    return connection.end if connection.until is None else connection.until
+
+
+Marks = tuple[list[tuple[int, int | None, int]], list[tuple[int, str, int, int]]]
+
+
+def marks(window: Window, frames: array[int]) -> Marks:
+    def place(frame: int) -> int:
+        return bisect_left(frames, frame)
+
+    stalls = [
+        (place(stall.finding.frame), place(stall.other.finding.frame) if stall.other else None, 1)
+        for stall in window.stalls
+    ]
+    faults = [(place(note.finding.frame), note.finding.kind, note.finding.value, 1) for note in window.faults]
+    return stalls, faults
+
+
+def thinned(whole: Series, most: int, most_marks: int) -> Series:
+    """At most some `most` points, besides those of marks: of each stretch of points the least and the greatest."""
+    if len(whole.frames) <= most and len(whole.stalls) + len(whole.faults) <= most_marks:
+        return whole
+    stalls, faults = joined(whole, most_marks), one_in_each(whole, most_marks)
+    kept = extremes(whole.credits, most)
+    kept.update(at for stall in stalls for at in stall[:2] if at is not None)
+    kept.update(fault[0] for fault in faults)
+    order = sorted(kept)
+    new = {at: place for place, at in enumerate(order)}
+    return Series(
+        array("q", (whole.frames[at] for at in order)),
+        array("q", (whole.times[at] for at in order)),
+        array("q", (whole.credits[at] for at in order)),
+        [(new[begin], None if end is None else new[end], number) for begin, end, number in stalls],
+        [(new[at], kind, value, number) for at, kind, value, number in faults],
+        whole.whole,
+    )
+
+
+def extremes(credits: array[int], most: int) -> set[int]:
+    """The first and the last point, and of each of most/2 stretches the least and the greatest."""
+    length = max(2, -(-2 * len(credits) // max(most, 2)))
+    kept = {0, len(credits) - 1}
+    for begin in range(0, len(credits), length):
+        stretch = credits[begin : begin + length]
+        kept.update((begin + stretch.index(min(stretch)), begin + stretch.index(max(stretch))))
+    return kept
+
+
+def joined(whole: Series, most: int) -> list[tuple[int, int | None, int]]:
+    """The stalls; where there are more than `most`, those that are nearest together share one shade."""
+    if len(whole.stalls) <= most:
+        return whole.stalls
+    gaps = sorted(
+        whole.frames[after[0]] - whole.frames[before[1] or before[0]]
+        for before, after in zip(whole.stalls, whole.stalls[1:])
+    )
+    widest = gaps[len(whole.stalls) - most - 1]
+    shades = [whole.stalls[0]]
+    for begin, end, number in whole.stalls[1:]:
+        first, last, before = shades[-1]
+        if whole.frames[begin] - whole.frames[last or first] <= widest:
+            shades[-1] = first, end, before + number
+        else:
+            shades.append((begin, end, number))
+    return shades
+
+
+def one_in_each(whole: Series, most: int) -> list[tuple[int, str, int, int]]:
+    """The faults; where there are more than `most`, the first of each stretch and of each kind, for all of these."""
+    if len(whole.faults) <= most:
+        return whole.faults
+    length = -(-len(whole.faults) // most)
+    kept: list[tuple[int, str, int, int]] = []
+    for begin in range(0, len(whole.faults), length):
+        first: dict[str, tuple[int, str, int, int]] = {}
+        for at, kind, value, number in whole.faults[begin : begin + length]:
+            at, _, value, before = first.get(kind, (at, kind, value, 0))
+            first[kind] = at, kind, value, before + number
+        kept += first.values()
+    return kept

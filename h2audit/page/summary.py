@@ -1,0 +1,106 @@
+"""The top of the page: one sentence, what limits it, who broke which rule, and whom to ask."""
+
+from __future__ import annotations
+
+from h2audit.page.markup import Content, Markup, element, items, row, table
+from h2audit.page.model import Audit, Connection
+from h2audit.page.top import Asked, asked, headline, limits
+from h2audit.page.words import Breach, breaches, counts, endpoint, longest_stalls, waited, windows_named
+from h2audit.report.blame import duration
+from h2audit.report.notes import Note
+
+MOST_ROWS = 10
+PROVED = (
+    "Faults, stalls and credits are those of h2audit's proved report. Names, lives, causes, TCP and place of capture "
+    "are not: h2audit-why reads them from the frames and the packets."
+)
+
+
+def summary(audit: Audit, notes: set[int]) -> Markup:
+    """`notes` are the findings that have a row in the page."""
+    parts = [element("h2", "Summary"), element("p", headline(audit), class_="headline")]
+    if said := limits(audit):
+        parts.append(element("div", [element("h3", "What limits this answer"), items(said)], class_="note"))
+    parts += [breach_table(audit, notes), asked_table(audit), stall_table(audit, notes)]
+    parts.append(element("p", counts(audit), class_="counts"))
+    if audit.answer:
+        parts.append(element("p", PROVED, class_="counts"))
+    return element("section", parts, id="summary")
+
+
+def breach_table(audit: Audit, notes: set[int]) -> Markup:
+    found = breaches(audit)
+    rows = [
+        row(
+            [
+                f"the {breach.side}, {breach.peer}",
+                breach.kind,
+                f"RFC 9113, {breach.section}" if breach.section else "",
+                breach.times,
+                breach.connections,
+                place(*breach.first, notes),
+            ]
+        )
+        for breach in found[:MOST_ROWS]
+    ]
+    return shortened("Who broke which rule", ["Who", "Rule", "Section", "Times", "Connections", "First"], rows, found)
+
+
+def asked_table(audit: Audit) -> Markup:
+    found = asked(audit)
+    rows = [
+        row(
+            [
+                f"the {one.side}, {one.peer}" if one.side else one.peer,
+                one.why,
+                one.times,
+                len(one.intervals),
+                said(one, one.longest),
+                said(one, one.nanos),
+            ]
+        )
+        for one in found[:MOST_ROWS]
+    ]
+    what = "Requests" if audit.answer else "Stalls"
+    heads = ["Whom to ask", "About", what, "Connections", "Longest", "In all, each instant once"]
+    return shortened("Whom to ask about time that was lost", heads, rows, found)
+
+
+def said(one: Asked, nanos: int) -> str:
+    return duration(nanos) if nanos else "no end was seen"
+
+
+def stall_table(audit: Audit, notes: set[int]) -> Markup:
+    rows = [stall_row(one, stalls, notes) for one, stalls in longest_stalls(audit)]
+    if not rows:
+        return Markup("")
+    note = "A stall breaks no rule: a receiver may choose any window (RFC 9113, 5.2.1)."
+    heads = ["How long", "Who waited", "Where", "From"]
+    return Markup(table("The longest stalls", heads, rows) + element("p", note))
+
+
+def stall_row(one: Connection, stalls: list[Note], notes: set[int]) -> Markup:
+    first = stalls[0]
+    side = first.finding.side
+    who = f"{side}, {endpoint(one.opening, side)}"
+    return row([waited(one, first), who, windows_named(stalls), place(one, first, notes)])
+
+
+def shortened(caption: str, heads: list[str], rows: list[Markup], found: list[Asked] | list[Breach]) -> Markup:
+    """A table of the first rows; where they are not all, the last says how many more there are."""
+    if not rows:
+        return Markup("")
+    if more := len(found) - len(rows):
+        rows.append(row([f"{more:,} more", *[""] * (len(heads) - 1)]))
+    return table(caption, heads, rows, class_="sums")
+
+
+def place(connection: Connection, note: Note, notes: set[int]) -> Content:
+    """Where a finding is, as a link to its row if it has one."""
+    name = f"connection {connection.opening.number}, frame {note.finding.frame}, {note.place}"
+    return element("a", name, href=f"#{row_id(connection, note)}") if id(note) in notes else name
+
+
+def row_id(connection: Connection, note: Note) -> str:
+    finding = note.finding
+    return f"c{connection.opening.number}-f{finding.frame}-{finding.side}-{finding.kind}-{finding.stream}"

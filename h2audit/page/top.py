@@ -1,0 +1,190 @@
+"""The answer at a glance: one sentence, what limits it, who broke which rule, and whom to ask."""
+
+from __future__ import annotations
+
+from collections import defaultdict
+from collections.abc import Iterator
+from dataclasses import dataclass, field
+
+from h2audit.page.answer import Json
+from h2audit.page.model import Audit, Connection
+from h2audit.page.words import MOST_NAMED, breaches, doubts, peer, reason_of
+from h2audit.report.blame import OTHER_SIDE
+from h2audit.why.spans import disjoint
+from h2audit.why.words import count, time_of
+
+# Which share of a direction's life stands for which kind of cause; of an application, for which why.
+SHARES = {
+    "stream-window": "stream_stall",
+    "connection-window": "connection_stall",
+    "tcp": "tcp",
+    "before": "waiting",
+    "between": "idle",
+}
+KINDS = {
+    "stream-window": "its window of a stream",
+    "connection-window": "its window of the connection",
+    "tcp": "TCP",
+    "application": "its application",
+}
+WHY = {
+    "granted-nothing": "no grant came",
+    "granted-late": "it granted late",
+    "grant-lost": "a grant was lost",
+    "round-trip": "it is too small for the round trip",
+    "unshown": "it is too small for the round trip",
+    "cancelled-streams": "cancelled streams had used it up",
+    "zero-window": "the TCP window was 0",
+    "resent": "bytes were sent again",
+    "hole": "bytes came out of order",
+    "within-frame": "the rest of a frame came slowly",
+    "before": "it took long to begin",
+    "between": "it sent nothing, with credit left",
+}
+
+
+def headline(audit: Audit) -> str:
+    """One sentence or two, as h2audit-why says it; of a report what it holds."""
+    if audit.answer:
+        return audit.answer.headline
+    if not any(one.opening.form == "http2" for one in audit.connections):
+        return "Nothing was audited, so nothing is said of flow control."
+    return f"{broken(audit)} {held_back(audit)}"
+
+
+def broken(audit: Audit) -> str:
+    rules: dict[tuple[str, str, str], int] = defaultdict(int)
+    for one in breaches(audit):
+        rules[one.side, one.section, one.kind] += one.times
+    if not rules:
+        return "No rule was broken" + " in what was audited" * is_partial(audit) + "."
+    said = []
+    for (side, section, kind), times in sorted(rules.items(), key=lambda rule: -rule[1])[:3]:
+        where = f"RFC 9113, {section}" if section else "a rule"
+        said.append(f"the {side} broke {where} ({kind})" + f" {times:,} times" * (times > 1))
+    more = len(rules) - len(said)
+    text = "; ".join(said) + f"; and {count(more, 'rule')} more" * (more > 0) + "."
+    return text[0].upper() + text[1:]
+
+
+def is_partial(audit: Audit) -> bool:
+    """Whether something was not audited, so that a clean answer is one of a part."""
+    return bool(audit.unopened or audit.cut or audit.capture.refused or audit.capture.not_ipv4) or any(
+        one.opening.form != "http2" or any(flow.gap is not None for flow in one.flows) for one in audit.connections
+    )
+
+
+def held_back(audit: Audit) -> str:
+    if not any(one.stalls for one in audit.connections):
+        return "No side used up its credit."
+    if not any(one.waiting for one in audit.connections):
+        return "Where a side used up its credit, it had more in the same instant."
+    first = asked(audit)[0]
+    where = f"in {count(len(first.intervals), 'connection')}"
+    if not first.nanos:
+        return f"The {first.side}, {first.peer}, gave no credit up to the end of what was found, {where}."
+    other, nanos = OTHER_SIDE[first.side], time_of(first.nanos)
+    return f"The {first.side}, {first.peer}, held back the {other} for {nanos}, {where}."
+
+
+def limits(audit: Audit) -> list[str]:
+    """What limits the answer."""
+    named = not_audited(audit)
+    if audit.answer is None:
+        return doubts(audit) + named
+    # Connections are named; packets, and connections that began before the capture, are counted.
+    reasons = {(one["reason"] or one["outcome"]) for one in audit.answer.connections}
+    counted = [one for one in audit.answer.not_audited if one["reason"] not in reasons]
+    return audit.answer.limits + named + [f"Not audited: {one['text']}." for one in counted]
+
+
+def not_audited(audit: Audit) -> list[str]:
+    """The connections that were not audited, by reason and by name."""
+    reasons: dict[str, list[Connection]] = defaultdict(list)
+    for one in audit.connections:
+        if one.opening.form != "http2":
+            reasons[reason_of(one.opening.form)].append(one)
+    return [
+        f"Not audited, since {why}: {names(found)}." if not why.startswith("TLS") else
+        f"Not audited, {why}: {names(found)}." for why, found in reasons.items()
+    ]  # fmt: skip
+
+
+def names(connections: list[Connection]) -> str:
+    said = [
+        f"connection {one.opening.number} ({one.opening.client} to {one.opening.server})"
+        for one in connections[:MOST_NAMED]
+    ]
+    more = len(connections) - len(said)
+    return ", ".join(said) + f", and {more:,} more" * (more > 0)
+
+
+@dataclass
+class Asked:
+    """One peer and one cause: how often it held back another, and for how long."""
+
+    side: str
+    peer: str
+    why: str
+    times: int = 0
+    longest: int = 0
+    # Of each connection by its number.
+    intervals: dict[int, list[tuple[int, int]]] = field(default_factory=lambda: defaultdict(list))
+
+    @property
+    def nanos(self) -> int:
+        """The time of all, in which the same instant of a connection counts once."""
+        return sum(end - begin for found in self.intervals.values() for begin, end in disjoint(found))
+
+    def add(self, connection: int, intervals: list[tuple[int, int]], nanos: int) -> None:
+        self.times += 1
+        self.longest = max(self.longest, nanos)
+        self.intervals[connection] += intervals
+
+
+def asked(audit: Audit) -> list[Asked]:
+    """Whom to ask and why, what took longest first."""
+    found: dict[tuple[str, str, str], Asked] = {}
+    for one in audit.connections:
+        for side, who, why, intervals, nanos in waits_of(audit, one):
+            key = side, who, why
+            found.setdefault(key, Asked(*key)).add(one.opening.number, intervals, nanos)
+    return sorted(found.values(), key=lambda one: -one.nanos)
+
+
+Waited = tuple[str, str, str, list[tuple[int, int]], int]
+
+
+def waits_of(audit: Audit, one: Connection) -> Iterator[Waited]:
+    """Of a capture what held back each request; of a report each stall."""
+    if audit.answer:
+        for request in audit.answer.requests(one.opening.number):
+            if request["cause"]["kind"] in KINDS:
+                yield of_request(one, request)
+        return
+    for stall in one.waiting:
+        side = OTHER_SIDE[stall.finding.side]
+        kind = "stream-window" if stall.finding.stream else "connection-window"
+        why = KINDS[kind] + ": no grant was seen" * (stall.other is None)
+        begin, nanos = stall.finding.time, one.wait(stall)
+        yield side, peer(one.opening, side), why, [(begin, begin + nanos)], nanos
+
+
+def of_request(one: Connection, request: Json) -> Waited:
+    cause = request["cause"]
+    side = cause["ask"] or ""
+    who = peer(one.opening, side) if side else "nobody: the path between them"
+    return side, who, f"{KINDS[cause['kind']]}: {WHY[cause['why']]}", intervals_of(request), cause["nanos"]
+
+
+def intervals_of(request: Json) -> list[tuple[int, int]]:
+    """When a request was held back. Where its spans do not tell all of it, as of stalls that do not show, it is one
+    stretch of as much time from the first place on.
+    """
+    cause, opened = request["cause"], request["opened"]["time"]
+    share = SHARES.get(cause["kind"]) or SHARES.get(cause["why"])
+    spans = [span for span in request[cause["side"]]["spans"] or () if span[2] == share]
+    if sum(nanos for _, nanos, _ in spans) < cause["nanos"]:
+        begin = cause["first"]["time"] if cause["first"] else opened
+        return [(begin, begin + cause["nanos"])]
+    return [(opened + begin, opened + begin + nanos) for begin, nanos, _ in spans]

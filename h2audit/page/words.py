@@ -1,0 +1,173 @@
+"""What the page says in words: how much there was, what came of it, and what to doubt."""
+
+from __future__ import annotations
+
+from collections import Counter
+from dataclasses import dataclass
+from datetime import datetime, timezone
+
+from h2audit.page.model import Audit, Connection
+from h2audit.report.blame import OTHER_SIDE, duration, section_of
+from h2audit.report.lines import Opening
+from h2audit.report.notes import Note
+from h2audit.why.words import REASONS, count, streams_named
+
+MOST_STALLS = 10
+FORMS = {
+    "not-http2": "it is not HTTP/2, but TLS or an upgrade from HTTP/1.1",
+    "no-preface": "the client's preface was not captured whole",
+    "no-handshake": "the server's side was not captured",
+}
+MOST_NAMED = 8
+
+
+def reason_of(form: str) -> str:
+    """Why a connection was not audited, in words."""
+    if form in FORMS:
+        return FORMS[form]
+    reason = form.removeprefix("refused ")
+    known = REASONS.get(reason) or REASONS.get(reason.split(" ")[0])
+    return known.removeprefix("{n} of ") if known else f"TLS that could not be read ({reason})"
+
+
+def counts(audit: Audit) -> str:
+    """How much there was."""
+    capture, connections = audit.capture, audit.connections
+    http2 = [one for one in connections if one.opening.form == "http2"]
+    frames = sum(one.opening.frames for one in http2)
+    said = (
+        f"{count(capture.records, 'packet')}, {capture.segments:,} of them TCP segments; "
+        f"{count(len(connections), 'connection')}, {len(http2):,} of them audited, with {count(frames, 'frame')}"
+    )
+    faults, stalls = sum(len(one.faults) for one in http2), sum(len(one.waiting) for one in http2)
+    return f"{said}; {count(faults, 'fault')}, {count(stalls, 'stall')}."
+
+
+def doubts(audit: Audit) -> list[str]:
+    """What the capture lacks, and what it means for the findings."""
+    capture = audit.capture
+    gaps = sum(1 for one in audit.connections if any(flow.gap is not None for flow in one.flows))
+    lacks = [
+        (
+            gaps,
+            f"In {count(gaps, 'connection')} bytes are missing (a gap). What is found behind it may not have happened.",
+        ),
+        (capture.snapped, f"{count(capture.snapped, 'segment')} kept fewer bytes than the packet had (snapped)."),
+        (capture.refused, f"{count(capture.refused, 'packet')} could not be read (refused)."),
+        (capture.fragments, f"{count(capture.fragments, 'IP fragment')} were passed over."),
+        (capture.not_ipv4, f"{count(capture.not_ipv4, 'packet')} of other network protocols were passed over."),
+        (
+            audit.unopened,
+            f"{count(audit.unopened, 'pair')} of endpoints had {count(audit.unopened_segments, 'segment')} "
+            "of connections that began before the capture, which are not audited.",
+        ),
+        (audit.cut, f"The capture ends within record {audit.cut}."),
+    ]
+    return [said for number, said in lacks if number]
+
+
+@dataclass(frozen=True)
+class Breach:
+    """Who broke which rule, how often, in how many connections, and where first."""
+
+    side: str
+    kind: str
+    section: str
+    times: int
+    connections: int
+    peer: str
+    first: tuple[Connection, Note]
+
+
+def breaches(audit: Audit) -> list[Breach]:
+    """Which peer broke which rule, the most frequent first."""
+    times: Counter[tuple[str, str, str, str]] = Counter()
+    connections: Counter[tuple[str, str, str, str]] = Counter()
+    first: dict[tuple[str, str, str, str], tuple[Connection, Note]] = {}
+    for one in audit.connections:
+        keys = [breach_of(one, note) for note in one.faults]
+        times.update(keys)
+        connections.update(set(keys))
+        for key, note in zip(keys, one.faults):
+            first.setdefault(key, (one, note))
+    return [Breach(*key[:3], number, connections[key], key[3], first[key]) for key, number in times.most_common()]
+
+
+def breach_of(one: Connection, note: Note) -> tuple[str, str, str, str]:
+    side = note.finding.who_broke_it or ""
+    return side, note.finding.kind, section_of(note.finding), peer(one.opening, side)
+
+
+def peer(opening: Opening, side: str) -> str:
+    """A server by its endpoint, and a client by its address, since its port is another one each time."""
+    return opening.server if side == "server" else opening.client.rpartition(":")[0]
+
+
+Together = tuple[Connection, list[Note]]
+
+
+def longest_stalls(audit: Audit) -> list[Together]:
+    """The longest, those together that began in the same instant of one connection."""
+    found: dict[tuple[int, str, int], Together] = {}
+    for one in audit.connections:
+        for stall in one.waiting:
+            key = one.opening.number, stall.finding.side, stall.finding.time
+            found.setdefault(key, (one, []))[1].append(stall)
+    for one, stalls in found.values():
+        stalls.sort(key=lambda stall: -one.wait(stall))
+    return sorted(found.values(), key=lambda pair: -pair[0].wait(pair[1][0]))[:MOST_STALLS]
+
+
+def waited(connection: Connection, stall: Note) -> str:
+    nanos = connection.wait(stall)
+    if stall.waited is not None:
+        return duration(nanos)
+    until = "the connection's end" if connection.until is not None else "the last finding"
+    return f"{duration(nanos)} up to {until}, and no end was seen" if nanos else "no end was seen"
+
+
+def windows_named(stalls: list[Note]) -> str:
+    """The windows of stalls that began together."""
+    streams = sorted(stall.finding.stream for stall in stalls)
+    said = ["the whole connection"] * (streams[0] == 0)
+    streams = [stream for stream in streams if stream]
+    return " and ".join(said + [streams_named(streams)] * bool(streams))
+
+
+def endpoint(opening: Opening, side: str) -> str:
+    return opening.client if side == "client" else opening.server
+
+
+def whom_to_ask(connection: Connection, stall: Note) -> str:
+    other = OTHER_SIDE[stall.finding.side]
+    return f"the {other}, {endpoint(connection.opening, other)}"
+
+
+def verdict(one: Connection) -> str:
+    """How the audit of a connection ended."""
+    if one.opening.form != "http2":
+        return f"not audited: {reason_of(one.opening.form)}"
+    said = [count(len(one.faults), "fault") if one.faults else "no fault"]
+    if one.waiting:
+        said.append(count(len(one.waiting), "stall"))
+    if one.audited is not None and one.audited.stopped_at is not None:
+        said.append(f"broken by frame {one.audited.stopped_at:,}, after which nothing is judged")
+    if any(flow.gap is not None for flow in one.flows):
+        said.append("bytes are missing")
+    return "; ".join(said)
+
+
+def flow_words(one: Connection) -> list[str]:
+    return [
+        f"The {flow.side} sent {count(flow.bytes, 'byte')} that were captured without a hole"
+        + (f"; bytes are missing from offset {flow.gap:,} on" if flow.gap is not None else "")
+        + (f"; the last {count(flow.tail, 'byte')} are no whole frame" if flow.tail else "")
+        + "."
+        for flow in one.flows
+    ]
+
+
+def clock(nanos: int) -> str:
+    """A capture's time in words: to the nanosecond, in UTC."""
+    whole, rest = divmod(nanos, 10**9)
+    return f"{datetime.fromtimestamp(whole, timezone.utc):%Y-%m-%d %H:%M:%S}.{rest:09} UTC"

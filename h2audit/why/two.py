@@ -1,0 +1,64 @@
+"""The answers that need two captures: before and after a change, and both ends of a connection."""
+
+from __future__ import annotations
+
+import argparse
+from collections.abc import Callable, Iterator
+
+from h2audit.why.answer import Answer
+from h2audit.why.text import Page
+
+Answers = Callable[[argparse.Namespace], Answer]
+Pages = Callable[[Answer], Page]
+
+
+def add_options(parser: argparse.ArgumentParser) -> None:
+    group = parser.add_argument_group("two captures (docs/WHY.md, section 11)")
+    group.add_argument("--compare", nargs=2, metavar=("BEFORE", "AFTER"),
+                       help="requests before and after a change, side by side")  # fmt: skip
+    group.add_argument("--ends", nargs=2, metavar=("CLIENT", "SERVER"),
+                       help="the stalls of connections that were captured at both ends")  # fmt: skip
+
+
+def check(parser: argparse.ArgumentParser, asked: argparse.Namespace) -> None:
+    """Ends the program where words stand together that do not go together."""
+    if not asked.compare and not asked.ends:
+        return
+    option = "--compare" if asked.compare else "--ends"
+    if asked.files or asked.compare and asked.ends:
+        parser.error(f"{option} takes two captures, and no other")
+    if asked.json_lines:
+        parser.error(f"{option} has no lines of JSON: --json")
+    if asked.compare and asked.no_requests:
+        parser.error("--compare matches requests by their names: not with --no-requests")
+    if asked.ends and asked.junit:
+        parser.error("--ends has no JUnit file: it is of one capture")
+
+
+def of_file(asked: argparse.Namespace, file: str) -> argparse.Namespace:
+    """The same words for one capture."""
+    return argparse.Namespace(**{**vars(asked), "files": [file]})
+
+
+def compare(asked: argparse.Namespace, answered: Answers, page_of: Pages) -> tuple[list[Answer], Iterator[str]]:
+    """The two answers, and what is said of both."""
+    from h2audit.why import compare_said
+    from h2audit.why.compare import compared
+
+    before, after = (answered(of_file(asked, file)) for file in asked.compare)
+    both = compared(before, after)
+    if asked.json:
+        return [before, after], iter((compare_said.json_of(both),))
+    return [before, after], (line + "\n" for line in compare_said.lines_of(both, page_of(after)))
+
+
+def ends(asked: argparse.Namespace, answered: Answers, page_of: Pages) -> tuple[list[Answer], Iterator[str]]:
+    """The two answers, and what is said of the connections that both captures have."""
+    from h2audit.why import ends_said
+    from h2audit.why.ends import joined
+
+    client, server = (answered(of_file(asked, file)) for file in asked.ends)
+    found = joined(client, server)
+    if asked.json:
+        return [client, server], iter((ends_said.json_of(found),))
+    return [client, server], (line + "\n" for line in ends_said.lines_of(found, page_of(server)))
