@@ -11,7 +11,7 @@ from collections.abc import Iterator
 
 TOP = pathlib.Path(__file__).resolve().parents[1]
 HELP = (TOP / "tests" / "help.txt").read_text()
-VERSION = "h2audit 1.0.0\n"
+VERSION = f"h2audit {(TOP / 'VERSION').read_text()}"
 
 # A big-endian header: magic, version 2.4, time zone, accuracy, snapshot length, Ethernet.
 HEADER = bytes.fromhex("a1b2c3d4 0002 0004 00000000 00000000 00040000 00000001")

@@ -21,7 +21,8 @@ from tools.tests.companions import companion
 TOP = pathlib.Path(__file__).resolve().parents[1]
 
 MERGE = companion("h2audit-merge")
-HELP = (pathlib.Path(__file__).parent / "split_help.txt").read_text()
+HELP = (TOP / "tests" / "split_help.txt").read_text()
+VERSION = (TOP / "VERSION").read_text()
 PREFACE = b"PRI * HTTP/2.0\r\n\r\nSM\r\n\r\n" + bytes.fromhex("000000 04 00 00000000")
 DATA = bytes.fromhex("000005 00 00 00000001") + b"hello"
 MAGICS = {"<": (0xA1B2C3D4, 0xA1B23C4D), ">": (0xA1B2C3D4, 0xA1B23C4D)}
@@ -234,7 +235,7 @@ def refusals(program: pathlib.Path) -> list[str]:
         ("-o out good", 2, None),
         ("--unknown", 2, None),
         ("--help", 0, HELP),
-        ("--version", 0, "h2audit-split 1.0.0\n"),
+        ("--version", 0, f"h2audit-split {VERSION}"),
     ]
     wrong = []
     for words, status, text in calls:

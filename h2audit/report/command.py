@@ -28,7 +28,11 @@ class Words(argparse.ArgumentParser):
     def add_version(self) -> None:
         """The option that all programs have beside --help."""
         self.add_argument(
-            "-V", "--version", action="version", version=f"{self.prog} {VERSION}", help="print the version"
+            "-V",
+            "--version",
+            action="version",
+            version=f"{self.prog} {VERSION}",
+            help="print the name and the version, and nothing else",
         )
 
     def _print_message(self, message: str, file: IO[str] | None = None) -> None:

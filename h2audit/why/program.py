@@ -34,7 +34,7 @@ from h2audit.report.command import (
 )
 from h2audit.report.interrupts import Interrupted, end_by, signals_raise
 from h2audit.report.lines import Refused
-from h2audit.why import VERSION, gates, two
+from h2audit.why import gates, two
 from h2audit.why.answer import Answer
 from h2audit.why.making import Failed, folder, program_named, run, running, without_name
 from h2audit.why.text import Page
@@ -78,8 +78,7 @@ def arguments(words: list[str]) -> argparse.Namespace:
     )
     parser.add_argument("--h2audit", metavar="PROGRAM", help="the program that audits")
     parser.add_argument("--import", dest="importer", metavar="PROGRAM", help="the program that imports")
-    parser.add_argument("-V", "--version", action="version", version=f"{NAME} {VERSION}",
-                        help="print the name and the version, and nothing else")  # fmt: skip
+    parser.add_version()
     gates.add_options(parser)
     two.add_options(parser)
     asked = parser.parse_args(words)

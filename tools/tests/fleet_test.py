@@ -17,6 +17,7 @@ import unittest
 from typing import ClassVar
 
 from h2audit.fleet import database, names, pool, programs, tasks
+from h2audit.report import VERSION
 from tools.tests.fleet_captures import (
     PATIENCE,
     PROGRAM,
@@ -142,7 +143,7 @@ class Tables(unittest.TestCase):
                 report[:2] = [None, None]
             else:
                 report += [int(word) for word in sample.report.splitlines()[0].split()[2::2]]
-            program = ["h2audit", "h2audit 1.0.0", 1]
+            program = ["h2audit", f"h2audit {VERSION}", 1]
             wanted = (len(sample.capture), sample.digest, *outcome, *program, *report)
             self.assertEqual(row, [wanted], sample.name)
 
