@@ -6,12 +6,17 @@ import os
 import re
 from dataclasses import dataclass
 
+from h2audit.report.command import MISSING, Failed
+
 FOLDER = "/usr/share/javascript/dygraphs"
 PACKAGE = "libjs-dygraphs"
 
 
-class Missing(Exception):
+class Missing(Failed):
     """The library is not installed."""
+
+    def __init__(self, why: str) -> None:
+        super().__init__(MISSING, why)
 
 
 @dataclass(frozen=True)

@@ -12,9 +12,9 @@ from typing import BinaryIO
 
 from h2audit.page.answer import attach
 from h2audit.page.model import Audit, read_audit
-from h2audit.report.command import IO_FAILED, WRONG_WORDS, opened
+from h2audit.report.command import IO_FAILED, WRONG_WORDS, Failed, opened
 from h2audit.report.interrupts import Interrupted, end_by, signals_raise
-from h2audit.why.making import HERE, Failed, Running, folder, program_named, running, without_name
+from h2audit.why.making import HERE, Running, folder, program_named, running, without_name
 
 # Where the two programs stand in the repository, and what names others.
 BUILT = {"h2audit-any": HERE.parent / "companions" / "target" / "release" / "h2audit-any"}

@@ -12,6 +12,7 @@ from collections.abc import Callable, Iterator
 from typing import BinaryIO, NamedTuple
 
 from h2audit.report.blame import is_fault, who_broke_it
+from h2audit.report.command import REFUSED, Failed
 
 # No number of a report has more digits, and no line more bytes.
 NUMBER = r"\d{1,20}"
@@ -37,8 +38,14 @@ STALL = re.compile(rf"stall {SIDE} stream ({NUMBER}) from ({NUMBER}) (?:open|to 
 AUDIT = re.compile(rf"audit (?:of all frames|stopped at frame ({NUMBER}))")
 
 
-class Refused(Exception):
+class Refused(Failed):
     """Why a report is not taken."""
+
+    def __init__(self, why: str) -> None:
+        super().__init__(REFUSED, why)
+
+    def said(self) -> str:
+        return f"report refused: {self}"
 
 
 class Capture(NamedTuple):

@@ -11,6 +11,8 @@ from array import array
 from collections.abc import Iterator
 from dataclasses import dataclass, field
 
+from h2audit.report.command import IO_FAILED, Failed
+
 RAW_IP = 101
 MAGIC_OF_NANOS = 0xA1B23C4D
 FILE_HEADER, RECORD_HEADER = struct.Struct("<IHHIIII"), struct.Struct("<IIII")
@@ -22,8 +24,11 @@ CLIENT, SERVER = 0, 1
 SIDES = ("client", "server")
 
 
-class Broken(Exception):
+class Broken(Failed):
     """What was made is no capture of an import."""
+
+    def __init__(self, why: str) -> None:
+        super().__init__(IO_FAILED, why)
 
 
 @dataclass(slots=True)

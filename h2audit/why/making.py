@@ -13,7 +13,7 @@ from collections.abc import Iterator, Sequence
 from pathlib import Path
 from typing import IO
 
-from h2audit.report.command import IO_FAILED
+from h2audit.report.command import IO_FAILED, Failed
 from h2audit.report.interrupts import SIGNALS
 
 HERE = Path(os.path.realpath(sys.argv[0])).parent
@@ -24,14 +24,6 @@ BUILT = {
 }
 MOST_SAID = 1 << 16
 VARIABLES = {"h2audit": "H2AUDIT", "h2audit-import": "H2AUDIT_IMPORT"}
-
-
-class Failed(Exception):
-    """A program that ended otherwise than by its work: the status for it, and what it said."""
-
-    def __init__(self, status: int, said: str) -> None:
-        super().__init__(said)
-        self.status = status
 
 
 def program_named(name: str, named: str | None) -> str:

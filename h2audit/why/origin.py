@@ -8,12 +8,17 @@ from collections.abc import Iterable
 from dataclasses import dataclass, field
 from urllib.parse import unquote_to_bytes
 
+from h2audit.report.command import IO_FAILED, Failed
+
 FIRST_LINE = "h2audit-map 1"
 STANDING_IN = re.compile(r"2(?:4\d|5[0-5])\.\d+\.\d+\.\d+")
 
 
-class NoMap(Exception):
+class NoMap(Failed):
     """Another file, or one of another version."""
+
+    def __init__(self, why: str) -> None:
+        super().__init__(IO_FAILED, why)
 
 
 @dataclass(slots=True)

@@ -20,23 +20,11 @@ import time
 from collections.abc import Iterator
 from pathlib import Path
 
-from h2audit.report.command import (
-    IO_FAILED,
-    MISSING,
-    NO_MEMORY,
-    OK,
-    REFUSED,
-    Words,
-    failed,
-    io_reason,
-    number,
-    printable,
-)
+from h2audit.report.command import IO_FAILED, OK, Failed, Words, failed, number, printable
 from h2audit.report.interrupts import Interrupted, end_by, signals_raise
-from h2audit.report.lines import Refused
 from h2audit.why import gates, two
 from h2audit.why.answer import Answer
-from h2audit.why.making import Failed, folder, program_named, run, running, without_name
+from h2audit.why.making import folder, program_named, run, running, without_name
 from h2audit.why.text import Page
 
 NAME = "h2audit-why"
@@ -226,39 +214,13 @@ def write_junit(answer: Answer, failures: list[gates.Failure], path: str) -> Non
         file.writelines(junit.pieces_of(answer, failures))
 
 
-def outcome_of(asked: argparse.Namespace) -> int:
-    """The status of a run, with one line on standard error where it failed."""
-    from h2audit.why.capture import Broken
-    from h2audit.why.course import NoCourse
-    from h2audit.why.origin import NoMap
+def main(words: list[str]) -> int:
+    asked = arguments(words)
+    import hpack  # noqa: F401  where it is missing, that is said before any work
 
     try:
         with signals_raise():
             return work(asked)
-    except Failed as why:
-        return failed(NAME, why.status, str(why))
-    except Refused as why:
-        return failed(NAME, REFUSED, f"report refused: {why}")
-    except (Broken, NoCourse, NoMap) as why:
-        return failed(NAME, IO_FAILED, str(why))
-    except OSError as why:
-        return failed(NAME, IO_FAILED, io_reason(why))
-    except MemoryError:
-        return failed(NAME, NO_MEMORY, "out of memory")
-
-
-def main(words: list[str]) -> int:
-    try:
-        asked = arguments(words)
-        sys.stdout.flush()
-    except OSError as why:  # help or version had nowhere to go
-        return failed(NAME, IO_FAILED, io_reason(why))
-    try:
-        import hpack  # noqa: F401
-    except ImportError:
-        return failed(NAME, MISSING, "hpack is not installed (Debian: apt-get install python3-hpack)")
-    try:
-        return outcome_of(asked)
     except Interrupted as why:
         stopped = int(why.args[0])
     end_by(stopped)

@@ -15,7 +15,7 @@ import unittest
 from collections import Counter
 from collections.abc import Iterator
 
-from h2audit.why.making import Failed
+from h2audit.report.command import Failed
 from h2audit.why.spans import IDLE, NAMES, SENDING, STREAM_STALL, TCP, UNSEEN, WAITING, Course, Life
 from tools.tests import random_captures
 from tools.tests.why_tools import TOP, OnCaptures, has_programs, programs_of, ran, said_of
