@@ -392,6 +392,15 @@ class Words(OneCapture):
         self.assertRegex(error, r"^h2audit-fleet: dashboard at http://127\.0\.0\.1:\d+/status\n$")
         self.assertEqual(list((self.machine.folder / "temporary").iterdir()), [])
 
+    def test_modules_where_it_runs(self) -> None:
+        """What lies in the folder that it is run in is no module of any worker."""
+        for name in ("multiprocessing", "queue", "socket", "struct", "tempfile"):
+            (self.machine.folder / f"{name}.py").write_text("open('found', 'w')\n")
+        for words in ((), ("--dashboard", "127.0.0.1:0")):
+            status, said, error = self.machine.run("--jobs", "1", *words, "captures")
+            self.assertEqual((status, (self.machine.folder / "found").exists()), (1, False), error)
+            self.machine.database.unlink()
+
     def test_no_program(self) -> None:
         (self.machine.bin / "h2audit").unlink()
         status, said, error = self.machine.run("--jobs", "1", "captures")
