@@ -13,16 +13,16 @@ import os
 import re
 import shutil
 import subprocess
-import sys
 import tempfile
 import unittest
 from collections.abc import Iterator
 from typing import Any
 
+from tests.programs import named
 from tools.tests import derived_report
 from tools.tests import import_tools as tools
 
-PROGRAM = os.path.abspath(sys.argv.pop()) if len(sys.argv) > 1 and not sys.argv[-1].startswith("-") else None
+PROGRAM = next(iter(named()), None)
 # Frames of each connection, as the peers' logs and tshark count them.
 FRAMES = {
     "nghttp-nghttpd-13": [20], "small-window-v6": [35], "curl-nginx-12-any-cooked": [131],
