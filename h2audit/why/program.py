@@ -101,7 +101,8 @@ class Progress:
 
 def answered(asked: argparse.Namespace, progress: Progress) -> Answer:
     """Imports, audits, and reads what both made."""
-    importer, auditor = program_named("h2audit-import", asked.importer), program_named("h2audit", asked.h2audit)
+    importer = program_named("h2audit-import", asked.importer, "--import")
+    auditor = program_named("h2audit", asked.h2audit, "--h2audit")
     with folder() as place:
         out, report = place / "made.pcap", place / "report"
         imported(asked, importer, place, progress)

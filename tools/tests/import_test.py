@@ -17,6 +17,7 @@ import unittest
 from collections.abc import Iterator
 from typing import Any
 
+from h2audit.report.blame import FRAME_TYPES
 from tests.programs import named
 from tools.tests import derived_report
 from tools.tests import import_tools as tools
@@ -35,18 +36,6 @@ FORMS: tuple[tuple[list[str], str], ...] = (([], ".report"), (["--frames"], ".fr
 # What is said of packets whose times go back, as those of two interfaces do.
 BACK = {"two-interfaces": "h2audit-any: times go back at packet 32: are the files in order? reordercap\n"}
 NGHTTP_LOGS = ("nghttp-nghttpd-13", "small-window-v6", "loss-and-reordering")
-TYPES = (
-    "DATA",
-    "HEADERS",
-    "PRIORITY",
-    "RST_STREAM",
-    "SETTINGS",
-    "PUSH_PROMISE",
-    "PING",
-    "GOAWAY",
-    "WINDOW_UPDATE",
-    "CONTINUATION",
-)
 needs_program = unittest.skipUnless(PROGRAM, "h2audit is not built")
 
 
@@ -60,7 +49,7 @@ def frames_of(data: bytes) -> Iterator[tuple[str, int, int]]:
     data = data[24:] if data.startswith(b"PRI * HTTP/2.0") else data
     while len(data) >= 9:
         length = int.from_bytes(data[:3], "big")
-        yield TYPES[data[3]], length, int.from_bytes(data[5:9], "big") & 0x7FFFFFFF
+        yield FRAME_TYPES[data[3]], length, int.from_bytes(data[5:9], "big") & 0x7FFFFFFF
         data = data[9 + length :]
 
 
