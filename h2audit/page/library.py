@@ -1,7 +1,5 @@
 """The plotting library of the page: dygraphs (MIT licence), from the Debian package libjs-dygraphs."""
 
-from __future__ import annotations
-
 import os
 import re
 from dataclasses import dataclass

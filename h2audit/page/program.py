@@ -12,8 +12,6 @@ reading, writing or running a program failed, 5 for want of memory, 7 if a libra
 one line on standard error.
 """
 
-from __future__ import annotations
-
 import argparse
 import os
 

@@ -1,7 +1,5 @@
 """Where a page comes from: a report, or captures that h2audit-any audits and h2audit-why explains."""
 
-from __future__ import annotations
-
 import contextlib
 import json
 import os

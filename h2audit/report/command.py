@@ -1,7 +1,5 @@
 """Command lines of the programs beside h2audit, and how they end: one line on standard error says what went wrong."""
 
-from __future__ import annotations
-
 import argparse
 import contextlib
 import io

@@ -5,8 +5,6 @@ The programs in Rust read by companions/reports; tests/report_lines.txt has line
 A report may be large, so its lines are handed on one by one, and none is read that is longer than any line of a report.
 """
 
-from __future__ import annotations
-
 import re
 from collections.abc import Callable, Iterator
 from typing import BinaryIO, NamedTuple

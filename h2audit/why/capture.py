@@ -3,8 +3,6 @@
 By the rules of docs/AUDIT_RULES.md, sections 1 to 3, so that connections and frames have the report's numbers.
 """
 
-from __future__ import annotations
-
 import mmap
 import struct
 from array import array
@@ -36,10 +34,10 @@ class Segments:
     """The payloads of one side, in the order of the capture: for each its record, number, place and end in the file."""
 
     initial: int | None = None
-    records: array[int] = field(default_factory=lambda: array("q"))
-    numbers: array[int] = field(default_factory=lambda: array("q"))
-    begins: array[int] = field(default_factory=lambda: array("q"))
-    ends: array[int] = field(default_factory=lambda: array("q"))
+    records: "array[int]" = field(default_factory=lambda: array("q"))
+    numbers: "array[int]" = field(default_factory=lambda: array("q"))
+    begins: "array[int]" = field(default_factory=lambda: array("q"))
+    ends: "array[int]" = field(default_factory=lambda: array("q"))
 
     def add(self, record: int, number: int, begin: int, end: int) -> None:
         self.records.append(record)

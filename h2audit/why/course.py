@@ -1,7 +1,5 @@
 """Reads the course of TCP that `h2audit-import --course` tells (docs/MAP.md)."""
 
-from __future__ import annotations
-
 from collections.abc import Iterable
 from dataclasses import dataclass, field
 from typing import NamedTuple

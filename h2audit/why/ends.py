@@ -1,7 +1,5 @@
 """One connection captured at both ends: which connections are the same, and how far the two clocks are apart."""
 
-from __future__ import annotations
-
 from bisect import bisect_right
 from dataclasses import dataclass
 from itertools import accumulate

@@ -1,7 +1,5 @@
 """Runs the import and the audit in a folder of their owner alone, which goes with every end of the program."""
 
-from __future__ import annotations
-
 import contextlib
 import os
 import shutil
@@ -56,7 +54,7 @@ def folder() -> Iterator[Path]:
 
 
 @contextlib.contextmanager
-def running(words: Sequence[str], output: Path | None = None) -> Iterator[Running]:
+def running(words: Sequence[str], output: Path | None = None) -> "Iterator[Running]":
     """A program that runs meanwhile. Where this one is interrupted, that one ends too."""
     with contextlib.ExitStack() as stack:
         out = stack.enter_context(open(output or os.devnull, "wb"))

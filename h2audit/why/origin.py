@@ -1,7 +1,5 @@
 """Reads the map of an import (docs/MAP.md): the packet of each record, addresses, and what became of connections."""
 
-from __future__ import annotations
-
 import re
 from array import array
 from collections.abc import Iterable
@@ -45,8 +43,8 @@ class Unopened:
 class Origin:
     files: list[str] = field(default_factory=list)
     addresses: dict[str, str] = field(default_factory=dict)
-    record_files: array[int] = field(default_factory=lambda: array("l", (0,)))
-    record_packets: array[int] = field(default_factory=lambda: array("q", (0,)))
+    record_files: "array[int]" = field(default_factory=lambda: array("l", (0,)))
+    record_packets: "array[int]" = field(default_factory=lambda: array("q", (0,)))
     passed: dict[str, int] = field(default_factory=dict)
     passed_more: list[str] = field(default_factory=list)
     capture: dict[str, int] = field(default_factory=dict)

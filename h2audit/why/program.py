@@ -10,8 +10,6 @@ line, 3 if a capture is refused, 4 if reading or writing failed, 5 if there was 
 audited, 7 if python3-hpack is missing.
 """
 
-from __future__ import annotations
-
 import argparse
 import os
 import shutil

@@ -1,7 +1,5 @@
 """The answers that need two captures: before and after a change, and both ends of a connection."""
 
-from __future__ import annotations
-
 import argparse
 from collections.abc import Callable, Iterator
 

@@ -8,10 +8,10 @@ import subprocess
 import tempfile
 import unittest
 
-from tests.programs import needed
+from tests.programs import named
 from tools.tests import import_tools as tools
 
-(PROGRAM,) = needed()
+PROGRAM = next(iter(named()), "h2audit")
 NO_MAP = "no map of h2audit-import, version 1"
 
 

@@ -1,6 +1,6 @@
 """Tests of all sources: the form and the types of Python, and the length of lines.
 
-    python3 -m tools.tests.sources_test [Lines | Form | Types | Packages]
+    python3 -m tools.tests.sources_test [Lines | Imports | Form | Types | Packages]
 
 Python is formatted by black, its imports by isort; flake8 and mypy check it, as pyproject.toml and .flake8 say.
 """
@@ -9,6 +9,7 @@ import os
 import pathlib
 import re
 import subprocess
+import sys
 import tempfile
 import unittest
 
@@ -53,6 +54,24 @@ class Lines(unittest.TestCase):
             if len(line) > LONGEST and not WHOLE.fullmatch(line)
         ]
         self.assertEqual(too_long, [], f"more than {LONGEST} characters")
+
+
+class Imports(unittest.TestCase):
+    """One style: whole names from the top of the repository, and no path or future of a module's own."""
+
+    OTHER = re.compile(rb"^\s*(from \.|from __future__|sys\.path\.|sys\.path\[:0\])", re.M)
+
+    def test_style(self) -> None:
+        found = [str(file.relative_to(TOP)) for file in sources(".py", PYTHON) if self.OTHER.search(file.read_bytes())]
+        self.assertEqual(found, [])
+
+    def test_each_module(self) -> None:
+        """Each can be imported, and does nothing then."""
+        files = [file.relative_to(TOP).with_suffix("") for file in sources(".py", PYTHON) if file.suffix]
+        names = [".".join(file.parts) for file in files]
+        script = "import importlib, sys\nfor name in sys.argv[1:]: importlib.import_module(name)"
+        run = subprocess.run([sys.executable, "-c", script, *names], cwd=TOP, capture_output=True, text=True)
+        self.assertEqual((run.returncode, run.stdout, run.stderr), (0, "", ""))
 
 
 class Checked(unittest.TestCase):

@@ -3,8 +3,6 @@
     python3 -m tools.tests.why_mutations_test [H2AUDIT] [NUMBER [FIRST]]
 """
 
-from __future__ import annotations
-
 import contextlib
 import io
 import pathlib

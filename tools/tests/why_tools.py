@@ -1,7 +1,5 @@
 """What the tests of h2audit-why share: where the programs stand, and runs of them."""
 
-from __future__ import annotations
-
 import json
 import os
 import pathlib
