@@ -11,7 +11,6 @@ import functools
 import json
 import os
 import re
-import shutil
 import subprocess
 import tempfile
 import unittest
@@ -21,6 +20,7 @@ from typing import Any
 from tests.programs import named
 from tools.tests import derived_report
 from tools.tests import import_tools as tools
+from tools.tests.packages import needs
 
 PROGRAM = next(iter(named()), None)
 # Frames of each connection, as the peers' logs and tshark count them.
@@ -95,7 +95,7 @@ class Records(unittest.TestCase):
                 said = [(kind, int(length), int(stream)) for kind, length, stream in said]
                 self.assertEqual(list(frames_of(data)), said, (name, word))
 
-    @unittest.skipUnless(shutil.which("tshark"), "tshark is not installed")
+    @needs("tshark")
     def test_tshark(self) -> None:
         """The bytes of both sides are those that tshark shows."""
         for name in ("nghttp-nghttpd-13", "curl-apache-upload", "key-updates", "loss-and-reordering"):
@@ -191,7 +191,7 @@ class Reports(unittest.TestCase):
                 found = stalls_of(report_of(name)[0], stream, side)
                 self.assertEqual(found, wanted, (name, side))
 
-    @unittest.skipUnless(shutil.which("tshark"), "tshark is not installed")
+    @needs("tshark")
     def test_derived(self) -> None:
         """Each line of a stored report, derived from tshark's frames and times, files of records, and the RFC."""
         for name in FRAMES:

@@ -1,15 +1,18 @@
 """Tests of all sources: the form and the types of Python, and the length of lines.
 
-    python3 -m tools.tests.sources_test [Lines | Form | Types]
+    python3 -m tools.tests.sources_test [Lines | Form | Types | Packages]
 
 Python is formatted by black, its imports by isort; flake8 and mypy check it, as pyproject.toml and .flake8 say.
 """
 
+import os
 import pathlib
 import re
-import shutil
 import subprocess
+import tempfile
 import unittest
+
+from tools.tests.packages import require
 
 TOP = pathlib.Path(__file__).resolve().parents[2]
 FOLDERS = (".ci", "bench", "h2audit", "tests", "tools")
@@ -55,7 +58,7 @@ class Lines(unittest.TestCase):
 class Checked(unittest.TestCase):
     def passes(self, program: str, *words: str) -> None:
         """A Debian package that has this name says nothing against any source in Python."""
-        self.assertTrue(shutil.which(program), f"install the Debian package {program}, or run make deps as root")
+        require(self, program)
         files = map(str, sources(".py", PYTHON))
         run = subprocess.run([program, *words, *files], cwd=TOP, capture_output=True, text=True, timeout=220)
         self.assertEqual(run.returncode, 0, f"\n{run.stdout}{run.stderr}")
@@ -70,6 +73,26 @@ class Form(Checked):
 
     def test_faults(self) -> None:
         self.passes("flake8")
+
+
+class Packages(unittest.TestCase):
+    def test_missing(self) -> None:
+        """Tests name the packages that are missing, and install none."""
+        listed = re.findall(r"needed\+?=\((.*)\)$", (TOP / "tools" / "deps.sh").read_text(), re.M)
+        with tempfile.TemporaryDirectory() as folder:
+            for name in ("dpkg-query", "apt-get"):
+                program = pathlib.Path(folder, name)
+                program.write_text(f"#!/bin/sh\n: > {folder}/$1\nexit 1\n")
+                program.chmod(0o755)
+            surroundings = {**os.environ, "PATH": f"{folder}:{os.environ['PATH']}"}
+            run = subprocess.run(
+                [TOP / "tools" / "tests" / "run.sh"], capture_output=True, text=True, env=surroundings, timeout=60
+            )
+            ran = {path.name for path in pathlib.Path(folder).iterdir()}
+        self.assertEqual((run.returncode, run.stdout, ran), (1, "", {"dpkg-query", "apt-get", "-W"}))
+        said = "deps: install these Debian packages first, or run make deps as root: "
+        self.assertTrue(run.stderr.startswith(said + listed[0]), run.stderr)
+        self.assertIn(f" {listed[-1]}\n", run.stderr)
 
 
 class Types(Checked):
