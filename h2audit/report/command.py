@@ -2,6 +2,7 @@
 
 import argparse
 import contextlib
+import errno
 import io
 import os
 import re
@@ -88,7 +89,7 @@ def told(why: Failed | MemoryError | ModuleNotFoundError | OSError) -> tuple[int
     match why:
         case Failed():
             return why.status, why.said()
-        case MemoryError():
+        case MemoryError() | OSError(errno=errno.ENOMEM):  # as where no program can be started for want of it
             return NO_MEMORY, "out of memory"
         case ModuleNotFoundError():
             return MISSING, f"{why.name} is not installed (Debian: apt-get install python3-{why.name})"

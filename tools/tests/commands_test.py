@@ -81,6 +81,7 @@ class Statuses(unittest.TestCase):
         """What a program raises is one line and a status: want of memory is 5, and nothing else is."""
         rows = (
             ("MemoryError", 5, "out of memory"),
+            ("OSError(12, 'Cannot allocate memory')", 5, "out of memory"),
             ("Failed(6, 'nothing\\nwas read')", 6, "nothing\\nwas read"),
             ("Refused('line 2 is none')", 3, "report refused: line 2 is none"),
             ("OSError(28, 'No space left', 'a')", 4, "a: No space left"),
