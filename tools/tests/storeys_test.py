@@ -89,7 +89,7 @@ class Storeys(unittest.TestCase):
 class Documents(unittest.TestCase):
     def test_believed_crates(self) -> None:
         """The table of crates has each of crates.txt, and says of which something is believed."""
-        said = {row[0].strip("`"): row[3] for row in rows("| crate | takes | answers | believed | beside it |")}
+        said = {row[0].strip("`"): row[3] for row in rows("| crate | takes | answers | believed |")}
         self.assertEqual(set(said), set(uses()))
         reading = believed.read(CRATES, believed.CALLS | believed.VIEWS)
         believed.read(CRATES, believed.SPLITTER_CALLS, reading)
@@ -99,8 +99,9 @@ class Documents(unittest.TestCase):
     def test_pairs(self) -> None:
         """Proofs cite lemmas along the pairs of the table, and along no others."""
         said = set()
-        for crate, others, _ in rows("| proofs of | cite lemmas of | on |"):
-            said |= {(crate.strip("`"), other) for other in re.findall(r"`(\w+)`", others)}
+        for cells in rows("| proofs of | cite lemmas of | on |"):
+            crates, others = (re.findall(r"`(\w+)`", cell) for cell in cells[:2])
+            said |= {(crate, other) for crate in crates for other in others}
         self.assertEqual(sorted(pairs()), sorted(said))
 
 
