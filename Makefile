@@ -39,6 +39,7 @@ deps:
 	tools/deps.sh
 
 # Proves all that the programs stand on, builds them, and leaves them as PROGRAM and SPLIT; and builds those in Rust.
+# "make test" proves none of it again.
 build: $(PROGRAM) $(SPLIT) companions
 
 # Builds the programs in Rust, with no network: their crates are Debian's (librust-*-dev).
@@ -49,34 +50,9 @@ $(RUST_BUILT)/built: $(RUST_SOURCES)
 	@touch $@
 	@echo 'built: $(RUST_PROGRAMS:%=$(RUST_BUILT)/%)' >&2
 
-$(PROGRAM): $(SOURCES)
-	@$(MAKE) --no-print-directory --jobs=$(RT_JOBS) proved-h2audit_cli
-	@touch $@
-	@echo 'built: $@'
-
-$(SPLIT): $(SOURCES)
-	@$(MAKE) --no-print-directory --jobs=$(RT_JOBS) proved-h2audit_split
-	@touch $@
-	@echo 'built: $@'
-
-# A crate is proved after those that its line in crates.txt names.
-$(foreach rule,$(shell sed 's/#.*//' crates.txt | awk -F: '{ split($$1, name, " "); uses = split($$2, used, " "); \
-	for (i = 1; i <= uses; i++) print "proved-" name[1] ":proved-" used[i] }'),$(eval $(rule)))
-
-# What the toolchain says is shown where it fails.
-quietly = said=$$($(1) 2>&1) && echo '$(@:proved-%=%): proved' || { echo "$$said"; exit 1; }
-
-$(patsubst crates/%/src/lib.rt,proved-%,$(wildcard crates/*/src/lib.rt)):
-	@cd crates/$(@:proved-%=%) && $(call quietly,rt lib)
-
-proved-h2audit_cli:
-	@cd crates/h2audit_cli && $(call quietly,rt run -- --help)
-
-proved-h2audit_split:
-	@cd crates/h2audit_split && $(call quietly,rt run -- --help)
-
-# The toolchain's own libraries come proved.
-proved-%: ;
+# One call makes both.
+$(PROGRAM) $(SPLIT) &: $(SOURCES)
+	@RT_JOBS=$(RT_JOBS) tools/build.sh
 
 # Puts the programs in place as h2audit and h2audit-split, with those beside them, man pages and completions.
 install: share = $(DESTDIR)$(PREFIX)/share

@@ -24,8 +24,8 @@
 //! - Each contract gives exactly what its definition says. The order of findings goes on from the place to side, kind
 //!   and value, so it is total, and putting in order asks for no condition.
 //! - Refused by the prover: a cut by the frame, an order with the server first, an overflowing grant that is added,
-//!   padding that does not count, a place with four bits for the rank. That calls succeed where there is memory is
-//!   tested by those above them.
+//!   padding that does not count, a place with four bits for the rank, faults that are connection errors alone. That
+//!   calls succeed where there is memory is tested by those above them.
 #![tactic(auto)]
 
 mod connections;

@@ -85,13 +85,12 @@ fn matches<'a>(alloc: Global, words: &'a [&'a str]) -> Result<ArgMatches<'a>, Er
 }
 
 fn command<'a>(alloc: Global) -> Result<Command<'a>, AllocError> {
-    command_with_options(alloc)?.arg(file_words(alloc))
-}
-
-fn command_with_options<'a>(alloc: Global) -> Result<Command<'a>, AllocError> {
-    described(alloc)
-        .arg(parts_option(alloc))?
-        .arg(output_option(alloc))
+    let arguments = vec![in alloc;
+        parts_option(alloc),
+        output_option(alloc),
+        file_words(alloc),
+    ]?;
+    described(alloc).args(arguments)
 }
 
 fn described<'a>(alloc: Global) -> Command<'a> {
