@@ -55,7 +55,7 @@ fn record_behind<T: ByteOrder>(front: &[u8], at: usize, size: usize, unit: u64) 
 ///
 /// Its header is read where it lies; one in which chunks of the capture meet is gathered first, and fails where memory
 /// runs out.
-pub fn next_record<T: ByteOrder>(
+pub(crate) fn next_record<T: ByteOrder>(
     alloc: Global,
     capture: &Capture<'_>,
     at: usize,
