@@ -19,7 +19,7 @@ returns-clause-whole c =
     c.of-answers.ensures.bytes ∙ ap joined c.as_slice.ensures.value in
     record {
       count = refl;
-      numbers = refl;
+      numbers = tt;
       orderly = tt;
       whole = λ later tail other both.
           http2-is c.args.client.now c.args.server.now _ both.client_frames both.server_frames later tail other
