@@ -2,7 +2,7 @@ ghost use Rattle.std.specs.Prelude.{◌≡◌, ◌+◌, ◌<◌, ◌^◌, ◌++�
 ghost use Rattle.std.specs.Prelude.{OnOk};
 ghost use Rattle.std.specs.Bool.{OnFalse, OnTrue};
 ghost use Rattle.tcp_streams.specs.declared.streams.Flow.{Flow};
-ghost use Rattle.tcp_streams.specs.code.Orderly.{IsOrderly};
+ghost use Rattle.tcp_streams.specs.code.Orderly.{AreFlowsOfOne};
 ghost use Rattle.tcp_streams.specs.Bytes.{bytes_of};
 ghost use Rattle.audit_terms.specs.declared.frames.Frame.{Frame};
 ghost use Rattle.audit_terms.specs.code.runs.Orderly.{IsInRange};
@@ -56,9 +56,7 @@ impl<'a> FrameWalk<'a> {
     ) -> FrameWalk<'a>
         requires counted { IsMeasured rest }
         requires begins { BeginsWithPreface (bytes_of client.now) (bytes_left rest) }
-        requires client { IsOrderly client.now }
-        requires server { IsOrderly server.now }
-        requires together { length (bytes_of client.now) + length (bytes_of server.now) < 2 ^ 31 }
+        requires flows { AreFlowsOfOne client.now server.now }
         ensures ready { IsReadyWalk result }
         ensures whole { IsWalkAfter client.now server.now [] result }
     {
@@ -204,9 +202,7 @@ impl<'a> FrameWalk<'a> {
 ///
 /// The flows are to be as [`crate::cut`] asks, and its four kinds are these.
 pub fn begin<'a>(alloc: Global, client: &'a Flow<'a>, server: &'a Flow<'a>) -> Begun<'a>
-    requires client { IsOrderly client.now }
-    requires server { IsOrderly server.now }
-    requires together { length (bytes_of client.now) + length (bytes_of server.now) < 2 ^ 31 }
+    requires { AreFlowsOfOne client.now server.now }
     ensures { IsBegun client.now server.now result }
 {
     if !server.started {

@@ -41,12 +41,6 @@ pub record IsSideFlow (capture : List ℕ) (packets : List Packet) (connection :
   pub within : length (bytes_of flow) ≤ payload_sum (side_segments packets connection side)
   pub orderly : IsOrderly flow
 
--- both flows of one connection, as readers of their frames want them
-pub record AreFlowsOfOne (client server : Flow) : Type 0 where
-  pub client_orderly : IsOrderly client
-  pub server_orderly : IsOrderly server
-  pub together : length (bytes_of client) + length (bytes_of server) < 2 ^ 31
-
 -- what an outcome keeps of a cut
 abbrev pub KeepsCut : Outcome → Cut → Type 0
 KeepsCut (outcome.Audited audited) (Http2 frames tails) =
