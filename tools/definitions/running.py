@@ -87,7 +87,8 @@ class Reader:
         if len(octets) < 9 or header["length"] != len(payload):
             raise ValueError(f"line {number}: no whole frame")
         spelled = {"header": header, "body": self.ask("body_of", header["code"], header["flags"], payload)}
-        return self.ask("captured", Made(side), number, {"upto": 0, "rec": number, "nanos": number * 1000}, spelled)
+        arrival = {"upto": 0, "rec": number, "nanos": number * 1000}
+        return self.ask("captured", Made(side), number, arrival, spelled)["frame"]
 
     def listing(self, sent: list[tuple[str, bytes]]) -> bytes:
         """What the definitions find in frames, each given by its side and its bytes: all that they find, the part of it

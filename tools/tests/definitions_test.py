@@ -48,7 +48,7 @@ CHANGES = [
     ),
     ("tcp_streams/specs/Pair.antt", "(a.address == b.address) && (a.port == b.port)", "a.address == b.address"),
     ("h2_frames/specs/Body.antt", "if length payload == 5 then Priority", "if length payload == 4 then Priority"),
-    ("h2_frames/specs/CaptureOrder.antt", "nat_lt y.rec x.rec", "nat_lt x.rec y.rec"),
+    ("h2_frames/specs/CaptureOrder.antt", "nat_lt y.frame.rec x.frame.rec", "nat_lt x.frame.rec y.frame.rec"),
     ("audit_terms/specs/Window.antt", "int_le credit (pos 0)", "int_lt credit (pos 0)"),
     ("audit_terms/specs/Finding.antt", "if stops x then x ∷ []", "if stops x then []"),
     ("audit_report/specs/Stalls.antt", "then stall_of frames found", "then stall_of []  found"),

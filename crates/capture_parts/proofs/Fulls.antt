@@ -1,5 +1,5 @@
 -- By which record a part is full, as more of the records is known.
-use Rattle.capture_parts.proofs.Terms.{FullPart, List, None, Option, Pair, Some, [], ap, ap₂, append-nil, arith}
+use Rattle.capture_parts.proofs.Terms.{FullPart, List, None, Option, Endpoints, Some, [], ap, ap₂, append-nil, arith}
 use Rattle.capture_parts.proofs.Terms.{cases_eq, cases_lt, cond-false, cond-true, eq-eqb, false, full_at, full_from}
 use Rattle.capture_parts.proofs.Terms.{given, given_from}
 use Rattle.capture_parts.proofs.Terms.{if◌then◌else◌, inl, inr, le-ltb, length, nat_lt, length-append, lt-ltb, ne_eqb}
@@ -11,15 +11,15 @@ use Rattle.capture_parts.proofs.Given.{given_from-snoc}
 -- ---- at one record
 
 -- a part is not full below 2^31 bytes, and is from there on
-full_at-room : (size count : ℕ) (pair : Option Pair) → size + count < 2 ^ 31 → full_at size count pair ≡ None
+full_at-room : (size count : ℕ) (pair : Option Endpoints) → size + count < 2 ^ 31 → full_at size count pair ≡ None
 full_at-room size count pair room = cond-true _ _ _ (lt-ltb (size + count) (2 ^ 31) room)
 
-full_at-none : (size count : ℕ) (pair : Option Pair) → 2 ^ 31 ≤ size + count
+full_at-none : (size count : ℕ) (pair : Option Endpoints) → 2 ^ 31 ≤ size + count
     → full_at size count pair ≡ Some (record { pair = pair })
 full_at-none size count pair none = cond-false _ _ _ (le-ltb (size + count) (2 ^ 31) none)
 
 -- so many bytes more of a record with this pair: at once, or one after the other
-full_at-more : (size a b : ℕ) (pair first : Option Pair) → size < 2 ^ 31 → (0 < a → first ≡ pair)
+full_at-more : (size a b : ℕ) (pair first : Option Endpoints) → size < 2 ^ 31 → (0 < a → first ≡ pair)
     → option_or (full_at size a first) (full_at (size + a) b pair) ≡ full_at size (a + b) pair
 full_at-more size a b pair first small same = elim (cases_lt (size + a) (2 ^ 31)) [
   | inl room ↦ rw (full_at-room size a first room)
@@ -35,7 +35,7 @@ or_same : {X : Type 0} (a b c : Option X) → (a ≡ None → b ≡ c) → optio
 or_same None b c same = same refl
 or_same (Some x) b c same = refl
 
-full_at-same : (size a : ℕ) (pair first : Option Pair) → size < 2 ^ 31 → (0 < a → first ≡ pair)
+full_at-same : (size a : ℕ) (pair first : Option Endpoints) → size < 2 ^ 31 → (0 < a → first ≡ pair)
     → full_at size a first ≡ full_at size a pair
 full_at-same size a pair first small same = elim (cases_eq a 0) [
   | inl none ↦
@@ -103,7 +103,7 @@ module _ (link parts i : ℕ) where
       let at : 1 + length records ≡ n = omega (arith, is) in
       let before : ℕ = size + length (all 1 records) in
       let a : ℕ = length (one n was) in
-      let pair : Option Pair = pair_at link now in
+      let pair : Option Endpoints = pair_at link now in
       elim (cases_eq p i) [
         | inl own ↦
             let is_own : (p == i) ≡ true = eq-eqb p i own in

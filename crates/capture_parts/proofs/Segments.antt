@@ -16,7 +16,7 @@ use Rattle.packet_heads.specs.code.Standing.{IsPassedOver}
 use Rattle.packet_heads.specs.declared.packets.Packet.{Packet}
 use Rattle.packet_heads.specs.declared.packets.Packet.TheVariants as packets
 use Rattle.packet_heads.specs.declared.packets.Segment.{Segment}
-use Rattle.capture_parts.specs.declared.pair.Pair.{Pair}
+use Rattle.capture_parts.specs.declared.pair.Endpoints.{Endpoints}
 
 -- where every line of a table passes a packet over, a segment is answered where none applies
 none_applies : (lines : List (Bool × Packet)) → AllByRecursion (λ line. IsPassedOver line.1) lines → (x s : Segment)
@@ -119,4 +119,4 @@ segments_name_lem link number row packet s e =
     ∙ drop-take start k packet in
     let (is, pair) = named k d (omega (arith, small)) (not-false _ version) (not-false _ protocol) (ltb-false _ 20 long)
     (ltb-false _ 20 short) in
-    rw (seen, is) (ap Some (pair ∙ ap (λ (y : Segment). let p : Pair = record { from = y.from; to = y.to } in p) same))
+    rw (seen, is) (ap Some (pair ∙ ap (λ (y : Segment). let p : Endpoints = record { from = y.from; to = y.to } in p) same))

@@ -32,7 +32,7 @@ pub use Rattle.capture_parts.specs.Parts.{AllGrow, AreSplit, Grows}
 pub use Rattle.capture_parts.specs.Inputs.{HasHeld, HaveHeld}
 pub use Rattle.capture_parts.specs.code.Dealing.{Deals, EndsSplit, HasBegun, HasEntered, HasTurned, OneGrows}
 pub use Rattle.capture_parts.specs.declared.dealer.Dealer.{Dealer}
-pub use Rattle.capture_parts.specs.declared.pair.Pair.{Pair}
+pub use Rattle.capture_parts.specs.declared.pair.Endpoints.{Endpoints}
 pub use Rattle.capture_parts.specs.declared.part.FullPart.{FullPart}
 pub use Rattle.capture_parts.specs.declared.part.Part.{Part}
 pub use Rattle.capture_parts.specs.laws.Parts.{SameRecords, SegmentsName}

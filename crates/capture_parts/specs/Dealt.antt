@@ -7,7 +7,7 @@ use Rattle.byteorder.specs.Endian.{big_bytes}
 use Rattle.pcap_records.specs.FileHeader.{ByteOrder}
 use Rattle.pcap_records.specs.Record.{BeginsWithRecord, captured_length}
 use Rattle.capture_parts.specs.Pair.{front_of, pair_of, part_of}
-use Rattle.capture_parts.specs.declared.pair.Pair.{Pair}
+use Rattle.capture_parts.specs.declared.pair.Endpoints.{Endpoints}
 use Rattle.capture_parts.specs.declared.part.FullPart.{FullPart}
 
 -- a record of a capture: its header of 16 bytes, and the captured ones
@@ -22,11 +22,11 @@ pub record AreRecords (number : ByteOrder) (bytes : List ℕ) (records : List (L
   pub none_left : ¬ BeginsWithRecord number rest
 
 -- a part of this size is full at so many bytes of a record with this pair: with them it would reach 2^31 bytes
-abbrev pub full_at : (size count : ℕ) → Option Pair → Option FullPart
+abbrev pub full_at : (size count : ℕ) → Option Endpoints → Option FullPart
 full_at size count pair = if nat_lt (size + count) (2 ^ 31) then None else Some (record { pair = pair })
 
 -- the endpoints that the packet of this record names
-abbrev pub pair_at : (link : ℕ) → List ℕ → Option Pair
+abbrev pub pair_at : (link : ℕ) → List ℕ → Option Endpoints
 pair_at link bytes = pair_of link (front_of (drop 16 bytes))
 
 -- link type of the capture, number of parts

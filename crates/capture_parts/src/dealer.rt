@@ -17,7 +17,7 @@ ghost use Rattle.capture_parts.specs.declared.part.Part.{Part};
 
 use crate::fault::SplitFault;
 use crate::header::{is_little, link_type};
-use crate::pair::{PORTS, Pair, pair_of, part_of};
+use crate::pair::{Endpoints, PORTS, pair_of, part_of};
 use crate::part::Part;
 use byteorder::{BigEndian, LittleEndian};
 use packet_heads::ethernet::TAGGED_HEADER;
@@ -40,7 +40,7 @@ pub(crate) struct Dealer {
     /// How many records were begun.
     number: u64,
     /// The pair and the part of the last of them, and how many of its bytes are still to come.
-    pair: Option<Pair>,
+    pair: Option<Endpoints>,
     part: usize,
     left: u64,
 }
@@ -246,7 +246,7 @@ fn give_bytes<W: Write + Drop>(
     parts: &mut [Part<W>],
     part: usize,
     bytes: &[u8],
-    pair: Option<Pair>,
+    pair: Option<Endpoints>,
 ) -> Result<(), SplitFault>
     requires { part < length parts.old }
     ensures count { length parts.new ≡ length parts.old }

@@ -5,13 +5,13 @@ ghost use Rattle.std.specs.Fn.{FnReturnsAt};
 ghost use Rattle.std.specs.Io.KnownBytes.{Consumes, IsAtEnd};
 ghost use Rattle.pcap_records.specs.FileHeader.{format_of, link_of, number_of};
 ghost use Rattle.capture_parts.specs.Parts.{AreSplit};
-ghost use Rattle.capture_parts.specs.Inputs.{HasHeld, HaveHeld};
+ghost use Rattle.capture_parts.specs.Inputs.{HaveHeld};
 ghost use Rattle.capture_parts.specs.code.Dealing.{Deals, EndsSplit};
 
 use crate::fault::{FileFault, SplitFault};
 use crate::header::link_type;
 use crate::part::Part;
-use crate::splitting::{Splitter, read_header, split_file, split_last};
+use crate::splitting::{Splitter, read_header};
 use pcap_records::{FILE_HEADER, refusal};
 use std::io;
 use std::io::{Read, Write};
@@ -27,24 +27,24 @@ pub fn split_capture<R: Read, F: Read + Drop, O: Fn(&str) -> io::Result<F>, W: W
     header: &[u8],
     reader: &mut R,
     later: &[String],
-    open: &O,
+    open_file: &O,
     buffer: Vec<u8>,
     parts: Vec<Part<W>>,
 ) -> Result<Vec<Part<W>>, FileFault>
     requires header { 24 ≤ length header.now }
     requires buffer { 98 ≤ vec_len buffer }
     requires some { 0 < vec_len parts }
-    requires opens { O.IsAlwaysCallable open.now }
+    requires opens { O.IsAlwaysCallable open_file.now }
     ensures { IfOk result (λ split. (given : List ℕ)
         × (behind : List ℕ)
         × Consumes (R.remaining reader.old) (R.remaining reader.new) given
         × IsAtEnd (R.remaining reader.new)
-        × HaveHeld (λ path file. FnReturnsAt O.Fn open.now path (Ok file)) F.remaining later.now behind
+        × HaveHeld (λ path file. FnReturnsAt O.Fn open_file.now path (Ok file)) F.remaining later.now behind
         × IfSome (format_of header.now) (λ format. AreSplit W.contents (number_of format.endian)
         (link_of (number_of format.endian) header.now) (given ++ behind) parts.items split.items)) }
 {
     let mut splitter = Splitter::behind(header, buffer, parts);
-    split_files(&mut splitter, header, reader, later, open)?;
+    split_files(&mut splitter, header, reader, later, open_file)?;
     Ok(splitter.into_parts())
 }
 
@@ -54,24 +54,25 @@ fn split_files<R: Read, F: Read + Drop, O: Fn(&str) -> io::Result<F>, W: Write +
     header: &[u8],
     reader: &mut R,
     later: &[String],
-    open: &O,
+    open_file: &O,
 ) -> Result<(), FileFault>
     requires header { 24 ≤ length header.now }
-    requires opens { O.IsAlwaysCallable open.now }
+    requires opens { O.IsAlwaysCallable open_file.now }
     ensures { OnOk result ((given : List ℕ)
         × (behind : List ℕ)
         × Consumes (R.remaining reader.old) (R.remaining reader.new) given
         × IsAtEnd (R.remaining reader.new)
-        × HaveHeld (λ path file. FnReturnsAt O.Fn open.now path (Ok file)) F.remaining later.now behind
+        × HaveHeld (λ path file. FnReturnsAt O.Fn open_file.now path (Ok file)) F.remaining later.now behind
         × EndsSplit W.contents splitter.old.dealing.dealer splitter.old.dealing.parts.items
         splitter.new.dealing.parts.items (given ++ behind)) }
 {
     let Some((last, between)) = later.split_last() else {
-        return in_file(0, split_last(splitter, reader));
+        return in_file(0, splitter.finish_file(reader));
     };
-    in_file(0, split_file(splitter, reader))?;
-    split_between(splitter, header, between, open)?;
-    split_end(splitter, header, later.len(), last.as_str(), open)
+    in_file(0, splitter.split_file(reader))?;
+    split_between(splitter, header, between, open_file)?;
+    let mut file = in_file(later.len(), open_later(header, last.as_str(), open_file))?;
+    in_file(later.len(), splitter.finish_file(&mut file))
 }
 
 /// Deals later files of a capture, behind which another one comes.
@@ -79,57 +80,20 @@ fn split_between<F: Read + Drop, O: Fn(&str) -> io::Result<F>, W: Write + Drop>(
     splitter: &mut Splitter<W>,
     header: &[u8],
     between: &[String],
-    open: &O,
+    open_file: &O,
 ) -> Result<(), FileFault>
     requires header { 24 ≤ length header.now }
-    requires opens { O.IsAlwaysCallable open.now }
+    requires opens { O.IsAlwaysCallable open_file.now }
     ensures { OnOk result ((given : List ℕ)
-        × HaveHeld (λ path file. FnReturnsAt O.Fn open.now path (Ok file)) F.remaining between.now given
+        × HaveHeld (λ path file. FnReturnsAt O.Fn open_file.now path (Ok file)) F.remaining between.now given
         × Deals W.contents splitter.old.dealing.dealer splitter.new.dealing.dealer
         splitter.old.dealing.parts.items splitter.new.dealing.parts.items given) }
 {
     for (index, path) in between.iter().enumerate() {
-        split_one(splitter, header, index + 1, path.as_str(), open)?;
+        let mut file = in_file(index + 1, open_later(header, path.as_str(), open_file))?;
+        in_file(index + 1, splitter.split_file(&mut file))?;
     }
     Ok(())
-}
-
-/// Deals the later file of this number and name, behind which another one comes.
-fn split_one<F: Read + Drop, O: Fn(&str) -> io::Result<F>, W: Write + Drop>(
-    splitter: &mut Splitter<W>,
-    header: &[u8],
-    number: usize,
-    path: &str,
-    open: &O,
-) -> Result<(), FileFault>
-    requires header { 24 ≤ length header.now }
-    requires opens { O.IsAlwaysCallable open.now }
-    ensures { OnOk result ((given : List ℕ)
-        × HasHeld (λ path file. FnReturnsAt O.Fn open.now path (Ok file)) F.remaining path.now given
-        × Deals W.contents splitter.old.dealing.dealer splitter.new.dealing.dealer
-        splitter.old.dealing.parts.items splitter.new.dealing.parts.items given) }
-{
-    let mut file = in_file(number, open_later(header, path, open))?;
-    in_file(number, split_file(splitter, &mut file))
-}
-
-/// Deals the last file of a capture, which has this number and name.
-fn split_end<F: Read + Drop, O: Fn(&str) -> io::Result<F>, W: Write + Drop>(
-    splitter: &mut Splitter<W>,
-    header: &[u8],
-    number: usize,
-    path: &str,
-    open: &O,
-) -> Result<(), FileFault>
-    requires header { 24 ≤ length header.now }
-    requires opens { O.IsAlwaysCallable open.now }
-    ensures { OnOk result ((given : List ℕ)
-        × HasHeld (λ path file. FnReturnsAt O.Fn open.now path (Ok file)) F.remaining path.now given
-        × EndsSplit W.contents splitter.old.dealing.dealer splitter.old.dealing.parts.items
-        splitter.new.dealing.parts.items given) }
-{
-    let mut file = in_file(number, open_later(header, path, open))?;
-    in_file(number, split_last(splitter, &mut file))
 }
 
 /// Says in which file a fault is.
@@ -146,17 +110,17 @@ fn in_file<T: Drop>(file: usize, found: Result<T, SplitFault>) -> Result<T, File
 fn open_later<F: Read + Drop, O: Fn(&str) -> io::Result<F>>(
     header: &[u8],
     path: &str,
-    open: &O,
+    open_file: &O,
 ) -> Result<F, SplitFault>
     requires header { 24 ≤ length header.now }
-    requires opens { O.IsAlwaysCallable open.now }
+    requires opens { O.IsAlwaysCallable open_file.now }
     ensures { IfOk result (λ file. (opened : F)
         × (own : List ℕ)
-        × FnReturnsAt O.Fn open.now path.now (Ok opened)
+        × FnReturnsAt O.Fn open_file.now path.now (Ok opened)
         × (length own ≡ 24)
         × Consumes (F.remaining opened) (F.remaining file) own) }
 {
-    let Ok(mut file) = open(path) else {
+    let Ok(mut file) = open_file(path) else {
         return Err(SplitFault::Open);
     };
     let mut own = [0; FILE_HEADER];

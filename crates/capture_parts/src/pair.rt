@@ -12,7 +12,7 @@ use pcap_records::RAW_IP;
 
 /// The endpoints of a packet.
 #[derive(Clone, Copy)]
-pub struct Pair {
+pub struct Endpoints {
     /// Its sender.
     pub from: Endpoint,
     /// Its receiver.
@@ -64,7 +64,7 @@ fn receiver(datagram: &[u8], segment: &[u8]) -> Endpoint
 }
 
 /// The endpoints in a datagram of IPv4 and TCP, where its ports are there.
-fn pair_in(datagram: &[u8]) -> Option<Pair>
+fn pair_in(datagram: &[u8]) -> Option<Endpoints>
     ensures { result ≡ (if words.names_endpoints datagram.now then Some (words.pair_in datagram.now) else None) }
 {
     if datagram.len() < IPV4_HEADER
@@ -78,14 +78,14 @@ fn pair_in(datagram: &[u8]) -> Option<Pair>
         return None;
     }
     let segment = &datagram[header..];
-    Some(Pair {
+    Some(Endpoints {
         from: sender(datagram, segment),
         to: receiver(datagram, segment),
     })
 }
 
 /// The endpoints that a packet with this front names.
-pub fn pair_of(link: u16, front: &[u8]) -> Option<Pair>
+pub(crate) fn pair_of(link: u16, front: &[u8]) -> Option<Endpoints>
     ensures { result ≡ words.pair_of link front.now }
 {
     if front.len() < IPV4_HEADER {
@@ -106,7 +106,7 @@ fn endpoint_key(endpoint: Endpoint) -> u64
 }
 
 /// A number that spreads pairs over parts.
-fn spread(number: u64, pair: Option<Pair>) -> u64
+fn spread(number: u64, pair: Option<Endpoints>) -> u64
     ensures { result ≡ words.spread number pair }
 {
     match pair {
@@ -119,7 +119,7 @@ fn spread(number: u64, pair: Option<Pair>) -> u64
 }
 
 /// The part of a record of this number, with this pair, counted from 0, where there are so many parts.
-pub fn part_of(parts: usize, number: u64, pair: Option<Pair>) -> usize
+pub(crate) fn part_of(parts: usize, number: u64, pair: Option<Endpoints>) -> usize
     requires { 0 < parts }
     ensures part { result ≡ words.part_of parts number pair }
     ensures within { result < parts }

@@ -7,7 +7,7 @@ ghost use Rattle.byteorder.specs.Endian.{big_bytes};
 ghost use Rattle.capture_parts.specs.Dealt.{full_at};
 
 use crate::fault::PartFile;
-use crate::pair::Pair;
+use crate::pair::Endpoints;
 use pcap_records::MOST_BYTES;
 use std::io::{BufWriter, Write};
 
@@ -22,7 +22,7 @@ pub fn part_count(asked: u32) -> usize
 #[derive(Clone, Copy)]
 pub struct FullPart {
     /// Its endpoints, if it names any.
-    pub pair: Option<Pair>,
+    pub pair: Option<Endpoints>,
 }
 
 /// A part: a capture, and the number of each of its records in the whole.
@@ -73,7 +73,11 @@ impl<W: Write + Drop> Part<W> {
     }
 
     /// Takes bytes of a record with this pair, where there is room.
-    pub(crate) fn take_bytes(&mut self, bytes: &[u8], pair: Option<Pair>) -> Result<(), PartFile>
+    pub(crate) fn take_bytes(
+        &mut self,
+        bytes: &[u8],
+        pair: Option<Endpoints>,
+    ) -> Result<(), PartFile>
         ensures { OnOk result (Grows W.contents self.old self.new bytes.now []
             (full_at self.old.size (length bytes.now) pair)) }
     {

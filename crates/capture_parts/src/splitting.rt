@@ -14,14 +14,14 @@ use crate::part::Part;
 use std::alloc::{AllocError, Global};
 use std::io::{Read, Write};
 
-/// The bytes that are read at a time.
-const BUFFER: usize = 262_144;
+/// How many bytes are read at a time.
+const BUFFER_BYTES: usize = 262_144;
 
 /// A buffer for reads, which is long enough for a packet's front. Fails where memory runs out.
 pub fn make_buffer(alloc: Global) -> Result<Vec<u8>, AllocError>
     ensures { IfOk result (λ buffer. vec_len buffer ≡ 262144) }
 {
-    vec![in alloc; 0; BUFFER]
+    vec![in alloc; 0; BUFFER_BYTES]
 }
 
 /// Reads the header of a file, and answers how many bytes of it there are. Fails where a read does.
@@ -68,55 +68,41 @@ impl<W: Write + Drop> Splitter<W> {
         }
     }
 
+    /// Deals a file of a capture behind which another one comes, from behind its header on. It has to end with a whole
+    /// record, else the fault is [`SplitFault::CutRecord`].
+    pub(crate) fn split_file<R: Read>(&mut self, reader: &mut R) -> Result<(), SplitFault>
+        ensures whole { OnOk result (self.new.dealing.dealer.left ≡ 0) }
+        ensures dealt { OnOk result ((given : List ℕ)
+            × Consumes (R.remaining reader.old) (R.remaining reader.new) given
+            × IsAtEnd (R.remaining reader.new)
+            × Deals W.contents self.old.dealing.dealer self.new.dealing.dealer
+            self.old.dealing.parts.items self.new.dealing.parts.items given) }
+    {
+        let filled = deal_file(&mut self.dealing, reader, self.buffer.as_mut_slice())?;
+        if filled == 0 && self.dealing.is_between() {
+            Ok(())
+        } else {
+            Err(SplitFault::CutRecord)
+        }
+    }
+
+    /// Deals the last file of a capture, from behind its header on.
+    pub(crate) fn finish_file<R: Read>(&mut self, reader: &mut R) -> Result<(), SplitFault>
+        ensures { OnOk result ((given : List ℕ)
+            × Consumes (R.remaining reader.old) (R.remaining reader.new) given
+            × IsAtEnd (R.remaining reader.new)
+            × EndsSplit W.contents self.old.dealing.dealer self.old.dealing.parts.items
+            self.new.dealing.parts.items given) }
+    {
+        let filled = deal_file(&mut self.dealing, reader, self.buffer.as_mut_slice())?;
+        self.dealing.finish(&self.buffer[..filled])
+    }
+
     /// The parts, with what they got.
     pub(crate) fn into_parts(self) -> Vec<Part<W>>
         ensures { result ≡ self.dealing.parts }
     {
         self.dealing.parts
-    }
-}
-
-/// Deals the last file of a capture, from behind its header on.
-pub(crate) fn split_last<R: Read, W: Write + Drop>(
-    splitter: &mut Splitter<W>,
-    reader: &mut R,
-) -> Result<(), SplitFault>
-    ensures { OnOk result ((given : List ℕ)
-        × Consumes (R.remaining reader.old) (R.remaining reader.new) given
-        × IsAtEnd (R.remaining reader.new)
-        × EndsSplit W.contents splitter.old.dealing.dealer splitter.old.dealing.parts.items
-        splitter.new.dealing.parts.items given) }
-{
-    let filled = deal_file(
-        &mut splitter.dealing,
-        reader,
-        splitter.buffer.as_mut_slice(),
-    )?;
-    splitter.dealing.finish(&splitter.buffer[..filled])
-}
-
-/// Deals a file of a capture behind which another one comes, from behind its header on. It has to end with a whole
-/// record, else the fault is [`SplitFault::CutRecord`].
-pub(crate) fn split_file<R: Read, W: Write + Drop>(
-    splitter: &mut Splitter<W>,
-    reader: &mut R,
-) -> Result<(), SplitFault>
-    ensures whole { OnOk result (splitter.new.dealing.dealer.left ≡ 0) }
-    ensures dealt { OnOk result ((given : List ℕ)
-        × Consumes (R.remaining reader.old) (R.remaining reader.new) given
-        × IsAtEnd (R.remaining reader.new)
-        × Deals W.contents splitter.old.dealing.dealer splitter.new.dealing.dealer
-        splitter.old.dealing.parts.items splitter.new.dealing.parts.items given) }
-{
-    let filled = deal_file(
-        &mut splitter.dealing,
-        reader,
-        splitter.buffer.as_mut_slice(),
-    )?;
-    if filled == 0 && splitter.dealing.is_between() {
-        Ok(())
-    } else {
-        Err(SplitFault::CutRecord)
     }
 }
 

@@ -65,7 +65,7 @@ fn random_frame(rng: &mut Pcg32, number: u32) -> Frame {
 }
 
 /// SETTINGS of both sides, the openings of streams 1, 2, 3 and 5, and then so many frames. A promise of stream 4 among
-/// these opens a stream out of order: then one worker goes through the rounds too.
+/// these opens a stream out of order: then one worker goes through the rounds too, where credits are shown.
 fn script(alloc: Global, rng: &mut Pcg32, count: u32) -> Result<Vec<Frame>, AllocError>
     requires { count ≤ 1000 }
 {

@@ -1,6 +1,6 @@
 -- Going on in a flow's arrivals.
 use Rattle.std.proofs.Common.{◌≡◌, ℕ, ◌+◌, ◌-◌, ◌^◌, ◌<◌, ◌≤◌, false, List, [], ◌∷◌, length, get_or, refl, ap₂, arith}
-use Rattle.h2_frames.proofs.Words.{nat_lt, AllByRecursion, nat_tests, Arrival, Rises, Side, Frame, Spelled}
+use Rattle.h2_frames.proofs.Words.{nat_lt, AllByRecursion, nat_tests, Arrival, Rises, Side, SideFrame, Spelled}
 use Rattle.h2_frames.proofs.Words.{byte_arrival, captured, captured_from, arrivals_from, cond_both}
 
 past : (m k : ℕ) → nat_lt m k ≡ false → k ≤ m
@@ -22,7 +22,7 @@ captured_from-from side arrivals o number offset (s ∷ later) h =
     let upto = offset + (9 + s.header.length) in
     let first = byte_arrival-from o (upto - 1) arrivals (omega arith) in
     let rest = captured_from-from side arrivals o (number + 1) upto later (omega arith) in
-    ap₂ (λ (a : Arrival) (frames : List Frame). captured side number a s ∷ frames) first rest
+    ap₂ (λ (a : Arrival) (frames : List SideFrame). captured side number a s ∷ frames) first rest
 
 -- the first of them is where the byte arrives
 pub get_or-arrivals_from : (o : ℕ) (arrivals : List Arrival) (d : Arrival) → 0 < length (arrivals_from o arrivals) →

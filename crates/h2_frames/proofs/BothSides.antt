@@ -1,10 +1,10 @@
 -- The frames of both sides make an HTTP/2 connection's cut.
 use Rattle.std.proofs.Common.{◌≡◌, ℕ, ◌+◌, List, length, refl, ap, ap₂, ◌∙◌, arith, length-append}
-use Rattle.h2_frames.proofs.Words.{Flow, bytes_of, IsOrderly, Client, Server, Frame, numbered, preface}
+use Rattle.h2_frames.proofs.Words.{Flow, bytes_of, IsOrderly, Client, Server, SideFrame, numbered, preface}
 use Rattle.h2_frames.proofs.Words.{BeginsWithPreface, IsHttp2, merged, AreAhead}
 use Rattle.h2_frames.proofs.Merging.{captured-in_order, merged-capture_order}
 
-pub http2-is : (client server : Flow) (rest : List ℕ) (sent answered all : List Frame)
+pub http2-is : (client server : Flow) (rest : List ℕ) (sent answered all : List SideFrame)
     (sent_tail answered_tail : List ℕ) →
     BeginsWithPreface (bytes_of client) rest → IsOrderly client → IsOrderly server →
     AreAhead Client client.arrivals.items 1 24 rest sent sent_tail →

@@ -2,7 +2,7 @@
 use Rattle.std.proofs.Common.{◌≡◌, ℕ, zero, suc, ◌+◌, ◌-◌, ◌<◌, ◌≤◌, List, [], ◌∷◌, ◌++◌, length, get_or, take, drop}
 use Rattle.std.proofs.Common.{refl, ap, ◌∙◌, arith, append_assoc, add-one, length-append, length-drop, drop-cons}
 use Rattle.std.{proofs.lemmas.List.take_all, specs.Borrow.Bor}
-use Rattle.h2_frames.{proofs.Words.Pieces, proofs.Words.joined, proofs.Words.IsCounted, specs.code.Pieces.bytes_of}
+use Rattle.h2_frames.{proofs.Words.Pieces, proofs.Words.joined, proofs.Words.IsMeasured, specs.code.Pieces.bytes_left}
 
 none_before : (xs ys : List ℕ) → length xs ≡ 0 → xs ++ ys ≡ ys
 none_before [] ys h = refl
@@ -34,13 +34,13 @@ gone_on first later rest d over more rest_is = grind (arith, take_all, length-dr
 pub record IsPartlyTaken (count wanted : ℕ) (old new : Pieces) : Type 0 where
   pub front : List ℕ
   pub size : length front + wanted ≡ count
-  pub bytes : bytes_of old ≡ front ++ bytes_of new
-  pub counted : IsCounted new
-  pub there : wanted ≤ length (bytes_of new)
+  pub bytes : bytes_left old ≡ front ++ bytes_left new
+  pub counted : IsMeasured new
+  pub there : wanted ≤ length (bytes_left new)
 
 -- one part more
 abbrev pub partly_taken-turn : (count wanted : ℕ) (old now next : Pieces) (part : List ℕ)
-    → IsPartlyTaken count wanted old now → bytes_of now ≡ part ++ bytes_of next → length part ≤ wanted → IsCounted next
+    → IsPartlyTaken count wanted old now → bytes_left now ≡ part ++ bytes_left next → length part ≤ wanted → IsMeasured next
     → IsPartlyTaken count (wanted - length part) old next
 partly_taken-turn count wanted old now next part taken part_is fits counted =
     record {
@@ -48,7 +48,7 @@ partly_taken-turn count wanted old now next part taken part_is fits counted =
       size = omega (arith, length-append taken.front part, taken.size);
       bytes = rw append_assoc (taken.bytes ∙ ap (λ (xs : List ℕ). taken.front ++ xs) part_is);
       counted = counted;
-      there = omega (arith, ap length part_is, length-append part (bytes_of next), taken.there);
+      there = omega (arith, ap length part_is, length-append part (bytes_left next), taken.there);
     }
 
 pub ruleset piece_lengths = (length-from, joined-over)

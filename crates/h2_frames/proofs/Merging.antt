@@ -2,7 +2,7 @@
 use Rattle.std.proofs.Common.{◌≡◌, ℕ, ◌+◌, ◌-◌, ◌<◌, ◌≤◌, Bool, true, false, List, [], ◌∷◌, ◌++◌, length, refl, ap, sym}
 use Rattle.std.proofs.Common.{◌∙◌, arith, length-append}
 use Rattle.std.specs.Prelude.{◌&&◌, ◌||◌}
-use Rattle.h2_frames.proofs.Words.{nat_lt, ◌==◌, nat_tests, Arrival, Rises, Side, Frame, put_by, ordered_by, side_order}
+use Rattle.h2_frames.proofs.Words.{nat_lt, ◌==◌, nat_tests, Arrival, Rises, Side, SideFrame, put_by, ordered_by, side_order}
 use Rattle.h2_frames.proofs.Words.{merged, Spelled, Spells, byte_arrival, captured, captured_from, comes_after}
 use Rattle.h2_frames.proofs.Words.{numbered, capture_order}
 
@@ -16,36 +16,36 @@ unfolding is_above
 above_trans a b c x y z p q r h k = grind (arith, nat_tests)
 
 -- what comes after a frame comes before those that the frame does not come after
-after_trans : (x y z : Frame) → comes_after x y ≡ false → comes_after x z ≡ true → comes_after y z ≡ true
+after_trans : (x y z : SideFrame) → comes_after x y ≡ false → comes_after x z ≡ true → comes_after y z ≡ true
 unfolding is_above
-after_trans x y z h k = above_trans x.rec x.number (side_order x.side) y.rec y.number (side_order y.side) z.rec z.number
-    (side_order z.side) h k
+after_trans x y z h k = above_trans x.frame.rec x.frame.number (side_order x.frame.side) y.frame.rec y.frame.number
+    (side_order y.frame.side) z.frame.rec z.frame.number (side_order z.frame.side) h k
 
 -- no frame comes after the next, and x not after the first
-abbrev pub IsAscendingFrom : Frame → List Frame → Type 0
+abbrev pub IsAscendingFrom : SideFrame → List SideFrame → Type 0
 IsAscendingFrom x [] = Unit {0}
 IsAscendingFrom x (y ∷ ys) = (comes_after x y ≡ false) × IsAscendingFrom y ys
 
-abbrev pub IsAscending : List Frame → Type 0
+abbrev pub IsAscending : List SideFrame → Type 0
 IsAscending [] = Unit {0}
 IsAscending (x ∷ xs) = IsAscendingFrom x xs
 
-put-ascending : (x : Frame) (xs : List Frame) → IsAscendingFrom x xs → put_by comes_after x xs ≡ x ∷ xs
+put-ascending : (x : SideFrame) (xs : List SideFrame) → IsAscendingFrom x xs → put_by comes_after x xs ≡ x ∷ xs
 put-ascending x [] h = refl
 put-ascending x (y ∷ ys) h = rw h.0
 
-rest_ascending : (x : Frame) (xs : List Frame) → IsAscendingFrom x xs → IsAscending xs
+rest_ascending : (x : SideFrame) (xs : List SideFrame) → IsAscendingFrom x xs → IsAscending xs
 rest_ascending x [] h = tt
 rest_ascending x (y ∷ ys) h = h.1
 
 -- frames in order stay as they are
-ordered-ascending : (xs : List Frame) → IsAscending xs → ordered_by comes_after xs ≡ xs
+ordered-ascending : (xs : List SideFrame) → IsAscending xs → ordered_by comes_after xs ≡ xs
 ordered-ascending [] h = refl
 ordered-ascending (x ∷ xs) h =
     ap (put_by comes_after x) (ordered-ascending xs (rest_ascending x xs h)) ∙ put-ascending x xs h
 
 -- a frame before those of its side goes where merging puts it
-put-merge : (x : Frame) (xs ys : List Frame) → IsAscendingFrom x xs →
+put-merge : (x : SideFrame) (xs ys : List SideFrame) → IsAscendingFrom x xs →
     put_by comes_after x (merged xs ys) ≡ merged (x ∷ xs) ys
 put-merge x [] [] h = refl
 put-merge x (c ∷ xs) [] h = rw h.0
@@ -53,7 +53,7 @@ put-merge x [] (y ∷ ys) h = grind (arith, put-merge x [] ys h)
 put-merge x (c ∷ xs) (y ∷ ys) h = grind (arith, put-merge x (c ∷ xs) ys h, after_trans x c y h.0, h.0)
 
 -- merging puts the frames of both sides in order
-pub ordered-merge : (xs ys : List Frame) → IsAscending xs → IsAscending ys →
+pub ordered-merge : (xs ys : List SideFrame) → IsAscending xs → IsAscending ys →
     ordered_by comes_after (xs ++ ys) ≡ merged xs ys
 ordered-merge [] ys h k = ordered-ascending ys k
 ordered-merge (x ∷ xs) ys h k =
@@ -72,14 +72,14 @@ rec_rises low rec high o p [] rises h k l = absurd (omega arith)
 rec_rises low rec high o p (a ∷ later) rises h k l =
     grind (arith, nat_tests, rec_rises a.upto a.rec high o p later rises.2, rec_above, rises.2)
 
-later_number : (x y : Frame) → x.number < y.number → x.rec ≤ y.rec → comes_after x y ≡ false
+later_number : (x y : SideFrame) → x.frame.number < y.frame.number → x.frame.rec ≤ y.frame.rec → comes_after x y ≡ false
 later_number x y h k = grind (arith, nat_tests)
 
 -- a side's frames stand in order
 captured-ascending : (side : Side) (arrivals : List Arrival) (high : ℕ) → Rises 0 0 arrivals high
     → (number offset : ℕ) (spelled : List Spelled) (bytes tail : List ℕ) → Spells bytes spelled tail
-    → offset + length bytes ≤ high → (x : Frame) (last : ℕ) → x.number < number → last ≤ offset
-    → x.rec ≡ (byte_arrival arrivals last).rec → IsAscendingFrom x (captured_from side arrivals number offset spelled)
+    → offset + length bytes ≤ high → (x : SideFrame) (last : ℕ) → x.frame.number < number → last ≤ offset
+    → x.frame.rec ≡ (byte_arrival arrivals last).rec → IsAscendingFrom x (captured_from side arrivals number offset spelled)
 captured-ascending side arrivals high rises number offset [] bytes tail spells within x last h k e = tt
 captured-ascending side arrivals high rises number offset (s ∷ later) bytes tail spells within x last h k e =
     let makes = spells.4 in
@@ -102,6 +102,6 @@ captured-in_order side arrivals high rises offset (s ∷ later) bytes tail spell
     (captured side 0 (byte_arrival arrivals 0) s) 0 (omega arith) (omega arith) refl).1
 
 -- merged and numbered, they are the frames in capture order
-pub merged-capture_order : (client server : List Frame) → IsAscending client → IsAscending server →
+pub merged-capture_order : (client server : List SideFrame) → IsAscending client → IsAscending server →
     numbered 1 (merged client server) ≡ capture_order client server
 merged-capture_order client server h k = ap (numbered 1) (sym (ordered-merge client server h k))

@@ -1,25 +1,24 @@
 -- A walk over the frames of both sides goes on by one frame, or is over.
 use Rattle.std.proofs.Common.{◌≡◌, ℕ, ◌+◌, ◌*◌, ◌^◌, ◌<◌, ◌≤◌, List, [], ◌∷◌, ◌++◌, length, ap, ◌∙◌, arith}
 use Rattle.std.proofs.{Common.append_assoc, lemmas.List.length_push}
-use Rattle.h2_frames.proofs.Words.{Flow, Frame, IsInRange, IsOrderlyFrom, FrameWalk, numbered, AreMerged, IsWalkAfter}
-use Rattle.h2_frames.proofs.Words.{IsReadyWalk, IsWalkOn, taken_of, weight_of}
+use Rattle.h2_frames.proofs.Words.{Flow, Frame, HaveNumbersFrom, IsInRange, IsOrderlyFrom, FrameWalk, AreMerged}
+use Rattle.h2_frames.proofs.Words.{IsReadyWalk, IsWalkAfter, IsWalkOn, SideFrame, taken_of, weight_of}
 
--- one frame more is numbered
-numbered_push : (k : ℕ) (frames : List Frame) (f : Frame) →
-    numbered k (frames ++ f ∷ []) ≡ numbered k frames ++ record f { number = k + length frames } ∷ []
-numbered_push k [] f = grind arith
-numbered_push k (x ∷ frames) f = grind (arith, numbered_push (k + 1) frames f)
+-- with one frame more they have their numbers
+numbers_push : (k : ℕ) (frames : List Frame) (f : Frame) → HaveNumbersFrom k frames → f.number ≡ k + length frames →
+    HaveNumbersFrom k (frames ++ f ∷ [])
+numbers_push k [] f numbers number_is = (omega arith, tt)
+numbers_push k (x ∷ frames) f numbers number_is = (numbers.0, numbers_push (k + 1) frames f numbers.1 (omega arith))
 
--- with one frame more they are orderly
-orderly_push : (low k : ℕ) (frames : List Frame) (f : Frame) → IsOrderlyFrom low frames → numbered k frames ≡ frames →
+-- and are orderly
+orderly_push : (low k : ℕ) (frames : List Frame) (f : Frame) → IsOrderlyFrom low frames → HaveNumbersFrom k frames →
     low ≤ k → IsInRange f → f.number ≡ k + length frames → IsOrderlyFrom low (frames ++ f ∷ [])
 orderly_push low k [] f orderly numbers above range number_is = (omega arith, range, tt)
 orderly_push low k (x ∷ frames) f orderly numbers above range number_is =
-    let first : record x { number = k } ≡ x = cc in
-    let number : k ≡ x.number = ap (λ (g : Frame). g.number) first in (
+    let number = numbers.0 in (
       orderly.0,
       orderly.1,
-      orderly_push (x.number + 1) (k + 1) frames f orderly.2 (cc) (omega arith) range (omega arith),
+      orderly_push (x.number + 1) (k + 1) frames f orderly.2 numbers.1 (omega arith) range (omega arith),
     )
 
 -- reading ahead changes nothing of what was taken and is left
@@ -42,9 +41,9 @@ pub few-on : (old new : FrameWalk) → IsWalkOn old new → IsReadyWalk old → 
 few-on old new on ready = omega (arith, ready.few, on.client.weight, on.server.weight, on.taken)
 
 -- one frame is taken
-pub walk-turn : (client server : Flow) (walk walk' : FrameWalk) (frames : List Frame) (f frame : Frame) →
-    taken_of walk' ≡ taken_of walk + 1 → frame ≡ record f { number = taken_of walk + 1 } → IsInRange frame →
-    ((later : List Frame) → (tail other : List ℕ) → AreMerged walk'.client walk'.server later tail other →
+pub walk-turn : (client server : Flow) (walk walk' : FrameWalk) (frames : List Frame) (f : SideFrame)
+    (frame : Frame) → taken_of walk' ≡ taken_of walk + 1 → frame ≡ record f.frame { number = taken_of walk + 1 } → IsInRange frame →
+    ((later : List SideFrame) → (tail other : List ℕ) → AreMerged walk'.client walk'.server later tail other →
     AreMerged walk.client walk.server (f ∷ later) tail other) →
     IsWalkAfter client server frames walk → IsWalkAfter client server (frames ++ frame ∷ []) walk'
 walk-turn client server walk walk' frames f frame counted frame_is range first before =
@@ -53,11 +52,11 @@ walk-turn client server walk walk' frames f frame counted frame_is range first b
     let number_is : frame.number ≡ 1 + length frames = omega (arith, ap (λ (g : Frame). g.number) frame_is) in
     record {
       count = omega arith;
-      numbers = rw (numbered_push 1 frames frame, ← number_is, before.numbers);
+      numbers = numbers_push 1 frames frame before.numbers number_is;
       orderly = orderly_push 0 1 frames frame before.orderly before.numbers (omega arith) range number_is;
       whole = λ later tail other merged_are.
-          let next : frame ≡ record f { number = length frames + 1 } = frame_is
-          ∙ ap (λ (n : ℕ). record f { number = n + 1 }) count in
+          let next : frame ≡ record f.frame { number = length frames + 1 } = frame_is
+          ∙ ap (λ (n : ℕ). record f.frame { number = n + 1 }) count in
           rw (append_assoc frames (frame ∷ []), size, next)
           (before.whole (f ∷ later) tail other (first later tail other merged_are));
     }

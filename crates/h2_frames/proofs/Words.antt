@@ -8,15 +8,17 @@ pub use Rattle.h2_frames.specs.Preface.{BeginsWithPreface, IsPrefaceCutShort, pr
 pub use Rattle.h2_frames.specs.Settings.{first_bad, last_value, setting_at, settings_in, settings_of}
 pub use Rattle.h2_frames.specs.Spelling.{HoldsNoFrame, Makes, Spells}
 pub use Rattle.h2_frames.specs.code.Unread.{AreAhead, AreLeft, AreLeftAfter, AreMerged, IsKnown, IsPlaced, IsReadOn}
-pub use Rattle.h2_frames.specs.code.Walk.{IsReadyWalk, IsWalkAfter, IsWalkOn, tails_of, taken_of, weight_of}
-pub use Rattle.h2_frames.specs.code.{Limit.AreTakenUpTo, Limit.IsPassed, Limit.is_past, Merge.merged, Pieces.IsCounted}
-pub use Rattle.h2_frames.specs.code.{Pieces.IsOneTaken, Pieces.bytes_of as bytes_left, Pieces.joined, SameCut.IsSameCut}
+pub use Rattle.h2_frames.specs.code.Walk.{HaveNumbersFrom, IsReadyWalk, IsWalkAfter, IsWalkOn, tails_of, taken_of}
+pub use Rattle.h2_frames.specs.code.Walk.{weight_of}
+pub use Rattle.h2_frames.specs.code.{Limit.AreTakenUpTo, Limit.IsPassed, Limit.is_past, Merge.merged, Pieces.IsMeasured}
+pub use Rattle.h2_frames.specs.code.{Pieces.IsOneTaken, Pieces.bytes_left, SameCut.IsSameCut}
 pub use Rattle.h2_frames.specs.code.{Steps.IsReadable, Steps.arrivals_from, Steps.with_setting, Unread.IsReady}
-pub use Rattle.h2_frames.specs.declared.connections.Cut.TheVariants.{Http2, NoHandshake, NoPreface, NotHttp2}
-pub use Rattle.h2_frames.specs.declared.connections.Cut.{Cut}
+pub use Rattle.h2_frames.specs.declared.cuts.Cut.TheVariants.{Http2, NoHandshake, NoPreface, NotHttp2}
+pub use Rattle.h2_frames.specs.declared.cuts.Cut.{Cut}
 pub use Rattle.h2_frames.specs.declared.unread.Next.TheVariants.{Over, Read, Unread as ToRead}
 pub use Rattle.h2_frames.specs.declared.{headers.Header.Header, limits.Limit.Limit, pieces.Pieces.Pieces}
-pub use Rattle.h2_frames.specs.declared.{settings.Setting.Setting, spelling.Spelled.Spelled, unread.Next.Next}
+pub use Rattle.h2_frames.specs.declared.{settings.Setting.Setting, side_frames.SideFrame.SideFrame, unread.Next.Next}
+pub use Rattle.h2_frames.specs.declared.{spelling.Spelled.Spelled}
 pub use Rattle.h2_frames.specs.declared.{unread.Unread.Unread, walk.FrameWalk.FrameWalk}
 pub use Rattle.h2_frames.specs.laws.Unique.{CutIsUnique, IsSameFlow, SpellingIsUnique}
 pub use Rattle.h2_frames.specs.{Body.body_of, CaptureOrder.numbered, Cut.IsCut, Cut.IsHttp2, Header.header_of}
@@ -24,4 +26,4 @@ pub use Rattle.std.proofs.lemmas.{Bool.cond_both, Bool.Decides.nat_tests, List.a
 pub use Rattle.std.specs.Prelude.{Err, Ok, Result, nat_lt, ◌==◌}
 pub use Rattle.std.specs.{List.AllByRecursion, Option.ForSome}
 pub use Rattle.tcp_streams.specs.declared.streams.{Arrival.Arrival, Flow.Flow}
-pub use Rattle.tcp_streams.specs.{Arrivals.Rises, Bytes.bytes_of, code.Orderly.IsOrderly}
+pub use Rattle.tcp_streams.specs.{Arrivals.Rises, Bytes.bytes_of, Bytes.joined, code.Orderly.IsOrderly}

@@ -2,32 +2,34 @@ ghost use Rattle.std.specs.Prelude.{◌≡◌, ◌+◌, ◌<◌, ◌^◌, [], �
 ghost use Rattle.h2_frames.specs.code.Batch.{IsNumbered, IsReadyMerge, frames_of, left_of};
 ghost use Rattle.h2_frames.specs.code.Limit.{AreBothTaken};
 ghost use Rattle.h2_frames.specs.code.Merge.{is_first_of_server};
-ghost use Rattle.h2_frames.specs.code.Unread.{IsAhead};
+ghost use Rattle.h2_frames.specs.code.Unread.{IsReadAhead};
 
 use crate::limits::Limit;
-use crate::order::comes_after;
+use crate::side_frames::SideFrame;
 use crate::unread::Unread;
 use audit_terms::Frame;
 use std::alloc::{AllocError, Global};
 use std::thread::{Threads, join_mut};
 
-/// How many frames a batch should have at least: to start threads costs as much as to read some hundred.
-const FEW: u64 = 8_192;
+/// With fewer frames than these in a batch, the next one reads twice as far: to start threads costs as much as to read
+/// some hundred frames. Four times as many in a batch were measured, and gained nothing.
+const FEW_FRAMES: u64 = 8_192;
 
-/// How many frames it should have at most: they are to stay in the cache of a processor.
-const MANY: u64 = 32_768;
+/// With more frames than these in a batch, the next one reads half as far: they are to stay in the cache of a
+/// processor.
+const MANY_FRAMES: u64 = 32_768;
 
 /// How many bytes of a side are read for a batch at least.
-const LEAST_REACH: u32 = 131_072;
+const LEAST_REACH_BYTES: u32 = 131_072;
 
-/// How many are read at most: so many may hold 116,508 frames, of nine bytes each, which take 4.7 MB in a list.
-const MOST_REACH: u32 = 1_048_576;
+/// How many are read at most: they hold up to 116,508 frames, of nine bytes each, which take 4.7 MB in a list.
+const MOST_REACH_BYTES: u32 = 1_048_576;
 
 /// Frames of both sides that were taken together: each comes before any that was not taken.
 #[derive(Drop)]
 pub struct FrameBatch {
-    pub(crate) client: Vec<Frame>,
-    pub(crate) server: Vec<Frame>,
+    pub(crate) client: Vec<SideFrame>,
+    pub(crate) server: Vec<SideFrame>,
     /// How many frames were taken before them.
     pub(crate) before: u32,
     /// How many bytes of each side they were to reach over.
@@ -44,7 +46,7 @@ impl FrameBatch {
             client: Vec::new(alloc),
             server: Vec::new(alloc),
             before: 0,
-            reach: LEAST_REACH / 2,
+            reach: LEAST_REACH_BYTES / 2,
             alloc,
         }
     }
@@ -61,9 +63,9 @@ impl FrameBatch {
         ensures server { self.new.server ≡ self.old.server }
     {
         let frames = self.client.len() as u64 + self.server.len() as u64;
-        if frames < FEW && self.reach < MOST_REACH {
+        if frames < FEW_FRAMES && self.reach < MOST_REACH_BYTES {
             self.reach *= 2;
-        } else if MANY < frames && LEAST_REACH < self.reach {
+        } else if MANY_FRAMES < frames && LEAST_REACH_BYTES < self.reach {
             self.reach /= 2;
         }
         self.reach
@@ -107,18 +109,18 @@ impl FrameBatch {
 /// The frames of a batch, handed out one by one in capture order.
 #[derive(Drop)]
 pub struct Merge<'a> {
-    client: &'a [Frame],
-    server: &'a [Frame],
+    client: &'a [SideFrame],
+    server: &'a [SideFrame],
     /// How many frames were handed out, with those of the batches before.
     taken: u32,
 }
 
 /// Does the server's first frame come before the client's?
-fn is_first_of_server(client: &[Frame], server: &[Frame]) -> bool
+fn is_first_of_server(client: &[SideFrame], server: &[SideFrame]) -> bool
     ensures { result ≡ is_first_of_server client.now server.now }
 {
     match (client, server) {
-        ([x, ..], [y, ..]) => comes_after(x, y),
+        ([x, ..], [y, ..]) => x.comes_after(y),
         ([_, ..], []) => false,
         ([], _) => true,
     }
@@ -142,41 +144,21 @@ impl<'a> Merge<'a> {
             first
         };
         self.taken += 1;
-        Some(Frame {
-            number: self.taken,
-            ..*first
-        })
+        Some(first.numbered(self.taken))
     }
 }
 
-/// Takes the frames of both sides up to a limit, one side's after the other's.
-pub(crate) fn take_in_turn(
-    limit: Limit,
-    client: &mut Unread<'_>,
-    server: &mut Unread<'_>,
-    sent: &mut Vec<Frame>,
-    answered: &mut Vec<Frame>,
-) -> Result<(), AllocError>
-    requires client { IsAhead client.old }
-    requires server { IsAhead server.old }
-    ensures { OnOk result (AreBothTaken limit client.old client.new server.old server.new sent.new.items
-        answered.new.items) }
-{
-    client.take_up_to(limit, sent)?;
-    server.take_up_to(limit, answered)
-}
-
-/// The same, each side's on a thread of its own where these can be had.
+/// Takes the frames of both sides up to a limit, each side's on a thread of its own where these can be had.
 pub(crate) fn take_side_by_side<R: Threads>(
     rt: &R,
     limit: Limit,
     client: &mut Unread<'_>,
     server: &mut Unread<'_>,
-    sent: &mut Vec<Frame>,
-    answered: &mut Vec<Frame>,
+    sent: &mut Vec<SideFrame>,
+    answered: &mut Vec<SideFrame>,
 ) -> Result<(), AllocError>
-    requires client { IsAhead client.old }
-    requires server { IsAhead server.old }
+    requires client { IsReadAhead client.old }
+    requires server { IsReadAhead server.old }
     ensures { OnOk result (AreBothTaken limit client.old client.new server.old server.new sent.new.items
         answered.new.items) }
 {

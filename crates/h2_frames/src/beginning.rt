@@ -1,7 +1,7 @@
 ghost use Rattle.std.specs.Prelude.{◌≡◌, ℕ, List};
 ghost use Rattle.h2_frames.specs.Preface.{BeginsWithPreface, IsPrefaceCutShort, preface};
 ghost use Rattle.h2_frames.specs.code.Beginning.{IsBeginning};
-ghost use Rattle.h2_frames.specs.code.Pieces.{bytes_of, IsCounted};
+ghost use Rattle.h2_frames.specs.code.Pieces.{bytes_left, IsMeasured};
 
 use crate::pieces::Pieces;
 
@@ -19,8 +19,8 @@ pub(crate) enum Beginning<'a> {
 }
 
 pub(crate) fn beginning_of(bytes: Pieces<'_>) -> Beginning<'_>
-    requires { IsCounted bytes }
-    ensures { IsBeginning (bytes_of bytes.entry) result }
+    requires { IsMeasured bytes }
+    ensures { IsBeginning (bytes_left bytes.entry) result }
 {
     let mut rest = bytes;
     for expected in &PREFACE {

@@ -1,15 +1,15 @@
-ghost use Rattle.std.specs.Prelude.{◌≡◌, ℕ, ◌+◌, ◌<◌, ◌^◌, List, length, IsTrue, IfOk, OnErr};
-ghost use Rattle.tcp_streams.specs.declared.streams.Flow.{Flow};
-ghost use Rattle.tcp_streams.specs.code.Orderly.{IsOrderly};
+ghost use Rattle.std.specs.Prelude.{◌≡◌, ℕ, List, IsTrue, IfOk, OnErr};
+ghost use Rattle.tcp_streams.specs.declared.flows.Flow.{Flow};
+ghost use Rattle.tcp_streams.specs.code.Orderly.{AreFlowsOfOne};
 ghost use Rattle.tcp_streams.specs.Bytes.{bytes_of};
 ghost use Rattle.h2_frames.specs.Cut.{IsCut};
 ghost use Rattle.h2_frames.specs.code.SameCut.{IsSameCut};
 ghost use Rattle.h2_frames.specs.code.Orderly.{HasOrderlyFrames};
 ghost use Rattle.h2_frames.specs.code.Walk.{IsFreshWalk, IsReadyWalk};
-ghost use Rattle.h2_frames.specs.declared.connections.Cut.{Cut};
+ghost use Rattle.h2_frames.specs.declared.cuts.Cut.{Cut};
 ghost use Rattle.h2_frames.specs.Preface.{BeginsWithPreface};
 
-use crate::connections::Cut;
+use crate::cuts::Cut;
 use crate::walk::{Begun, FrameWalk, begin};
 use std::alloc::{AllocError, Global};
 use tcp_streams::Flow;
@@ -39,9 +39,7 @@ fn all_of(alloc: Global, walk: FrameWalk<'_>) -> Result<Cut, AllocError>
 /// only where it lies in several pieces and its payload matters, into a buffer that the next one uses again.
 #[tactic(auto, using(crate::proofs::Uniqueness::only_cuts))]
 pub fn cut(alloc: Global, client: &Flow, server: &Flow) -> Result<Cut, AllocError>
-    requires client { IsOrderly client.now }
-    requires server { IsOrderly server.now }
-    requires together { length (bytes_of client.now) + length (bytes_of server.now) < 2 ^ 31 }
+    requires { AreFlowsOfOne client.now server.now }
 
     // It is the cut of the two flows, and there is no other.
     ensures is { IfOk result (IsCut client.now server.now) }

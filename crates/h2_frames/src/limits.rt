@@ -1,15 +1,15 @@
 ghost use Rattle.std.specs.Prelude.{◌≡◌, ◌⊎◌, IfOk, IfSome, IfNone};
 ghost use Rattle.h2_frames.specs.code.Limit.{AreTakenUpTo, IsLimitOf, IsReached, is_past};
-ghost use Rattle.h2_frames.specs.code.Unread.{IsAhead};
+ghost use Rattle.h2_frames.specs.code.Unread.{IsReadAhead};
 ghost use Rattle.h2_frames.specs.declared.unread.Next.TheVariants.{Over};
 
+use crate::side_frames::SideFrame;
 use crate::unread::{Next, Unread};
-use audit_terms::Frame;
 use std::alloc::AllocError;
 use std::mem;
 
-/// How many frames are enough of one record.
-const ENOUGH: u32 = 32_768;
+/// How many frames of one record a batch takes at most, from each side: one record may fill a gap and bring many.
+const ENOUGH_FRAMES: u32 = 32_768;
 
 /// Up to where both sides take frames at a time: frames of earlier records, and those of this record up to this number
 /// within their side.
@@ -21,10 +21,10 @@ pub(crate) struct Limit {
 
 impl Limit {
     /// Is a frame past it?
-    fn is_past(&self, frame: &Frame) -> bool
+    fn is_past(&self, frame: &SideFrame) -> bool
         ensures { result ≡ is_past self.now frame.now }
     {
-        (frame.rec, frame.number) > (self.rec, self.number)
+        (frame.rec(), frame.number()) > (self.rec, self.number)
     }
 
     /// The one of two that comes first.
@@ -42,8 +42,8 @@ impl Limit {
 /// The limit of both sides, where one of them has a frame left: at least that one is taken. Each side is read so many
 /// bytes further at most.
 pub(crate) fn limit_of(client: &Unread<'_>, server: &Unread<'_>, reach: u32) -> Option<Limit>
-    requires client { IsAhead client.now }
-    requires server { IsAhead server.now }
+    requires client { IsReadAhead client.now }
+    requires server { IsReadAhead server.now }
     ensures { IsLimitOf client.now.next server.now.next result }
 {
     match (client.limit(reach), server.limit(reach)) {
@@ -56,33 +56,36 @@ pub(crate) fn limit_of(client: &Unread<'_>, server: &Unread<'_>, reach: u32) -> 
 impl<'a> Unread<'a> {
     /// Up to where this side is read at a time. Its next frame, if there is one, is not past it.
     ///
-    /// That is the record at which its flow is so many bytes further, or else its end, and `ENOUGH` frames of that
-    /// record: one that fills a gap may bring many.
+    /// That is the record at which its flow is so many bytes further, or else its end, and [`ENOUGH_FRAMES`] of that
+    /// record.
     fn limit(&self, reach: u32) -> Option<Limit>
-        requires { IsAhead self.now }
+        requires { IsReadAhead self.now }
         ensures some { IfSome result (λ limit. IsReached limit self.now.next) }
         ensures none { IfNone result (self.now.next ≡ Over) }
     {
         let Next::Read(frame) = self.next else {
             return None;
         };
+        let number = frame.number() + ENOUGH_FRAMES;
+        let first = frame.rec();
         let end = self.offset + reach as u64;
         let short = self
             .arrivals
             .partition_point(|arrival| (arrival.upto as u64) < end);
         let rec = match self.arrivals.get(short) {
-            Some(arrival) => arrival.rec.max(frame.rec),
+            Some(arrival) => arrival.rec.max(first),
             None => u32::MAX,
         };
-        Some(Limit {
-            rec,
-            number: frame.number + ENOUGH,
-        })
+        Some(Limit { rec, number })
     }
 
     /// Takes the frames out up to a limit, into a list of their own, and reads the one after them ahead.
-    pub fn take_up_to(&mut self, limit: Limit, frames: &mut Vec<Frame>) -> Result<(), AllocError>
-        requires { IsAhead self.old }
+    pub fn take_up_to(
+        &mut self,
+        limit: Limit,
+        frames: &mut Vec<SideFrame>,
+    ) -> Result<(), AllocError>
+        requires { IsReadAhead self.old }
         ensures { IfOk result (λ done. AreTakenUpTo limit self.old self.new frames.new.items) }
     {
         frames.clear();
@@ -91,18 +94,22 @@ impl<'a> Unread<'a> {
                 return Ok(());
             }
             frames.extend_from_slice(&[frame])?;
-            self.next = Next::Unread(frame.number + 1);
+            self.next = Next::Unread(frame.number() + 1);
             self.read_ahead()?;
         }
         Ok(())
     }
 
-    /// The same, beside a thread that does it for the other side.
+    /// [`Unread::take_up_to`] beside a thread that does it for the other side.
     ///
-    /// What is written for each frame stands with this thread alone meanwhile. In their places both sides' values lie
-    /// together, and a line of the cache would go from one processor to the other with each frame.
-    pub fn take_apart(&mut self, limit: Limit, frames: &mut Vec<Frame>) -> Result<(), AllocError>
-        requires { IsAhead self.old }
+    /// What is written for each frame is first moved out of the shared value, against false sharing: there both sides'
+    /// values lie in one cache line.
+    pub fn take_apart(
+        &mut self,
+        limit: Limit,
+        frames: &mut Vec<SideFrame>,
+    ) -> Result<(), AllocError>
+        requires { IsReadAhead self.old }
         ensures { IfOk result (λ done. AreTakenUpTo limit self.old self.new frames.new.items) }
     {
         let alloc = *frames.allocator();

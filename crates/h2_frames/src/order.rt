@@ -1,40 +1,32 @@
 ghost use Rattle.std.specs.Prelude.{◌≡◌, ◌+◌, ℕ, List, ◌∷◌, IfSome, IfNone};
-ghost use Rattle.audit_terms.specs.declared.frames.Frame.{Frame};
-ghost use Rattle.h2_frames.specs.CaptureOrder.{comes_after};
 ghost use Rattle.h2_frames.specs.code.Merge.{is_server_first};
 ghost use Rattle.h2_frames.specs.code.Steps.{IsReadable};
-ghost use Rattle.h2_frames.specs.code.Unread.{AreMerged, IsAhead, IsReady, weight};
+ghost use Rattle.h2_frames.specs.code.Unread.{AreMerged, IsReadAhead, IsReady, weight};
+ghost use Rattle.h2_frames.specs.declared.side_frames.SideFrame.{SideFrame};
 ghost use Rattle.h2_frames.specs.declared.unread.Next.TheVariants.{Over};
 
+use crate::side_frames::SideFrame;
 use crate::unread::{Next, Unread};
-use audit_terms::Frame;
-
-/// Does `x` come after `y`: by record, then by number within its side, then Client before Server?
-pub(crate) fn comes_after(x: &Frame, y: &Frame) -> bool
-    ensures { result ≡ comes_after x.now y.now }
-{
-    (x.rec, x.number, x.side) > (y.rec, y.number, y.side)
-}
 
 /// Does the server's next frame come before the client's?
 fn is_server_first(client: &Next, server: &Next) -> bool
     ensures { result ≡ is_server_first client.now server.now }
 {
     match (client, server) {
-        (Next::Read(x), Next::Read(y)) => comes_after(x, y),
+        (Next::Read(x), Next::Read(y)) => x.comes_after(y),
         (Next::Read(_), _) => false,
         (_, _) => true,
     }
 }
 
 /// Takes the frame out that comes first of both sides.
-pub(crate) fn take_first(client: &mut Unread<'_>, server: &mut Unread<'_>) -> Option<Frame>
-    requires client { IsAhead client.old }
-    requires server { IsAhead server.old }
+pub(crate) fn take_first(client: &mut Unread<'_>, server: &mut Unread<'_>) -> Option<SideFrame>
+    requires client { IsReadAhead client.old }
+    requires server { IsReadAhead server.old }
     ensures client { IsReady client.new }
     ensures server { IsReady server.new }
     ensures readable { IfSome result IsReadable }
-    ensures first { IfSome result (λ frame. (frames : List Frame) → (tail other : List ℕ) →
+    ensures first { IfSome result (λ frame. (frames : List SideFrame) → (tail other : List ℕ) →
         AreMerged client.new server.new frames tail other →
         AreMerged client.old server.old (frame ∷ frames) tail other) }
     ensures weight { IfSome result (λ frame.

@@ -1,6 +1,7 @@
 ghost use Rattle.std.specs.Prelude.{◌≡◌, ◌<◌, ◌≤◌, ◌^◌, ◌++◌, ◌∷◌, ℕ, List, length, IfOk, IfSome, IfNone};
+ghost use Rattle.tcp_streams.specs.Bytes.{joined};
 ghost use Rattle.h2_frames.specs.Body.{body_of};
-ghost use Rattle.h2_frames.specs.code.Pieces.{bytes_of, joined, IsCounted, IsFrameTaken, IsTaken};
+ghost use Rattle.h2_frames.specs.code.Pieces.{bytes_left, IsMeasured, IsFrameTaken, IsTaken};
 
 use crate::bodies::{body_of, is_content};
 use crate::headers::{HEADER_LENGTH, Header};
@@ -35,8 +36,8 @@ pub(crate) struct Pieces<'a> {
 impl<'a> Pieces<'a> {
     pub fn of(pieces: &'a [&'a [u8]]) -> Pieces<'a>
         requires { length (joined pieces.now) < 2 ^ 31 }
-        ensures bytes { bytes_of result ≡ joined pieces.now }
-        ensures counted { IsCounted result }
+        ensures bytes { bytes_left result ≡ joined pieces.now }
+        ensures counted { IsMeasured result }
     {
         Pieces {
             first: &[],
@@ -47,8 +48,8 @@ impl<'a> Pieces<'a> {
 
     /// How many bytes are not read yet.
     pub fn len(&self) -> usize
-        requires { IsCounted self.now }
-        ensures { result ≡ length (bytes_of self.now) }
+        requires { IsMeasured self.now }
+        ensures { result ≡ length (bytes_left self.now) }
     {
         self.length
     }
@@ -56,10 +57,10 @@ impl<'a> Pieces<'a> {
     /// Goes on to the next piece that has bytes, where the first has none.
     #[tactic(auto, using(crate::proofs::Gathering::part_turns))]
     fn go_on(&mut self)
-        requires { IsCounted self.old }
-        ensures bytes { bytes_of self.new ≡ bytes_of self.old }
-        ensures counted { IsCounted self.new }
-        ensures some { 0 < length (bytes_of self.new) → 0 < length self.new.first.now }
+        requires { IsMeasured self.old }
+        ensures bytes { bytes_left self.new ≡ bytes_left self.old }
+        ensures counted { IsMeasured self.new }
+        ensures some { 0 < length (bytes_left self.new) → 0 < length self.new.first.now }
     {
         while self.first.is_empty() && !self.later.is_empty() {
             self.first = self.later[0];
@@ -69,10 +70,10 @@ impl<'a> Pieces<'a> {
 
     /// Takes the first byte out.
     pub fn take_byte(&mut self) -> Option<u8>
-        requires { IsCounted self.old }
-        ensures some { IfSome result (λ byte. bytes_of self.old ≡ byte ∷ bytes_of self.new) }
-        ensures none { IfNone result (length (bytes_of self.old) ≡ 0) }
-        ensures counted { IsCounted self.new }
+        requires { IsMeasured self.old }
+        ensures some { IfSome result (λ byte. bytes_left self.old ≡ byte ∷ bytes_left self.new) }
+        ensures none { IfNone result (length (bytes_left self.old) ≡ 0) }
+        ensures counted { IsMeasured self.new }
     {
         self.go_on();
         let (byte, later) = self.first.split_first()?;
@@ -83,13 +84,13 @@ impl<'a> Pieces<'a> {
 
     /// Takes bytes out that lie together, as many as are wanted if the piece has them.
     fn take_front(&mut self, wanted: usize) -> &'a [u8]
-        requires counted { IsCounted self.old }
+        requires counted { IsMeasured self.old }
         requires some { 0 < wanted }
-        requires there { wanted ≤ length (bytes_of self.old) }
-        ensures bytes { bytes_of self.old ≡ result.now ++ bytes_of self.new }
+        requires there { wanted ≤ length (bytes_left self.old) }
+        ensures bytes { bytes_left self.old ≡ result.now ++ bytes_left self.new }
         ensures some { 0 < length result.now }
         ensures fits { length result.now ≤ wanted }
-        ensures counted { IsCounted self.new }
+        ensures counted { IsMeasured self.new }
     {
         self.go_on();
         let (front, later) = self.first.split_at(wanted.min(self.first.len()));
@@ -100,8 +101,8 @@ impl<'a> Pieces<'a> {
 
     /// Takes this many bytes out and puts them behind those gathered.
     fn gather(&mut self, count: usize, gathered: &mut Vec<u8>) -> Result<(), AllocError>
-        requires counted { IsCounted self.old }
-        requires there { count ≤ length (bytes_of self.old) }
+        requires counted { IsMeasured self.old }
+        requires there { count ≤ length (bytes_left self.old) }
         ensures { IfOk result (λ done. (front : List ℕ) × IsTaken count self.old self.new front
             × (gathered.new.items ≡ gathered.old.items ++ front)) }
     {
@@ -117,8 +118,8 @@ impl<'a> Pieces<'a> {
     /// Takes this many bytes out unread.
     #[tactic(auto, using(crate::proofs::Gathering::part_turns))]
     fn skip(&mut self, count: usize)
-        requires counted { IsCounted self.old }
-        requires there { count ≤ length (bytes_of self.old) }
+        requires counted { IsMeasured self.old }
+        requires there { count ≤ length (bytes_left self.old) }
         ensures { (front : List ℕ) × IsTaken count self.old self.new front }
     {
         let mut wanted = count;
@@ -129,9 +130,9 @@ impl<'a> Pieces<'a> {
 
     /// Takes a payload out, and says what it says.
     fn take_payload(&mut self, header: Header, gathered: &mut Vec<u8>) -> Result<Body, AllocError>
-        requires counted { IsCounted self.old }
+        requires counted { IsMeasured self.old }
         requires short { header.length < 2 ^ 24 }
-        requires there { header.length ≤ length (bytes_of self.old) }
+        requires there { header.length ≤ length (bytes_left self.old) }
         ensures { IfOk result (λ body. (payload : List ℕ) × IsTaken header.length self.old self.new payload
             × (body ≡ body_of header.code header.flags payload)) }
     {
@@ -147,8 +148,8 @@ impl<'a> Pieces<'a> {
 
     /// Takes the frame out that the bytes begin with, where they hold the whole of it and it lies in several pieces.
     fn take_scattered(&mut self, gathered: &mut Vec<u8>) -> Result<Option<Spelled>, AllocError>
-        requires { IsCounted self.old }
-        ensures { IfOk result (λ found. IsFrameTaken found (bytes_of self.old) self.new) }
+        requires { IsMeasured self.old }
+        ensures { IfOk result (λ found. IsFrameTaken found (bytes_left self.old) self.new) }
     {
         if self.length < HEADER_LENGTH {
             return Ok(None);
@@ -168,8 +169,8 @@ impl<'a> Pieces<'a> {
     /// Takes the frame out that the bytes begin with, where they hold the whole of it: a frame in one piece is read in
     /// place.
     pub fn take_frame(&mut self, gathered: &mut Vec<u8>) -> Result<Option<Spelled>, AllocError>
-        requires { IsCounted self.old }
-        ensures { IfOk result (λ found. IsFrameTaken found (bytes_of self.old) self.new) }
+        requires { IsMeasured self.old }
+        ensures { IfOk result (λ found. IsFrameTaken found (bytes_left self.old) self.new) }
     {
         self.go_on();
         match first_frame(self.first) {

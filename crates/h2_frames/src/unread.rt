@@ -2,19 +2,18 @@ ghost use Rattle.std.specs.Prelude.{◌≡◌, ◌+◌, ◌-◌, ◌*◌, ◌<�
 ghost use Rattle.h2_frames.specs.declared.unread.Next.TheVariants.{Over, Read, Unread as ToRead};
 ghost use Rattle.tcp_streams.specs.code.Orderly.{AreTimely};
 ghost use Rattle.tcp_streams.specs.Arrivals.{Rises};
-ghost use Rattle.audit_terms.specs.declared.frames.Frame.{Frame};
-ghost use Rattle.h2_frames.specs.CaptureOrder.{captured};
-ghost use Rattle.h2_frames.specs.code.Pieces.{bytes_of, IsCounted};
+ghost use Rattle.h2_frames.specs.declared.side_frames.SideFrame.{SideFrame};
+ghost use Rattle.h2_frames.specs.code.Pieces.{bytes_left, IsMeasured};
 ghost use Rattle.h2_frames.specs.code.Steps.{arrivals_from};
 
 use crate::headers::HEADER_LENGTH;
 use crate::pieces::Pieces;
-use crate::spelling::Spelled;
-use audit_terms::{Frame, Length, Side};
+use crate::side_frames::SideFrame;
+use audit_terms::Side;
 use std::alloc::{AllocError, Global};
 use tcp_streams::Arrival;
 
-/// The arrivals from the one on at which the byte at this offset arrives.
+/// The arrivals, from the one that brings the byte at this offset.
 fn arrivals_from(arrivals: &[Arrival], offset: u64) -> &[Arrival]
     ensures { result.now ≡ arrivals_from offset arrivals.now }
 {
@@ -28,7 +27,7 @@ fn arrivals_from(arrivals: &[Arrival], offset: u64) -> &[Arrival]
     rest
 }
 
-/// The arrivals from the one on at which the last byte arrives of a frame of this offset and length.
+/// The arrivals, from the one that brings the last byte of a frame of this offset and length.
 fn arrivals_of_frame(arrivals: &[Arrival], offset: u64, length: u64) -> &[Arrival]
     requires some { 0 < length }
     requires short { offset + length < 2 ^ 63 }
@@ -37,33 +36,13 @@ fn arrivals_of_frame(arrivals: &[Arrival], offset: u64, length: u64) -> &[Arriva
     arrivals_from(arrivals, offset + length - 1)
 }
 
-impl Spelled {
-    /// The frame as a side sent it and as it was captured.
-    fn captured(self, side: Side, number: u32, arrival: Arrival) -> Frame
-        requires { self.header.length < 2 ^ 24 }
-        ensures { result ≡ captured side number arrival self }
-    {
-        Frame {
-            number,
-            rec: arrival.rec,
-            stream: self.header.stream,
-            length: Length::of(self.header.length),
-            nanos: arrival.nanos,
-            body: self.body,
-            side,
-            code: self.header.code,
-            flags: self.header.flags,
-        }
-    }
-}
-
 /// What is known of the next frame of a side.
 #[derive(Clone, Copy)]
 pub(crate) enum Next {
     /// It was not read yet. Where there is one, it has this number within the side.
     Unread(u32),
-    /// It is this one, numbered within the side.
-    Read(Frame),
+    /// It is this one.
+    Read(SideFrame),
     /// The bytes hold no further one.
     Over,
 }
@@ -84,7 +63,7 @@ pub(crate) struct Unread<'a> {
 }
 
 impl<'a> Unread<'a> {
-    ghost use Rattle.h2_frames.specs.code.Unread.{AreAhead, AreLeft, IsAhead, IsReadOn, IsReady, weight};
+    ghost use Rattle.h2_frames.specs.code.Unread.{AreAhead, AreLeft, IsReadAhead, IsReadOn, IsReady, weight};
 
     /// A side's bytes from this offset of its flow on, and the flow's arrivals. Nothing is read.
     pub fn of(
@@ -94,14 +73,14 @@ impl<'a> Unread<'a> {
         offset: u64,
         arrivals: &'a [Arrival],
     ) -> Unread<'a>
-        requires counted { IsCounted bytes }
-        requires short { offset + length (bytes_of bytes) < 2 ^ 31 }
-        requires rises { Rises 0 0 arrivals.now (offset + length (bytes_of bytes)) }
+        requires counted { IsMeasured bytes }
+        requires short { offset + length (bytes_left bytes) < 2 ^ 31 }
+        requires rises { Rises 0 0 arrivals.now (offset + length (bytes_left bytes)) }
         requires timely { AreTimely arrivals.now }
         ensures ready { IsReady result }
-        ensures left { (frames : List Frame) → (tail : List ℕ) →
-            AreLeft result frames tail → AreAhead side arrivals.now 1 offset (bytes_of bytes.entry) frames tail }
-        ensures weight { weight result ≡ length (bytes_of bytes.entry) }
+        ensures left { (frames : List SideFrame) → (tail : List ℕ) →
+            AreLeft result frames tail → AreAhead side arrivals.now 1 offset (bytes_left bytes.entry) frames tail }
+        ensures weight { weight result ≡ length (bytes_left bytes.entry) }
     {
         Unread {
             side,
@@ -144,11 +123,11 @@ impl<'a> Unread<'a> {
     }
 
     /// Takes the next frame out, which is read ahead where there is one.
-    pub fn take(&mut self) -> Option<Frame>
-        requires { IsAhead self.old }
+    pub fn take(&mut self) -> Option<SideFrame>
+        requires { IsReadAhead self.old }
         ensures ready { IsReady self.new }
         ensures some { IfSome result (λ frame. self.old.next ≡ Read frame) }
-        ensures left { IfSome result (λ frame. (frames : List Frame) → (tail : List ℕ) →
+        ensures left { IfSome result (λ frame. (frames : List SideFrame) → (tail : List ℕ) →
             AreLeft self.new frames tail → AreLeft self.old (frame ∷ frames) tail) }
         ensures weight { IfSome result (λ frame. weight self.new + 9 ≡ weight self.old) }
         ensures none { IfNone result (self.old.next ≡ Over) }
@@ -157,14 +136,14 @@ impl<'a> Unread<'a> {
         let Next::Read(frame) = self.next else {
             return None;
         };
-        self.next = Next::Unread(frame.number + 1);
+        self.next = Next::Unread(frame.number() + 1);
         Some(frame)
     }
 
     /// How many bytes follow the last frame, once all frames are taken.
     pub fn tail(&self) -> u32
         requires { IsReady self.now }
-        ensures { result ≡ length (bytes_of self.now.bytes) }
+        ensures { result ≡ length (bytes_left self.now.bytes) }
     {
         self.bytes.len() as u32
     }

@@ -1,20 +1,20 @@
 ghost use Rattle.std.specs.Prelude.{◌≡◌, ◌+◌, ◌<◌, ◌^◌, ◌++◌, ◌∷◌, [], List, length, IfOk, IfSome, IfNone};
 ghost use Rattle.std.specs.Prelude.{OnOk};
 ghost use Rattle.std.specs.Bool.{OnFalse, OnTrue};
-ghost use Rattle.tcp_streams.specs.declared.streams.Flow.{Flow};
-ghost use Rattle.tcp_streams.specs.code.Orderly.{IsOrderly};
+ghost use Rattle.tcp_streams.specs.declared.flows.Flow.{Flow};
+ghost use Rattle.tcp_streams.specs.code.Orderly.{AreFlowsOfOne};
 ghost use Rattle.tcp_streams.specs.Bytes.{bytes_of};
 ghost use Rattle.audit_terms.specs.declared.frames.Frame.{Frame};
 ghost use Rattle.audit_terms.specs.code.runs.Orderly.{IsInRange};
 ghost use Rattle.h2_frames.specs.Cut.{IsHttp2};
 ghost use Rattle.h2_frames.specs.Preface.{BeginsWithPreface};
-ghost use Rattle.h2_frames.specs.code.Pieces.{bytes_of as bytes_left, IsCounted};
+ghost use Rattle.h2_frames.specs.code.Pieces.{bytes_left, IsMeasured};
 ghost use Rattle.h2_frames.specs.code.Batch.{IsNumbered, frames_of};
 ghost use Rattle.h2_frames.specs.code.Limit.{AreBothTaken, IsLimitOf};
-ghost use Rattle.h2_frames.specs.code.Unread.{IsAhead};
+ghost use Rattle.h2_frames.specs.code.Unread.{IsReadAhead};
 ghost use Rattle.h2_frames.specs.code.Walk.{IsBegun, IsReadyWalk, IsWalkAfter, IsWalkOn, taken_of, tails_of, weight_of};
 
-use crate::batches::{FrameBatch, take_in_turn, take_side_by_side};
+use crate::batches::{FrameBatch, take_side_by_side};
 use crate::beginning::{Beginning, PREFACE, beginning_of};
 use crate::limits::{Limit, limit_of};
 use crate::order::take_first;
@@ -54,11 +54,9 @@ impl<'a> FrameWalk<'a> {
         client: &'a Flow<'a>,
         server: &'a Flow<'a>,
     ) -> FrameWalk<'a>
-        requires counted { IsCounted rest }
+        requires counted { IsMeasured rest }
         requires begins { BeginsWithPreface (bytes_of client.now) (bytes_left rest) }
-        requires client { IsOrderly client.now }
-        requires server { IsOrderly server.now }
-        requires together { length (bytes_of client.now) + length (bytes_of server.now) < 2 ^ 31 }
+        requires flows { AreFlowsOfOne client.now server.now }
         ensures ready { IsReadyWalk result }
         ensures whole { IsWalkAfter client.now server.now [] result }
     {
@@ -108,13 +106,11 @@ impl<'a> FrameWalk<'a> {
             IsWalkAfter client server frames self.old → IsHttp2 client server frames (tails_of self.new))) }
     {
         self.read_ahead()?;
-        let mut first = take_first(&mut self.client, &mut self.server);
-        // In place: a frame made anew from this one has each of its fields copied.
-        if let Some(frame) = &mut first {
-            self.taken += 1;
-            frame.number = self.taken;
-        }
-        Ok(first)
+        let Some(first) = take_first(&mut self.client, &mut self.server) else {
+            return Ok(None);
+        };
+        self.taken += 1;
+        Ok(Some(first.numbered(self.taken)))
     }
 
     /// Reads the next frame of each side ahead, and says up to where the next batch goes, where there is a frame left.
@@ -127,8 +123,8 @@ impl<'a> FrameWalk<'a> {
         Ok(limit_of(&self.client, &self.server, batch.next_reach()))
     }
 
-    /// Takes the frames of both sides up to a limit, side by side where there are three threads: one is left for who
-    /// called.
+    /// Takes the frames of both sides up to a limit, side by side where there are three threads, of which the caller
+    /// keeps one.
     fn take_up_to<R: Threads>(
         &mut self,
         rt: &R,
@@ -136,8 +132,8 @@ impl<'a> FrameWalk<'a> {
         limit: Limit,
         batch: &mut FrameBatch,
     ) -> Result<(), AllocError>
-        requires client { IsAhead self.old.client }
-        requires server { IsAhead self.old.server }
+        requires client { IsReadAhead self.old.client }
+        requires server { IsReadAhead self.old.server }
         ensures taken { OnOk result (self.new.taken ≡ self.old.taken) }
         ensures both { OnOk result
             (AreBothTaken limit self.old.client self.new.client self.old.server self.new.server
@@ -146,7 +142,8 @@ impl<'a> FrameWalk<'a> {
         let (client, server) = (&mut self.client, &mut self.server);
         let (sent, answered) = (&mut batch.client, &mut batch.server);
         if threads < 3 {
-            take_in_turn(limit, client, server, sent, answered)
+            client.take_up_to(limit, sent)?;
+            server.take_up_to(limit, answered)
         } else {
             take_side_by_side(rt, limit, client, server, sent, answered)
         }
@@ -205,9 +202,7 @@ impl<'a> FrameWalk<'a> {
 ///
 /// The flows are to be as [`crate::cut`] asks, and its four kinds are these.
 pub fn begin<'a>(alloc: Global, client: &'a Flow<'a>, server: &'a Flow<'a>) -> Begun<'a>
-    requires client { IsOrderly client.now }
-    requires server { IsOrderly server.now }
-    requires together { length (bytes_of client.now) + length (bytes_of server.now) < 2 ^ 31 }
+    requires { AreFlowsOfOne client.now server.now }
     ensures { IsBegun client.now server.now result }
 {
     if !server.started {

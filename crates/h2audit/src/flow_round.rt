@@ -3,7 +3,8 @@
 ghost use Rattle.std.specs.Prelude.{◌≡◌, ◌<◌, ◌^◌, IfOk, length};
 ghost use Rattle.audit_terms.specs.declared.sides.Side.{Side};
 ghost use Rattle.audit_terms.specs.declared.sides.Side.TheVariants.{Client, Server};
-ghost use Rattle.h2audit.specs.code.Flows.{AreFlowsOfOne, AreSources, IsHeldBy, IsToldFlows, KeepsCut};
+ghost use Rattle.h2audit.specs.code.Flows.{AreSources, IsHeldBy, IsToldFlows, KeepsCut};
+ghost use Rattle.tcp_streams.specs.code.Orderly.{AreFlowsOfOne};
 
 use crate::quiet::quiet_connection;
 use audit_report::{AuditedFrames, Outcome, Reach, Told};

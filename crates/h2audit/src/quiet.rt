@@ -4,11 +4,11 @@ ghost use Rattle.std.specs.Prelude.{IfOk, IfSome, IsTrue, List};
 ghost use Rattle.audit_terms.specs.declared.frames.Frame.{Frame as FrameTerm};
 ghost use Rattle.h2_frames.specs.code.Batch.{IsNumbered};
 ghost use Rattle.h2_frames.specs.code.Walk.{IsReadyWalk};
-ghost use Rattle.h2audit.specs.code.Flows.{AreFlowsOfOne};
 ghost use Rattle.h2audit.specs.code.Quiet.{HasMet, HasTaken, IsFoundQuiet, IsQuietOf, IsWholeWalk};
 ghost use Rattle.quiet_pass.specs.code.QuietPass.{IsQuietAfter};
 ghost use Rattle.quiet_pass.specs.declared.passes.QuietPass.{QuietPass as PassTerm};
-ghost use Rattle.tcp_streams.specs.declared.streams.Flow.{Flow};
+ghost use Rattle.tcp_streams.specs.code.Orderly.{AreFlowsOfOne};
+ghost use Rattle.tcp_streams.specs.declared.flows.Flow.{Flow};
 
 use audit_report::QuietConnection;
 use h2_frames::{Begun, FrameBatch, FrameWalk, begin};

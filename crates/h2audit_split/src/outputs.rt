@@ -15,10 +15,11 @@ use std::io::{BufWriter, Write};
 use std::net::{Ipv4Addr, SocketAddrV4};
 use std::rt::Files;
 
-/// The bytes that are gathered for one write.
-const PACKETS_BUFFER: usize = 32_768;
+/// How many bytes of a part's capture are gathered for one write.
+const PACKETS_BUFFER_BYTES: usize = 32_768;
 
-const NUMBERS_BUFFER: usize = 4_096;
+/// How many bytes of its record numbers are, eight for each.
+const NUMBERS_BUFFER_BYTES: usize = 4_096;
 
 pub type FilePart<R> = Part<BufWriter<<R as Files>::File>>;
 
@@ -93,8 +94,8 @@ fn create_part<R: Files + AllocGlobal>(
     number: usize,
     header: &Header,
 ) -> Result<FilePart<R>, Failure> {
-    let packets = create_file(rt, folder, number, PartFile::Packets, PACKETS_BUFFER)?;
-    let numbers = create_file(rt, folder, number, PartFile::Numbers, NUMBERS_BUFFER)?;
+    let packets = create_file(rt, folder, number, PartFile::Packets, PACKETS_BUFFER_BYTES)?;
+    let numbers = create_file(rt, folder, number, PartFile::Numbers, NUMBERS_BUFFER_BYTES)?;
     match Part::begin(packets, numbers, header) {
         Ok(part) => Ok(part),
         Err(file) => Err(part_failure(rt.alloc(), "cannot write", folder, number, file)),

@@ -34,11 +34,11 @@ fn words_asked<R: Env + AllocGlobal>(rt: &R) -> Result<Asked, Failure> {
 fn given_words<R: Env + AllocGlobal>(rt: &R) -> Result<Vec<String>, Failure> {
     match env::args(rt) {
         Ok(words) => Ok(words.skip(1).collect(rt.alloc())?),
-        Err(_) => Err(no_text(rt.alloc())),
+        Err(_) => Err(words_not_text(rt.alloc())),
     }
 }
 
-fn no_text(alloc: Global) -> Failure {
+fn words_not_text(alloc: Global) -> Failure {
     match String::from_str(alloc, "error: a word is not text") {
         Ok(text) => Failure::Words(text),
         Err(_) => Failure::OutOfMemory,

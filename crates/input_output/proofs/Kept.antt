@@ -9,9 +9,9 @@ use Rattle.std.proofs.Transfers.{drop-appended, starts_with_length, starts_with_
 use Rattle.std.specs.Result.{result_and}
 use Rattle.std.proofs.lemmas.Result.{on_ok_weaker}
 use Rattle.std.proofs.lemmas.List.{append-nil, append_assoc, nil_from_length, take_all}
-use Rattle.input_output.specs.code.Front.{Lasts}
+use Rattle.input_output.specs.code.Front.{SurvivesAppends}
 use Rattle.input_output.specs.Account.{HaveGiven, IsReadToEnd, kept}
-use Rattle.input_output.specs.code.Reading.{HasConsumed, HasGrown, HasPassed, HasReadOn, HaveAnswered, IsReadingFault}
+use Rattle.input_output.specs.code.Reading.{HasConsumed, HasGrown, HasPassedOver, HasReadOn, HaveAnswered, IsReadingFault}
 use Rattle.input_output.specs.code.Reading.{IsSound}
 use Rattle.input_output.specs.code.Reads.{HasRead}
 use Rattle.input_output.specs.declared.capture_reader.CaptureReader.{CaptureReader}
@@ -128,8 +128,8 @@ module _ {R : Type 0} where
 
   -- what was passed over, and then one read more
   pub passed_more : (left : R → Option (List ℕ)) (first old new : CaptureReader R) (given : List ℕ) (n : ℕ)
-      → HasPassed left first old → new.passed ≡ old.passed + n → HasRead (left old.reader) (left new.reader) given n
-      → HasPassed left first new
+      → HasPassedOver left first old → new.passed ≡ old.passed + n → HasRead (left old.reader) (left new.reader) given n
+      → HasPassedOver left first new
   passed_more left first old new given n (before, size, is) grown read = (
     before ++ given,
     omega (arith, size, grown, read.count, length-append before given),
@@ -161,7 +161,7 @@ module _ {R : Type 0} where
 
 -- a walk that stands of what was kept stands of what is kept, where that has it in front
 pub walk_stays : {W : Type 0} (stands : List ℕ → W → Type 0) (first new : List ℕ) (walk : W)
-    → StartsWith new first → Lasts stands first walk → Lasts stands new walk
+    → StartsWith new first → SurvivesAppends stands first walk → SurvivesAppends stands new walk
 walk_stays stands first new walk front is more =
     let later : List ℕ = drop (length first) new in
     let whole : new ++ more ≡ first ++ (later ++ more) =

@@ -1,8 +1,8 @@
 ghost use Rattle.std.specs.Prelude.{◌≡◌, ◌+◌, ◌^◌, ◌<◌, ◌≤◌, length, take, IfErr, IfOk, IsErr, IsOk, OnOk, Ok};
 ghost use Rattle.std.specs.Bool.{Decides};
 ghost use Rattle.input_output.specs.Account.{IsUnread, kept};
-ghost use Rattle.input_output.specs.code.Front.{Lasts};
-ghost use Rattle.input_output.specs.code.Reading.{HasTaken, HaveAnswered, IsOpenBehind, IsOpenBelow};
+ghost use Rattle.input_output.specs.code.Front.{SurvivesAppends};
+ghost use Rattle.input_output.specs.code.Reading.{HasTakenOut, HaveAnswered, IsOpenBehind, IsOpenBelow};
 ghost use Rattle.input_output.specs.code.Reads.{HasRead, IsStateAfter};
 
 use crate::chunks_ahead::ChunksAhead;
@@ -16,8 +16,8 @@ use std::thread::{Threads, join_mut};
 /// The number of bytes at which reading stops: a capture that has as many is refused.
 pub const LIMIT: usize = 2_147_483_648;
 
-/// The number of bytes that are read beside one walk, at most. Where no thread can be had, the walk comes after them.
-const BESIDE: usize = 67_108_864;
+/// How many bytes are read beside one walk, at most. Where no thread can be had, the walk comes after them.
+const BESIDE_BYTES: usize = 67_108_864;
 
 /// How the reads of a capture went so far.
 #[derive(Clone, Copy, PartialEq, Eq)]
@@ -69,11 +69,11 @@ impl<R> CaptureReader<R> {
     }
 
     /// The same, where there is room for less than a chunk of a capture.
-    pub fn together(&self) -> &[u8]
+    pub fn in_one_slice(&self) -> &[u8]
         requires { self.now.bytes.room < 1048576 }
         ensures { result.now ≡ kept self.now }
     {
-        self.bytes.together()
+        self.bytes.in_one_slice()
     }
 
     /// The number of bytes that the reads gave after these.
@@ -182,9 +182,9 @@ impl<R: Read> CaptureReader<R> {
         walk: &mut W,
     ) -> Result<(), ReadFault>
         requires reader { IsOpenBelow (2 ^ 31) self.old }
-        requires walk { Lasts W.stands (kept self.old) walk.old }
+        requires walk { SurvivesAppends W.stands (kept self.old) walk.old }
         ensures read { HaveAnswered R.remaining (2 ^ 31) self.old.reader (kept self.old) self.new result }
-        ensures walk { OnOk result (Lasts W.stands (kept self.new) walk.new) }
+        ensures walk { OnOk result (SurvivesAppends W.stands (kept self.new) walk.new) }
     {
         if let Some(full) = self.take_full(ahead)? {
             return self.read_behind(full, ahead, walk);
@@ -200,7 +200,7 @@ impl<R: Read> CaptureReader<R> {
         ahead: &mut ChunksAhead<'_, T>,
     ) -> Result<Option<FullChunks>, ReadFault>
         requires { IsOpenBelow (2 ^ 31) self.old }
-        ensures taken { IfOk result (HasTaken self.old self.new) }
+        ensures taken { IfOk result (HasTakenOut self.old self.new) }
         ensures err { IfErr result (λ e.
             HaveAnswered R.remaining (2 ^ 31) self.old.reader (kept self.old) self.new (Err e)) }
     {
@@ -220,11 +220,11 @@ impl<R: Read> CaptureReader<R> {
         walk: &mut W,
     ) -> Result<(), ReadFault>
         requires reader { IsOpenBehind full self.old }
-        requires walk { Lasts W.stands full walk.old }
+        requires walk { SurvivesAppends W.stands full walk.old }
         ensures read { HaveAnswered R.remaining (2 ^ 31) self.old.reader full self.new result }
-        ensures walk { OnOk result (Lasts W.stands (kept self.new) walk.new) }
+        ensures walk { OnOk result (SurvivesAppends W.stands (kept self.new) walk.new) }
     {
-        let limit = BESIDE.min(LIMIT - full.len());
+        let limit = BESIDE_BYTES.min(LIMIT - full.len());
         let read = self.read_beside(limit, ahead, &full, walk);
         let whole = self.bytes.put_back(full);
         self.enter_memory(whole).and(read)
@@ -241,9 +241,9 @@ impl<R: Read> CaptureReader<R> {
         walk: &mut W,
     ) -> Result<(), ReadFault>
         requires reader { IsOpenBelow limit self.old }
-        requires walk { Lasts W.stands full.now walk.old }
+        requires walk { SurvivesAppends W.stands full.now walk.old }
         ensures read { HaveAnswered R.remaining limit self.old.reader (kept self.old) self.new result }
-        ensures walk { OnOk result (Lasts W.stands full.now walk.new) }
+        ensures walk { OnOk result (SurvivesAppends W.stands full.now walk.new) }
     {
         let rt = ahead.rt;
         let alloc = ahead.alloc;

@@ -7,13 +7,13 @@ use std::alloc::{AllocError, Global};
 use std::collections::VecDeque;
 use std::thread::{JoinHandle, Threads, spawn};
 
-/// How many chunks are in the making at once, at most: to use a page for the first time takes two to three times as
-/// long as to read into it.
-const MAKERS: usize = 4;
+/// How many chunks are in the making at once, at most, each by a thread: measured, the first use of a page takes two to
+/// three times as long as to read into it.
+const MOST_MAKERS: usize = 4;
 
-/// How many zeros are written at a time. The C library writes more of them in another way, which is slower where memory
-/// is used for the first time.
-const STRIDE: usize = 2048;
+/// How many bytes of zeros are written at a time. Measured, more of them are slower where memory is used for the first
+/// time: the C library then writes them in another way.
+const STRIDE_BYTES: usize = 2_048;
 
 /// Makes chunks ahead, each by a thread of its own, beside the thread that reads.
 ///
@@ -35,7 +35,7 @@ impl<'a, T: Threads> ChunksAhead<'a, T> {
             rt,
             alloc,
             most: if workers > 1 {
-                MAKERS.min(workers as usize)
+                MOST_MAKERS.min(workers as usize)
             } else {
                 0
             },
@@ -62,7 +62,7 @@ impl<'a, T: Threads> ChunksAhead<'a, T> {
     ///
     /// One more is begun, since the thread that asks makes none while it waits.
     pub(crate) fn chunk(&mut self) -> Vec<u8> {
-        self.begin(MAKERS);
+        self.begin(MOST_MAKERS);
         match self.making.pop_front() {
             Some(maker) => maker.join(self.rt),
             None => Vec::new(self.alloc),
@@ -93,7 +93,7 @@ pub(crate) fn fill_up(chunk: &mut Vec<u8>, length: usize) -> Result<(), AllocErr
 {
     chunk.reserve(length - chunk.len())?;
     while chunk.len() < length {
-        chunk.resize(length.min(chunk.len() + STRIDE), 0)?;
+        chunk.resize(length.min(chunk.len() + STRIDE_BYTES), 0)?;
     }
     Ok(())
 }

@@ -3,7 +3,7 @@
 ghost use Rattle.std.specs.Prelude.{◌≡◌, ◌+◌, ◌++◌, ◌^◌, ◌<◌, ◌≤◌, [], length, min, take, drop, vec_len, IfOk, OnOk};
 ghost use Rattle.std.specs.Prelude.{◌∷◌, IfNone, IfSome, OnErr};
 ghost use Rattle.std.specs.Io.{StartsWith, appended_bytes};
-ghost use Rattle.input_output.specs.code.Front.{Lasts};
+ghost use Rattle.input_output.specs.code.Front.{SurvivesAppends};
 ghost use Rattle.input_output.specs.code.Reads.{HasRead, IsGrown};
 
 use crate::chunks_ahead::{ChunksAhead, fill_up};
@@ -15,9 +15,9 @@ use std::sync::atomic::{AtomicU64, Ordering};
 use std::thread::Threads;
 use std::{io, mem};
 
-/// The number of bytes for which room is made at a time in a chunk that was not made ahead. No more than that is made
-/// in vain, and what was read into it is still near the processor when a walk goes over it.
-const ROOM: usize = 262_144;
+/// How many bytes of room are made at a time in a chunk that was not made ahead. No more than that is made in vain, and
+/// what was read into it is still in the processor's cache when the walk advances over it.
+const ROOM_BYTES: usize = 262_144;
 
 /// Bytes in chunks of `CAPTURE_CHUNK`, with room for more in the last of them.
 #[derive(Drop)]
@@ -69,7 +69,7 @@ impl KeptBytes {
     }
 
     /// The bytes, where there is room for less than a chunk.
-    pub(crate) fn together(&self) -> &[u8]
+    pub(crate) fn in_one_slice(&self) -> &[u8]
         requires { self.now.room < 1048576 }
         ensures { result.now ≡ self.now.kept }
     {
@@ -85,7 +85,7 @@ impl KeptBytes {
 
     /// Makes room for at least one byte more, and for no more than `limit` in all.
     ///
-    /// A chunk that was not made ahead grows by [`ROOM`].
+    /// A chunk that was not made ahead grows by [`ROOM_BYTES`].
     pub(crate) fn make_room<T: Threads>(
         &mut self,
         limit: usize,
@@ -161,9 +161,9 @@ impl KeptBytes {
         ahead: &ChunksAhead<'_, T>,
         walk: &mut W,
     ) -> Result<(), AllocError>
-        requires walk { Lasts W.stands self.now.kept walk.old }
+        requires walk { SurvivesAppends W.stands self.now.kept walk.old }
         requires short { length self.now.kept ≤ 2 ^ 31 }
-        ensures { OnOk result (Lasts W.stands self.now.kept walk.new) }
+        ensures { OnOk result (SurvivesAppends W.stands self.now.kept walk.new) }
     {
         if self.filled < self.last.len() || !ahead.is_alone() {
             return Ok(());
@@ -205,8 +205,8 @@ impl FullChunks {
 
     /// Lets a walk go on over the bytes, and then tells that it is done.
     pub(crate) fn walk<W: FrontWalk>(&self, alloc: Global, walk: &mut W) -> Result<(), AllocError>
-        requires { Lasts W.stands self.now walk.old }
-        ensures { OnOk result (Lasts W.stands self.now walk.new) }
+        requires { SurvivesAppends W.stands self.now walk.old }
+        ensures { OnOk result (SurvivesAppends W.stands self.now walk.new) }
     {
         let Ok(capture) = Capture::with_last(alloc, self.chunks.as_slice(), &[]) else {
             self.is_walked.store(1, Ordering::SeqCst);
@@ -223,7 +223,7 @@ impl FullChunks {
     }
 }
 
-/// Makes a chunk longer by [`ROOM`], up to `most` bytes. The first one may be moved, so that a short capture takes
+/// Makes a chunk longer by [`ROOM_BYTES`], up to `most` bytes. The first one may be moved, so that a short capture takes
 /// little; while it grows, later ones are begun.
 fn grow_chunk<T: Threads>(
     chunk: &mut Vec<u8>,
@@ -236,8 +236,8 @@ fn grow_chunk<T: Threads>(
     ensures within { (vec_len chunk.new ≤ most) × (vec_len chunk.new ≤ 1048576) }
     ensures room { OnOk result (vec_len chunk.old < vec_len chunk.new) }
 {
-    ahead.begin(chunk.len() / ROOM);
-    let wanted = CAPTURE_CHUNK.min(chunk.len() + ROOM).min(most);
+    ahead.begin(chunk.len() / ROOM_BYTES);
+    let wanted = CAPTURE_CHUNK.min(chunk.len() + ROOM_BYTES).min(most);
     fill_up(chunk, wanted)
 }
 
@@ -290,7 +290,7 @@ fn first_room(chunk: &mut Vec<u8>, most: usize) -> Result<(), AllocError>
     ensures length { OnOk result (vec_len chunk.new ≡ min 262144 most) }
 {
     chunk.reserve(CAPTURE_CHUNK)?;
-    fill_up(chunk, ROOM.min(most))
+    fill_up(chunk, ROOM_BYTES.min(most))
 }
 
 /// Reads once into a chunk, behind the bytes with which it is filled.

@@ -1,7 +1,7 @@
 ghost use Rattle.std.specs.Prelude.{◌≡◌, ◌^◌, OnOk};
-ghost use Rattle.input_output.specs.code.Front.{Lasts};
+ghost use Rattle.input_output.specs.code.Front.{SurvivesAppends};
 ghost use Rattle.input_output.specs.Account.{kept};
-ghost use Rattle.input_output.specs.code.Reading.{HasConsumed, HasGrown, HasPassed, HaveEnded, IsOpenWithin, IsSound};
+ghost use Rattle.input_output.specs.code.Reading.{HasConsumed, HasGrown, HasPassedOver, HaveEnded, IsOpenWithin, IsSound};
 
 use crate::capture_reader::{CaptureReader, LIMIT, ReadState};
 use crate::chunks_ahead::ChunksAhead;
@@ -10,8 +10,8 @@ use crate::front::FrontWalk;
 use std::io::Read;
 use std::thread::Threads;
 
-/// The number of bytes that are passed over at a time.
-const PASSED: usize = 65_536;
+/// How many bytes are read at a time that are not kept.
+const PASSED_BYTES: usize = 65_536;
 
 /// Reads until so many bytes are kept, or to the end. An error is a read that failed, or want of memory for the bytes.
 ///
@@ -45,10 +45,10 @@ pub fn keep_and_walk<T: Threads, R: Read, W: FrontWalk + Send>(
     walk: &mut W,
 ) -> Result<(), ReadFault>
     requires reader { IsOpenWithin (2 ^ 31) reader.old }
-    requires walk { Lasts W.stands (kept reader.old) walk.old }
+    requires walk { SurvivesAppends W.stands (kept reader.old) walk.old }
     ensures grown { HasGrown (2 ^ 31) (kept reader.old) reader.new }
     ensures bytes { OnOk result (HasConsumed R.remaining reader.old reader.new) }
-    ensures walk { OnOk result (Lasts W.stands (kept reader.new) walk.new) }
+    ensures walk { OnOk result (SurvivesAppends W.stands (kept reader.new) walk.new) }
     ensures ended { HaveEnded R.remaining (2 ^ 31) reader.new result }
 {
     let mut read = Ok(());
@@ -65,10 +65,10 @@ pub fn pass_over<R: Read>(reader: &mut CaptureReader<R>) -> Result<(), ReadFault
     requires state { reader.old.state ≡ ReadState.Open }
     ensures sound { OnOk result (IsSound reader.new) }
     ensures kept { reader.new.bytes ≡ reader.old.bytes }
-    ensures bytes { OnOk result (HasPassed R.remaining reader.old reader.new) }
+    ensures bytes { OnOk result (HasPassedOver R.remaining reader.old reader.new) }
     ensures ended { HaveEnded R.remaining (2 ^ 31) reader.new result }
 {
-    let mut buffer = [0; PASSED];
+    let mut buffer = [0; PASSED_BYTES];
     while !reader.is_full() {
         if reader.pass_once(&mut buffer)? == 0 {
             return Ok(());

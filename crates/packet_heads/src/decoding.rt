@@ -58,17 +58,17 @@ fn decision_on(link: u16, number: u32, row: &Record, packet: &[u8]) -> Packet
     ensures decided { result ≡ decision_on link number row.now packet.now }
     ensures placed { StandsIn number row.now result }
 {
-    if let Some(answer) = link::answer(link, packet) {
-        return answer;
+    if let Some(other) = link::passed_over(link, packet) {
+        return other;
     }
     let start = link::datagram_start(link, packet);
     let datagram = link::datagram(packet, start);
     let partial = row.length < row.original;
-    if let Some(answer) = ipv4::answer(partial, datagram) {
-        return answer;
+    if let Some(other) = ipv4::passed_over(partial, datagram) {
+        return other;
     }
-    if let Some(answer) = tcp::answer(ipv4::segment(datagram)) {
-        return answer;
+    if let Some(other) = tcp::passed_over(ipv4::segment(datagram)) {
+        return other;
     }
     let at = row.start as usize + start;
     Packet::Segment(segment_of(number, row, partial, at, datagram))

@@ -55,9 +55,9 @@ fn ether_type(frame: &[u8], header: usize) -> u16
     BigEndian::read_u16(&frame[header - 2..])
 }
 
-/// What the header says of a frame that carries no whole IPv4 datagram.
+/// Why the packet of a frame is passed over, by the header; None where an IPv4 datagram follows it.
 #[tactic(auto, using(crate::proofs::Headers::least))]
-pub(crate) fn answer(frame: &[u8]) -> Option<Packet>
+pub(crate) fn passed_over(frame: &[u8]) -> Option<Packet>
     ensures answer { result ≡ first_answer (ethernet_lines frame.now) }
     ensures passed_over { IfSome result IsPassedOver }
     ensures whole { IfNone result (header_length frame.now ≤ length frame.now) }

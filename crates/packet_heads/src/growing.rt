@@ -12,7 +12,7 @@ use std::mem;
 
 /// A list in chunks of `PACKET_CHUNK`, the last of which grows. A chunk that is full is not moved any more.
 #[derive(Drop)]
-pub struct Growing<T> {
+pub(crate) struct Growing<T> {
     /// The chunks before the last, each of them full.
     full: Vec<Vec<T>>,
     last: Vec<T>,

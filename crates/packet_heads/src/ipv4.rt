@@ -127,8 +127,8 @@ pub(crate) fn is_snapped(partial: bool, datagram: &[u8]) -> bool
     total > datagram.len() || total == 0 && partial
 }
 
-/// What the header says of a datagram that carries no TCP segment as a whole.
-pub(crate) fn answer(partial: bool, datagram: &[u8]) -> Option<Packet>
+/// Why the packet is passed over, by this header; None where a TCP segment follows it.
+pub(crate) fn passed_over(partial: bool, datagram: &[u8]) -> Option<Packet>
     ensures answer { result ≡ first_answer (ipv4_lines partial datagram.now) }
     ensures passed_over { IfSome result IsPassedOver }
     ensures whole { IfNone result (HasHeader datagram.now) }

@@ -13,9 +13,9 @@ use pcap_records::RAW_IP;
 /// The version of IP whose datagrams are passed over.
 const VERSION_6: u8 = 6;
 
-/// What the first byte says of raw IP that is no IPv4 datagram.
+/// Why a packet of raw IP is passed over, by its first byte; None where that is not known yet.
 #[tactic(auto, unfolding(crate::specs::Ipv4::version))]
-fn raw_answer(packet: &[u8]) -> Option<Packet>
+fn raw_passed_over(packet: &[u8]) -> Option<Packet>
     ensures answer { result ≡ first_answer (raw_lines packet.now) }
     ensures passed_over { IfSome result IsPassedOver }
 {
@@ -28,22 +28,22 @@ fn raw_answer(packet: &[u8]) -> Option<Packet>
     }
 }
 
-/// What stands before the datagram says of a packet that holds no whole IPv4 datagram.
-pub fn answer(link: u16, packet: &[u8]) -> Option<Packet>
+/// Why a packet is passed over, by what stands before the datagram; None where the datagram begins in the packet.
+pub(crate) fn passed_over(link: u16, packet: &[u8]) -> Option<Packet>
     ensures answer { result ≡ first_answer (link_lines link packet.now) }
     ensures passed_over { IfSome result IsPassedOver }
     ensures whole { IfNone result (datagram_start link packet.now ≤ length packet.now) }
 {
     if link == RAW_IP {
-        raw_answer(packet)
+        raw_passed_over(packet)
     } else {
-        ethernet::answer(packet)
+        ethernet::passed_over(packet)
     }
 }
 
 /// Where the datagram begins in a packet that is passed on.
 #[tactic(auto, using(crate::proofs::Headers::least))]
-pub fn datagram_start(link: u16, packet: &[u8]) -> usize
+pub(crate) fn datagram_start(link: u16, packet: &[u8]) -> usize
     requires { datagram_start link packet.now ≤ length packet.now }
     ensures { result ≡ datagram_start link packet.now }
 {
@@ -55,7 +55,7 @@ pub fn datagram_start(link: u16, packet: &[u8]) -> usize
 }
 
 /// The datagram that begins there, and what is captured behind it.
-pub fn datagram(packet: &[u8], start: usize) -> &[u8]
+pub(crate) fn datagram(packet: &[u8], start: usize) -> &[u8]
     requires { start ≤ length packet.now }
     ensures datagram { result.now ≡ drop start packet.now }
     ensures len { start + length result.now ≡ length packet.now }

@@ -9,7 +9,7 @@ ghost use Rattle.packet_heads.specs.declared.packets.Skip.TheVariants.{NotIpv4};
 use crate::packets::{PACKET_CHUNK, Packet, Refusal, Segment, Skip};
 
 /// Counts through the packets that are passed over, in the order below, and then through the segments of a capture.
-pub type Mark = u32;
+pub(crate) type Mark = u32;
 
 use input_output::Chunks;
 

@@ -77,8 +77,8 @@ pub(crate) fn ack(segment: &[u8]) -> bool
     segment[13] & ACK != 0
 }
 
-/// What the header says of a segment that is not there as a whole.
-pub(crate) fn answer(segment: &[u8]) -> Option<Packet>
+/// Why the packet is passed over, by this header; None where the header is whole.
+pub(crate) fn passed_over(segment: &[u8]) -> Option<Packet>
     ensures answer { result ≡ first_answer (tcp_lines segment.now) }
     ensures passed_over { IfSome result IsPassedOver }
     ensures whole { IfNone result (HasHeader segment.now) }

@@ -3,9 +3,9 @@ ghost use Rattle.pcap_records.specs.FileHeader.{format_of, header_of, is_version
 ghost use Rattle.pcap_records.specs.LinkType.{is_read};
 ghost use Rattle.pcap_records.specs.Refusal.{refusal_in, refusal_of};
 
-use crate::capture::{ETHERNET, RAW_IP};
 use crate::faults::PcapFault;
 use crate::format::{Endian, Format, format_of_magic};
+use crate::pcap_record::{ETHERNET, RAW_IP};
 use byteorder::{BigEndian, ByteOrder, LittleEndian};
 use input_output::{Capture, LIMIT};
 
@@ -62,7 +62,7 @@ fn late_fault<T: ByteOrder>(header: &[u8], size: usize) -> Option<PcapFault>
 }
 
 /// The header at the front of a capture, or what there is of it.
-pub fn header(capture: &[u8]) -> &[u8]
+pub(crate) fn header(capture: &[u8]) -> &[u8]
     ensures bytes { result.now ≡ header_of capture.now }
     ensures length { length result.now ≡ min 24 (length capture.now) }
 {
@@ -70,7 +70,7 @@ pub fn header(capture: &[u8]) -> &[u8]
 }
 
 /// The same of a capture in chunks, the first of which has room for it.
-pub fn header_in_chunks<'a>(capture: &Capture<'a>) -> &'a [u8]
+pub(crate) fn header_in_chunks<'a>(capture: &Capture<'a>) -> &'a [u8]
     ensures bytes { result.now ≡ header_of capture.now }
     ensures length { length result.now ≡ min 24 (length capture.now) }
 {
@@ -82,7 +82,7 @@ pub fn header_in_chunks<'a>(capture: &Capture<'a>) -> &'a [u8]
 }
 
 /// The format that the header of a capture of this size tells, or the first refusal that applies.
-pub fn format_or_refusal(header: &[u8], size: usize) -> Result<Format, PcapFault>
+pub(crate) fn format_or_refusal(header: &[u8], size: usize) -> Result<Format, PcapFault>
     requires { length header.now ≡ min 24 size }
     ensures known { IfOk result (λ format. format_of header.now ≡ Some format) }
     ensures taken { OnOk result (refusal_of header.now size ≡ None) }

@@ -3,9 +3,9 @@ ghost use Rattle.pcap_records.specs.FileHeader.{number_of};
 ghost use Rattle.pcap_records.specs.Record.{captured_length, record_at};
 ghost use Rattle.pcap_records.specs.code.Walk.{IsNextRecord};
 
-use crate::capture::Record;
 use crate::format::Format;
 use crate::nanos::Nanos;
+use crate::pcap_record::Record;
 use byteorder::ByteOrder;
 use input_output::Capture;
 use std::alloc::{AllocError, Global};
@@ -55,7 +55,7 @@ fn record_behind<T: ByteOrder>(front: &[u8], at: usize, size: usize, unit: u64) 
 ///
 /// Its header is read where it lies; one in which chunks of the capture meet is gathered first, and fails where memory
 /// runs out.
-pub fn next_record<T: ByteOrder>(
+pub(crate) fn next_record<T: ByteOrder>(
     alloc: Global,
     capture: &Capture<'_>,
     at: usize,

@@ -5,9 +5,9 @@ use Rattle.tcp_streams.proofs.Words.{PayloadsRise, Packet, Carried, Segment, is_
 use Rattle.tcp_streams.proofs.Words.{segment_of, payload_length, AreMembers, payload_sum, Connection, Bool, false, ◌++◌}
 use Rattle.tcp_streams.proofs.Words.{ap, map, if◌then◌else◌, option_to_list, nat_tests, append-nil, true, append_assoc}
 use Rattle.tcp_streams.proofs.Words.{map-append, AreNumberedFrom, is_opening, with_if, members, opening_at, openings}
-use Rattle.tcp_streams.proofs.Words.{Membership, membership, connection_of, connections_of, past_after, past_of, Falls}
+use Rattle.tcp_streams.proofs.Words.{Membership, membership, connection_of, connections_of, past_after, past_of, RecordsDescend}
 use Rattle.tcp_streams.proofs.Lists.{by_option, slice_get-drop}
-use Rattle.tcp_streams.proofs.Numbered.{Falls-past_after, Known, Known-past_of, recs}
+use Rattle.tcp_streams.proofs.Numbered.{RecordsDescend-past_after, Known, Known-past_of, recs}
 use Rattle.tcp_streams.proofs.PieceLemmas.{PayloadsRise-end, found-at, rise-drop}
 use Rattle.std.specs.Prelude.{sum_by}
 use Rattle.std.proofs.lemmas.List.{Filters.sum_by-filter_both, Folds.fold-map, Sums.sum_by_push}
@@ -81,12 +81,12 @@ module _ (q : Segment) (v : ℕ) where
   abbrev shares : List Segment → ℕ
   shares xs = sum_by (share (Some q) v) xs
 
-  shares-few : (n : ℕ) (past : List Segment) → Falls n past
+  shares-few : (n : ℕ) (past : List Segment) → RecordsDescend n past
       → (shares (openings past) ≤ v) × (n ≤ q.rec → shares (openings past) ≡ 0)
   shares-few n [] f = (omega arith, λ le. refl)
   shares-few n (s ∷ past) f = grind (arith, nat_tests, shares-few s.rec past f.1, sum_by_push, f.1)
 
-share-most : (x : Option Segment) (v n : ℕ) (past : List Segment) → Falls n past
+share-most : (x : Option Segment) (v n : ℕ) (past : List Segment) → RecordsDescend n past
     → sum_by (share x v) (openings past) ≤ v
 share-most None v n past f = omega (arith, share-none v (openings past))
 share-most (Some q) v n past f = (shares-few q v n past f).0
@@ -97,7 +97,7 @@ payload-push true ms s = sum_by_push payload_length ms s
 payload-push false ms s = omega arith
 
 -- the payloads of all openings' members are payloads of the past, each once
-members-sum : (n : ℕ) (all : List Segment) → Falls n all → (past : List Segment)
+members-sum : (n : ℕ) (all : List Segment) → RecordsDescend n all → (past : List Segment)
     → sum_by (λ o. payload_sum (members o past)) (openings all) ≤ payload_sum past
 members-sum n all f [] = omega (arith, share-none 0 (openings all))
 members-sum n all f (s ∷ past) =
@@ -135,7 +135,7 @@ flows-fit packets size found numbered rise same =
     let defined = sum-map payload (connection_of past) (openings past) in
     let named = sum-agree (λ o. payload (connection_of past o)) (λ o. payload_sum (members o past)) (openings past)
     (λ o. ap payload_sum (members-named packets o past (Known-past_of packets numbered))) in
-    let falls = members-sum _ past (Falls-past_after 1 [] packets numbered tt) past in
+    let falls = members-sum _ past (RecordsDescend-past_after 1 [] packets numbered tt) past in
     omega (arith, sides, ap (sum_by payload) same, falls, past-sum 0 size [] packets rise)
 
 pub ruleset laws = (sides-fit)

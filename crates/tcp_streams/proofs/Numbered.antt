@@ -4,9 +4,9 @@ use Rattle.tcp_streams.proofs.Words.{◌++◌, length, drop, take, slice_get, ap
 use Rattle.tcp_streams.proofs.Words.{get_or-map, length-map, map-append, drop-drop, All-nil, All-weaker, All-head}
 use Rattle.tcp_streams.proofs.Words.{All-tail, All-push, none-some, AreNumberedFrom, Packet, Carried, Segment}
 use Rattle.tcp_streams.proofs.Words.{is_opening, segment_of, AreMembers, members, opening_at, openings, Membership}
-use Rattle.tcp_streams.proofs.Words.{membership, connection_of, connections_of, past_after, past_of, with_packet, Falls}
+use Rattle.tcp_streams.proofs.Words.{membership, connection_of, connections_of, past_after, past_of, with_packet, RecordsDescend}
 use Rattle.tcp_streams.proofs.Words.{Connection, IfSome, get_or_from_slice_get, inl, inr, slice_get_within}
-use Rattle.tcp_streams.proofs.{Lists.by_Bool, Past.Falls-weaker}
+use Rattle.tcp_streams.proofs.{Lists.by_Bool, Past.RecordsDescend-weaker}
 use Rattle.std.proofs.lemmas.List.{length-take, take_more, Elements.All-map}
 use Rattle.std.proofs.lemmas.Option.{gets, slice_get_cases}
 use Rattle.packet_heads.specs.code.Standing.{IsPassedOver}
@@ -45,24 +45,24 @@ numbered_at n (_ ∷ rest) zero s h at = absurd cc
 numbered_at n (Carried t ∷ rest) (suc i) s h at = omega (arith, numbered_at (n + 1) rest i s h.1 at)
 numbered_at n (_ ∷ rest) (suc i) s h at = omega (arith, numbered_at (n + 1) rest i s h at)
 
-pub Falls-past_after : (n : ℕ) (past : List Segment) (packets : List Packet) → AreNumberedFrom n packets → Falls n past
-    → Falls (n + length packets) (past_after past packets)
-Falls-past_after n past [] h f = Falls-weaker n (n + 0) past (omega arith) f
-Falls-past_after n past (Carried s ∷ rest) h f =
-    grind (arith, common_steps, Falls-past_after (n + 1) (s ∷ past) rest h.1 (omega (arith, h.0), rw h.0 f), h.1, h.0)
-Falls-past_after n past (_ ∷ rest) h f =
-    grind (arith, common_steps, Falls-past_after (n + 1) past rest h (Falls-weaker n (n + 1) past (omega arith) f))
+pub RecordsDescend-past_after : (n : ℕ) (past : List Segment) (packets : List Packet) → AreNumberedFrom n packets → RecordsDescend n past
+    → RecordsDescend (n + length packets) (past_after past packets)
+RecordsDescend-past_after n past [] h f = RecordsDescend-weaker n (n + 0) past (omega arith) f
+RecordsDescend-past_after n past (Carried s ∷ rest) h f =
+    grind (arith, common_steps, RecordsDescend-past_after (n + 1) (s ∷ past) rest h.1 (omega (arith, h.0), rw h.0 f), h.1, h.0)
+RecordsDescend-past_after n past (_ ∷ rest) h f =
+    grind (arith, common_steps, RecordsDescend-past_after (n + 1) past rest h (RecordsDescend-weaker n (n + 1) past (omega arith) f))
 
 -- the records fall along the past, from below the next segment's
-pub Falls-next : (n : ℕ) (past : List Segment) (packets : List Packet) (i : ℕ) (s : Segment) → AreNumberedFrom n packets
-    → Falls n past → slice_get packets i ≡ Some (Carried s) → Falls s.rec (past_after past (take i packets))
-Falls-next n past [] i s h f at = absurd (none-some (Carried s) at)
-Falls-next n past (Carried t ∷ rest) zero s h f at = rw ((let same : s ≡ t = cc in same), h.0) f
-Falls-next n past (_ ∷ rest) zero s h f at = absurd cc
-Falls-next n past (Carried t ∷ rest) (suc i) s h f at =
-    Falls-next (n + 1) (t ∷ past) rest i s h.1 (omega (arith, h.0), rw h.0 f) at
-Falls-next n past (_ ∷ rest) (suc i) s h f at =
-    Falls-next (n + 1) past rest i s h (Falls-weaker n (n + 1) past (omega arith) f) at
+pub RecordsDescend-next : (n : ℕ) (past : List Segment) (packets : List Packet) (i : ℕ) (s : Segment) → AreNumberedFrom n packets
+    → RecordsDescend n past → slice_get packets i ≡ Some (Carried s) → RecordsDescend s.rec (past_after past (take i packets))
+RecordsDescend-next n past [] i s h f at = absurd (none-some (Carried s) at)
+RecordsDescend-next n past (Carried t ∷ rest) zero s h f at = rw ((let same : s ≡ t = cc in same), h.0) f
+RecordsDescend-next n past (_ ∷ rest) zero s h f at = absurd cc
+RecordsDescend-next n past (Carried t ∷ rest) (suc i) s h f at =
+    RecordsDescend-next (n + 1) (t ∷ past) rest i s h.1 (omega (arith, h.0), rw h.0 f) at
+RecordsDescend-next n past (_ ∷ rest) (suc i) s h f at =
+    RecordsDescend-next (n + 1) past rest i s h (RecordsDescend-weaker n (n + 1) past (omega arith) f) at
 
 pub past_after-few : (past : List Segment) (packets : List Packet)
     → length (past_after past packets) ≤ length past + length packets
@@ -109,7 +109,7 @@ abbrev pub recs : List Segment → List ℕ
 recs segments = map (λ (s : Segment). s.rec) segments
 
 -- an opening's members rise and name segments
-members-are : (packets : List Packet) (o : Segment) (n : ℕ) (past : List Segment) → Falls n past → Known packets past
+members-are : (packets : List Packet) (o : Segment) (n : ℕ) (past : List Segment) → RecordsDescend n past → Known packets past
     → AreMembers 0 packets (recs (members o past)) × All (λ k. k < n) (recs (members o past))
 members-are packets o n [] f k = (tt, All-nil (λ k. k < n))
 members-are packets o n (s ∷ past) f k =
@@ -134,6 +134,6 @@ connections-members packets found h same =
     let named : All (IsNamed packets) (map membership found) =
     rw same (All-map (IsNamed packets) (connection_of past) (openings past) (λ k d lt.
     (members-are packets (get_or (openings past) k d) (1 + length packets) past
-    (Falls-past_after 1 [] packets h tt) (Known-past_of packets h)).0)) in
+    (RecordsDescend-past_after 1 [] packets h tt) (Known-past_of packets h)).0)) in
     λ k d lt. rw (get_or-map membership found k d (membership d) lt) at
     (named k (membership d) (omega (arith, length-map found membership)))

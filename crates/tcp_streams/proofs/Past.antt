@@ -3,14 +3,14 @@ use Rattle.tcp_streams.proofs.Words.{◌≡◌, ℕ, ◌<◌, ◌≤◌, Bool, t
 use Rattle.tcp_streams.proofs.Words.{refl, sym, ◌∙◌, arith, if◌then◌else◌, is_none, All, IfSome, AllPairs, list_any}
 use Rattle.tcp_streams.proofs.Words.{false≢true, ne_eqb, or_right, All-nil, All-weaker, list_any-append, IfSome_then}
 use Rattle.tcp_streams.proofs.Words.{Segment, is_opening, is_of, pair_of, first_strays, last_opening, members}
-use Rattle.tcp_streams.proofs.Words.{opening_at, openings, opens, strays, Falls, Pair}
+use Rattle.tcp_streams.proofs.Words.{opening_at, openings, opens, strays, RecordsDescend, Pair}
 use Rattle.std.proofs.lemmas.Bool.{and_parts, and_right, not-true}
 use Rattle.tcp_streams.proofs.Lists.{All-with_if, AllPairs-with_if, by_Bool, list_any-with_if}
 use Rattle.tcp_streams.proofs.Pairs.{is_pair-refl, is_pair-same}
 
-pub Falls-weaker : (n m : ℕ) (past : List Segment) → n ≤ m → Falls n past → Falls m past
-Falls-weaker n m [] le f = tt
-Falls-weaker n m (s ∷ past) le f = (omega (arith, f.0), f.1)
+pub RecordsDescend-weaker : (n m : ℕ) (past : List Segment) → n ≤ m → RecordsDescend n past → RecordsDescend m past
+RecordsDescend-weaker n m [] le f = tt
+RecordsDescend-weaker n m (s ∷ past) le f = (omega (arith, f.0), f.1)
 
 module _ (past : List Segment) (s : Segment) where
   -- a segment that opens nothing is no pair's last opening
@@ -39,7 +39,7 @@ IsBelow-if : (b : Bool) (n : ℕ) (s : Segment) (o : Option Segment) → s.rec <
     → IsBelow n (if b then Some s else o)
 IsBelow-if b n s o h k = by_Bool b (λ e. rw e h) (λ e. rw e (IfSome_then o k (λ t lt. omega arith)))
 
-last_opening-below : (p : Pair) (n : ℕ) (past : List Segment) → Falls n past → IsBelow n (last_opening p past)
+last_opening-below : (p : Pair) (n : ℕ) (past : List Segment) → RecordsDescend n past → IsBelow n (last_opening p past)
 last_opening-below p n [] f = tt
 last_opening-below p n (s ∷ past) f = grind (arith, last_opening-below p s.rec past f.1, IsBelow-if, f.0, f.1)
 
@@ -49,15 +49,15 @@ is_opening-below o None h = refl
 is_opening-below o (Some t) h = ne_eqb t.rec o.rec (λ e. omega (arith, h))
 
 -- nobody belongs to an opening that is still to come
-pub members-to_come : (o : Segment) (past : List Segment) → Falls o.rec past → members o past ≡ []
+pub members-to_come : (o : Segment) (past : List Segment) → RecordsDescend o.rec past → members o past ≡ []
 members-to_come o [] f = refl
 members-to_come o (s ∷ past) f =
     rw (is_opening-below o (opening_at s past) (IsBelow-if (opens s past) o.rec s (last_opening (pair_of s) past) f.0
     (last_opening-below (pair_of s) s.rec past f.1)))
-    (members-to_come o past (Falls-weaker s.rec o.rec past (omega (arith, f.0)) f.1))
+    (members-to_come o past (RecordsDescend-weaker s.rec o.rec past (omega (arith, f.0)) f.1))
 
 -- the openings are below what the past is below, and their records rise
-pub openings-below : (n : ℕ) (past : List Segment) → Falls n past → All (λ (o : Segment). o.rec < n) (openings past)
+pub openings-below : (n : ℕ) (past : List Segment) → RecordsDescend n past → All (λ (o : Segment). o.rec < n) (openings past)
 openings-below n [] f = All-nil _
 openings-below n (s ∷ past) f = All-with_if (opens s past) (openings past) s (λ (o : Segment). o.rec < n)
     (All-weaker (λ (o : Segment). o.rec < s.rec) (λ (o : Segment). o.rec < n) (λ o h. omega (arith, f.0))
@@ -67,7 +67,7 @@ openings-below n (s ∷ past) f = All-with_if (opens s past) (openings past) s (
 abbrev pub IsBefore : Segment → Segment → Type 0
 IsBefore a b = a.rec < b.rec
 
-pub openings-rise : (n : ℕ) (past : List Segment) → Falls n past → AllPairs IsBefore (openings past)
+pub openings-rise : (n : ℕ) (past : List Segment) → RecordsDescend n past → AllPairs IsBefore (openings past)
 openings-rise n [] f = λ i j d lt over. absurd (omega (arith, over))
 openings-rise n (s ∷ past) f = AllPairs-with_if (opens s past) (openings past) s IsBefore
     (openings-rise s.rec past f.1) (λ _. openings-below s.rec past f.1)

@@ -2,14 +2,14 @@
 use Rattle.std.{proofs.Common.min, specs.List.cons_option}
 use Rattle.tcp_streams.proofs.Words.{All, All-cons, is_sent_by, none-some, option_or, segment_in, segment_of, slice_get}
 use Rattle.tcp_streams.proofs.Words.{All-nil, Carried, IfSome, Interval, IsSame, Option, Segment, TimesFit, [], size_of}
-use Rattle.tcp_streams.proofs.Words.{AreMembers, Connection, IsCaptured, IsInterval, filter_map, nat_tests, sum_by-cons}
+use Rattle.tcp_streams.proofs.Words.{AreMembers, IsCaptured, IsInterval, filter_map, nat_tests, sum_by-cons}
 use Rattle.tcp_streams.proofs.Words.{AreNumberedFrom, end_of_offsets, option_and_then, option_to_list, payload_length}
 use Rattle.tcp_streams.proofs.Words.{IfSome_then, PayloadsRise, if◌then◌else◌, member_piece, payload_sum, segments_of}
 use Rattle.tcp_streams.proofs.Words.{List, None, Packet, Source, arith, filter, lt-ltb, nat_lt, piece, source, width, ℕ}
-use Rattle.tcp_streams.proofs.Words.{Side, Some, at, drop, refl, suc, sym, zero, ◌%◌, ◌+◌, ◌-◌, ◌<◌, ◌^◌, ◌∙◌, ◌∷◌, ◌≡◌}
+use Rattle.tcp_streams.proofs.Words.{Some, at, drop, refl, suc, sym, zero, ◌%◌, ◌+◌, ◌-◌, ◌<◌, ◌^◌, ◌∙◌, ◌∷◌, ◌≡◌}
 use Rattle.tcp_streams.proofs.{IntervalLemmas.at-append, Lists.by_Bool, Lists.by_lt, Lists.by_option}
 use Rattle.tcp_streams.specs.{Sequence.earlier_of, Sequence.modulus, code.Interval.stretch, laws.Flows.ByteHasOffset}
-use Rattle.tcp_streams.{proofs.Numbered.numbered_at, proofs.Words.◌≤◌, specs.Sequence.brings}
+use Rattle.tcp_streams.{proofs.Numbered.numbered_at, proofs.Words.StartedSide, proofs.Words.◌≤◌, specs.Sequence.brings}
 
 -- a payload that stands in the capture
 pub record StandsIn (size : ℕ) (s : Segment) : Type 0 where
@@ -194,26 +194,26 @@ found-at packets m s h = by (slice_get packets (m - 1)) h
     by _ e = absurd (none-some s e)
 
 -- the members' pieces are the pieces of the side's segments
-module _ (initial_number size : ℕ) (small : size < 2 ^ 31) (packets : List Packet) (connection : Connection)
-    (side : Side) (rise : PayloadsRise 0 size packets) (times : TimesFit packets)
-    (numbered : AreNumberedFrom 1 packets) where
-  pub pieces-are : (low : ℕ) (members : List ℕ) → AreMembers low packets members
-      → ArePiecesOf initial_number size low (filter (is_sent_by connection side) (segments_of packets members))
-      (filter_map (member_piece initial_number packets connection side) members)
+module _ (size : ℕ) (small : size < 2 ^ 31) (of : StartedSide) (rise : PayloadsRise 0 size of.packets.now)
+    (times : TimesFit of.packets.now) (numbered : AreNumberedFrom 1 of.packets.now) where
+  pub pieces-are : (low : ℕ) (members : List ℕ) → AreMembers low of.packets.now members
+      → ArePiecesOf of.initial_number size low
+      (filter (is_sent_by of.connection.now of.side) (segments_of of.packets.now members))
+      (filter_map (member_piece of) members)
   pieces-are low [] h =
       record { intervals = All-nil IsInterval; fit = omega arith; rise = tt; cited = λ o. tt; same = λ o lt. refl }
   pieces-are low (m ∷ rest) h =
       let later = pieces-are m rest h.2 in
       let le : low ≤ m = omega (arith, h.0) in
-      by_option (segment_of packets m)
-      (λ e. rw e (weaker initial_number size small m low _ _ le later))
+      by_option (segment_of of.packets.now m)
+      (λ e. rw e (weaker of.initial_number size small m low _ _ le later))
       (λ s e.
-      let here = found-at packets m s e in
-      let number : s.rec ≡ m = omega (arith, h.0, numbered_at 1 packets (m - 1) s numbered here) in
-      let stands = stands-at size packets (m - 1) s rise here in
+      let here = found-at of.packets.now m s e in
+      let number : s.rec ≡ m = omega (arith, h.0, numbered_at 1 of.packets.now (m - 1) s numbered here) in
+      let stands = stands-at size of.packets.now (m - 1) s rise here in
       let sound : IsSound size low s =
-      record { stands = stands; after = omega (arith, number, h.0); timely = timely-at packets (m - 1) s times here } in
-      rw e (by_Bool (is_sent_by connection side s)
-      (λ t. rw t (one_more initial_number size small low s _ sound _ (rw number later) (piece initial_number s)
-      (piece-is initial_number size small s stands) (piece-same initial_number size small s stands)))
-      (λ t. rw t (weaker initial_number size small m low _ _ le later))))
+      record { stands = stands; after = omega (arith, number, h.0); timely = timely-at of.packets.now (m - 1) s times here } in
+      rw e (by_Bool (is_sent_by of.connection.now of.side s)
+      (λ t. rw t (one_more of.initial_number size small low s _ sound _ (rw number later) (piece of.initial_number s)
+      (piece-is of.initial_number size small s stands) (piece-same of.initial_number size small s stands)))
+      (λ t. rw t (weaker of.initial_number size small m low _ _ le later))))

@@ -2,26 +2,26 @@
 -- follow each other, laid out as they come.
 use Rattle.tcp_streams.proofs.Words.{◌≡◌, ℕ, ◌<◌, ◌≤◌, List, [], ◌∷◌, None, Some, refl, sym, ◌∙◌, arith, ◌+◌, ◌-◌, ◌^◌}
 use Rattle.tcp_streams.proofs.Words.{◌++◌, length, ap, map, IfSome, IsTrue, slice_range, filter_map, lt-ltb, append-nil}
-use Rattle.tcp_streams.proofs.Words.{map-append, IfSome_then, Side, PayloadsRise, Packet, bytes_of, is_sent_by}
-use Rattle.tcp_streams.proofs.Words.{segment_of, side_segments, source, end_of_offsets, IsAssembled, AreCaptured}
+use Rattle.tcp_streams.proofs.Words.{map-append, IfSome_then, PayloadsRise, bytes_of, is_sent_by}
+use Rattle.tcp_streams.proofs.Words.{segment_of, source, end_of_offsets, IsAssembled, AreCaptured}
 use Rattle.tcp_streams.proofs.Words.{IsInterval, IsSame, arrival_with, arrivals_after, arrivals_in, at, bytes_in, width}
-use Rattle.tcp_streams.proofs.Words.{member_piece, piece, Interval, Connection, Arrival, Flow}
-use Rattle.tcp_streams.specs.code.{Assembled.IsLaidOut, Assembled.IsOfCapture, Interval.IsInside}
+use Rattle.tcp_streams.proofs.Words.{member_piece, piece, Interval, Arrival, Flow}
+use Rattle.tcp_streams.specs.code.{Assembled.IsLaidOut, Assembled.IsOfCapture, Assembled.segments_by}
+use Rattle.tcp_streams.{proofs.Words.StartedSide, specs.code.Interval.IsInside}
 use Rattle.tcp_streams.proofs.{FlowLemmas.side-fits, IntervalLemmas.covered-fit, Lists.by_Bool, Lists.by_option}
 use Rattle.tcp_streams.proofs.PieceLemmas.{ArePiecesOf, AreRising, found-at, piece-is, pieces-are, stands-at}
 use Rattle.tcp_streams.proofs.RunLemmas.{Follows, IsRunOf, bytes_in-push, run-laid, run_end}
 
 -- the piece of a member lies in the capture
-member-inside : (initial_number size : ℕ) (packets : List Packet) (connection : Connection) (side : Side) (m : ℕ)
-    → size < 2 ^ 31 → PayloadsRise 0 size packets
-    → IfSome (member_piece initial_number packets connection side m) (IsInside size)
-member-inside initial_number size packets connection side m small rise =
-    by_option (segment_of packets m)
+member-inside : (size : ℕ) (of : StartedSide) (m : ℕ) → size < 2 ^ 31 → PayloadsRise 0 size of.packets.now
+    → IfSome (member_piece of m) (IsInside size)
+member-inside size of m small rise =
+    by_option (segment_of of.packets.now m)
     (λ e. rw e tt)
     (λ s e.
-    let stands = stands-at size packets (m - 1) s rise (found-at packets m s e) in
-    rw e (by_Bool (is_sent_by connection side s)
-    (λ sent. rw sent (IfSome_then (piece initial_number s) (piece-is initial_number size small s stands)
+    let stands = stands-at size of.packets.now (m - 1) s rise (found-at of.packets.now m s e) in
+    rw e (by_Bool (is_sent_by of.connection.now of.side s)
+    (λ sent. rw sent (IfSome_then (piece of.initial_number s) (piece-is of.initial_number size small s stands)
     (λ x is. record { interval = is.interval; captured = omega (arith, is.within, stands.within) })))
     (λ other. rw other tt)))
 
@@ -69,38 +69,34 @@ run_end-within : (low : ℕ) (xs : List Interval) → low ≤ end_of_offsets →
 run_end-within low [] le f = le
 run_end-within low (x ∷ xs) le f = run_end-within x.upto xs f.1.counts f.2
 
-module _ (initial_number : ℕ) (capture : List ℕ) (packets : List Packet) (connection : Connection) (side : Side)
-    (is : IsOfCapture capture packets connection) where
+module _ (capture : List ℕ) (of : StartedSide) (is : IsOfCapture capture of) where
   abbrev pieces : List Interval
-  pieces = filter_map (member_piece initial_number packets connection side) connection.members.items
+  pieces = filter_map (member_piece of) of.connection.now.members.items
 
-  pub piece-inside : (m : ℕ) (x : Interval) → Some x ≡ member_piece initial_number packets connection side m
-      → IsInside (length capture) x
-  piece-inside m x e =
-      rw (← e) at (member-inside initial_number (length capture) packets connection side m is.size is.payloads)
+  pub piece-inside : (m : ℕ) (x : Interval) → Some x ≡ member_piece of m → IsInside (length capture) x
+  piece-inside m x e = rw (← e) at (member-inside (length capture) of m is.size is.payloads)
 
-  pub side-pieces : ArePiecesOf initial_number (length capture) 0 (side_segments packets connection side) pieces
-  side-pieces = pieces-are initial_number (length capture) is.size packets connection side is.payloads is.times
-      is.numbered 0 connection.members.items is.members
+  pub side-pieces : ArePiecesOf of.initial_number (length capture) 0 (segments_by of) pieces
+  side-pieces = pieces-are (length capture) is.size of is.payloads is.times is.numbered 0
+      of.connection.now.members.items is.members
 
   module _ (intervals : List Interval) (same : IsSame (at intervals) (at pieces)) where
-    sources-same : IsSame (source initial_number (side_segments packets connection side)) (at intervals)
+    sources-same : IsSame (source of.initial_number (segments_by of)) (at intervals)
     sources-same = λ o lt. side-pieces.same o lt ∙ sym (same o lt)
 
     pub intervals-captured : AreCaptured (length capture) (at intervals)
     intervals-captured = λ o lt.
         rw (← sources-same o lt)
-        (IfSome_then (source initial_number (side_segments packets connection side) o) (side-pieces.cited o)
+        (IfSome_then (source of.initial_number (segments_by of) o) (side-pieces.cited o)
         (λ x cited. cited.1))
 
     -- a flow of the intervals is the side's
-    pub assembled : (f : Flow) → IsLaidOut capture intervals f
-        → IsAssembled capture packets connection side initial_number f
+    pub assembled : (f : Flow) → IsLaidOut capture intervals f → IsAssembled capture of f
     assembled f laid =
         let flow = laid.is_flow _ sources-same in
         let within = covered-fit (length (bytes_of f)) pieces
         (λ o lt. rw (side-pieces.same o (omega (arith, flow.run.within))) at (flow.run.covered o lt)) in
-        let fits = side-fits packets (length capture) connection side is.payloads is.members in
+        let fits = side-fits of.packets.now (length capture) of.connection.now of.side is.payloads is.members in
         let fit = side-pieces.fit in
         record {
           started = laid.started;
@@ -111,7 +107,7 @@ module _ (initial_number : ℕ) (capture : List ℕ) (packets : List Packet) (co
 
   -- what is laid out of all pieces is the side's flow
   pub laid-assembled : (f : Flow) (end : ℕ) → IsLaid capture pieces (bytes_of f) f.arrivals.items end
-      → IsTrue f.started → f.gap ≡ None → IsAssembled capture packets connection side initial_number f
+      → IsTrue f.started → f.gap ≡ None → IsAssembled capture of f
   laid-assembled f end laid started none =
       let run : IsRunOf 0 pieces [] =
       record { follows = laid.follows; within = run_end-within 0 pieces (omega arith) laid.follows; leaves = tt } in

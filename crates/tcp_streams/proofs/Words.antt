@@ -26,10 +26,11 @@ pub use Rattle.tcp_streams.specs.Members.{is_sent_by, segments_of, side_segments
 pub use Rattle.tcp_streams.specs.Membership.{is_opening, is_request, with_if}
 pub use Rattle.tcp_streams.specs.{Pair.is_endpoint, Pair.is_same_pair, code.Assembled.IsAssembled}
 pub use Rattle.tcp_streams.specs.Sequence.{Source, arrival, end_of_offsets, payload_length, source}
-pub use Rattle.tcp_streams.specs.code.{Interval.overlay, Interval.HasPassed, Pairs.is_of, Pairs.pair_of, Pairs.is_pair}
+pub use Rattle.tcp_streams.specs.code.{Interval.overlay, Interval.ClipsAlike, Pairs.is_of, Pairs.pair_of, Pairs.is_pair}
 pub use Rattle.tcp_streams.specs.code.Orderly.{AreTimely, AreMembers, payload_sum}
 pub use Rattle.tcp_streams.specs.code.{Past.past_of, Past.with_packet, Standings.standing_of}
-pub use Rattle.tcp_streams.specs.code.Table.{Falls, IsOpened, IsTableOf, IsUnopened}
-pub use Rattle.tcp_streams.specs.declared.{interval.Interval.Interval, members.Connection.Connection, streams.Flow.Flow}
+pub use Rattle.tcp_streams.specs.code.Table.{RecordsDescend, IsOpened, IsTableOf, IsUnopened}
+pub use Rattle.tcp_streams.specs.declared.{interval.Interval.Interval, members.Connection.Connection, flows.Flow.Flow}
 pub use Rattle.tcp_streams.specs.declared.{members.Stray.Stray, standings.Standing.TheVariants.Opened}
-pub use Rattle.tcp_streams.specs.declared.{streams.Arrival.Arrival, table.Table.Table}
+pub use Rattle.tcp_streams.specs.declared.{started_side.StartedSide.StartedSide, flows.Arrival.Arrival}
+pub use Rattle.tcp_streams.specs.declared.{table.Table.Table}

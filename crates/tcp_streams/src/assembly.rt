@@ -7,12 +7,13 @@ ghost use Rattle.tcp_streams.specs.Members.{initial_of, side_segments};
 ghost use Rattle.tcp_streams.specs.Sequence.{source};
 ghost use Rattle.tcp_streams.specs.code.Assembled.{IsAssembled, IsOfCapture};
 
+use crate::flows::Flow;
 use crate::in_order::flow_in_order;
 use crate::layout::lay_out;
 use crate::members::Connection;
 use crate::overlay::set_apart;
 use crate::pieces::pieces_of;
-use crate::streams::Flow;
+use crate::started_side::StartedSide;
 use audit_terms::Side;
 use input_output::Capture;
 use packet_heads::Packets;
@@ -59,9 +60,16 @@ pub fn assemble<'a>(
     ensures orderly { IfOk result IsOrderly }
 {
     match connection.initial_of(side) {
-        Some(initial_number) => {
-            flow_from(alloc, capture, packets, connection, side, initial_number)
-        }
+        Some(initial_number) => flow_from(
+            alloc,
+            capture,
+            &StartedSide {
+                packets,
+                connection,
+                side,
+                initial_number,
+            },
+        ),
         None => Ok(Flow::unknown(alloc)),
     }
 }
@@ -70,17 +78,14 @@ pub fn assemble<'a>(
 fn flow_from<'a>(
     alloc: Global,
     capture: &Capture<'a>,
-    packets: &Packets<'_>,
-    connection: &Connection,
-    side: Side,
-    initial_number: u32,
+    of: &StartedSide<'_>,
 ) -> Result<Flow<'a>, AllocError>
-    requires { IsOfCapture capture.now packets.now connection.now }
-    ensures { IfOk result (IsAssembled capture.now packets.now connection.now side initial_number) }
+    requires { IsOfCapture capture.now of.now }
+    ensures { IfOk result (IsAssembled capture.now of.now) }
 {
-    match flow_in_order(alloc, capture, packets, connection, side, initial_number)? {
+    match flow_in_order(alloc, capture, of)? {
         Some(flow) => Ok(flow),
-        None => flow_in_any_order(alloc, capture, packets, connection, side, initial_number),
+        None => flow_in_any_order(alloc, capture, of),
     }
 }
 
@@ -88,15 +93,12 @@ fn flow_from<'a>(
 fn flow_in_any_order<'a>(
     alloc: Global,
     capture: &Capture<'a>,
-    packets: &Packets<'_>,
-    connection: &Connection,
-    side: Side,
-    initial_number: u32,
+    of: &StartedSide<'_>,
 ) -> Result<Flow<'a>, AllocError>
-    requires { IsOfCapture capture.now packets.now connection.now }
-    ensures { IfOk result (IsAssembled capture.now packets.now connection.now side initial_number) }
+    requires { IsOfCapture capture.now of.now }
+    ensures { IfOk result (IsAssembled capture.now of.now) }
 {
-    let pieces = pieces_of(alloc, initial_number, packets, connection, side)?;
+    let pieces = pieces_of(alloc, of)?;
     let intervals = set_apart(alloc, pieces)?;
     lay_out(alloc, capture, &intervals)
 }

@@ -6,14 +6,12 @@ ghost use Rattle.tcp_streams.specs.Bytes.{joined};
 ghost use Rattle.tcp_streams.specs.code.Assembled.{IsAssembled, IsOfCapture};
 ghost use Rattle.tcp_streams.specs.code.Interval.{IsInside, arrival_with, width};
 
+use crate::flows::{Arrival, Flow};
 use crate::interval::Interval;
 use crate::layout::arrival_with;
-use crate::members::Connection;
 use crate::pieces::piece_of_member;
-use crate::streams::{Arrival, Flow};
-use audit_terms::Side;
+use crate::started_side::StartedSide;
 use input_output::Capture;
-use packet_heads::Packets;
 use std::alloc::{AllocError, Global};
 
 /// What is laid out of a flow so far.
@@ -56,21 +54,17 @@ impl<'a> Laid<'a> {
 
 /// The flow of a side where each segment begins at the end of the one before it, as they mostly do. None where one
 /// does not.
-pub fn flow_in_order<'a>(
+pub(crate) fn flow_in_order<'a>(
     alloc: Global,
     capture: &Capture<'a>,
-    packets: &Packets<'_>,
-    connection: &Connection,
-    side: Side,
-    initial_number: u32,
+    of: &StartedSide<'_>,
 ) -> Result<Option<Flow<'a>>, AllocError>
-    requires { IsOfCapture capture.now packets.now connection.now }
-    ensures { IfOk result (λ found. IfSome found
-        (IsAssembled capture.now packets.now connection.now side initial_number)) }
+    requires { IsOfCapture capture.now of.now }
+    ensures { IfOk result (λ found. IfSome found (IsAssembled capture.now of.now)) }
 {
-    let mut laid = Laid::with_capacity(alloc, connection.members.len())?;
-    for member in &connection.members {
-        if let Some(piece) = piece_of_member(initial_number, packets, connection, side, *member) {
+    let mut laid = Laid::with_capacity(alloc, of.connection.members.len())?;
+    for member in &of.connection.members {
+        if let Some(piece) = piece_of_member(of, *member) {
             if piece.from != laid.end {
                 return Ok(None);
             }

@@ -4,12 +4,12 @@ use input_output::Capture;
 use std::alloc::AllocError;
 
 /// The first offset that does not count: a flow is shorter than this.
-pub const END_OF_OFFSETS: u32 = 0x8000_0000;
+pub(crate) const END_OF_OFFSETS: u32 = 0x8000_0000;
 
 /// Offsets of a stream that follow each other and come from one segment, with the index of the first
 /// one's byte in the capture.
 #[derive(Clone, Copy)]
-pub struct Interval {
+pub(crate) struct Interval {
     pub from: u32,
     pub upto: u32,
     pub index: u32,

@@ -4,13 +4,13 @@ ghost use Rattle.tcp_streams.specs.code.Assembled.{IsLaidOut};
 ghost use Rattle.tcp_streams.specs.code.Interval.{AreCaptured, IsInside, Spans, arrival_with, arrivals_in, at};
 ghost use Rattle.tcp_streams.specs.code.Interval.{bytes_in, run_length};
 
+use crate::flows::{Arrival, Flow, end_of};
 use crate::interval::Interval;
-use crate::streams::{Arrival, Flow, end_of};
 use input_output::Capture;
 use std::alloc::{AllocError, Global};
 
 /// Lays out the bytes of intervals in order of offset, as far as they follow each other from 0.
-pub fn lay_out<'a>(
+pub(crate) fn lay_out<'a>(
     alloc: Global,
     capture: &Capture<'a>,
     intervals: &[Interval],
@@ -88,7 +88,7 @@ fn arrivals_in(alloc: Global, run: &[Interval]) -> Result<Vec<Arrival>, AllocErr
 }
 
 /// The interval's bytes arrive with its record.
-pub fn arrival_with(x: &Interval) -> Arrival
+pub(crate) fn arrival_with(x: &Interval) -> Arrival
     ensures { result ≡ arrival_with x.now }
 {
     Arrival {

@@ -1,5 +1,5 @@
 ghost use Rattle.std.specs.Prelude.{◌≡◌, ◌+◌, ◌-◌, ◌<◌, ◌≤◌, ◌^◌, [], ◌∷◌, ◌++◌, false, All, length, drop, IfOk, OnOk};
-ghost use Rattle.tcp_streams.specs.code.Interval.{AreSetApart, HasPassed, IsInterval, Spans, clipped};
+ghost use Rattle.tcp_streams.specs.code.Interval.{AreSetApart, ClipsAlike, IsInterval, Spans, clipped};
 ghost use Rattle.tcp_streams.specs.code.Interval.{lie_apart, overlay};
 
 use crate::interval::{END_OF_OFFSETS, Interval};
@@ -7,7 +7,7 @@ use std::alloc::{AllocError, Global};
 
 /// Makes intervals that do not overlap, of pieces in order of record: where pieces share an offset, the first of them
 /// brings it.
-pub fn set_apart(alloc: Global, pieces: Vec<Interval>) -> Result<Vec<Interval>, AllocError>
+pub(crate) fn set_apart(alloc: Global, pieces: Vec<Interval>) -> Result<Vec<Interval>, AllocError>
     requires { All IsInterval pieces.items }
     ensures { IfOk result (λ v. AreSetApart pieces.items v.items) }
 {
@@ -79,12 +79,12 @@ fn add_kept(
 ) -> Result<usize, AllocError>
     requires spans { Spans 0 later.now (2 ^ 31) }
     requires first { first ≤ length later.now }
-    requires passed { HasPassed low later.now (drop first later.now) }
+    requires passed { ClipsAlike low later.now (drop first later.now) }
     requires order { low ≤ x.now.from }
     ensures added { OnOk result (out.new.items
         ≡ (out.old.items ++ clipped low x.now.from later.now) ++ x.now ∷ []) }
     ensures within { IfOk result (λ next. next ≤ length later.now) }
-    ensures next { IfOk result (λ next. HasPassed x.now.from later.now (drop next later.now)) }
+    ensures next { IfOk result (λ next. ClipsAlike x.now.from later.now (drop next later.now)) }
 {
     let next = fill(out, later, first, low, x.from)?;
     out.push(*x)?;
@@ -101,11 +101,11 @@ fn fill(
 ) -> Result<usize, AllocError>
     requires spans { Spans 0 later.now (2 ^ 31) }
     requires first { first ≤ length later.now }
-    requires passed { HasPassed low later.now (drop first later.now) }
+    requires passed { ClipsAlike low later.now (drop first later.now) }
     requires order { low ≤ high }
     ensures added { OnOk result (out.new.items ≡ out.old.items ++ clipped low high later.now) }
     ensures within { IfOk result (λ next. next ≤ length later.now) }
-    ensures next { IfOk result (λ next. HasPassed high later.now (drop next later.now)) }
+    ensures next { IfOk result (λ next. ClipsAlike high later.now (drop next later.now)) }
 {
     let mut index = first;
     while index < later.len() && later[index].upto <= high {

@@ -9,7 +9,7 @@ use std::hash::{Hash, Hasher};
 
 /// Two endpoints without order: the lesser stands first.
 #[derive(Clone, Copy, PartialEq, Eq)]
-pub struct Pair {
+pub(crate) struct Pair {
     pub low: Endpoint,
     pub high: Endpoint,
 }

@@ -4,29 +4,22 @@ ghost use Rattle.tcp_streams.specs.code.Interval.{PayloadsFit, member_piece, pie
 ghost use Rattle.tcp_streams.specs.Members.{is_sent_by};
 
 use crate::interval::{END_OF_OFFSETS, Interval};
-use crate::members::Connection;
+use crate::started_side::StartedSide;
 use audit_terms::Side;
-use packet_heads::{Packets, Segment};
+use packet_heads::Segment;
 use std::alloc::{AllocError, Global};
 
 /// Sequence numbers wrap at this number (RFC 9293, 3.4).
 const MODULUS: u64 = 0x1_0000_0000;
 
 /// The offsets that a side's segments cover, a piece for each that covers any, in order of record.
-pub fn pieces_of(
-    alloc: Global,
-    initial_number: u32,
-    packets: &Packets<'_>,
-    connection: &Connection,
-    side: Side,
-) -> Result<Vec<Interval>, AllocError>
-    requires { PayloadsFit packets.now }
-    ensures { IfOk result (λ v. v.items
-        ≡ filter_map (member_piece initial_number packets.now connection.now side) connection.now.members.items) }
+pub(crate) fn pieces_of(alloc: Global, of: &StartedSide<'_>) -> Result<Vec<Interval>, AllocError>
+    requires { PayloadsFit of.now.packets.now }
+    ensures { IfOk result (λ v. v.items ≡ filter_map (member_piece of.now) of.now.connection.now.members.items) }
 {
     let mut pieces = Vec::new(alloc);
-    for member in &connection.members {
-        if let Some(piece) = piece_of_member(initial_number, packets, connection, side, *member) {
+    for member in &of.connection.members {
+        if let Some(piece) = piece_of_member(of, *member) {
             pieces.push(piece)?;
         }
     }
@@ -34,30 +27,24 @@ pub fn pieces_of(
 }
 
 /// The piece of a member, if it is the side's.
-pub fn piece_of_member(
-    initial_number: u32,
-    packets: &Packets<'_>,
-    connection: &Connection,
-    side: Side,
-    member: u32,
-) -> Option<Interval>
-    requires { PayloadsFit packets.now }
-    ensures { result ≡ member_piece initial_number packets.now connection.now side member }
+pub(crate) fn piece_of_member(of: &StartedSide<'_>, member: u32) -> Option<Interval>
+    requires { PayloadsFit of.now.packets.now }
+    ensures { result ≡ member_piece of.now member }
 {
-    let segment = packets.segment(member.saturating_sub(1) as usize)?;
-    if is_sent_by(connection, side, segment) {
-        piece_of(initial_number, segment)
+    let segment = of.packets.segment(member.saturating_sub(1) as usize)?;
+    if is_sent_by(of, segment) {
+        piece_of(of.initial_number, segment)
     } else {
         None
     }
 }
 
 /// Is the segment the side's? The opener's segments are the client's.
-fn is_sent_by(connection: &Connection, side: Side, segment: &Segment) -> bool
-    ensures { result ≡ is_sent_by connection.now side segment.now }
+fn is_sent_by(of: &StartedSide<'_>, segment: &Segment) -> bool
+    ensures { result ≡ is_sent_by of.now.connection.now of.now.side segment.now }
 {
-    let is_openers = segment.from == connection.client;
-    match side {
+    let is_openers = segment.from == of.connection.client;
+    match of.side {
         Side::Client => is_openers,
         Side::Server => !is_openers,
     }

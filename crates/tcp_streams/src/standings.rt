@@ -6,21 +6,21 @@ use std::marker::Model;
 
 /// What was seen of a pair of endpoints, with its index in the table's lists.
 #[derive(Clone, Copy)]
-pub enum Standing {
+pub(crate) enum Standing {
     Unopened(usize),
     Opened(usize),
 }
 
 /// A pair, and how it stands.
 #[derive(Clone, Copy)]
-pub struct Known {
+pub(crate) struct Known {
     pub pair: Pair,
     pub standing: Standing,
 }
 
 /// How each pair stands of which anything is known, in order of first sight.
 #[derive(Drop)]
-pub struct Standings {
+pub(crate) struct Standings {
     pairs: IndexMap<Pair, Standing, TableHash>,
     /// The pair that was met last: segments that follow each other are mostly of one pair.
     last: Option<Known>,

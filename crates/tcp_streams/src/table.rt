@@ -9,7 +9,7 @@ use packet_heads::Segment;
 use std::alloc::{AllocError, Global};
 
 /// What the next segment does.
-pub enum Turn {
+pub(crate) enum Turn {
     /// It opens a connection.
     Opens,
     /// It belongs to the connection at this index.
@@ -29,7 +29,7 @@ fn is_request(segment: &Segment) -> bool
 
 /// The connections and the strays of the segments seen so far.
 #[derive(Drop)]
-pub struct Table {
+pub(crate) struct Table {
     alloc: Global,
     pub standings: Standings,
     pub opened: Vec<Connection>,
@@ -43,7 +43,7 @@ impl Table {
     ghost use Rattle.packet_heads.specs.declared.packets.Packet.{Packet};
     ghost use Rattle.tcp_streams.specs.code.Past.{membership, past_of};
     ghost use Rattle.tcp_streams.specs.code.Pairs.{pair_of};
-    ghost use Rattle.tcp_streams.specs.code.Table.{AreFoundIn, HasPast, IsTableOf, IsTurn, Falls, opened_by};
+    ghost use Rattle.tcp_streams.specs.code.Table.{AreFoundIn, HasPast, IsTableOf, IsTurn, RecordsDescend, opened_by};
     ghost use Rattle.tcp_streams.specs.code.Table.{first_stray};
     ghost use Rattle.tcp_streams.specs.code.Standings.{SetsStanding, standing_of};
     ghost use Rattle.tcp_streams.specs.declared.standings.Standing.TheVariants.{Opened, Unopened};
@@ -62,7 +62,7 @@ impl Table {
     /// Takes in the next segment.
     pub fn add(&mut self, segment: &Segment) -> Result<(), AllocError>
         requires { HasPast self.old }
-        ensures { OnOk result ((past : List Shown) → IsTableOf past self.old → Falls segment.now.rec past
+        ensures { OnOk result ((past : List Shown) → IsTableOf past self.old → RecordsDescend segment.now.rec past
             → IsTableOf (segment.now ∷ past) self.new) }
     {
         let standing = self.standings.find(&Pair::of(segment));
@@ -73,7 +73,7 @@ impl Table {
     fn take(&mut self, segment: &Segment, standing: Option<Standing>) -> Result<(), AllocError>
         requires past { HasPast self.old }
         requires standing { standing ≡ standing_of self.old.standings (pair_of segment.now) }
-        ensures { OnOk result ((past : List Shown) → IsTableOf past self.old → Falls segment.now.rec past
+        ensures { OnOk result ((past : List Shown) → IsTableOf past self.old → RecordsDescend segment.now.rec past
             → IsTableOf (segment.now ∷ past) self.new) }
     {
         match self.turn(segment, standing) {

@@ -1,18 +1,18 @@
 -- Frames of two sides, each side's in order, put in order by what stands first. Public clauses cite this
 -- only through Walk.
 use Rattle.std.specs.Prelude.{Bool, true, false, List, [], ◌∷◌, if◌then◌else◌}
-use Rattle.audit_terms.specs.declared.frames.Frame.{Frame}
+use Rattle.h2_frames.specs.declared.side_frames.SideFrame.{SideFrame}
 use Rattle.h2_frames.specs.declared.unread.Next.{Next}
 use Rattle.h2_frames.specs.declared.unread.Next.TheVariants.{Read}
 use Rattle.h2_frames.specs.CaptureOrder.{comes_after}
 
 -- the first frame of one side, and how its later ones go with the other's
-abbrev pub merged_with : Frame → (later : List Frame → List Frame) → List Frame → List Frame
+abbrev pub merged_with : SideFrame → (later : List SideFrame → List SideFrame) → List SideFrame → List SideFrame
 merged_with x later [] = x ∷ later []
 merged_with x later (y ∷ ys) = if comes_after x y then y ∷ merged_with x later ys else x ∷ later (y ∷ ys)
 
 -- the frames of both sides
-abbrev pub merged : (client server : List Frame) → List Frame
+abbrev pub merged : (client server : List SideFrame) → List SideFrame
 merged [] ys = ys
 merged (x ∷ xs) ys = merged_with x (merged xs) ys
 
@@ -23,7 +23,7 @@ is_server_first (Read x) _ = false
 is_server_first _ server = true
 
 -- the same of frames in lists
-abbrev pub is_first_of_server : (client server : List Frame) → Bool
+abbrev pub is_first_of_server : (client server : List SideFrame) → Bool
 is_first_of_server (x ∷ xs) (y ∷ ys) = comes_after x y
 is_first_of_server (x ∷ xs) [] = false
 is_first_of_server [] _ = true

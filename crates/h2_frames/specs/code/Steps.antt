@@ -1,7 +1,7 @@
 -- What single steps of the code leave. Public clauses cite these only through Walk.
 use Rattle.std.specs.Prelude.{ℕ, List, [], ◌∷◌, nat_lt, ◌&&◌, not, ◌==◌, if◌then◌else◌, Some, is_none}
-use Rattle.tcp_streams.specs.declared.streams.Arrival.{Arrival}
-use Rattle.audit_terms.specs.declared.frames.Frame.{Frame}
+use Rattle.tcp_streams.specs.declared.flows.Arrival.{Arrival}
+use Rattle.h2_frames.specs.declared.side_frames.SideFrame.{SideFrame}
 use Rattle.audit_terms.specs.declared.settings.Settings.{Settings}
 use Rattle.audit_terms.specs.code.runs.Orderly.{IsInRange}
 use Rattle.h2_frames.specs.declared.settings.Setting.{Setting}
@@ -21,6 +21,6 @@ abbrev pub arrivals_from : (offset : ℕ) → List Arrival → List Arrival
 arrivals_from offset [] = []
 arrivals_from offset (a ∷ later) = if nat_lt offset a.upto then a ∷ later else arrivals_from offset later
 
--- a frame that is in range but for its number
-abbrev pub IsReadable : Frame → Type 0
-IsReadable frame = IsInRange (record frame { number = 0 })
+-- a frame that is in range in the connection, whatever its number is there
+abbrev pub IsReadable : SideFrame → Type 0
+IsReadable x = IsInRange (record x.frame { number = 0 })

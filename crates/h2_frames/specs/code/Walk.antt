@@ -1,11 +1,12 @@
 -- A walk over the frames of a connection, in capture order. No definition of a report cites this.
-use Rattle.std.specs.Prelude.{◌≡◌, ℕ, ◌+◌, ◌*◌, ◌<◌, ◌^◌, List, [], ◌++◌, length, IsTrue}
-use Rattle.tcp_streams.specs.declared.streams.Flow.{Flow}
+use Rattle.std.specs.Prelude.{◌≡◌, ℕ, ◌+◌, ◌*◌, ◌<◌, ◌^◌, List, [], ◌∷◌, ◌++◌, length, IsTrue}
+use Rattle.tcp_streams.specs.declared.flows.Flow.{Flow}
 use Rattle.tcp_streams.specs.Bytes.{bytes_of}
 use Rattle.audit_terms.specs.declared.sides.Sides.{Sides}
 use Rattle.audit_terms.specs.declared.frames.Frame.{Frame}
+use Rattle.h2_frames.specs.declared.side_frames.SideFrame.{SideFrame}
 use Rattle.audit_terms.specs.code.runs.Orderly.{IsOrderly}
-use Rattle.h2_frames.specs.declared.connections.Cut.TheVariants.{NotHttp2, NoPreface, NoHandshake}
+use Rattle.h2_frames.specs.declared.cuts.Cut.TheVariants.{NotHttp2, NoPreface, NoHandshake}
 use Rattle.h2_frames.specs.declared.walk.Begun.{Begun}
 use Rattle.h2_frames.specs.declared.walk.Begun.TheVariants.{Http2 as BegunHttp2, NotHttp2 as BegunNotHttp2}
 use Rattle.h2_frames.specs.declared.walk.Begun.TheVariants.{NoPreface as BegunNoPreface}
@@ -14,7 +15,7 @@ use Rattle.h2_frames.specs.declared.walk.FrameWalk.{FrameWalk}
 use Rattle.h2_frames.specs.Preface.{BeginsWithPreface}
 use Rattle.h2_frames.specs.Cut.{IsCut, IsHttp2}
 use Rattle.h2_frames.specs.CaptureOrder.{numbered}
-use Rattle.h2_frames.specs.code.Pieces.{bytes_of as bytes_left}
+use Rattle.h2_frames.specs.code.Pieces.{bytes_left}
 use Rattle.h2_frames.specs.code.Unread.{AreMerged, IsReadOn, IsReady, weight}
 
 -- how many frames were taken
@@ -44,12 +45,17 @@ pub record IsWalkOn (old new : FrameWalk) : Type 0 where
   pub server : IsReadOn old.server new.server
   pub taken : new.taken ≡ old.taken
 
+-- the frames have the numbers from this one on, one after the other
+abbrev pub HaveNumbersFrom : (number : ℕ) → List Frame → Type 0
+HaveNumbersFrom number [] = Unit {0}
+HaveNumbersFrom number (frame ∷ later) = (frame.number ≡ number) × HaveNumbersFrom (number + 1) later
+
 -- with what is left of both sides, merged and numbered on, the frames that were taken are those of the connection
 pub record IsWalkAfter (client server : Flow) (taken : List Frame) (walk : FrameWalk) : Type 0 where
   pub count : taken_of walk ≡ length taken
-  pub numbers : numbered 1 taken ≡ taken
+  pub numbers : HaveNumbersFrom 1 taken
   pub orderly : IsOrderly taken
-  pub whole : (later : List Frame) (client_tail server_tail : List ℕ) →
+  pub whole : (later : List SideFrame) (client_tail server_tail : List ℕ) →
       AreMerged walk.client walk.server later client_tail server_tail →
       IsHttp2 client server (taken ++ numbered (length taken + 1) later)
       (record { client = length client_tail; server = length server_tail })

@@ -3,9 +3,10 @@
 use Rattle.std.specs.Prelude.{◌≡◌, ℕ, ◌*◌, [], ◌∷◌, map}
 use Rattle.audit_terms.specs.declared.frames.Body.TheVariants.{Ping, Content}
 use Rattle.audit_terms.specs.declared.frames.Frame.{Frame}
+use Rattle.h2_frames.specs.declared.side_frames.SideFrame.{SideFrame}
 use Rattle.audit_terms.specs.declared.sides.Side.{Side}
 use Rattle.audit_terms.specs.declared.sides.Side.TheVariants.{Client, Server}
-use Rattle.tcp_streams.specs.declared.streams.Arrival.{Arrival}
+use Rattle.tcp_streams.specs.declared.flows.Arrival.{Arrival}
 use Rattle.h2_frames.specs.declared.spelling.Spelled.{Spelled}
 use Rattle.h2_frames.specs.Header.{header_of}
 use Rattle.h2_frames.specs.Preface.{preface}
@@ -52,7 +53,7 @@ LastByteArrives =
     ∷ captured Client 3 (arrived 59 8) some_data
     ∷ []
 
--- a side's frame of this number in this record, told by its type
+-- a frame of a side in this record, told by its type
 abbrev frame : Side → (number in_record code : ℕ) → Frame
 frame side number in_record code = record {
   number = number;
@@ -66,12 +67,16 @@ frame side number in_record code = record {
   body = Ping;
 }
 
+-- the same, before it has its number in the connection: this number is the one within its side
+abbrev sent : Side → (number in_record code : ℕ) → SideFrame
+sent side number in_record code = record { frame = frame side number in_record code }
+
 -- by record, then by the number within the side, then the client's first; numbered from 1
 abbrev pub FramesInOrder : Type 0
 FramesInOrder =
     capture_order
-    (frame Client 1 3 10 ∷ frame Client 2 5 11 ∷ frame Client 3 5 12 ∷ frame Client 4 9 13 ∷ [])
-    (frame Server 1 4 20 ∷ frame Server 2 5 21 ∷ frame Server 3 5 22 ∷ frame Server 4 5 23 ∷ [])
+    (sent Client 1 3 10 ∷ sent Client 2 5 11 ∷ sent Client 3 5 12 ∷ sent Client 4 9 13 ∷ [])
+    (sent Server 1 4 20 ∷ sent Server 2 5 21 ∷ sent Server 3 5 22 ∷ sent Server 4 5 23 ∷ [])
     ≡ frame Client 1 3 10
     ∷ frame Server 2 4 20
     ∷ frame Client 3 5 11

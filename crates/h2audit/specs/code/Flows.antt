@@ -12,8 +12,8 @@ use Rattle.audit_terms.specs.declared.sides.Side.{Side}
 use Rattle.audit_terms.specs.declared.sides.Side.TheVariants.{Client, Server}
 use Rattle.audit_terms.specs.declared.sides.Sides.{Sides}
 use Rattle.h2_frames.specs.Cut.{IsCut, IsHttp2}
-use Rattle.h2_frames.specs.declared.connections.Cut.{Cut}
-use Rattle.h2_frames.specs.declared.connections.Cut.TheVariants.{Http2, NotHttp2, NoPreface, NoHandshake}
+use Rattle.h2_frames.specs.declared.cuts.Cut.{Cut}
+use Rattle.h2_frames.specs.declared.cuts.Cut.TheVariants.{Http2, NotHttp2, NoPreface, NoHandshake}
 use Rattle.h2audit.specs.Audited.{AreAudited, IsFlowOf}
 use Rattle.h2audit.specs.code.Quiet.{IsQuietOf}
 use Rattle.stop_desk.specs.code.Board.{Job}
@@ -24,7 +24,7 @@ use Rattle.tcp_streams.specs.Bytes.{bytes_of}
 use Rattle.tcp_streams.specs.Members.{side_segments}
 use Rattle.tcp_streams.specs.code.Orderly.{AreMembers, IsOrderly, payload_sum}
 use Rattle.tcp_streams.specs.declared.members.Connection.{Connection}
-use Rattle.tcp_streams.specs.declared.streams.Flow.{Flow}
+use Rattle.tcp_streams.specs.declared.flows.Flow.{Flow}
 
 -- a connection of a capture, with the capture's packets
 pub record AreSources (capture : List ℕ) (packets : List Packet) (connection : Connection) : Type 0 where
@@ -40,12 +40,6 @@ pub record IsSideFlow (capture : List ℕ) (packets : List Packet) (connection :
   pub is : IsFlowOf capture packets connection side flow
   pub within : length (bytes_of flow) ≤ payload_sum (side_segments packets connection side)
   pub orderly : IsOrderly flow
-
--- both flows of one connection, as readers of their frames want them
-pub record AreFlowsOfOne (client server : Flow) : Type 0 where
-  pub client_orderly : IsOrderly client
-  pub server_orderly : IsOrderly server
-  pub together : length (bytes_of client) + length (bytes_of server) < 2 ^ 31
 
 -- what an outcome keeps of a cut
 abbrev pub KeepsCut : Outcome → Cut → Type 0

@@ -2,5 +2,5 @@
 use Rattle.std.specs.Prelude.{ℕ, List, ◌++◌}
 
 -- the walk stands of this front, whatever bytes come behind it
-abbrev pub Lasts : {W : Type 0} → (List ℕ → W → Type 0) → List ℕ → W → Type 0
-Lasts stands front walk = (more : List ℕ) → stands (front ++ more) walk
+abbrev pub SurvivesAppends : {W : Type 0} → (List ℕ → W → Type 0) → List ℕ → W → Type 0
+SurvivesAppends stands front walk = (more : List ℕ) → stands (front ++ more) walk

@@ -58,8 +58,8 @@ module _ {R : Type 0} where
     pub sound : IsSound now
 
   -- the same, where they were passed over
-  abbrev pub HasPassed : (left : R → Option (List ℕ)) (old new : CaptureReader R) → Type 0
-  HasPassed left old new = (given : List ℕ) × (new.passed ≡ old.passed + length given)
+  abbrev pub HasPassedOver : (left : R → Option (List ℕ)) (old new : CaptureReader R) → Type 0
+  HasPassedOver left old new = (given : List ℕ) × (new.passed ≡ old.passed + length given)
       × Consumes (left old.reader) (left new.reader) given
 
   -- the faults of reading, as the account then shows them: a read that failed, or want of memory
@@ -83,6 +83,6 @@ module _ {R : Type 0} where
     pub err : IfErr answer (λ e. IsReadingFault e now)
 
   -- what is kept was taken out, for a walk over it beside the reads, or nothing was
-  abbrev pub HasTaken : (old new : CaptureReader R) → Option (List ℕ) → Type 0
-  HasTaken old new (Some full) = (full ≡ kept old) × (new.reader ≡ old.reader) × IsOpenBehind full new
-  HasTaken old new None = (kept new ≡ kept old) × (new.reader ≡ old.reader) × IsOpenBelow (2 ^ 31) new
+  abbrev pub HasTakenOut : (old new : CaptureReader R) → Option (List ℕ) → Type 0
+  HasTakenOut old new (Some full) = (full ≡ kept old) × (new.reader ≡ old.reader) × IsOpenBehind full new
+  HasTakenOut old new None = (kept new ≡ kept old) × (new.reader ≡ old.reader) × IsOpenBelow (2 ^ 31) new

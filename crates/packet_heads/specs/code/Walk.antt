@@ -1,10 +1,10 @@
 -- The packets of a front of a capture, behind which more bytes may come, and those of all of it.
 use Rattle.std.specs.Prelude.{◌≡◌, ℕ, ◌^◌, ◌<◌, List, length, take}
 use Rattle.pcap_records.specs.Reading.{IsReading}
-use Rattle.input_output.specs.code.Front.{Lasts}
+use Rattle.input_output.specs.code.Front.{SurvivesAppends}
 use Rattle.pcap_records.specs.code.Walk.{HasPassed}
-use Rattle.pcap_records.specs.declared.capture.Record.{Record}
-use Rattle.pcap_records.specs.declared.capture.Records.{Records}
+use Rattle.pcap_records.specs.declared.pcap_record.Record.{Record}
+use Rattle.pcap_records.specs.declared.pcap_record.Records.{Records}
 use Rattle.packet_heads.specs.declared.packets.Packet.{Packet}
 use Rattle.packet_heads.specs.declared.walk.CapturePackets.{CapturePackets}
 use Rattle.packet_heads.specs.declared.walk.PacketWalk.{PacketWalk}
@@ -27,7 +27,7 @@ pub record HasMade (capture : List ℕ) (walk : PacketWalk) : Type 0 where
 
 -- the same of a front, whatever bytes come behind it
 abbrev pub IsPacketWalkIn : List ℕ → PacketWalk → Type 0
-IsPacketWalkIn = Lasts HasMade
+IsPacketWalkIn = SurvivesAppends HasMade
 
 -- these packets stand in front of all
 abbrev pub IsFrontOf : (front all : List Packet) → Type 0

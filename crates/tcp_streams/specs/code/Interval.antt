@@ -2,13 +2,12 @@
 use Rattle.std.specs.Prelude.{◌≡◌, ℕ, suc, ◌+◌, ◌-◌, ◌<◌, ◌≤◌, ◌^◌, ◌==◌, Bool, true, ◌&&◌, nat_lt, nat_le, min, max}
 use Rattle.std.specs.Prelude.{if◌then◌else◌, List, [], ◌∷◌, ◌++◌, Option, None, Some, IfSome, option_and_then, sum_by}
 use Rattle.std.specs.List.{slice_range}
-use Rattle.audit_terms.specs.declared.sides.Side.{Side}
 use Rattle.packet_heads.specs.code.Order.{PayloadsRise}
 use Rattle.packet_heads.specs.declared.packets.Packet.{Packet}
 use Rattle.packet_heads.specs.declared.packets.Segment.{Segment}
 use Rattle.tcp_streams.specs.declared.interval.Interval.{Interval}
-use Rattle.tcp_streams.specs.declared.members.Connection.{Connection}
-use Rattle.tcp_streams.specs.declared.streams.Arrival.{Arrival}
+use Rattle.tcp_streams.specs.declared.started_side.StartedSide.{StartedSide}
+use Rattle.tcp_streams.specs.declared.flows.Arrival.{Arrival}
 use Rattle.tcp_streams.specs.Members.{is_sent_by}
 use Rattle.tcp_streams.specs.Packets.{segment_of}
 use Rattle.tcp_streams.specs.Sequence.{Source, end_of_offsets, modulus, payload_length, start_of}
@@ -80,7 +79,7 @@ overlay [] later low = clipped low end_of_offsets later
 overlay (x ∷ kept) later low = clipped low x.from later ++ x ∷ overlay kept later x.upto
 
 -- what was passed over ends at or before low
-pub record HasPassed (low : ℕ) (all rest : List Interval) : Type 0 where
+pub record ClipsAlike (low : ℕ) (all rest : List Interval) : Type 0 where
   pub clips : (a b : ℕ) → low ≤ a → clipped a b rest ≡ clipped a b all
 
 -- the offsets from one up to another, from the payload byte `skipped` of the segment on, if there are any
@@ -98,14 +97,14 @@ piece initial_number s =
     else stretch s (modulus - start_of initial_number s) 0 (start_of initial_number s + payload_length s - modulus)
 
 -- the segment of a member, if it is the side's
-abbrev pub side_segment : List Packet → Connection → Side → ℕ → Option Segment
-side_segment packets connection side m =
-    option_and_then (λ s. if is_sent_by connection side s then Some s else None) (segment_of packets m)
+abbrev pub side_segment : StartedSide → ℕ → Option Segment
+side_segment of m =
+    option_and_then (λ s. if is_sent_by of.connection.now of.side s then Some s else None)
+    (segment_of of.packets.now m)
 
 -- the piece of a member, if it is the side's
-abbrev pub member_piece : ℕ → List Packet → Connection → Side → ℕ → Option Interval
-member_piece initial_number packets connection side m =
-    option_and_then (piece initial_number) (side_segment packets connection side m)
+abbrev pub member_piece : StartedSide → ℕ → Option Interval
+member_piece of m = option_and_then (piece of.initial_number) (side_segment of m)
 
 -- the payloads stand one after the other, none past 2 ^ 31
 abbrev pub PayloadsFit : List Packet → Type 0

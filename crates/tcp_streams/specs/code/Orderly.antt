@@ -1,9 +1,9 @@
 -- What a caller can rely on beside connections and flows themselves. No definition of a report cites these.
-use Rattle.std.specs.Prelude.{ℕ, ◌<◌, ◌^◌, List, [], ◌∷◌, All, length, sum_by, IsSome}
+use Rattle.std.specs.Prelude.{ℕ, ◌+◌, ◌<◌, ◌^◌, List, [], ◌∷◌, All, length, sum_by, IsSome}
 use Rattle.packet_heads.specs.declared.packets.Packet.{Packet}
 use Rattle.packet_heads.specs.declared.packets.Segment.{Segment}
-use Rattle.tcp_streams.specs.declared.streams.Arrival.{Arrival}
-use Rattle.tcp_streams.specs.declared.streams.Flow.{Flow}
+use Rattle.tcp_streams.specs.declared.flows.Arrival.{Arrival}
+use Rattle.tcp_streams.specs.declared.flows.Flow.{Flow}
 use Rattle.tcp_streams.specs.Arrivals.{Rises}
 use Rattle.tcp_streams.specs.Bytes.{bytes_of}
 use Rattle.tcp_streams.specs.Packets.{segment_of}
@@ -18,6 +18,12 @@ pub record IsOrderly (flow : Flow) : Type 0 where
   pub short : length (bytes_of flow) < 2 ^ 31
   pub rises : Rises 0 0 flow.arrivals.items (length (bytes_of flow))
   pub timely : AreTimely flow.arrivals.items
+
+-- both flows of one connection, as readers of their frames want them
+pub record AreFlowsOfOne (client server : Flow) : Type 0 where
+  pub client_orderly : IsOrderly client
+  pub server_orderly : IsOrderly server
+  pub together : length (bytes_of client) + length (bytes_of server) < 2 ^ 31
 
 -- the numbers rise from above `low`, and each names a record with a segment
 abbrev pub AreMembers : ℕ → List Packet → List ℕ → Type 0

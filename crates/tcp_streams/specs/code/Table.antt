@@ -95,9 +95,9 @@ abbrev pub IsTableOf : List Segment → Table → Type 0
 IsTableOf past t = IsShown past (standing_of t.standings) (map membership t.opened.items) t.strays.items
 
 -- the records fall along the past, from below n
-abbrev pub Falls : ℕ → List Segment → Type 0
-Falls n [] = Unit {0}
-Falls n (s ∷ earlier) = (s.rec < n) × Falls s.rec earlier
+abbrev pub RecordsDescend : ℕ → List Segment → Type 0
+RecordsDescend n [] = Unit {0}
+RecordsDescend n (s ∷ earlier) = (s.rec < n) × RecordsDescend s.rec earlier
 
 -- the table shows some past, with room for one more segment to be counted
 abbrev pub HasPast : Table → Type 0

@@ -1,6 +1,6 @@
 -- The packets of a front of a capture and the connections that they show, behind which more bytes may come.
 use Rattle.std.specs.Prelude.{ℕ, List}
-use Rattle.input_output.specs.code.Front.{Lasts}
+use Rattle.input_output.specs.code.Front.{SurvivesAppends}
 use Rattle.packet_heads.specs.code.Walk.{HasMade, made_by}
 use Rattle.tcp_streams.specs.code.Past.{past_of}
 use Rattle.tcp_streams.specs.code.Table.{IsTableOf}
@@ -13,4 +13,4 @@ pub record HasTakenIn (capture : List ℕ) (walk : ConnectionWalk) : Type 0 wher
 
 -- the same of a front, whatever bytes come behind it
 abbrev pub IsConnectionWalkIn : List ℕ → ConnectionWalk → Type 0
-IsConnectionWalkIn = Lasts HasTakenIn
+IsConnectionWalkIn = SurvivesAppends HasTakenIn

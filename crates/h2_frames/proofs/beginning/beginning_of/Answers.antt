@@ -1,7 +1,7 @@
 use Rattle.std.proofs.Common.{◌≡◌, ◌≢◌, ℕ, zero, suc, ◌<◌, List, [], ◌∷◌, ◌++◌, length, get_or, take, drop, sym, ap}
 use Rattle.std.proofs.Common.{◌∙◌, arith, length-drop, append_assoc}
 use Rattle.h2_frames.proofs.Words.{append-nil, take-append-drop, preface, IsPrefaceCutShort}
-use Rattle.h2_frames.specs.code.Pieces.{bytes_of}
+use Rattle.h2_frames.specs.code.Pieces.{bytes_left}
 use Rattle.h2_frames.proofs.beginning.beginning_of.Goals as goal
 
 cut_short : (bytes rest : List ℕ) (i : ℕ) → i < 24 → bytes ≡ take i preface ++ rest → length rest ≡ 0
@@ -25,8 +25,8 @@ returns-in-None c =
 pub returns-in-Some : goal.returns-in-Some
 returns-in-Some c =
     let i = c.loop-expected.expected-index in
-    let later = bytes_of c.take_byte.new.self in
-    let is : bytes_of c.args.bytes ≡ take i preface ++ c.in-Some.byte ∷ later =
+    let later = bytes_left c.take_byte.new.self in
+    let is : bytes_left c.args.bytes ≡ take i preface ++ c.in-Some.byte ∷ later =
     c.loop-expected.invariant.bytes ∙ ap (λ (xs : List ℕ). take i preface ++ xs) c.in-Some.ensures.some in (
       (λ short. differs preface i c.in-Some.byte (later ++ short.0) [] c.loop-expected-test.true c.if-byte-expected.true
           (sym (append_assoc (take i preface) (c.in-Some.byte ∷ later) short.0)

@@ -1,7 +1,7 @@
 use Rattle.std.proofs.Common.{◌≡◌, ◌==◌, ◌+◌, ℕ, List, drop, ap, unwrap_or, arith}
 use Rattle.std.proofs.lemmas.Grind.{common_steps}
 use Rattle.pcap_records.specs.LinkType.{raw_ip}
-use Rattle.pcap_records.specs.declared.capture.Record.{Record}
+use Rattle.pcap_records.specs.declared.pcap_record.Record.{Record}
 use Rattle.packet_heads.specs.Decision.{decision_on, is_partial, segment_of}
 use Rattle.packet_heads.specs.Link.{datagram_start}
 use Rattle.packet_heads.specs.Ipv4.{segment_bytes}
@@ -27,24 +27,24 @@ by_answers link number row packet start datagram start_is datagram_is =
 pub returns-in-Some-clause-decided : goal.returns-in-Some-clause-decided
 returns-in-Some-clause-decided c = grind (arith, common_steps)
 
-pub returns-in-Some-answer-clause-decided : goal.returns-in-Some-answer-clause-decided
-returns-in-Some-answer-clause-decided c =
+pub returns-in-Some-passed_over-clause-decided : goal.returns-in-Some-passed_over-clause-decided
+returns-in-Some-passed_over-clause-decided c =
     rw (
       by_answers c.args.link c.args.number c.args.row.now c.args.packet.now _ _ c.datagram_start-start.ensures
           c.datagram-datagram.ensures.datagram,
       ← c.in_default.ensures.answer,
-      ← c.in-Some-answer.ensures.answer,
+      ← c.in-Some-passed_over.ensures.answer,
     )
 
-pub returns-in-Some-answer-2-clause-decided : goal.returns-in-Some-answer-2-clause-decided
-returns-in-Some-answer-2-clause-decided c =
+pub returns-in-Some-passed_over-2-clause-decided : goal.returns-in-Some-passed_over-2-clause-decided
+returns-in-Some-passed_over-2-clause-decided c =
     rw (
       by_answers c.args.link c.args.number c.args.row.now c.args.packet.now _ _ c.datagram_start-start.ensures
           c.datagram-datagram.ensures.datagram,
       ← c.in_default.ensures.answer,
-      ← c.in_default-answer.ensures.answer,
+      ← c.in_default-passed_over.ensures.answer,
       ← c.segment.ensures,
-      ← c.in-Some-answer-2.ensures.answer,
+      ← c.in-Some-passed_over-2.ensures.answer,
     )
 
 pub returns-clause-decided : goal.returns-clause-decided
@@ -53,6 +53,6 @@ returns-clause-decided c =
       by_answers c.args.link c.args.number c.args.row.now c.args.packet.now _ _ c.datagram_start-start.ensures
           c.datagram-datagram.ensures.datagram,
       ← c.in_default.ensures.answer,
-      ← c.in_default-answer.ensures.answer,
-      ← (rw c.segment.ensures at c.in_default-answer-2.ensures.answer),
+      ← c.in_default-passed_over.ensures.answer,
+      ← (rw c.segment.ensures at c.in_default-passed_over-2.ensures.answer),
     ) (ap Segment c.segment_of.ensures.segment)

@@ -4,21 +4,19 @@ use Rattle.tcp_streams.proofs.in_order.flow_in_order.Goals.{in-Some+else-piece-l
 use Rattle.tcp_streams.proofs.in_order.flow_in_order.Goals as goal
 
 pub add-requires : goal.add-requires
-add-requires c =
-    piece-inside c.args.initial_number c.args.capture.now c.args.packets.now c.args.connection.now c.args.side
-    c.requires _ _ c.in-Some.ensures
+add-requires c = piece-inside c.args.capture.now c.args.of.now c.requires _ _ c.in-Some.ensures
 
 pub loop-member-preserved : goal.loop-member-preserved
 loop-member-preserved c =
-    let f = member_piece c.args.initial_number c.args.packets.now c.args.connection.now c.args.side in
-    let so_far = take c.loop-member.member-index c.args.connection.now.members.items in
-    let next = filter_map-more f c.args.connection.now.members.items c.loop-member.member-index 0
+    let f = member_piece c.args.of.now in
+    let members = c.args.of.now.connection.now.members.items in
+    let so_far = take c.loop-member.member-index members in
+    let next = filter_map-more f members c.loop-member.member-index 0
     c.piece_of_member.result (rw c.deref-member-items.ensures.value at c.loop-member-test.true)
     (rw c.deref-member-items.ensures.value at c.piece_of_member.ensures) in
     elim c.match-piece_of_member.branch [
       | in-Some+else-piece-laid+in_ok-add w ↦
-          let is = piece-inside c.args.initial_number c.args.capture.now c.args.packets.now c.args.connection.now
-          c.args.side c.requires _ _ w.in-Some.ensures in
+          let is = piece-inside c.args.capture.now c.args.of.now c.requires _ _ w.in-Some.ensures in
           let laid = w.in_ok-add.ensures in
           rw (next, w.in-Some.is, w.laid-is, laid.bytes, laid.arrivals, laid.end)
           (IsLaid-more c.args.capture.now _ _ _ _ w.in-Some.piece c.loop-member.invariant
@@ -30,7 +28,7 @@ loop-member-preserved c =
 pub returns : goal.returns
 returns c =
     let laid = c.loop-member.laid in
-    laid-assembled c.args.initial_number c.args.capture.now c.args.packets.now c.args.connection.now c.args.side
-    c.requires (record { started = true; pieces = laid.pieces; arrivals = laid.arrivals; gap = None }) laid.end
-    (rw (take_all c.loop-member.member-index c.args.connection.now.members.items
+    laid-assembled c.args.capture.now c.args.of.now c.requires
+    (record { started = true; pieces = laid.pieces; arrivals = laid.arrivals; gap = None }) laid.end
+    (rw (take_all c.loop-member.member-index c.args.of.now.connection.now.members.items
     (rw c.deref-member-items.ensures.value at c.loop-member-test.false)) at c.loop-member.invariant) refl refl

@@ -4,6 +4,5 @@ use Rattle.tcp_streams.proofs.in_order.flow_in_order.Given as goal
 abbrev pub invariant-loop-member : goal.invariant-loop-member
 invariant-loop-member l =
     IsLaid l.capture
-    (filter_map (member_piece l.initial_number l.packets l.connection l.side)
-    (take l.member-index l.connection.members.items))
+    (filter_map (member_piece l.of) (take l.member-index l.of.connection.now.members.items))
     (joined l.laid.pieces.items) l.laid.arrivals.items l.laid.end

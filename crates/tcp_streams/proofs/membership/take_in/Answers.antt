@@ -1,5 +1,5 @@
 use Rattle.tcp_streams.proofs.Words.{[], arith, take, past_of}
-use Rattle.tcp_streams.proofs.Numbered.{Falls-next, past_of-few, past_of-more, past_of-passed}
+use Rattle.tcp_streams.proofs.Numbered.{RecordsDescend-next, past_of-few, past_of-more, past_of-passed}
 use Rattle.tcp_streams.proofs.membership.take_in.Goals as goal
 use Rattle.tcp_streams.proofs.membership.take_in.Goals.{in-Some+in_ok-add, in_default}
 
@@ -16,7 +16,7 @@ loop-index-preserved c =
     elim c.match-segment.branch [
       | in-Some+in_ok-add w ↦ rw (w.table-is, past_of-more packets index _ w.in-Some.ensures.some)
           (w.in_ok-add.ensures _ c.loop-index.invariant
-          (Falls-next 1 [] packets index _ c.requires.numbered tt w.in-Some.ensures.some))
+          (RecordsDescend-next 1 [] packets index _ c.requires.numbered tt w.in-Some.ensures.some))
       | in_default w ↦ rw (w.table-is, past_of-passed packets index (omega arith) w.in_default.ensures.none)
           c.loop-index.invariant
     ]

@@ -5,9 +5,10 @@ use Rattle.tcp_streams.proofs.pieces.pieces_of.Goals.{in-Some+in_ok-push, in_def
 
 pub loop-member-preserved : goal.loop-member-preserved
 loop-member-preserved c =
-    let f = member_piece c.args.initial_number c.args.packets.now c.args.connection.now c.args.side in
-    let so_far = take c.loop-member.member-index c.args.connection.now.members.items in
-    let next = filter_map-more f c.args.connection.now.members.items c.loop-member.member-index 0
+    let f = member_piece c.args.of.now in
+    let members = c.args.of.now.connection.now.members.items in
+    let so_far = take c.loop-member.member-index members in
+    let next = filter_map-more f members c.loop-member.member-index 0
     c.piece_of_member.result (rw c.deref-member-items.ensures.value at c.loop-member-test.true)
     (rw c.deref-member-items.ensures.value at c.piece_of_member.ensures) in
     elim c.match-piece_of_member.branch [
@@ -19,5 +20,5 @@ loop-member-preserved c =
 
 pub returns : goal.returns
 returns c =
-    rw (take_all c.loop-member.member-index c.args.connection.now.members.items
+    rw (take_all c.loop-member.member-index c.args.of.now.connection.now.members.items
     (rw c.deref-member-items.ensures.value at c.loop-member-test.false)) at c.loop-member.invariant

@@ -10,7 +10,7 @@ returns-clause-ready c =
     record {
       client = c.of-sent.ensures.ready;
       server = c.of-answered.ensures.ready;
-      few = omega (arith, c.of-sent.ensures.weight, c.of-answered.ensures.weight, answered, sent, c.requires.together);
+      few = omega (arith, c.of-sent.ensures.weight, c.of-answered.ensures.weight, answered, sent, c.requires.flows.together);
     }
 
 pub returns-clause-whole : goal.returns-clause-whole
@@ -19,11 +19,11 @@ returns-clause-whole c =
     c.of-answers.ensures.bytes ∙ ap joined c.as_slice.ensures.value in
     record {
       count = refl;
-      numbers = refl;
+      numbers = tt;
       orderly = tt;
       whole = λ later tail other both.
           http2-is c.args.client.now c.args.server.now _ both.client_frames both.server_frames later tail other
-          c.requires.begins c.requires.client c.requires.server
+          c.requires.begins c.requires.flows.client_orderly c.requires.flows.server_orderly
           (rw c.as_slice-arrivals.ensures.value at (c.of-sent.ensures.left _ _ both.client_left))
           (rw (c.as_slice-arrivals-2.ensures.value, bytes) at (c.of-answered.ensures.left _ _ both.server_left))
           both.merged_are;

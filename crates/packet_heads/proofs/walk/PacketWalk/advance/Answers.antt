@@ -1,5 +1,5 @@
 use Rattle.std.proofs.lemmas.Result.{on_ok_weaker}
-use Rattle.packet_heads.proofs.Walking.{in_order, lasts, stands_now}
+use Rattle.packet_heads.proofs.Walking.{in_order, survives, stands_now}
 use Rattle.packet_heads.proofs.walk.PacketWalk.advance.Goals as goal
 
 pub go_on-requires-clause-walk : goal.go_on-requires-clause-walk
@@ -8,7 +8,7 @@ go_on-requires-clause-walk c = stands_now c.args.capture.now c.args.self.now c.r
 pub returns-clause-walk : goal.returns-clause-walk
 returns-clause-walk c =
     on_ok_weaker c.go_on.result
-    (λ made. lasts c.more_bytes_keep_a_walk.ensures c.args.capture.now c.go_on.new.self made) c.go_on.ensures.made
+    (λ made. survives c.more_bytes_keep_a_walk.ensures c.args.capture.now c.go_on.new.self made) c.go_on.ensures.made
 
 pub returns-clause-order : goal.returns-clause-order
 returns-clause-order c =

@@ -1,11 +1,11 @@
 use Rattle.capture_parts.proofs.Terms.{List, append_assoc, arith, length, on_ok_weaker, take, take-append_seam}
 use Rattle.capture_parts.proofs.Terms.{vec_len, ℕ, ◌++◌, ◌≡◌}
-use Rattle.capture_parts.proofs.splitting.split_last.Goals as goal
+use Rattle.capture_parts.proofs.splitting.Splitter.finish_file.Goals as goal
 
 pub returns : goal.returns
 returns g c =
     let filed = c.in_ok-filled.ensures in
-    let size : vec_len c.args.splitter.now.buffer ≡ length c.deal_file.new.buffer =
+    let size : vec_len c.args.self.now.buffer ≡ length c.deal_file.new.buffer =
     omega (arith, c.as_mut_slice.ensures.len, c.deal_file.auto.buffer) in
     let same = rw (size, take-append_seam) at c.deref.ensures.value in
     let rest : List ℕ = take c.in_ok-filled.filled c.deref.result.now in

@@ -1,6 +1,6 @@
 use Rattle.capture_parts.proofs.Terms.{append-nil, arith}
 use Rattle.std.proofs.lemmas.Grind.{common_steps}
-use Rattle.capture_parts.proofs.splitting.split_file.Goals as goal
+use Rattle.capture_parts.proofs.splitting.Splitter.split_file.Goals as goal
 
 pub returns-then-is_between-clause-dealt : goal.returns-then-is_between-clause-dealt
 returns-then-is_between-clause-dealt g c =
