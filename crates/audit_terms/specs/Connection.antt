@@ -27,6 +27,12 @@ abbrev pub first_limit : ℕ
 first_limit = 16384
 
 -- the connection before any frame (5.1.1, 6.5.2, 6.9.2); a server may promise streams until the client forbids it
+-- //= https://www.rfc-editor.org/rfc/rfc9113#section-6.5.2
+-- //# The initial value is 2^14 (16,384) octets.
+-- //= https://www.rfc-editor.org/rfc/rfc9113#section-6.9.2
+-- //# The connection flow-control window is also 65,535 octets.
+-- //= https://www.rfc-editor.org/rfc/rfc9113#section-6.9.2
+-- //# The connection flow-control window can only be changed using WINDOW_UPDATE frames.
 abbrev pub connection_start : ConnectionState
 connection_start = record {
   credit = each_side (λ _. pos first_window);
@@ -38,6 +44,12 @@ connection_start = record {
 
 -- what a frame moves the connection credit of side d by: the other side's grants on stream 0, less its own content,
 -- whatever the stream (6.9, 6.9.1)
+-- //= https://www.rfc-editor.org/rfc/rfc9113#section-6.9
+-- //# A receiver that receives a flow-controlled frame MUST always account for its contribution against the connection
+-- //# flow-control window, unless the receiver treats this as a connection error (Section 5.4.1).
+-- //= https://www.rfc-editor.org/rfc/rfc9113#section-6.9.1
+-- //# A sender that receives a WINDOW_UPDATE frame updates the corresponding window by the amount specified in the
+-- //# frame.
 abbrev pub credit_moved : Side → Frame → ℤ
 credit_moved d frame = pos (grant_to d 0 frame) -ℤ pos (content_by d frame)
 
@@ -71,6 +83,10 @@ is_length_fatal frame =
     || (frame.code == continuation_type) || (frame.stream == 0)
 
 -- a frame longer than its side's limit (4.2)
+-- //= https://www.rfc-editor.org/rfc/rfc9113#section-4.2
+-- //# An endpoint MUST send an error code of FRAME_SIZE_ERROR if a frame exceeds the size defined in
+-- //# SETTINGS_MAX_FRAME_SIZE, exceeds any limit defined for the frame type, or is too small to contain mandatory
+-- //# frame data.
 abbrev pub length_said : (limit : ℕ) → Frame → List Finding
 length_said limit frame =
     say (nat_lt limit frame.length)
@@ -78,18 +94,27 @@ length_said limit frame =
     (pos frame.length))
 
 -- a stream that the client opens, not above each one that it opened before (5.1.1)
+-- //= https://www.rfc-editor.org/rfc/rfc9113#section-5.1.1
+-- //# The identifier of a newly established stream MUST be numerically greater than all streams that the initiating
+-- //# endpoint has opened or reserved.
 abbrev pub opening_order_said : (opened : ℕ) → Item → List Finding
 opening_order_said opened item =
     say (is_opened_by_headers item && nat_le item.frame.stream opened)
     (finding_at IdNotGreater item.frame.number item.frame.stream item.frame.side (pos opened))
 
 -- a promise of the server of a stream that is odd or 0, or not above each even one that it promised before (5.1.1)
+-- //= https://www.rfc-editor.org/rfc/rfc9113#section-6.6
+-- //# A receiver MUST treat the receipt of a PUSH_PROMISE that promises an illegal stream identifier (Section 5.1.1)
+-- //# as a connection error (Section 5.4.1) of type PROTOCOL_ERROR.
 abbrev pub promise_order_said : (promised : ℕ) → Frame → List Finding
 promise_order_said promised frame =
     say (is_server_promise frame && ((promised_in frame.body % 2 == 1) || nat_le (promised_in frame.body) promised))
     (finding_at IdNotGreater frame.number (promised_in frame.body) frame.side (pos promised))
 
 -- a promise of the server while the client takes none (6.5.2, 8.4)
+-- //= https://www.rfc-editor.org/rfc/rfc9113#section-6.5.2
+-- //# A client that has both set this parameter to 0 and had it acknowledged MUST treat the receipt of a PUSH_PROMISE
+-- //# frame as a connection error (Section 5.4.1) of type PROTOCOL_ERROR.
 abbrev pub push_said : (push : ℕ) → Frame → List Finding
 push_said push frame =
     say (is_server_promise frame && (push == 0)) (finding_at Push frame.number frame.stream frame.side (pos 0))

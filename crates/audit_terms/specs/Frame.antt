@@ -78,10 +78,18 @@ abbrev pub promised_by : Frame → ℕ
 promised_by frame = if promises (promised_in frame.body) frame then promised_in frame.body else 0
 
 -- the stream meets the frame: it is on the stream, or promises it
+-- //= https://www.rfc-editor.org/rfc/rfc9113#section-6.6
+-- //# is used to notify the peer endpoint in advance of streams the sender intends to initiate.
 abbrev pub meets : (stream : ℕ) → Frame → Bool
 meets stream frame = (frame.stream == stream) || promises stream frame
 
 -- the flow-controlled length that endpoint d sends with this frame (6.9.1): all of a DATA frame, padding included
+-- //= https://www.rfc-editor.org/rfc/rfc9113#section-6.1
+-- //# The entire DATA frame payload is included in flow control, including the Pad Length and Padding fields if
+-- //# present.
+-- //= https://www.rfc-editor.org/rfc/rfc9113#section-6.9.1
+-- //# After sending a flow-controlled frame, the sender reduces the space available in both windows by the length of
+-- //# the transmitted frame.
 abbrev pub content_by : Side → Frame → ℕ
 content_by d frame = if is_side d frame.side && is_content frame.body then frame.length else 0
 
@@ -90,6 +98,10 @@ abbrev pub grant_to : Side → ℕ → Frame → ℕ
 grant_to d stream frame = if is_side (other d) frame.side && (frame.stream == stream) then increment frame.body else 0
 
 -- the other endpoint grants 0 to endpoint d on the stream (6.9)
+-- //= https://www.rfc-editor.org/rfc/rfc9113#section-6.9
+-- //# A receiver MUST treat the receipt of a WINDOW_UPDATE frame with a flow-control window increment of 0 as a stream
+-- //# error (Section 5.4.2) of type PROTOCOL_ERROR; errors on the connection flow-control window MUST be treated as a
+-- //# connection error (Section 5.4.1).
 abbrev pub grants_nothing : Side → ℕ → Frame → Bool
 grants_nothing d stream frame = is_side (other d) frame.side && (frame.stream == stream) && is_zero_grant frame.body
 

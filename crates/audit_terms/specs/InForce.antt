@@ -22,6 +22,8 @@ pub record InForce : Type 0 where
   pub initial : Sides ℕ  -- the initial window in force for the streams on which the side sends (6.9.2)
 
 -- before any frame
+-- //= https://www.rfc-editor.org/rfc/rfc9113#section-6.5.2
+-- //# The initial value is 2^16-1 (65,535) octets.
 abbrev pub initial_in_force : InForce
 initial_in_force = record {
   sent = each_side (λ _. []);
@@ -31,6 +33,9 @@ initial_in_force = record {
 
 -- the SETTINGS that a frame takes: with m acknowledgements of its side paired before it, an acknowledgement takes the
 -- one at position m of the other side, if that was sent before
+-- //= https://www.rfc-editor.org/rfc/rfc9113#section-6.5.3
+-- //# Upon receiving a SETTINGS frame with the ACK flag set, the sender of the altered settings can rely on the values
+-- //# from the oldest unacknowledged SETTINGS frame having been applied.
 abbrev pub taken : InForce → Frame → Option Settings
 taken now frame =
     if is_ack frame.body then slice_get (side_of (other frame.side) now.sent) (side_of frame.side now.paired) else None
@@ -45,6 +50,8 @@ abbrev pub change_of : InForce → Frame → Option Change
 change_of now frame = change_taking frame (taken now frame)
 
 -- what stands after a frame
+-- //= https://www.rfc-editor.org/rfc/rfc9113#section-6.5.3
+-- //# Once all values have been processed, the recipient MUST immediately emit a SETTINGS frame with the ACK flag set.
 abbrev pub in_force_after : InForce → Frame → InForce
 in_force_after now frame = record {
   sent = each_side (λ d. side_of d now.sent ++ (if is_side d frame.side then settings_in frame.body else []));

@@ -48,6 +48,9 @@ abbrev pub kind_name : Kind → List ℕ
 kind_name kind = (row_of kind).1
 
 -- connection errors (RFC 9113, 5.4.1), which stop the audit of a connection
+-- //= https://www.rfc-editor.org/rfc/rfc9113#section-5.4.1
+-- //# A connection error is any error that prevents further processing of the frame layer or corrupts any connection
+-- //# state.
 abbrev pub is_connection_error : Kind → Bool
 is_connection_error kind = nat_le (rank_of kind) 12
 

@@ -30,6 +30,12 @@ leaves_block_open frame =
 
 -- an open block goes on with a CONTINUATION on its stream and nothing else, and no block goes on unless it is open
 -- (4.3, 6.10)
+-- //= https://www.rfc-editor.org/rfc/rfc9113#section-4.3
+-- //# Field blocks MUST be transmitted as a contiguous sequence of frames, with no interleaved frames of any other
+-- //# type or from any other stream.
+-- //= https://www.rfc-editor.org/rfc/rfc9113#section-6.10
+-- //# A recipient that observes violation of this rule MUST respond with a connection error (Section 5.4.1) of type
+-- //# PROTOCOL_ERROR.
 abbrev pub breaks_block : Option Frame → Frame → Bool
 breaks_block None frame = frame.code == continuation_type
 breaks_block (Some previous) frame =
@@ -48,6 +54,10 @@ abbrev pub needs_connection : (code : ℕ) → Bool
 needs_connection code = (code == settings_type) || (code == ping_type) || (code == goaway_type)
 
 -- a frame of a stream on stream 0, or one of the connection on another
+-- //= https://www.rfc-editor.org/rfc/rfc9113#section-6.1
+-- //# DATA frames MUST be associated with a stream.
+-- //= https://www.rfc-editor.org/rfc/rfc9113#section-6.5
+-- //# SETTINGS frames always apply to a connection, never a single stream.
 abbrev pub is_on_wrong_stream : Frame → Bool
 is_on_wrong_stream frame = if frame.stream == 0 then needs_stream frame.code else needs_connection frame.code
 
@@ -56,6 +66,13 @@ abbrev pub fault : Kind → Frame → ℕ → Finding
 fault kind frame value = finding_at kind frame.number frame.stream frame.side (pos value)
 
 -- the ways in which a payload cannot be read (4.2, 6)
+-- //= https://www.rfc-editor.org/rfc/rfc9113#section-4.2
+-- //# An endpoint MUST send an error code of FRAME_SIZE_ERROR if a frame exceeds the size defined in
+-- //# SETTINGS_MAX_FRAME_SIZE, exceeds any limit defined for the frame type, or is too small to contain mandatory
+-- //# frame data.
+-- //= https://www.rfc-editor.org/rfc/rfc9113#section-6.3
+-- //# A PRIORITY frame with a length other than 5 octets MUST be treated as a stream error (Section 5.4.2) of type
+-- //# FRAME_SIZE_ERROR.
 abbrev pub reading_fault : Kind → Frame → ℕ → List Finding
 reading_fault WrongSize frame value = fault WrongSize frame value ∷ []
 reading_fault BadPadding frame value = fault BadPadding frame value ∷ []
@@ -63,12 +80,20 @@ reading_fault BadPriority frame value = fault BadPriority frame value ∷ []
 reading_fault _ frame value = []
 
 -- what the body shows: a payload that cannot be read, or a setting out of range (6.5.2)
+-- //= https://www.rfc-editor.org/rfc/rfc9113#section-6.5.2
+-- //# Values outside this range MUST be treated as a connection error (Section 5.4.1) of type PROTOCOL_ERROR.
 abbrev pub body_said : Frame → Body → List Finding
 body_said frame (Unreadable kind value) = reading_fault kind frame value
 body_said frame (SettingsBody settings) = say_of (λ identifier. fault BadSetting frame identifier ∷ []) settings.bad
 body_said frame _ = []
 
 -- the findings of a frame, given the frame of its side just before it; a client promises nothing (8.4)
+-- //= https://www.rfc-editor.org/rfc/rfc9113#section-3.4
+-- //# Clients and servers MUST treat an invalid connection preface as a connection error (Section 5.4.1) of type
+-- //# PROTOCOL_ERROR.
+-- //= https://www.rfc-editor.org/rfc/rfc9113#section-8.4
+-- //# A client cannot push. Thus, servers MUST treat the receipt of a PUSH_PROMISE frame as a connection error
+-- //# (Section 5.4.1) of type PROTOCOL_ERROR.
 abbrev pub local_said : Option Frame → Frame → List Finding
 local_said previous frame =
     say (is_none previous && not (is_settings frame)) (fault BadPreface frame frame.code)

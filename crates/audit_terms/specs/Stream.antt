@@ -58,6 +58,12 @@ pub record WindowStep : Type 0 where
 -- the window of side d at the step, from its credit before it. The step moves it by what is granted to it, less what is
 -- sent through it (6.9, 6.9.1), and by the new initial window minus the old (6.9.2). A grant that would bring it above
 -- the largest is not added, and ends it (6.9.1), as does a frame that ends it
+-- //= https://www.rfc-editor.org/rfc/rfc9113#section-6.9.1
+-- //# If a sender receives a WINDOW_UPDATE that causes a flow-control window to exceed this maximum, it MUST terminate
+-- //# either the stream or the connection, as appropriate.
+-- //= https://www.rfc-editor.org/rfc/rfc9113#section-6.9.2
+-- //# When the value of SETTINGS_INITIAL_WINDOW_SIZE changes, a receiver MUST adjust the size of all stream
+-- //# flow-control windows that it maintains by the difference between the new value and the old value.
 abbrev pub window_step : Side → (stream : ℕ) → Sides ℕ → Step → (before : ℤ) → WindowStep
 window_step d stream initial step before =
     let granted = step_amount (grant_to d stream) step in
@@ -79,6 +85,9 @@ window_after d stream initial step None = None
 window_after d stream initial step (Some before) = (window_step d stream initial step before).after
 
 -- the window of side d at the opening: the initial window in force, unless the side sends nothing more
+-- //= https://www.rfc-editor.org/rfc/rfc9113#section-6.9.2
+-- //# When an HTTP/2 connection is first established, new streams are created with an initial flow-control window size
+-- //# of 65,535 octets.
 abbrev pub window_at_opening : Side → (stream : ℕ) → Sides ℕ → Step → Option ℤ
 window_at_opening d stream initial step =
     if step_test (is_last_of d stream) step then None else Some (pos (side_of d initial))
@@ -105,6 +114,9 @@ abbrev pub is_stalled : Option ℤ → Bool
 is_stalled window = option_map_or is_used_up window false
 
 -- what the step shows of a window of side d that is live before it
+-- //= https://www.rfc-editor.org/rfc/rfc9113#section-6.9.2
+-- //# An endpoint MUST treat a change to SETTINGS_INITIAL_WINDOW_SIZE that causes any flow-control window to exceed
+-- //# the maximum size as a connection error (Section 5.4.1) of type FLOW_CONTROL_ERROR.
 abbrev pub live_window_said : Side → (stream : ℕ) → Step → WindowStep → List Finding
 live_window_said d stream step window =
     say (is_some step.change && overflows window.before window.counted)

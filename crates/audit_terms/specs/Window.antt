@@ -22,9 +22,14 @@ abbrev pub stall_ends : (before after : ℤ) → Bool
 stall_ends before after = is_used_up before && not (is_used_up after)
 
 -- credit that rises above the largest window (6.9.1)
+-- //= https://www.rfc-editor.org/rfc/rfc9113#section-6.9.1
+-- //# A sender MUST NOT allow a flow-control window to exceed 2^31-1 octets.
 abbrev pub overflows : (before after : ℤ) → Bool
 overflows before after = int_lt before after && int_lt largest_window after
 
 -- content above the credit before it (6.9); an empty frame is never above it (6.9.1)
+-- //= https://www.rfc-editor.org/rfc/rfc9113#section-6.9.1
+-- //# The sender MUST NOT send a flow-controlled frame with a length that exceeds the space available in either of the
+-- //# flow-control windows advertised by the receiver.
 abbrev pub overruns : (before : ℤ) → (content : ℕ) → Bool
 overruns before content = nat_lt 0 content && int_lt before (pos content)

@@ -1,5 +1,8 @@
 pub mod Packing
 pub mod Room
+pub mod Sides
+pub mod Standing
+pub mod LastFrame
 pub mod Watch
 pub mod Widths
 pub mod Settings

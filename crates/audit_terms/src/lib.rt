@@ -13,6 +13,9 @@
 //!   shows of them, and makes of them, is said by the calls of `fault_rules`; a life goes on by itself.
 //! - [`Count`] is what a step does to the credit of a window, with the tests of it: stalls, an overrun, an overflow;
 //!   and what is left of a window that a grant overflows.
+//! - [`LastFrame`] is what the next frame of a side asks of the last one.
+//! - [`standings`]: how a side stands on a stream of which nothing is shown, in one number, and what content, grants
+//!   and changes do to it. The quiet pass and the split keep streams so.
 //! - [`PackedSettings`], [`Word`] and [`Length`] need no alignment, so that a frame takes fewer bytes; contracts see
 //!   the settings and the numbers that they hold.
 //! - [`Place`], [`Kind`] and [`Finding`] say where a finding stands, what it says and whether it stops the audit;
@@ -24,8 +27,8 @@
 //! - Each contract gives exactly what its definition says. The order of findings goes on from the place to side, kind
 //!   and value, so it is total, and putting in order asks for no condition.
 //! - Refused by the prover: a cut by the frame, an order with the server first, an overflowing grant that is added,
-//!   padding that does not count, a place with four bits for the rank, faults that are connection errors alone. That
-//!   calls succeed where there is memory is tested by those above them.
+//!   padding that does not count, a place with four bits for the rank, a quiet credit that is used up. That calls
+//!   succeed where there is memory is tested by those above them.
 #![tactic(auto)]
 
 mod connections;
@@ -36,12 +39,14 @@ mod frames;
 mod in_force;
 mod items;
 mod kinds;
+mod last_frames;
 pub mod laws;
 mod lives;
 mod looks;
 mod places;
 mod settings;
 mod sides;
+pub mod standings;
 mod streams;
 mod widths;
 mod windows;
@@ -53,6 +58,7 @@ pub use frames::{Body, Frame};
 pub use in_force::{change_by, initial_after, limit_after, new_initial, new_limit, new_push};
 pub use items::{Change, Item, Step};
 pub use kinds::Kind;
+pub use last_frames::LastFrame;
 pub use lives::StreamLife;
 pub use looks::{Look, Watch};
 pub use places::Place;

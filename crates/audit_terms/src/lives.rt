@@ -4,6 +4,35 @@ use crate::frames::Frame;
 use crate::sides::{Side, Sides};
 
 /// What the frames that a stream met have made of it (RFC 9113, 5.1).
+///
+/// ```text
+///                               +--------------+
+///               PUSH_PROMISE    |     idle     |    HEADERS
+///               of the server   |  not opened  |    of the client
+///                   ,-----------|              |-----------.
+///                   |           +--------------+           |
+///                   v                                      v
+///           +--------------+                       +--------------+
+///           | half-closed  |   END_STREAM or       |     open     |   END_STREAM or
+///           | or reserved  |   RST_STREAM          |  ended by    |   RST_STREAM
+///           |  ended by    |   of the client       |  neither     |   of the server
+///           |  the client  |<----------------------|              |-----------.
+///           +--------------+                       +--------------+           |
+///                   |                                                         v
+///                   |  END_STREAM or                                  +--------------+
+///                   |  RST_STREAM                                     | half-closed  |
+///                   |  of the server                                  |  ended by    |
+///                   v                                                 |  the server  |
+///           +--------------+                                          +--------------+
+///           |    closed    |   END_STREAM or RST_STREAM of the client         |
+///           |  ended by    |<-------------------------------------------------'
+///           |  both        |
+///           +--------------+
+/// ```
+///
+/// A RST_STREAM closes a stream for both sides, and both windows end with it. The life tells its sender alone: what the
+/// other side sends after it may have been under way, and is no finding. A promised stream is reserved until the
+/// server's HEADERS, which the life does not tell.
 #[derive(Clone, Copy)]
 pub struct StreamLife {
     /// The number of the frame that opened it.

@@ -48,6 +48,8 @@ pub struct Sides<T> {
 
 impl<T: Copy> Sides<T> {
     ghost use Rattle.audit_terms.specs.Sides.{side_of};
+    ghost use Rattle.audit_terms.specs.code.Sides.{lends_side};
+    ghost use Rattle.std.specs.Borrow.{sem};
 
     /// The same value for both endpoints.
     pub fn both(value: T) -> Self
@@ -66,6 +68,17 @@ impl<T: Copy> Sides<T> {
         match side {
             Side::Client => self.client,
             Side::Server => self.server,
+        }
+    }
+
+    /// The value of one endpoint, to be changed.
+    pub fn of_mut(&mut self, side: Side) -> &mut T
+        ensures* writes_back { sem 𝓛 (lends_side T.row self.entry side result) }
+        ensures value { result.now ≡ side_of side self.old }
+    {
+        match side {
+            Side::Client => &mut self.client,
+            Side::Server => &mut self.server,
         }
     }
 }

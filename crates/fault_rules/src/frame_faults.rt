@@ -7,8 +7,8 @@ ghost use Rattle.audit_terms.specs.Finding.{say};
 
 use crate::previous::is_of;
 use crate::spots::{say_at, spot_of};
-use audit_terms::frame_types::{CONTINUATION, PUSH_PROMISE};
-use audit_terms::{Body, Finding, Frame, Kind, Side};
+use audit_terms::frame_types::PUSH_PROMISE;
+use audit_terms::{Body, Finding, Frame, Kind, LastFrame, Side};
 use std::alloc::AllocError;
 
 /// Adds what a frame shows by itself and beside the frame of its side just before it (RFC 9113, 3.4, 4.3, 6): a side
@@ -52,13 +52,7 @@ pub(crate) fn say_fault(
 fn breaks_block(previous: &Option<Frame>, frame: &Frame) -> bool
     ensures { result ≡ breaks_block previous.now frame.now }
 {
-    let goes_on = frame.code == CONTINUATION;
-    match previous {
-        Some(previous) if previous.leaves_block_open() => {
-            !(goes_on && frame.stream == previous.stream)
-        }
-        _ => goes_on,
-    }
+    LastFrame::of_last(previous).breaks(frame)
 }
 
 /// Adds what the body shows: a payload that cannot be read, or a setting out of range (6.5.2).

@@ -35,6 +35,13 @@ of_length n payload body = if length payload == n then body else wrong_size payl
 
 -- what must be there stands behind the length of the padding, where there is padding, and is this long at least (DATA
 -- 6.1, HEADERS 6.2, PUSH_PROMISE 6.6); padding longer than what is left is an error
+-- //= https://www.rfc-editor.org/rfc/rfc9113#section-6.1
+-- //# If the length of the padding is the length of the frame payload or greater, the recipient MUST treat this as a
+-- //# connection error (Section 5.4.1) of type PROTOCOL_ERROR.
+-- //= https://www.rfc-editor.org/rfc/rfc9113#section-6.2
+-- //# Padding fields and flags are identical to those defined for DATA frames (Section 6.1).
+-- //= https://www.rfc-editor.org/rfc/rfc9113#section-6.6
+-- //# Padding fields and flags are identical to those defined for DATA frames (Section 6.1).
 abbrev pub padded_body : ℕ → List ℕ → ℕ → Body → Body
 padded_body flags payload fields body =
     let needed = (if is_padded flags then 1 else 0) + fields in
@@ -44,6 +51,12 @@ padded_body flags payload fields body =
     else body
 
 -- SETTINGS (6.5): an acknowledgement is empty, other payloads are whole pairs of six bytes
+-- //= https://www.rfc-editor.org/rfc/rfc9113#section-6.5
+-- //# Receipt of a SETTINGS frame with the ACK flag set and a length field value other than 0 MUST be treated as a
+-- //# connection error (Section 5.4.1) of type FRAME_SIZE_ERROR.
+-- //= https://www.rfc-editor.org/rfc/rfc9113#section-6.5
+-- //# A SETTINGS frame with a length other than a multiple of 6 octets MUST be treated as a connection error (Section
+-- //# 5.4.1) of type FRAME_SIZE_ERROR.
 abbrev pub settings_body : ℕ → List ℕ → Body
 settings_body flags payload =
     if has_flag flags ack_flag then of_length 0 payload SettingsAck
@@ -54,6 +67,26 @@ settings_body flags payload =
 -- PRIORITY 6.3; RST_STREAM 6.4; PUSH_PROMISE 6.6, which begins with the promised stream; PING 6.7; GOAWAY 6.8: a
 -- stream, an error code, and debug data of any length; WINDOW_UPDATE 6.9: the increment behind a reserved bit;
 -- CONTINUATION 6.10; an unknown type is no error (5.5)
+-- //= https://www.rfc-editor.org/rfc/rfc9113#section-6.3
+-- //# A PRIORITY frame with a length other than 5 octets MUST be treated as a stream error (Section 5.4.2) of type
+-- //# FRAME_SIZE_ERROR.
+-- //= https://www.rfc-editor.org/rfc/rfc9113#section-6.4
+-- //# A RST_STREAM frame with a length other than 4 octets MUST be treated as a connection error (Section 5.4.1) of
+-- //# type FRAME_SIZE_ERROR.
+-- //= https://www.rfc-editor.org/rfc/rfc9113#section-6.7
+-- //# Receipt of a PING frame with a length field value other than 8 MUST be treated as a connection error (Section
+-- //# 5.4.1) of type FRAME_SIZE_ERROR.
+-- //= https://www.rfc-editor.org/rfc/rfc9113#section-4.2
+-- //# An endpoint MUST send an error code of FRAME_SIZE_ERROR if a frame exceeds the size defined in
+-- //# SETTINGS_MAX_FRAME_SIZE, exceeds any limit defined for the frame type, or is too small to contain mandatory
+-- //# frame data.
+-- //= https://www.rfc-editor.org/rfc/rfc9113#section-6.9
+-- //# A WINDOW_UPDATE frame with a length other than 4 octets MUST be treated as a connection error (Section 5.4.1) of
+-- //# type FRAME_SIZE_ERROR.
+-- //= https://www.rfc-editor.org/rfc/rfc9113#section-6.10
+-- //# is used to continue a sequence of field block fragments (Section 4.3).
+-- //= https://www.rfc-editor.org/rfc/rfc9113#section-5.5
+-- //# Implementations MUST ignore unknown or unsupported values in all extensible protocol elements.
 abbrev pub body_of : ℕ → ℕ → List ℕ → Body
 body_of code flags payload =
     if code == data_type then padded_body flags payload 0 Content

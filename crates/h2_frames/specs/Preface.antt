@@ -10,5 +10,7 @@ abbrev pub IsPrefaceCutShort : List ℕ → Type 0
 IsPrefaceCutShort bytes = (missing : List ℕ) × (0 < length missing) × (bytes ++ missing ≡ preface)
 
 -- the preface, and then the rest
+-- //= https://www.rfc-editor.org/rfc/rfc9113#section-3.4
+-- //# The client connection preface starts with a sequence of 24 octets
 abbrev pub BeginsWithPreface : (bytes rest : List ℕ) → Type 0
 BeginsWithPreface bytes rest = bytes ≡ preface ++ rest

@@ -16,6 +16,8 @@ abbrev pub HoldsNoFrame : List ℕ → Type 0
 HoldsNoFrame bytes = (length bytes < 9) ⊎ (length bytes < 9 + (header_of bytes).length)
 
 -- the bytes are these frames, one after the other, and then a tail that holds no whole frame
+-- //= https://www.rfc-editor.org/rfc/rfc9113#section-4.1
+-- //# All frames begin with a fixed 9-octet header followed by a variable-length frame payload.
 abbrev pub Spells : (bytes : List ℕ) → List Spelled → (tail : List ℕ) → Type 0
 Spells bytes [] tail = (bytes ≡ tail) × HoldsNoFrame bytes
 Spells bytes (frame ∷ later) tail =

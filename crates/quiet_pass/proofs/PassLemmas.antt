@@ -14,19 +14,19 @@ use Rattle.audit_terms.specs.Pass.{PassState, pass_start, step_of, opens_stream,
 use Rattle.audit_terms.specs.Pass.{first_of, streams_of, pass, item_of as item_in}
 use Rattle.audit_terms.specs.code.runs.States.{state_from, state_after}
 use Rattle.stream_credit.proofs.SilentLemmas.{both, unsaid, none-shown}
-use Rattle.quiet_pass.specs.declared.last_frames.LastFrame.{LastFrame}
-use Rattle.quiet_pass.specs.declared.pending.Pending.{Pending}
+use Rattle.audit_terms.specs.declared.last_frames.LastFrame.{LastFrame}
+use Rattle.settings_pair.specs.declared.pending.Pending.{Pending}
 use Rattle.quiet_pass.specs.declared.passes.QuietPass.{QuietPass}
 use Rattle.quiet_pass.specs.declared.streams.Streams.{Streams}
-use Rattle.quiet_pass.specs.code.Standing.{IsUnshown, AreUnshown}
-use Rattle.quiet_pass.specs.code.LastFrame.{last_of}
-use Rattle.quiet_pass.specs.code.Pending.{IsPending, IsBrought}
+use Rattle.stream_credit.specs.code.Standings.{IsUnshown, AreUnshown}
+use Rattle.audit_terms.specs.code.LastFrame.{last_of}
+use Rattle.settings_pair.specs.code.Pending.{IsPending, IsBrought}
 use Rattle.quiet_pass.specs.code.Connection.{connection_of, item_of, IsConnectionAfter}
 use Rattle.quiet_pass.specs.code.Streams.{AreStreams, AreMet, AreMetOn}
 use Rattle.quiet_pass.specs.code.QuietPass.{StandsFor, AreNamed, IsPlain, IsBroughtInto, IsRestMet, IsQuietStep}
 use Rattle.quiet_pass.specs.code.QuietPass.{IsQuietAfter}
 use Rattle.quiet_pass.specs.laws.QuietFrames.{QuietFramesShowNothing}
-use Rattle.quiet_pass.proofs.StreamFrames.{promises-other}
+use Rattle.stream_credit.proofs.StandingLemmas.{promises-other}
 use Rattle.quiet_pass.proofs.StreamLemmas.{unmoved, all-moved}
 
 -- ---- the connection and the streams

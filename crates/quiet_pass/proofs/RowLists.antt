@@ -3,7 +3,8 @@ use Rattle.stream_credit.proofs.Words.{nat_tests, Sides, Frame, idle_stream}
 use Rattle.std.proofs.Common.{◌≡◌, ◌≢◌, ℕ, zero, suc, ◌-◌, ◌<◌, List, [], ◌∷◌, ◌++◌, length, get_or, slice_get}
 use Rattle.std.proofs.Common.{slice_set, Some, true, false, refl, arith}
 use Rattle.quiet_pass.specs.declared.rows.Row.{Row}
-use Rattle.quiet_pass.specs.code.Rows.{stream_of, entry_in, AreRisingFrom, AreRising, IsPast, IsRowOf, IsRowAfter}
+use Rattle.stream_credit.specs.code.Standings.{stream_of}
+use Rattle.quiet_pass.specs.code.Rows.{entry_in, AreRisingFrom, AreRising, IsPast, IsRowOf, IsRowAfter}
 use Rattle.quiet_pass.specs.code.Rows.{IsOpened, HasMet, IsRowMoved, AreMoved}
 
 -- ---- the row of a stream
@@ -15,7 +16,7 @@ above-low low (one ∷ rows) zero row h e = grind arith
 above-low low (one ∷ rows) (suc at) row h e = grind (arith, above-low one.stream rows at row h.1 e)
 
 entry-there : (low : ℕ) (rows : List Row) (at : ℕ) (row : Row) → AreRisingFrom low rows
-    → slice_get rows at ≡ Some row → entry_in rows row.stream ≡ stream_of row
+    → slice_get rows at ≡ Some row → entry_in rows row.stream ≡ stream_of row.standings
 entry-there low [] at row h e = cc
 entry-there low (one ∷ rows) zero row h e = grind (arith, nat_tests)
 entry-there low (one ∷ rows) (suc at) row h e =
@@ -49,12 +50,12 @@ row-met rows at frame next of after rising initial =
     let row = of.row in
     let old = rw of.same at (entry-there 0 rows at row rising of.there) in
     let risen = set-rising row next after.same 0 rows at of.there rising in
-    let new : entry_in (slice_set rows at next) frame.stream ≡ stream_of next =
+    let new : entry_in (slice_set rows at next) frame.stream ≡ stream_of next.standings =
     rw (← of.same, ← after.same)
     (entry-there 0 (slice_set rows at next) at next risen (set-there row next after.same rows at of.there)) in record {
-      opening = rw old after.unopened;
-      said = rw old (after.said initial);
-      after = rw (new, old) (after.after initial);
+      opening = rw old after.next.unopened;
+      said = rw old (after.next.next initial).said;
+      after = rw (new, old) (after.next.next initial).after;
       others = λ other differ. set-others row next after.same rows at other of.there (rw of.same differ);
       rising = risen;
     }
@@ -66,7 +67,7 @@ past-idle [] stream h = refl
 past-idle (row ∷ rows) stream h = grind (arith, nat_tests, past-idle rows stream h.1)
 
 push-own : (rows : List Row) (row : Row) (stream : ℕ) → IsPast rows stream → row.stream ≡ stream
-    → entry_in (rows ++ row ∷ []) stream ≡ stream_of row
+    → entry_in (rows ++ row ∷ []) stream ≡ stream_of row.standings
 push-own [] row stream h e = grind (arith, nat_tests)
 push-own (one ∷ rows) row stream h e = grind (arith, nat_tests, push-own rows row stream h.1 e)
 
@@ -88,9 +89,9 @@ pub row-opened : (rows : List Row) (stream : ℕ) (initial : Sides ℕ) (frame :
     IsOpened stream initial frame row → AreRising rows → HasMet stream initial frame true rows (rows ++ row ∷ [])
 row-opened rows stream initial frame row past opened rising =
     let old = past-idle rows stream past in record {
-      opening = rw old opened.opening;
-      said = rw old opened.said;
-      after = rw (push-own rows row stream past opened.same, old) opened.after;
+      opening = rw old opened.by.opening;
+      said = rw old opened.by.said;
+      after = rw (push-own rows row stream past opened.same, old) opened.by.after;
       others = λ other differ. push-others rows row other (rw opened.same differ);
       rising = push-rising 0 rows row rising (rw opened.same past) (rw opened.same (past-above rows stream past));
     }

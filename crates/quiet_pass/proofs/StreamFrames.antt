@@ -1,150 +1,21 @@
--- A stream after a frame of which nothing is shown: how each side stands, and the row that is kept of it.
-use Rattle.stream_credit.proofs.Words.{then_some, or_parts, ◌≡◌, ℕ, pos, ◌<◌, Bool, true, false, ◌&&◌, if◌then◌else◌}
-use Rattle.stream_credit.proofs.Words.{List, Some, None, refl, sym, ap, ◌∙◌, arith, subst, and-false, or-false, eq-eqb}
-use Rattle.stream_credit.proofs.Words.{ne_eqb, nat_tests, ints, Side, Client, Server, Sides, Body, WindowUpdate, Frame}
-use Rattle.stream_credit.proofs.Words.{StreamLife, Stream, other, is_side, side_of, is_reset, increment, is_zero_grant}
-use Rattle.stream_credit.proofs.Words.{content_by, sends_end, is_last_of, ends_window, is_not_opened, is_after_end}
-use Rattle.stream_credit.proofs.Words.{life_after, is_used_up, overflows, overruns, say_of, idle_stream, stream_said}
-use Rattle.stream_credit.proofs.Words.{stream_after, counted, frame_step, has_credit, has_ended, mark, window_of}
-use Rattle.stream_credit.proofs.Words.{ForSome, same_Some, opened_window_said, stream_window_said, opened_of}
-use Rattle.audit_terms.specs.Frame.{is_content, is_headers, is_update, needs_opening, is_server_promise, promises}
-use Rattle.audit_terms.specs.Life.{idle_life, is_opening}
-use Rattle.stream_credit.proofs.QuietStreams.{window-some, ended-none, some-left}
-use Rattle.stream_credit.proofs.SilentLemmas.{both, unsaid, frame-unshown, IsCalm, calm-some, calm-ended, calm-same}
-use Rattle.stream_credit.proofs.SilentLemmas.{stream-unshown, stream-moved}
+-- A frame that needs no opened stream, on one without a row, and what a row answers.
+use Rattle.stream_credit.proofs.Words.{then_some, or_parts, ◌≡◌, ℕ, Bool, true, false, List, refl, sym, ap, ◌∙◌, arith}
+use Rattle.stream_credit.proofs.Words.{subst, and-false, or-false, Side, Client, Server, Sides, Body, WindowUpdate}
+use Rattle.stream_credit.proofs.Words.{Frame, StreamLife, Stream, side_of, is_reset, increment, ends_window}
+use Rattle.stream_credit.proofs.Words.{life_after, stream_said, stream_after, frame_step, ForSome}
+use Rattle.stream_credit.proofs.Words.{same_Some, AreUnshown}
+use Rattle.audit_terms.specs.Frame.{is_content, is_headers, is_update, needs_opening, is_server_promise}
+use Rattle.audit_terms.specs.Life.{is_opening}
+use Rattle.stream_credit.proofs.SilentLemmas.{frame-unshown, IsCalm, calm-same, stream-unshown, stream-moved}
+use Rattle.stream_credit.proofs.StandingLemmas.{promises-other, unlast}
 use Rattle.quiet_pass.specs.declared.rows.Row.{Row}
-use Rattle.quiet_pass.specs.code.Standing.{AreUnshown, IsCounted, IsStandingAfter, IsOpeningStanding}
-use Rattle.quiet_pass.specs.code.Rows.{life_of, stream_of, entry_in, AreRising, IsRowAfter, IsOpened, HasMet}
+use Rattle.quiet_pass.specs.code.Rows.{entry_in, AreRising, HasMet}
 
 -- what a frame opens, where nothing is shown of it
 pub ForSome-quiet : (quiet opens : Bool) (P : Bool → Type 0) → (quiet ≡ true → P opens)
     → ForSome (then_some quiet opens) P
 ForSome-quiet true opens P h = λ x e. subst P (same_Some _ _ e) (h refl)
 ForSome-quiet false opens P h = λ x e. cc
-
--- a promise on a stream is of another
-pub promises-other : (frame : Frame) → promises frame.stream frame ≡ false
-promises-other frame = rw (eq-eqb frame.stream frame.stream refl) (and-false _)
-
--- a frame that ends no window of a side is not its last
-unlast : (d : Side) (frame : Frame) → ends_window d frame ≡ false → is_last_of d frame.stream frame ≡ false
-unlast d frame e =
-    let parts = or_parts (sends_end d frame) (is_reset frame.body) e in
-    simp (parts.0, parts.1, promises-other, and-false)
-
--- ---- how a side stands after a frame on a stream that is opened
-
--- a frame sends through a window or grants to it, never both
-one_side : (d side : Side) → (is_side (other d) side && is_side d side) ≡ false
-one_side Client Client = refl
-one_side Client Server = refl
-one_side Server Client = refl
-one_side Server Server = refl
-
-module _ (d : Side) (frame : Frame) (standing after : ℕ) (live : has_credit standing ≡ true)
-    (c : IsCounted d frame standing after) where
-  overrun : overruns (pos standing) (content_by d frame) ≡ false
-  overrun = let moved = c.moved in grind (arith, ints, nat_tests, moved, one_side d frame.side)
-
-  fits : overflows (pos standing) (pos after) ≡ false
-  fits = let within = c.within in grind (arith, ints, within)
-
-  now : (initial : Sides ℕ) → counted d frame.stream initial (frame_step frame) (pos standing) ≡ pos after
-  now initial = let moved = c.moved in omega (arith, ints, moved)
-
-  standing-by : (next : ℕ) → ((initial : Sides ℕ)
-      → IsCalm d frame.stream initial (frame_step frame) (Some (pos standing)) (window_of next))
-      → has_ended next ≡ is_last_of d frame.stream frame → IsStandingAfter d frame standing next
-  standing-by next calm ended = record {
-    said = λ initial. rw (window-some standing live) (calm initial).said;
-    window = λ initial. rw (window-some standing live) (sym (calm initial).after);
-    ended = rw (ended-none standing live) ended;
-  }
-
-  -- the window lives on
-  pub standing_goes_on : ends_window d frame ≡ false → 0 < after → IsStandingAfter d frame standing after
-  standing_goes_on goes_on some =
-      let within = c.within in
-      let still : has_credit after ≡ true = grind (arith, nat_tests, within, some) in
-      standing-by after (λ initial. rw (window-some after still)
-      (calm-some d frame.stream initial (frame_step frame) (pos standing) (pos after) (now initial) fits overrun goes_on
-      (some-left standing live ∙ sym (some-left after still))))
-      (ended-none after still ∙ sym (unlast d frame goes_on))
-
-  -- the window ends, and with it perhaps what the side sends
-  pub standing_ends : ends_window d frame ≡ true
-      → IsStandingAfter d frame standing (mark (is_last_of d frame.stream frame))
-  standing_ends ends =
-      let is = mark-is (is_last_of d frame.stream frame) in
-      standing-by (mark (is_last_of d frame.stream frame)) (λ initial. rw is.0
-      (calm-ended d frame.stream initial (frame_step frame) (pos standing) (pos after) (now initial) fits overrun ends
-      (some-left standing live))) is.1
-    where
-      mark-is : (last : Bool) → (window_of (mark last) ≡ None) × (has_ended (mark last) ≡ last)
-      mark-is true = (refl, refl)
-      mark-is false = (refl, refl)
-
--- ---- a row
-
-some-number : (n : ℕ) → (n ≡ 0 → ⊥) → opened_of n ≡ Some n
-some-number n h = rw (ne_eqb n 0 h) refl
-
-pub row-after : (frame : Frame) (old : Row) (client server : ℕ) → frame.stream ≡ old.stream → (old.opened ≡ 0 → ⊥)
-    → is_not_opened old.stream (life_of old) frame ≡ false → is_after_end (life_of old) frame ≡ false
-    → is_zero_grant frame.body ≡ false → IsStandingAfter Client frame old.client client
-    → IsStandingAfter Server frame old.server server
-    → IsRowAfter frame old (record old { client = client; server = server })
-row-after frame old client server own numbered used late zero c s =
-    let number = some-number old.opened numbered in
-    let unopened : is_opening frame.stream (life_of old) frame ≡ false = rw number refl in
-    let next = stream_of (record old { client = client; server = server }) in record {
-      same = refl;
-      unopened = unopened;
-      said = λ initial.
-          stream-unshown frame.stream initial (stream_of old) (frame_step frame) next.window unopened (calm initial)
-          (frame-unshown frame.stream (stream_of old) (frame_step frame) frame
-          (subst (λ stream. is_not_opened stream (life_of old) frame ≡ false) (sym own) used) late (rw zero refl));
-      after = λ initial.
-          rw (
-            stream-moved frame.stream initial (stream_of old) (frame_step frame) next.window unopened (calm initial),
-            number,
-            c.ended,
-            s.ended,
-          ) refl;
-    }
-  where
-    calm : (initial : Sides ℕ) (d : Side) → IsCalm d frame.stream initial (frame_step frame)
-        (side_of d (stream_of old).window)
-        (side_of d (stream_of (record old { client = client; server = server })).window)
-    calm initial Client = record { said = c.said initial; after = sym (c.window initial) }
-    calm initial Server = record { said = s.said initial; after = sym (s.window initial) }
-
--- ---- a stream that is opened
-
-module _ (stream : ℕ) (initial : Sides ℕ) (frame : Frame) (opening : is_opening stream idle_life frame ≡ true) where
-  opened-said : (d : Side) (last : Bool) (n : ℕ) → (last ≡ false → is_used_up (pos n) ≡ false)
-      → AreUnshown (say_of (opened_window_said d stream (frame_step frame)) (if last then None else Some (pos n)))
-  opened-said d true n h = tt
-  opened-said d false n h = both _ _ (unsaid (is_used_up (pos n)) _ (h refl)) (refl, tt)
-
-  side-said : (d : Side) → (is_last_of d stream frame ≡ false → is_used_up (pos (side_of d initial)) ≡ false)
-      → AreUnshown (stream_window_said d stream initial idle_stream (frame_step frame))
-  side-said d h = rw opening (opened-said d (is_last_of d stream frame) (side_of d initial) h)
-
-  pub idle-opened : (client server : ℕ) → (frame.number ≡ 0 → ⊥) → is_not_opened stream idle_life frame ≡ false
-      → IsOpeningStanding initial.client (is_last_of Client stream frame) client
-      → IsOpeningStanding initial.server (is_last_of Server stream frame) server
-      → IsOpened stream initial frame
-      (record { stream = stream; opened = frame.number; client = client; server = server })
-  idle-opened client server numbered used c s =
-      let number = some-number frame.number numbered in record {
-        same = refl;
-        opening = opening;
-        said = both _ _
-            (both _ _ (frame-unshown stream idle_stream (frame_step frame) frame used (simp and-false) (simp and-false))
-            (side-said Client c.some)) (side-said Server s.some);
-        after = rw (opening, number, c.ended, s.ended, c.window, s.window) refl;
-      }
 
 -- ---- a frame that needs no opened stream does nothing to the stream that it is on
 

@@ -164,11 +164,11 @@ entries-moved before after (one ∷ old) (two ∷ new) stream m =
     let row = m.0 in
     rw row.same (elim (cases_Bool (one.stream == stream)) [
       | inl e ↦ rw e (record {
-        life = rw (row.opened, row.client.ended, row.server.ended) refl;
-        client = row.client.moved;
-        server = row.server.moved;
-        client_silent = row.client.silent;
-        server_silent = row.server.silent;
+        life = rw (row.moved.opened, row.moved.client.ended, row.moved.server.ended) refl;
+        client = row.moved.client.moved;
+        server = row.moved.server.moved;
+        client_silent = row.moved.client.silent;
+        server_silent = row.moved.server.silent;
       })
       | inr e ↦ rw e (entries-moved before after old new stream m.1)
     ])

@@ -9,10 +9,10 @@ ghost use Rattle.audit_terms.specs.Connection.{connection_start};
 ghost use Rattle.quiet_pass.specs.code.Connection.{connection_of, IsConnectionAfter, IsCountedCredit, IsCreditAfter};
 ghost use Rattle.quiet_pass.specs.code.Connection.{IsOpenedAfter, IsPromisedAfter, IsUnmoved};
 
+use audit_terms::standings::balance;
 use audit_terms::{
     Change, FIRST_LIMIT, FIRST_WINDOW, Frame, Side, Sides, limit_after, new_limit, new_push,
 };
-use stream_credit::standings::balance;
 
 /// The connection between two frames (RFC 9113, 4.2, 5.1.1, 6.9).
 #[derive(Clone, Copy)]

@@ -6,9 +6,9 @@
 //!   [`laws::quiet_frames_show_nothing`] the pass over these frames then shows nothing. As soon as something may be
 //!   shown, it gives up and stands for nothing: then the frames have to be audited.
 //! - Of the last frame of each side it keeps whether a field block goes on after it, and of which stream.
-//! - SETTINGS are kept until the end: connections have few. A change that moves an initial window goes over all streams
-//!   (RFC 9113, 6.9.2); after 64 of these it gives up, so that frames cost a bounded time each. A change that moves
-//!   none costs nothing.
+//! - SETTINGS are kept until the end (`settings_pair::Pending`): connections have few. A change that moves an initial
+//!   window goes over all streams (RFC 9113, 6.9.2); after 64 of these it gives up, so that frames cost a bounded time
+//!   each. A change that moves none costs nothing.
 //! - A stream that is opened has a row: how each side stands is one number, since each live window has credit. The
 //!   client opens odd streams in rising order, and the server promises even ones so (5.1.1): a row is found by a guess,
 //!   and else by halving. A stream that does not open past all before it is a reason to give up, as is any use of one
@@ -27,9 +27,7 @@ mod connections;
 mod last_frames;
 pub mod laws;
 mod passes;
-mod pending;
 mod rows;
-mod standings;
 mod streams;
 
 pub use passes::QuietPass;

@@ -6,15 +6,15 @@ ghost use Rattle.audit_terms.specs.declared.frames.Frame.{Frame as FrameTerm};
 ghost use Rattle.audit_terms.specs.Pass.{PassState};
 ghost use Rattle.audit_terms.specs.Side.{is_side};
 ghost use Rattle.audit_terms.specs.Frame.{is_ack};
-ghost use Rattle.quiet_pass.specs.code.LastFrame.{last_of};
+ghost use Rattle.audit_terms.specs.code.LastFrame.{last_of};
 ghost use Rattle.quiet_pass.specs.code.QuietPass.{StandsFor, IsQuietStep, IsQuietAfter, IsPlain, IsRestMet};
 ghost use Rattle.quiet_pass.specs.code.QuietPass.{IsBroughtInto};
 
 use crate::connections::KeptConnection;
-use crate::last_frames::LastFrame;
-use crate::pending::Pending;
+use crate::last_frames::is_followed;
 use crate::streams::Streams;
-use audit_terms::{Body, Change, FIRST_WINDOW, Frame, Side, Sides, initial_after};
+use audit_terms::{Body, Change, FIRST_WINDOW, Frame, LastFrame, Side, Sides, initial_after};
+use settings_pair::Pending;
 use std::alloc::{AllocError, Global};
 
 /// The most changes that move windows: each goes over all rows, so that frames cost a bounded time each.
@@ -76,7 +76,7 @@ impl QuietPass {
         ensures { IfOk result (λ met. OnTrue met ((state : PassState) → StandsFor self.old state
             → IsQuietStep state frame.now self.new)) }
     {
-        if !self.last.of(frame.side).is_followed(frame) {
+        if !is_followed(self.last.of(frame.side), frame) {
             return Ok(false);
         }
         let is_quiet = self.meet_rest(frame)?;

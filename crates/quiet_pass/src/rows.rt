@@ -5,87 +5,42 @@ ghost use Rattle.std.specs.Prelude.{◌≡◌, ℕ, true, false, IfOk};
 ghost use Rattle.std.specs.Bool.{OnTrue};
 ghost use Rattle.std.specs.Option.{ForSome};
 ghost use Rattle.audit_terms.specs.declared.sides.Sides.{Sides as SidesTerm};
-ghost use Rattle.quiet_pass.specs.code.Rows.{life_of, IsRowOf, IsRowAfter, IsOpened, AreRising, HasMet};
+ghost use Rattle.quiet_pass.specs.code.Rows.{IsRowOf, IsRowAfter, IsOpened, AreRising, HasMet};
 ghost use Rattle.quiet_pass.specs.code.Rows.{AreMoved, IsPast, IsRowMoved};
 
-use crate::standings::{opening_standing, standing_after};
-use audit_terms::{Frame, Side, Sides, StreamLife};
+use audit_terms::{Frame, Sides};
 use std::alloc::AllocError;
-use stream_credit::standings::{has_ended, moved};
+use stream_credit::Standings;
 
 /// A stream that is opened, between two frames: 16 bytes.
 #[derive(Clone, Copy)]
 pub(crate) struct Row {
     /// Its identifier.
     pub(crate) stream: u32,
-    /// The number of the frame that opened it. It is never 0, but the row does not say so: 0 is taken for a stream that
-    /// is not opened.
-    pub(crate) opened: u32,
-    /// How the client stands.
-    pub(crate) client: u32,
-    /// How the server stands.
-    pub(crate) server: u32,
+    pub(crate) standings: Standings,
 }
 
 const _: () = prove!(size_of::<Row>() == 16);
 
 impl Row {
-    /// Its opening and its ends.
-    fn life(&self) -> StreamLife
-        ensures { result ≡ life_of self.now }
-    {
-        StreamLife {
-            opened: if self.opened == 0 {
-                None
-            } else {
-                Some(self.opened)
-            },
-            ended: Sides {
-                client: has_ended(self.client),
-                server: has_ended(self.server),
-            },
-        }
-    }
-
     /// The row after a frame on its stream, if nothing of that is shown.
     #[inline]
     fn after(&self, frame: &Frame) -> Option<Row>
-        requires { frame.now.stream ≡ self.now.stream }
         ensures { ForSome result (IsRowAfter frame.now self.now) }
     {
-        let life = self.life();
-        if self.opened == 0
-            || life.is_not_opened(self.stream, frame)
-            || life.is_after_end(frame)
-            || frame.body.is_zero_grant()
-        {
-            return None;
-        }
         Some(Row {
-            client: standing_after(self.client, Side::Client, frame)?,
-            server: standing_after(self.server, Side::Server, frame)?,
+            standings: self.standings.after(frame)?,
             ..*self
         })
     }
 
     /// The row of a stream that a frame opens, if it does and nothing but credits is shown of that.
-    pub(crate) fn opened(stream: u32, initial: &Sides<u32>, frame: &Frame) -> Option<Row>
+    fn opened(stream: u32, initial: &Sides<u32>, frame: &Frame) -> Option<Row>
         ensures { ForSome result (IsOpened stream initial.now frame.now) }
     {
-        let idle = StreamLife::idle();
-        if frame.number == 0
-            || !idle.is_opening(stream, frame)
-            || idle.is_not_opened(stream, frame)
-        {
-            return None;
-        }
-        let client_ends = frame.is_last_of(Side::Client, stream);
-        let server_ends = frame.is_last_of(Side::Server, stream);
         Some(Row {
             stream,
-            opened: frame.number,
-            client: opening_standing(initial.client, client_ends)?,
-            server: opening_standing(initial.server, server_ends)?,
+            standings: Standings::opened(stream, initial, frame)?,
         })
     }
 
@@ -94,8 +49,7 @@ impl Row {
         ensures { ForSome result (IsRowMoved before.now after.now self.now) }
     {
         Some(Row {
-            client: moved(self.client, before.client, after.client)?,
-            server: moved(self.server, before.server, after.server)?,
+            standings: self.standings.moved(before, after)?,
             ..*self
         })
     }

@@ -1,3 +1,2 @@
 mod Words
-mod WaitingLemmas
 mod OrderLemmas

@@ -7,6 +7,5 @@ pub use Rattle.audit_terms.specs.declared.{frames.Frame.Frame, items.Change.Chan
 pub use Rattle.audit_terms.specs.declared.{settings.Settings.Settings, sides.Side.Side}
 pub use Rattle.audit_terms.specs.{Finding.say, Finding.finding_at, Frame.settings_in, Frame.is_ack, Side.other}
 pub use Rattle.audit_terms.specs.{Side.is_side, Sides.side_of, InForce.initial_in_force}
-pub use Rattle.settings_pair.specs.code.Waiting.{IsWaiting, sent_by, sent_of, waiting_of}
-pub use Rattle.settings_pair.specs.declared.{waiting.Waiting.Waiting}
+pub use Rattle.settings_pair.specs.code.Pending.{IsPending}
 pub use Rattle.std.{proofs.lemmas.List.drop_all, proofs.lemmas.List.append-nil, specs.Option.option_to_list}

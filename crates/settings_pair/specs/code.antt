@@ -1,1 +1,1 @@
-pub mod Waiting
+pub mod Pending

@@ -1,13 +1,14 @@
-ghost use Rattle.std.specs.Prelude.{◌≡◌, [], ◌∷◌, ◌++◌, pos, is_none, IfOk, OnOk};
+ghost use Rattle.std.specs.Prelude.{◌≡◌, ◌++◌, ◌&&◌, pos, is_none, IfOk, OnOk};
 ghost use Rattle.std.specs.Option.{option_to_list};
 ghost use Rattle.audit_terms.specs.code.runs.Orderly.{IsInRange, IsOrderly};
-ghost use Rattle.audit_terms.specs.InForce.{InForce, in_force_after, change_of, change_taking, settings_said};
+ghost use Rattle.audit_terms.specs.InForce.{InForce, in_force_after, change_of, settings_said};
+ghost use Rattle.audit_terms.specs.Frame.{is_ack};
 ghost use Rattle.audit_terms.specs.code.runs.Changes.{AreAcknowledged, AreOrderly, changes_of, settings_run};
 ghost use Rattle.audit_terms.specs.Finding.{finding_at, say};
-ghost use Rattle.settings_pair.specs.code.Waiting.{IsWaiting};
+ghost use Rattle.settings_pair.specs.code.Pending.{IsPending};
 
-use crate::waiting::Waiting;
-use audit_terms::{Change, Finding, Frame, Kind, Settings, change_by};
+use crate::pending::Pending;
+use audit_terms::{Change, Finding, Frame, Kind};
 use std::alloc::{AllocError, Global};
 
 /// What the acknowledgements of a connection's frames bring into force, and which of them answer nothing.
@@ -42,51 +43,44 @@ pub fn pair(alloc: Global, frames: &[Frame]) -> Result<Pairs, AllocError>
     ensures orderly { IfOk result (λ pairs. AreOrderly pairs.changes.items) }
     ensures acknowledged { IfOk result (λ pairs. AreAcknowledged frames.now pairs.changes.items) }
 {
-    let mut waiting = Waiting::new();
+    let mut pending = Pending::new(alloc);
     let mut pairs = Pairs {
         changes: Vec::new(alloc),
         findings: Vec::new(alloc),
     };
-    for (at, frame) in frames.iter().enumerate() {
-        meet(&mut waiting, &mut pairs, &frames[..at], frame)?;
+    for frame in frames {
+        meet(&mut pending, &mut pairs, frame)?;
     }
     Ok(pairs)
 }
 
-/// The next frame after those seen: an acknowledgement takes what waits longest of the SETTINGS seen.
-fn meet(
-    waiting: &mut Waiting,
-    pairs: &mut Pairs,
-    seen: &[Frame],
-    frame: &Frame,
-) -> Result<(), AllocError>
+/// Adds what the next frame brings, or that it is an acknowledgement which brings nothing.
+fn meet(pending: &mut Pending, pairs: &mut Pairs, frame: &Frame) -> Result<(), AllocError>
     requires { IsInRange frame.now }
-    ensures waiting { OnOk result ((now : InForce) → IsWaiting now seen.now waiting.old
-        → IsWaiting (in_force_after now frame.now) (seen.now ++ frame.now ∷ []) waiting.new) }
-    ensures changes { OnOk result ((now : InForce) → IsWaiting now seen.now waiting.old
+    ensures pending { OnOk result ((now : InForce) → IsPending now pending.old
+        → IsPending (in_force_after now frame.now) pending.new) }
+    ensures changes { OnOk result ((now : InForce) → IsPending now pending.old
         → pairs.new.changes.items ≡ pairs.old.changes.items ++ option_to_list (change_of now frame.now)) }
-    ensures findings { OnOk result ((now : InForce) → IsWaiting now seen.now waiting.old
+    ensures findings { OnOk result ((now : InForce) → IsPending now pending.old
         → pairs.new.findings.items ≡ pairs.old.findings.items ++ settings_said now frame.now) }
 {
-    if !frame.body.is_ack() {
-        return Ok(());
-    }
-    let taken = waiting.take(seen, frame.side.other());
-    add(pairs, frame, taken)?;
+    let change = pending.meet(frame)?;
+    add(pairs, frame, change)?;
     Ok(())
 }
 
-/// Adds what an acknowledgement brings that takes these settings, or that it takes none.
-fn add(pairs: &mut Pairs, frame: &Frame, taken: Option<Settings>) -> Result<(), AllocError>
+/// Adds the change that a frame brings, or that it is an acknowledgement without one.
+fn add(pairs: &mut Pairs, frame: &Frame, change: Option<Change>) -> Result<(), AllocError>
     requires { IsInRange frame.now }
-    ensures changes { OnOk result (pairs.new.changes.items
-        ≡ pairs.old.changes.items ++ option_to_list (change_taking frame.now taken)) }
-    ensures findings { OnOk result (pairs.new.findings.items ≡ pairs.old.findings.items ++ say (is_none taken)
+    ensures changes { OnOk result (pairs.new.changes.items ≡ pairs.old.changes.items ++ option_to_list change) }
+    ensures findings { OnOk result (pairs.new.findings.items ≡ pairs.old.findings.items
+        ++ say (is_ack frame.now.body && is_none change)
         (finding_at Kind.UnmatchedAck frame.now.number frame.now.stream frame.now.side (pos 0))) }
 {
-    match taken {
-        Some(settings) => pairs.changes.push(change_by(frame, settings))?,
-        None => pairs.findings.push(unmatched(frame))?,
+    match change {
+        Some(change) => pairs.changes.push(change)?,
+        None if frame.body.is_ack() => pairs.findings.push(unmatched(frame))?,
+        None => {}
     }
     Ok(())
 }

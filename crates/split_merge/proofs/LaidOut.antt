@@ -16,7 +16,7 @@ use Rattle.split_merge.proofs.Terms.{map, set, suc, sym, true, zero, ◌++◌, �
 use Rattle.split_merge.proofs.Visited.{length-streams_in, noted_positions-append, positions-other, positions-own}
 use Rattle.split_merge.{proofs.Terms.ℕ, proofs.Visited.among-apart, specs.declared.visits.Visits.Visits}
 use Rattle.std.proofs.lemmas.Slice.Zip.{AllZip-long}
-use Rattle.stream_credit.specs.code.QuietStream.{opened_of}
+use Rattle.stream_credit.specs.code.Standings.{opened_of}
 
 -- ---- the ranges, before any position comes in
 
@@ -237,7 +237,8 @@ module _ (credits_shown : Bool) (changes : List Change) (frames : List Frame) (s
       streams quiets above
       (λ s quiet n hush e. rw (hush e).hidden (hush e).shows.shown) hushed in
       let told = zip-apart (IsHushedOf credits_shown changes frames)
-      (λ s quiet. quiet.is_quiet ≡ true → opening_of frames changes s ≡ option_to_list (opened_of quiet.opened)) 0
+      (λ s quiet. quiet.is_quiet ≡ true
+      → opening_of frames changes s ≡ option_to_list (opened_of quiet.standings.opened)) 0
       streams quiets above (λ s quiet n hush e. ap option_to_list (hush e).shows.end) hushed in
       record {
         is_quiet = λ s. quiet_in s streams quiets;

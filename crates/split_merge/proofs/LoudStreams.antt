@@ -5,7 +5,7 @@ use Rattle.split_merge.proofs.Terms.{get_or_from_slice_get, if◌then◌else◌,
 use Rattle.split_merge.proofs.Terms.{opened_in, option_to_list, places_from, quiet_in, refl, slice_get}
 use Rattle.split_merge.proofs.Terms.{slice_get_within, streams_in, suc, total_of, true, zero, ℕ, ◌+◌, ◌-◌, ◌==◌, ◌∙◌}
 use Rattle.split_merge.proofs.{Terms.◌∷◌, Terms.◌≡◌, Terms.◌≤◌, Visited.not_among-at}
-use Rattle.stream_credit.specs.code.QuietStream.{opened_of}
+use Rattle.stream_credit.specs.code.Standings.{opened_of}
 
 -- ---- what holds of all holds of the loud ones
 
@@ -47,7 +47,7 @@ loud-filter (x ∷ xs) (quiet ∷ quiets) h e =
     grind (arith, nat_tests, loud-filter xs quiets h.1 (omega (arith, e)))
 
 pub opened-filter : (f : ℕ → List ℕ) (xs : List ℕ) (quiets : List QuietStream) → AreDistinct xs
-    → AllZip (λ s quiet. quiet.is_quiet ≡ true → f s ≡ option_to_list (opened_of quiet.opened)) xs quiets
+    → AllZip (λ s quiet. quiet.is_quiet ≡ true → f s ≡ option_to_list (opened_of quiet.standings.opened)) xs quiets
     → opened_in quiets ≡ flat_map f (filter (λ s. quiet_in s xs quiets) xs)
 opened-filter f [] [] h told = refl
 opened-filter f (x ∷ xs) (quiet ∷ quiets) h told =

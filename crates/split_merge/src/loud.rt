@@ -45,7 +45,7 @@ impl Loud {
             self.rows.push(*row)?;
             return Ok(());
         }
-        if let Some(number) = quiet.opened_at() {
+        if let Some(number) = quiet.standings.opened_at() {
             self.opened.push(number)?;
         }
         Ok(())

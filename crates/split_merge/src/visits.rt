@@ -14,7 +14,7 @@ ghost use Rattle.split_merge.specs.code.Ahead.{AreAhead, AreHushed, CanHaveRow, 
 ghost use Rattle.split_merge.specs.code.Ahead.{MeetsNext, with_next};
 
 use crate::row_index::RowIndex;
-use audit_terms::{Finding, Frame};
+use audit_terms::Frame;
 use input_output::TableHash;
 use std::alloc::{AllocError, Global};
 use stream_credit::{Changes, QuietStream};
@@ -78,8 +78,7 @@ impl Visits {
             AreHushed credits_shown changes.now frames.now (streams_in table.rows.items) table.quiets.items) }
     {
         let mut table = Self::none_yet(alloc, hash, frames.len())?;
-        let mut said = Vec::new(alloc);
-        table.note_all(&mut said, credits_shown, changes, frames)?;
+        table.note_all(credits_shown, changes, frames)?;
         finish(
             table.rows.as_slice(),
             &mut table.quiets,
@@ -89,11 +88,9 @@ impl Visits {
         Ok(table)
     }
 
-    /// Notes the streams of some frames, the first of the connection. Where credits are shown, none is quiet. `said` is
-    /// room for what they show.
+    /// Notes the streams of some frames, the first of the connection. Where credits are shown, none is quiet.
     fn note_all(
         &mut self,
-        said: &mut Vec<Finding>,
         credits_shown: bool,
         changes: &Changes<'_>,
         frames: &[Frame],
@@ -105,17 +102,16 @@ impl Visits {
             self.new.quiets.items) }
     {
         for frame in frames {
-            self.note(said, credits_shown, frame.stream, changes, frame)?;
-            self.note(said, credits_shown, frame.promised_by(), changes, frame)?;
+            self.note(credits_shown, frame.stream, changes, frame)?;
+            self.note(credits_shown, frame.promised_by(), changes, frame)?;
         }
         Ok(())
     }
 
-    /// Notes that a stream, unless it is 0, meets a frame. `said` is room for what it shows.
+    /// Notes that a stream, unless it is 0, meets a frame.
     #[tactic(auto, using(crate::proofs::Visited::row_inside))]
     fn note(
         &mut self,
-        said: &mut Vec<Finding>,
         credits_shown: bool,
         stream: u32,
         changes: &Changes<'_>,
@@ -139,7 +135,7 @@ impl Visits {
         let row = self.row_of(credits_shown, stream)?;
         self.last = row;
         count(&mut self.rows[row as usize]);
-        self.quiets[row as usize].meet(said, stream, changes, frame)?;
+        self.quiets[row as usize].meet(stream, changes, frame);
         Ok(())
     }
 

@@ -3,6 +3,7 @@ mod ChangeLemmas
 mod MergedLemmas
 pub mod SilentLemmas
 mod WalkLemmas
-pub mod QuietLemmas
+mod QuietLemmas
 mod RunLemmas
-pub mod QuietStreams
+pub mod StandingLemmas
+mod QuietStreams

@@ -2,16 +2,16 @@
 use Rattle.audit_terms.proofs.OrderlyFrames.{orderly-earlier}
 use Rattle.stream_credit.proofs.ChangeLemmas.{drop-next, initial-next, none-left, passed-each}
 use Rattle.stream_credit.proofs.MergedLemmas.{acknowledge-all, merged-change, merged-first, steps_of-merged}
-use Rattle.stream_credit.proofs.SilentLemmas.{AreUnshown, calm-changes, none-shown, stream-moved, stream-shown}
-use Rattle.stream_credit.proofs.Words.{Acknowledge, QuietStream, StreamLife, change_step, idle_stream, pos, stream_said}
+use Rattle.stream_credit.proofs.SilentLemmas.{calm-changes, none-shown, stream-moved, stream-shown}
+use Rattle.stream_credit.proofs.Words.{Acknowledge, QuietStream, change_step, idle_stream, stream_said}
 use Rattle.stream_credit.proofs.Words.{AreAcknowledged, AreOrderly, slice_get_within, stream_after_all, stream_run_from}
 use Rattle.stream_credit.proofs.Words.{AreFrom, ShowsNothing, each-in_order, filter-append, initial_after, stream_after}
-use Rattle.stream_credit.proofs.Words.{ArePassed, IsMovedBy, IsOrderly, frame_step, has_credit, initial_at, is_used_up}
-use Rattle.stream_credit.proofs.Words.{Bool, Change, IsMove, IsNext, Stream, arith, false, length, merged, other, shown}
-use Rattle.stream_credit.proofs.Words.{Finding, IsAhead, IsQuiet, Sides, StartsAt, in_order, is_live, is_shown, side_of}
-use Rattle.stream_credit.proofs.Words.{Frame, IsPassed, IsRaised, has_ended, nat_tests, slice_get, stream_of, window_of}
-use Rattle.stream_credit.proofs.Words.{List, Move, None, Side, Some, Step, drop, refl, sym, true, ℕ, ◌+◌, ◌-◌, ◌<◌, ◌^◌}
-use Rattle.stream_credit.proofs.{QuietLemmas.quiet-after, QuietLemmas.quiet-unshown, SilentLemmas.IsUnshown}
+use Rattle.stream_credit.proofs.Words.{ArePassed, IsMovedBy, IsOrderly, frame_step, initial_at}
+use Rattle.stream_credit.proofs.Words.{Bool, Change, IsNext, Stream, arith, false, length, merged, shown}
+use Rattle.stream_credit.proofs.Words.{Finding, IsAhead, Sides, StartsAt, in_order, is_live, is_shown}
+use Rattle.stream_credit.proofs.Words.{Frame, IsPassed, slice_get, stream_of, window_of}
+use Rattle.stream_credit.proofs.Words.{List, None, Some, Step, drop, refl, sym, ℕ, ◌+◌, ◌-◌, ◌<◌, ◌^◌}
+use Rattle.stream_credit.proofs.Words.{IsUnshown}
 use Rattle.stream_credit.proofs.{WalkLemmas.none-live, Words.[], Words.ap, Words.◌∙◌, Words.◌∷◌, Words.◌≡◌, Words.◌≤◌}
 
 -- ---- what a run comes to
@@ -33,7 +33,7 @@ outcome-next stream initial entry step steps h =
 -- ---- from one step to the next
 
 -- a stream that no frame has met
-pub ahead-idle : (idle : QuietStream) → stream_of idle ≡ idle_stream → idle.met ≡ 0 → (stream : ℕ)
+pub ahead-idle : (idle : QuietStream) → stream_of idle.standings ≡ idle_stream → idle.met ≡ 0 → (stream : ℕ)
     (changes : List Change) (all : List Frame) → stream < 2 ^ 31 → IsOrderly all → AreOrderly changes
     → AreAcknowledged all changes → IsAhead stream changes all all idle
 ahead-idle idle is none stream changes all s o k a =
@@ -58,8 +58,8 @@ module _ {stream : ℕ} {changes : List Change} {all rest : List Frame} {old : Q
 
   ahead-by : {next : List Frame} {new : QuietStream} → new.met ≤ length changes → IsOrderly next
       → Acknowledge next changes
-      → outcome stream initial (stream_of old) (merged rest left)
-      ≡ outcome stream (initial_at new.met changes) (stream_of new) (merged next (drop new.met changes))
+      → outcome stream initial (stream_of old.standings) (merged rest left)
+      ≡ outcome stream (initial_at new.met changes) (stream_of new.standings) (merged next (drop new.met changes))
       → IsAhead stream changes all next new
   unfolding outcome
   ahead-by met orderly acknowledged e = record {
@@ -80,12 +80,13 @@ module _ {stream : ℕ} {changes : List Change} {all rest : List Frame} {old : Q
       → slice_get changes old.met ≡ Some change → change.number < number → after ≡ initial_after (Some change) initial
       → IsPassed initial after old new → IsAhead stream changes all rest new
   ahead-change {new} {change} {after} number s e below a p =
-      let calm = calm-changes stream initial change.number (Some change) after (stream_of old).window
-      (stream_of new).window a p.client.moved p.server.moved p.client.silent p.server.silent in
+      let calm = calm-changes stream initial change.number (Some change) after (stream_of old.standings).window
+      (stream_of new.standings).window a p.moved.client.moved p.moved.server.moved p.moved.client.silent
+      p.moved.server.silent in
       let step = change_step change in
-      let entry : stream_of new ≡ stream_after stream initial (stream_of old) step =
-      rw (p.opened, p.client.ended, p.server.ended)
-      (sym (stream-moved stream initial (stream_of old) step (stream_of new).window refl calm)) in
+      let entry : stream_of new.standings ≡ stream_after stream initial (stream_of old.standings) step =
+      rw (p.moved.opened, p.moved.client.ended, p.moved.server.ended)
+      (sym (stream-moved stream initial (stream_of old.standings) step (stream_of new.standings).window refl calm)) in
       let met = p.met in
       ahead-by (omega (arith, slice_get_within changes old.met change e, met)) h.orderly h.acknowledged
       (rw (
@@ -95,8 +96,8 @@ module _ {stream : ℕ} {changes : List Change} {all rest : List Frame} {old : Q
         drop-next old.met changes change e,
         merged-change number rest change (drop (old.met + 1) changes) s below,
       )
-      (outcome-next stream initial (stream_of old) step (merged rest (drop (old.met + 1) changes))
-      (stream-shown stream initial (stream_of old) step (stream_of new).window refl calm tt)))
+      (outcome-next stream initial (stream_of old.standings) step (merged rest (drop (old.met + 1) changes))
+      (stream-shown stream initial (stream_of old.standings) step (stream_of new.standings).window refl calm tt)))
 
 -- a change moves no window that is not live
 pub unmoved : (before after standing : ℕ) → window_of standing ≡ None → IsMovedBy before after standing standing
@@ -108,77 +109,39 @@ unmoved before after standing none = record {
 
 -- changes that find no live window
 pub ahead-passed : {stream : ℕ} {changes : List Change} {all rest : List Frame} {old : QuietStream} {number next : ℕ}
-    → StartsAt number rest → is_live (stream_of old) ≡ false → ArePassed number changes old.met next
+    → StartsAt number rest → is_live (stream_of old.standings) ≡ false → ArePassed number changes old.met next
     → IsAhead stream changes all rest old → IsAhead stream changes all rest (record old { met = next })
 ahead-passed {stream} {changes} {all} {rest} {old} {number} starts dead passed h =
-    let none = none-live (window_of old.client) (window_of old.server) dead in
+    let none = none-live (window_of old.standings.client) (window_of old.standings.server) dead in
     passed-each (λ k. IsAhead stream changes all rest (record old { met = k })) passed
     (λ k change is below was. ahead-change was number starts is below refl (record {
-      client = unmoved _ _ old.client none.0;
-      server = unmoved _ _ old.server none.1;
-      opened = refl;
+      moved = record {
+        opened = refl;
+        client = unmoved _ _ old.standings.client none.0;
+        server = unmoved _ _ old.standings.server none.1;
+      };
       met = refl;
     })) h
 
 -- a frame
 pub ahead-frame : {stream : ℕ} {changes : List Change} {all rest : List Frame} {frame : Frame} {old new : QuietStream}
     → IsAhead stream changes all (frame ∷ rest) old → AreFrom (frame.number + 1) (drop old.met changes)
-    → IsNext stream (initial_at old.met changes) frame old new → IsAhead stream changes all rest new
-ahead-frame {stream} {changes} {all} {rest} {frame} {old} {new} h f n =
+    → IsNext stream (initial_at old.met changes) frame old.standings new.standings → new.met ≡ old.met
+    → IsAhead stream changes all rest new
+ahead-frame {stream} {changes} {all} {rest} {frame} {old} {new} h f n met =
     let left = drop old.met changes in
-    ahead-by h (rw n.met h.met) (orderly-earlier 0 (frame.number + 1) rest (omega arith) h.orderly.2) h.acknowledged.1
-    (rw (n.met, n.after, merged-first frame rest left f)
-    (outcome-next stream (initial_at old.met changes) (stream_of old) (frame_step frame) (merged rest left) n.shown))
+    ahead-by h (rw met h.met) (orderly-earlier 0 (frame.number + 1) rest (omega arith) h.orderly.2) h.acknowledged.1
+    (rw (met, n.after, merged-first frame rest left f)
+    (outcome-next stream (initial_at old.met changes) (stream_of old.standings) (frame_step frame) (merged rest left)
+    (none-shown _ (each-in_order IsUnshown _ n.said))))
 
 -- the end
 pub shows-nothing : {stream : ℕ} {changes : List Change} {all : List Frame} {quiet : QuietStream}
     → IsAhead stream changes all [] quiet → AreFrom (2 ^ 32 - 1) (drop quiet.met changes)
-    → ShowsNothing stream changes all quiet.opened
+    → ShowsNothing stream changes all quiet.standings.opened
 shows-nothing {changes = changes} {quiet = quiet} h f =
     let over = none-left 0 quiet.met changes h.rise f in
     record {
       shown = rw over at h.shown;
       end = ap (λ (entry : Stream). entry.life.opened) (rw over at h.end);
     }
-
--- ---- a frame that moves one window
-
-pub window-some : (standing : ℕ) → has_credit standing ≡ true → window_of standing ≡ Some (pos standing)
-window-some standing h = rw h refl
-
-pub ended-none : (standing : ℕ) → has_credit standing ≡ true → has_ended standing ≡ false
-ended-none standing h = grind (arith, nat_tests)
-
-pub some-left : (standing : ℕ) → has_credit standing ≡ true → is_used_up (pos standing) ≡ false
-some-left standing live = grind (arith, nat_tests)
-
--- the window of a side goes from one credit to another, and the rest stays
-pub next-moved : {stream : ℕ} {frame : Frame} {old new : QuietStream} {one : Move} (d : Side) (before credit : ℕ)
-    → one.side ≡ d → IsMove stream (stream_of old).life frame one → IsRaised (pos before) one.amount (pos credit)
-    → has_credit before ≡ true → has_credit credit ≡ true → side_of d (stream_of old).window ≡ window_of before
-    → side_of d (stream_of new).window ≡ window_of credit
-    → side_of (other d) (stream_of new).window ≡ side_of (other d) (stream_of old).window
-    → (stream_of new).life ≡ (stream_of old).life → new.met ≡ old.met → (initial : Sides ℕ)
-    → IsNext stream initial frame old new
-next-moved {stream} {frame} {old} {new} {one} d before credit e m r live left was own rest life met initial =
-    let q : IsQuiet (stream_of old).window one (stream_of new).window = record {
-      after = pos credit;
-      credit = record { before = pos before; live = rw e (was ∙ window-some before live); raised = r };
-      own = rw e (own ∙ window-some credit left);
-      rest = rw e rest;
-    } in
-    record {
-      shown = quiet-unshown stream initial (stream_of old) frame one (stream_of new).window m q;
-      after = ap (λ (life : StreamLife). record { life = life; window = (stream_of new).window }) life
-          ∙ sym (quiet-after stream initial (stream_of old) frame one (stream_of new).window m q);
-      met = met;
-    }
-
--- ---- what is not shown
-
-unshown-of : (found : List Finding) → shown false found ≡ [] → AreUnshown found
-unshown-of [] e = tt
-unshown-of (x ∷ xs) e = grind (arith, unshown-of xs)
-
-pub none-in_order : (found : List Finding) → shown false found ≡ [] → shown false (in_order found) ≡ []
-none-in_order found e = none-shown (in_order found) (each-in_order IsUnshown found (unshown-of found e))

@@ -4,19 +4,14 @@ use Rattle.stream_credit.proofs.Words.{int_lt, Option, arith, Client, Server, Ch
 use Rattle.stream_credit.proofs.Words.{ℕ, cond-true, overflows, step_test, is_stalled, frame_step, IsCounted, HasRoomAt}
 use Rattle.stream_credit.proofs.Words.{ℤ, [], ◌∷◌, refl, sym, ap, ◌∙◌, ints, Side, Step, say, Walk, ◌+◌}
 use Rattle.stream_credit.proofs.Words.{Bool, true, ◌&&◌, not, List, ◌++◌, Some, None, Sides, Frame, shown, opens, moved}
-use Rattle.stream_credit.proofs.Words.{false, is_some, or_from, or_left, Finding, side_of, in_order, is_shown, IsSilent}
-use Rattle.stream_credit.proofs.Words.{AllByRecursion, and_right, is_zero_grant, live_window_said, is_overflowing_grant}
+use Rattle.stream_credit.proofs.Words.{false, is_some, or_from, or_left, Finding, side_of, in_order, IsSilent}
+use Rattle.stream_credit.proofs.Words.{and_right, is_zero_grant, live_window_said, is_overflowing_grant}
 use Rattle.stream_credit.proofs.Words.{cond-false, append-nil, content_by, is_used_up, overruns, WindowStep, frame_said}
 use Rattle.stream_credit.proofs.Words.{grant_to, is_not_opened, is_after_end, window_after, stream_after, initial_after}
+use Rattle.stream_credit.proofs.Words.{IsUnshown, AreUnshown}
 use Rattle.audit_terms.proofs.FindingLists.{each-append, each-in_order}
 
 -- ---- findings that are not shown
-
-abbrev pub IsUnshown : Finding → Type 0
-IsUnshown found = is_shown false found ≡ false
-
-abbrev pub AreUnshown : List Finding → Type 0
-AreUnshown found = AllByRecursion IsUnshown found
 
 pub both : (xs ys : List Finding) → AreUnshown xs → AreUnshown ys → AreUnshown (xs ++ ys)
 both xs ys p q = each-append IsUnshown xs ys p q

@@ -12,10 +12,12 @@
 //! - The looks are made when they are due, so many and no other (`IsRun` of `audit_terms`). A run that meets all its
 //!   steps says that it is whole, and keeps all. One that ends early keeps what lies up to its last answer; it cuts
 //!   once, since a later answer may be lower than what was found before it.
-//! - A [`QuietStream`] is what is known of a stream of which nothing is shown so far, where credits are not shown. It
-//!   meets the stream's frames one by one, beside all other streams. What is quiet after its last frame shows nothing,
-//!   and its opening is known: so it needs no run. How a side stands is one number there, and [`standings`] says what
-//!   frames and changes do to it: `quiet_pass` keeps the same.
+//! - [`Standings`] are a stream of which nothing is shown so far, where credits are not shown: its opening, and for
+//!   each side a number, as `audit_terms` has it. A frame or a change leads to the next ones, unless something may be
+//!   shown. The rows of `quiet_pass` hold these too.
+//! - A [`QuietStream`] is such a stream with the changes that it has met. It meets the stream's frames one by one,
+//!   beside all other streams. What is quiet after its last frame shows nothing, and its opening is known: so it needs
+//!   no run.
 //! - No sum wraps, for any increments and settings that a frame can hold: 2^28 steps of less than 2^32 fit a signed
 //!   word.
 //! - [`worked_examples`] are short runs of the definitions: ends of both sides, resets, promises and where they stand
@@ -24,8 +26,8 @@
 //! - Asked of the caller: rising numbers, and that a frame with the number of a change is an acknowledgement, as
 //!   `settings_pair` gives them.
 //! - Refused by the prover: settings that reach open streams only, a run that never looks, looks once or looks ahead of
-//!   its work, one that leaves out all once it is stopped, one that counts a side's last DATA as any other, a quiet
-//!   stream whose credit is used up, initial windows that another setting puts back.
+//!   its work, one that leaves out all once it is stopped, one that counts a side's last DATA as any other, initial
+//!   windows that another setting puts back.
 //! - Tested, in `crate_tests`: that `stream_run` succeeds where there is memory, and, in numbers, when it looks and
 //!   what it keeps.
 //! - Neither proved nor tested: that a stream which shows nothing stays quiet. One that does not has a run, which finds
@@ -38,7 +40,7 @@ mod quiet;
 mod quiet_streams;
 mod runs;
 mod silent;
-pub mod standings;
+mod standings;
 mod stream_parts;
 mod walks;
 pub mod worked_examples;
@@ -46,4 +48,5 @@ pub mod worked_examples;
 pub use changes::Changes;
 pub use quiet_streams::QuietStream;
 pub use runs::stream_run;
+pub use standings::Standings;
 pub use stream_parts::{StreamPart, StreamRun};

@@ -1,43 +1,30 @@
 //! Streams of which nothing is shown, where credits are not shown: most are of this kind. Such a stream is told by its
 //! frames in the order of the capture, beside all others, and need not be gone through by itself.
 
-ghost use Rattle.std.specs.Prelude.{◌≡◌, ℕ, pos, ◌+◌, ◌^◌, ◌<◌, true, false, List, [], ◌∷◌, drop, OnOk, IfOk};
-ghost use Rattle.std.specs.Bool.{OnTrue, OnFalse};
+ghost use Rattle.std.specs.Prelude.{◌≡◌, ℕ, ◌+◌, ◌^◌, ◌<◌, ◌≤◌, List, [], ◌∷◌, drop, length};
+ghost use Rattle.std.specs.Bool.{OnTrue};
 ghost use Rattle.std.specs.Option.{ForSome};
 ghost use Rattle.audit_terms.specs.declared.frames.Frame.{Frame as FrameTerm};
 ghost use Rattle.audit_terms.specs.declared.items.Change.{Change as ChangeTerm};
-ghost use Rattle.audit_terms.specs.declared.sides.Sides.{Sides as SidesTerm};
-ghost use Rattle.audit_terms.specs.code.runs.Orderly.{IsOrderly, IsInRange};
+ghost use Rattle.audit_terms.specs.code.runs.Orderly.{IsOrderly};
 ghost use Rattle.audit_terms.specs.code.runs.Changes.{AreOrderly, AreAcknowledged};
-ghost use Rattle.stream_credit.specs.code.Looks.{is_live};
-ghost use Rattle.audit_terms.specs.code.Room.{HasRoom};
-ghost use Rattle.stream_credit.specs.code.Changes.{AreFrom};
+ghost use Rattle.stream_credit.specs.code.Changes.{AreFrom, initial_at};
+ghost use Rattle.stream_credit.specs.code.Standings.{IsNext};
 ghost use Rattle.stream_credit.specs.code.QuietStream.{CanMeet, HasMet, IsAhead, IsAheadIfQuiet};
-ghost use Rattle.stream_credit.specs.code.QuietStream.{IsNext, IsPassed, ShowsNothing, opened_of, stream_of};
-ghost use Rattle.stream_credit.specs.code.QuietStream.{has_credit, window_of, IsStanding};
-ghost use Rattle.stream_credit.specs.code.Quiet.{IsRaised};
+ghost use Rattle.stream_credit.specs.code.QuietStream.{IsPassed, ShowsNothing};
 
 use crate::changes::{Changes, windows_after};
-use crate::quiet::{Move, move_of};
-use crate::standings::{has_credit, has_ended, kept, mark, moved};
-use audit_terms::{Finding, Frame, Length, Side, Sides, Step, Stream, StreamLife, keep_shown};
-use fault_rules::say_stream;
-use std::alloc::AllocError;
+use crate::standings::Standings;
+use audit_terms::{Frame, Length, Sides};
 
 /// The most changes that a stream is followed through: more do not fit its count.
 const MOST_MET: u32 = 0xff_ffff;
 
-/// A stream between two of its frames, for as long as nothing is shown of it: then each live window has credit, so one
-/// number says how a side stands. A connection keeps many: it takes 16 bytes, what needs no alignment last.
+/// A stream between two of its frames, for as long as nothing is shown of it. A connection keeps many: it takes 16
+/// bytes, what needs no alignment last.
 #[derive(Clone, Copy)]
 pub struct QuietStream {
-    /// The number of the frame that opened it, 0 where none did.
-    pub opened: u32,
-    /// The client: the credit in bytes of its window, 0 where that is not live, and one more than any credit where the
-    /// client has ended the stream.
-    pub client: u32,
-    /// The server, likewise.
-    pub server: u32,
+    pub standings: Standings,
     /// How many of the connection's changes it has met.
     pub met: Length,
     /// Is nothing shown of it so far? If something may be, the rest says nothing of it.
@@ -45,41 +32,6 @@ pub struct QuietStream {
 }
 
 const _: () = prove!(size_of::<QuietStream>() == 16);
-
-/// The window of a side that stands so.
-fn window_of(standing: u32) -> Option<i64>
-    ensures { result ≡ window_of standing }
-{
-    if has_credit(standing) {
-        Some(i64::from(standing))
-    } else {
-        None
-    }
-}
-
-/// How a side stands, under the same conditions. Where it has ended the stream, its window is not live.
-fn standing_of(window: &Option<i64>, ended: bool) -> Option<u32>
-    ensures { ForSome result (IsStanding window.now ended) }
-{
-    match window {
-        Some(_) if ended => None,
-        Some(credit) => kept(*credit),
-        None => Some(mark(ended)),
-    }
-}
-
-/// A credit after a frame moves it by an amount, if it is live, under the same conditions.
-fn raised(credit: u32, amount: &i64) -> Option<u32>
-    requires amount { HasRoom (2 ^ 32) amount.now }
-    ensures raised { ForSome result (λ after. IsRaised (pos credit) amount.now (pos after)) }
-    ensures live { ForSome result (λ after. has_credit credit ≡ true) }
-    ensures left { ForSome result (λ after. has_credit after ≡ true) }
-{
-    if !has_credit(credit) {
-        return None;
-    }
-    kept(i64::from(credit) + *amount)
-}
 
 /// A number of changes as it is kept, if it fits.
 fn kept_met(met: u32) -> Option<Length>
@@ -98,77 +50,10 @@ impl QuietStream {
             → AreOrderly changes → AreAcknowledged all changes → IsAheadIfQuiet stream changes all all result }
     {
         QuietStream {
-            opened: 0,
-            client: 0,
-            server: 0,
+            standings: Standings::idle(),
             met: Length::of(0),
             is_quiet: true,
         }
-    }
-
-    /// The number of the frame that opened it.
-    pub fn opened_at(&self) -> Option<u32>
-        ensures { result ≡ opened_of self.now.opened }
-    {
-        if self.opened == 0 {
-            None
-        } else {
-            Some(self.opened)
-        }
-    }
-
-    /// Its opening and its ends.
-    fn life(&self) -> StreamLife
-        ensures { result ≡ (stream_of self.now).life }
-    {
-        StreamLife {
-            opened: self.opened_at(),
-            ended: Sides {
-                client: has_ended(self.client),
-                server: has_ended(self.server),
-            },
-        }
-    }
-
-    /// The stream that it stands for.
-    fn stream(&self) -> Stream
-        ensures { result ≡ stream_of self.now }
-    {
-        Stream {
-            life: self.life(),
-            window: Sides {
-                client: window_of(self.client),
-                server: window_of(self.server),
-            },
-        }
-    }
-
-    /// Does a window of the stream live?
-    fn is_live(&self) -> bool
-        ensures { result ≡ is_live (stream_of self.now) }
-    {
-        has_credit(self.client) || has_credit(self.server)
-    }
-
-    /// Becomes what stands for a stream, if each live window has credit and no more than the largest.
-    fn becomes(&mut self, entry: &Stream) -> bool
-        ensures stream { OnTrue result (stream_of self.new ≡ entry.now) }
-        ensures met { OnTrue result (self.new.met ≡ self.old.met) }
-    {
-        let opened = entry.life.opened.unwrap_or(0);
-        if entry.life.opened.is_some() && opened == 0 {
-            return false;
-        }
-        let (Some(client), Some(server)) = (
-            standing_of(&entry.window.client, entry.life.ended.client),
-            standing_of(&entry.window.server, entry.life.ended.server),
-        ) else {
-            return false;
-        };
-        self.opened = opened;
-        self.client = client;
-        self.server = server;
-        true
     }
 
     /// Meets a change that moves its windows from one initial window to another, and answers whether nothing of that
@@ -177,15 +62,13 @@ impl QuietStream {
         requires { self.old.met < 2 ^ 28 }
         ensures { OnTrue result (IsPassed before.now after.now self.old self.new) }
     {
-        let (Some(client), Some(server), Some(met)) = (
-            moved(self.client, before.client, after.client),
-            moved(self.server, before.server, after.server),
+        let (Some(next), Some(met)) = (
+            self.standings.moved(before, after),
             kept_met(self.met.get() + 1),
         ) else {
             return false;
         };
-        self.client = client;
-        self.server = server;
+        self.standings = next;
         self.met = met;
         true
     }
@@ -211,7 +94,7 @@ impl QuietStream {
         requires { CanMeet number changes.now self.old }
         ensures { OnTrue result (HasMet number changes.now self.old self.new) }
     {
-        if self.is_live() {
+        if self.standings.is_live() {
             return self.meet_each(changes, number);
         }
         let Some(met) = kept_met(changes.passed(self.met.get(), number)) else {
@@ -221,113 +104,63 @@ impl QuietStream {
         true
     }
 
-    /// Moves a window by what a frame sends or grants, if it does nothing else and nothing of that is shown, and
-    /// answers whether it did.
-    fn moves(&mut self, stream: u32, frame: &Frame) -> bool
-        ensures moved { OnTrue result ((initial : SidesTerm ℕ) → IsNext stream initial frame.now self.old self.new) }
-        ensures kept { OnFalse result (self.new ≡ self.old) }
-    {
-        let Some(one) = move_of(stream, &self.life(), frame) else {
-            return false;
-        };
-        match one.side {
-            Side::Client => match raised(self.client, &one.amount) {
-                Some(credit) => {
-                    self.client = credit;
-                    true
-                }
-                None => false,
-            },
-            Side::Server => match raised(self.server, &one.amount) {
-                Some(credit) => {
-                    self.server = credit;
-                    true
-                }
-                None => false,
-            },
-        }
-    }
-
-    /// Meets a frame that brings no change, and answers whether nothing of it may be shown.
-    fn meet_step(
-        &mut self,
-        said: &mut Vec<Finding>,
-        stream: u32,
-        initial: &Sides<u32>,
-        frame: &Frame,
-    ) -> Result<bool, AllocError>
-        requires streamed { stream < 2 ^ 31 }
-        requires frame { IsInRange frame.now }
-        ensures { IfOk result (λ quiet. OnTrue quiet (IsNext stream initial.now frame.now self.old self.new)) }
-    {
-        said.clear();
-        let mut entry = self.stream();
-        let step = Step {
-            number: frame.number,
-            frame: Some(*frame),
-            change: None,
-        };
-        say_stream(said, &mut entry, stream, initial, &step)?;
-        keep_shown(said, false);
-        if !said.is_empty() {
-            return Ok(false);
-        }
-        Ok(self.becomes(&entry))
-    }
-
     /// Meets its next frame, behind the changes before it, and answers whether nothing of it may be shown.
-    fn meet_frame(
-        &mut self,
-        said: &mut Vec<Finding>,
-        stream: u32,
-        changes: &Changes<'_>,
-        frame: &Frame,
-    ) -> Result<bool, AllocError>
+    fn meet_frame(&mut self, stream: u32, changes: &Changes<'_>, frame: &Frame) -> bool
         requires ahead { (all rest : List FrameTerm) × IsAhead stream changes.now all (frame.now ∷ rest) self.old }
         requires passed { AreFrom frame.now.number (drop self.old.met changes.now) }
-        ensures { IfOk result (λ quiet. OnTrue quiet ((all rest : List FrameTerm)
+        ensures { OnTrue result ((all rest : List FrameTerm)
             → IsAhead stream changes.now all (frame.now ∷ rest) self.old
-            → IsAhead stream changes.now all rest self.new)) }
+            → IsAhead stream changes.now all rest self.new) }
     {
         if let Some(_) = changes.at(self.met.get(), frame.number) {
-            return Ok(false);
+            return false;
         }
-        if self.moves(stream, frame) {
-            return Ok(true);
-        }
-        let initial = changes.initial_at(self.met.get());
-        self.meet_step(said, stream, &initial, frame)
+        let Some(next) = self.standings_after(stream, changes, frame) else {
+            return false;
+        };
+        self.standings = next;
+        true
     }
 
-    /// The stream after its next frame and the changes before it. `said` is room for what they show.
-    pub fn meet(
-        &mut self,
-        said: &mut Vec<Finding>,
+    /// How it stands after a frame without a change, if nothing of that is shown.
+    fn standings_after(
+        &self,
         stream: u32,
         changes: &Changes<'_>,
         frame: &Frame,
-    ) -> Result<(), AllocError>
+    ) -> Option<Standings>
+        requires { self.now.met ≤ length changes.now }
+        ensures { ForSome result (IsNext stream (initial_at self.now.met changes.now) frame.now self.now.standings) }
+    {
+        if self.standings.is_idle() {
+            let initial = changes.initial_at(self.met.get());
+            return Standings::first(stream, &initial, frame);
+        }
+        self.standings.met(stream, frame)
+    }
+
+    /// The stream after its next frame and the changes before it.
+    pub fn meet(&mut self, stream: u32, changes: &Changes<'_>, frame: &Frame)
         requires { (all rest : List FrameTerm) × IsAheadIfQuiet stream changes.now all (frame.now ∷ rest) self.old }
-        ensures { OnOk result ((all rest : List FrameTerm)
+        ensures { (all rest : List FrameTerm)
             → IsAheadIfQuiet stream changes.now all (frame.now ∷ rest) self.old
-            → IsAheadIfQuiet stream changes.now all rest self.new) }
+            → IsAheadIfQuiet stream changes.now all rest self.new }
     {
         if !self.is_quiet {
-            return Ok(());
+            return;
         }
         if !self.meet_changes(changes, frame.number) {
             self.is_quiet = false;
-            return Ok(());
+            return;
         }
-        self.is_quiet = self.meet_frame(said, stream, changes, frame)?;
-        Ok(())
+        self.is_quiet = self.meet_frame(stream, changes, frame);
     }
 
     /// The stream after the changes behind its last frame.
     pub fn finish(&mut self, stream: u32, changes: &Changes<'_>)
         requires { (all : List FrameTerm) × IsAheadIfQuiet stream changes.now all [] self.old }
         ensures { (all : List FrameTerm) → IsAheadIfQuiet stream changes.now all [] self.old
-            → OnTrue self.new.is_quiet (ShowsNothing stream changes.now all self.new.opened) }
+            → OnTrue self.new.is_quiet (ShowsNothing stream changes.now all self.new.standings.opened) }
     {
         if self.is_quiet {
             self.is_quiet = self.meet_changes(changes, u32::MAX);

@@ -3,7 +3,7 @@
 ghost use Rattle.std.specs.Prelude.{◌≡◌, ℕ, ◌+◌, ◌^◌, option_map};
 ghost use Rattle.std.specs.Bool.{OnTrue};
 ghost use Rattle.audit_terms.specs.code.Room.{HasRoom, WindowHasRoom};
-ghost use Rattle.stream_credit.specs.code.Silent.{moved, IsSilent};
+ghost use Rattle.audit_terms.specs.code.Standing.{moved, IsSilent};
 
 use audit_terms::LARGEST_WINDOW;
 

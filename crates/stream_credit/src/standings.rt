@@ -1,66 +1,200 @@
-//! How a side stands on a stream of which nothing is shown, in one number: the credit of its live window, which is more
-//! than 0; 0 where its window is not live; and [`ENDED`] where it has ended the stream.
+//! How a stream stands of which nothing is shown, where credits are not shown: most are of this kind. Each live window
+//! then has credit, so one number says how a side stands, as `audit_terms::standings` has it.
 
-ghost use Rattle.std.specs.Prelude.{◌≡◌};
+ghost use Rattle.std.specs.Prelude.{◌≡◌, ℕ, true};
+ghost use Rattle.std.specs.Bool.{OnTrue};
 ghost use Rattle.std.specs.Option.{ForSome};
-ghost use Rattle.stream_credit.specs.code.QuietStream.{has_credit, has_ended, mark, IsBalance, IsCreditOf, IsMovedBy};
+ghost use Rattle.audit_terms.specs.declared.sides.Sides.{Sides as SidesTerm};
+ghost use Rattle.audit_terms.specs.code.Standing.{has_credit};
+ghost use Rattle.audit_terms.specs.Stream.{idle_stream};
+ghost use Rattle.stream_credit.specs.code.Looks.{is_live};
+ghost use Rattle.stream_credit.specs.code.Standings.{IsStandingAfter, IsOpeningStanding, opened_of, life_of, stream_of};
+ghost use Rattle.stream_credit.specs.code.Standings.{IsNext, IsNextOpened, IsOpenedBy, AreMovedBy};
 
-use audit_terms::LARGEST_WINDOW;
+use audit_terms::standings::{ENDED, balance, has_credit, has_ended, mark, moved};
+use audit_terms::{Frame, Side, Sides, StreamLife};
 
-/// What stands for a credit where the side has ended the stream: its window is not live then. It is one more than any
-/// credit.
-pub const ENDED: u32 = LARGEST_WINDOW + 1;
-
-/// Does a side that stands so have a live window?
-pub fn has_credit(standing: u32) -> bool
-    ensures { result ≡ has_credit standing }
-{
-    0 < standing && standing < ENDED
+/// A stream between two of its frames, for as long as nothing is shown of it: 12 bytes.
+#[derive(Clone, Copy)]
+pub struct Standings {
+    /// The number of the frame that opened it; 0 where none did.
+    pub opened: u32,
+    /// How the client stands.
+    pub client: u32,
+    /// How the server stands.
+    pub server: u32,
 }
 
-/// Has a side that stands so ended the stream?
-pub fn has_ended(standing: u32) -> bool
-    ensures { result ≡ has_ended standing }
-{
-    standing == ENDED
+impl Standings {
+    /// A stream that is not opened.
+    pub fn idle() -> Self
+        ensures { stream_of result ≡ idle_stream }
+    {
+        Standings {
+            opened: 0,
+            client: 0,
+            server: 0,
+        }
+    }
+
+    /// The number of the frame that opened it.
+    pub fn opened_at(&self) -> Option<u32>
+        ensures { result ≡ opened_of self.now.opened }
+    {
+        if self.opened == 0 {
+            None
+        } else {
+            Some(self.opened)
+        }
+    }
+
+    /// Its opening and its ends.
+    fn life(&self) -> StreamLife
+        ensures { result ≡ life_of self.now }
+    {
+        StreamLife {
+            opened: self.opened_at(),
+            ended: Sides {
+                client: has_ended(self.client),
+                server: has_ended(self.server),
+            },
+        }
+    }
+
+    /// Is it a stream that is not opened?
+    pub(crate) fn is_idle(&self) -> bool
+        ensures { OnTrue result (stream_of self.now ≡ idle_stream) }
+    {
+        self.opened == 0 && self.client == 0 && self.server == 0
+    }
+
+    /// Does a window of it live?
+    pub(crate) fn is_live(&self) -> bool
+        ensures { result ≡ is_live (stream_of self.now) }
+    {
+        has_credit(self.client) || has_credit(self.server)
+    }
+
+    /// The stream that a frame opens, if it does and nothing but credits is shown of that.
+    pub fn opened(stream: u32, initial: &Sides<u32>, frame: &Frame) -> Option<Self>
+        ensures { ForSome result (IsOpenedBy stream initial.now frame.now) }
+    {
+        let idle = StreamLife::idle();
+        if frame.number == 0
+            || !idle.is_opening(stream, frame)
+            || idle.is_not_opened(stream, frame)
+        {
+            return None;
+        }
+        let client_ends = frame.is_last_of(Side::Client, stream);
+        let server_ends = frame.is_last_of(Side::Server, stream);
+        Some(Standings {
+            opened: frame.number,
+            client: opening_standing(initial.client, client_ends)?,
+            server: opening_standing(initial.server, server_ends)?,
+        })
+    }
+
+    /// The stream after a frame on it, if it is opened and nothing of that is shown.
+    #[inline]
+    pub fn after(&self, frame: &Frame) -> Option<Self>
+        ensures { ForSome result (IsNextOpened frame.now self.now) }
+    {
+        let life = self.life();
+        if self.opened == 0
+            || life.is_not_opened(frame.stream, frame)
+            || life.is_after_end(frame)
+            || frame.body.is_zero_grant()
+        {
+            return None;
+        }
+        Some(Standings {
+            opened: self.opened,
+            client: standing_after(self.client, Side::Client, frame)?,
+            server: standing_after(self.server, Side::Server, frame)?,
+        })
+    }
+
+    /// The stream after a frame that it meets, if it is opened and nothing of that is shown.
+    pub(crate) fn met(&self, stream: u32, frame: &Frame) -> Option<Self>
+        ensures { ForSome result (λ next. (initial : SidesTerm ℕ) → IsNext stream initial frame.now self.now next) }
+    {
+        if frame.stream == stream {
+            return self.after(frame);
+        }
+        // The server promised it before, and does so again.
+        if self.opened != 0 && frame.is_server_promise() && has_ended(self.client) {
+            return Some(*self);
+        }
+        None
+    }
+
+    /// A stream that is not opened, after a frame that it meets, if nothing of that is shown.
+    pub(crate) fn first(stream: u32, initial: &Sides<u32>, frame: &Frame) -> Option<Self>
+        ensures { ForSome result (λ next. (idle : Standings) → stream_of idle ≡ idle_stream
+            → IsNext stream initial.now frame.now idle next) }
+    {
+        let idle = StreamLife::idle();
+        if idle.is_opening(stream, frame) {
+            return Self::opened(stream, initial, frame);
+        }
+        if idle.is_not_opened(stream, frame) {
+            return None;
+        }
+        Some(Self::idle())
+    }
+
+    /// The stream after a change of the initial windows in force, if nothing of that is shown (RFC 9113, 6.9.2).
+    pub fn moved(&self, before: &Sides<u32>, after: &Sides<u32>) -> Option<Self>
+        ensures { ForSome result (AreMovedBy before.now after.now self.now) }
+    {
+        Some(Standings {
+            opened: self.opened,
+            client: moved(self.client, before.client, after.client)?,
+            server: moved(self.server, before.server, after.server)?,
+        })
+    }
 }
 
-/// How a side stands whose window is not live, by whether it has ended the stream.
-pub fn mark(is_ended: bool) -> u32
-    ensures { result ≡ mark is_ended }
+/// How a side stands after a frame on the stream, which is opened, if nothing of that is shown (RFC 9113, 5.1, 6.9.1).
+fn standing_after(standing: u32, side: Side, frame: &Frame) -> Option<u32>
+    ensures { ForSome result (IsStandingAfter side frame.now standing) }
 {
-    if is_ended { ENDED } else { 0 }
+    if has_credit(standing) {
+        return live_after(standing, side, frame);
+    }
+    let is_last = frame.is_last_of(side, frame.stream);
+    Some(if is_last { ENDED } else { standing })
 }
 
-/// A credit after it rises by so many bytes and falls by so many, if it is not below 0 then, and no more than the
-/// largest (RFC 9113, 6.9.1).
-pub fn balance(credit: u32, rise: u32, fall: u32) -> Option<u32>
-    ensures { ForSome result (IsBalance credit rise fall) }
+/// How it stands where its window is live: the frame does not send more than there is, and grants no more than the
+/// largest window holds.
+fn live_after(credit: u32, side: Side, frame: &Frame) -> Option<u32>
+    requires { has_credit credit ≡ true }
+    ensures { ForSome result (IsStandingAfter side frame.now credit) }
 {
-    let after = i64::from(credit) + i64::from(rise) - i64::from(fall);
-    if after < 0 || after > i64::from(LARGEST_WINDOW) {
+    let granted = frame.grant_to(side, frame.stream);
+    let after = balance(credit, granted, frame.content_by(side))?;
+    if frame.ends_window(side) {
+        return Some(mark(frame.is_last_of(side, frame.stream)));
+    }
+    if after == 0 {
         return None;
     }
-    Some(after as u32)
+    Some(after)
 }
 
-/// A credit as it is kept, if some is left and it is no more than the largest (RFC 9113, 6.9.1).
-pub(crate) fn kept(credit: i64) -> Option<u32>
-    ensures { ForSome result (IsCreditOf credit) }
+/// How a side stands on a stream that a frame opens, by the initial window in force and whether the side sends nothing
+/// more, if no stall is shown (6.9.2).
+fn opening_standing(initial: u32, is_last: bool) -> Option<u32>
+    ensures { ForSome result (IsOpeningStanding initial is_last) }
 {
-    if credit <= 0 || credit > i64::from(LARGEST_WINDOW) {
-        return None;
+    if is_last {
+        return Some(ENDED);
     }
-    Some(credit as u32)
-}
-
-/// How a side stands after a change of the initial window, if its credit is still more than 0 and no more than the
-/// largest (6.9.2).
-pub fn moved(standing: u32, before: u32, after: u32) -> Option<u32>
-    ensures { ForSome result (IsMovedBy before after standing) }
-{
-    if !has_credit(standing) {
-        return Some(standing);
+    if has_credit(initial) {
+        Some(initial)
+    } else {
+        None
     }
-    kept(i64::from(standing) + i64::from(after) - i64::from(before))
 }

@@ -10,7 +10,7 @@ use Rattle.audit_terms.specs.Connection.{connection_said, connection_after, conn
 use Rattle.audit_terms.specs.Connection.{is_opened_by_headers, is_even_promise, opening_order_said}
 use Rattle.audit_terms.specs.Connection.{promise_order_said, push_said}
 use Rattle.quiet_pass.specs.declared.connections.KeptConnection.{KeptConnection}
-use Rattle.quiet_pass.specs.code.Standing.{AreUnshown}
+use Rattle.stream_credit.specs.code.Standings.{AreUnshown}
 
 -- the connection that is kept so
 abbrev pub connection_of : KeptConnection → ConnectionState

@@ -12,9 +12,9 @@ use Rattle.audit_terms.specs.Pass.{PassState, pass_start, next, said, full_from}
 use Rattle.audit_terms.specs.code.runs.States.{state_after}
 use Rattle.audit_terms.specs.code.runs.Streams.{initial_after}
 use Rattle.quiet_pass.specs.declared.passes.QuietPass.{QuietPass}
-use Rattle.quiet_pass.specs.code.Standing.{AreUnshown}
-use Rattle.quiet_pass.specs.code.LastFrame.{last_of}
-use Rattle.quiet_pass.specs.code.Pending.{IsPending, IsBrought}
+use Rattle.stream_credit.specs.code.Standings.{AreUnshown}
+use Rattle.audit_terms.specs.code.LastFrame.{last_of}
+use Rattle.settings_pair.specs.code.Pending.{IsPending, IsBrought}
 use Rattle.quiet_pass.specs.code.Connection.{connection_of, IsConnectionAfter}
 use Rattle.quiet_pass.specs.code.Streams.{AreStreams, AreMet, AreAllMoved}
 

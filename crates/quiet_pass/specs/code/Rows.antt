@@ -1,35 +1,19 @@
 -- The rows of the streams that were opened. No public clause cites this.
-use Rattle.std.specs.Prelude.{◌≡◌, ◌≢◌, ℕ, ◌<◌, Bool, true, false, ◌==◌, if◌then◌else◌, List, [], ◌∷◌, Some}
+use Rattle.std.specs.Prelude.{◌≡◌, ◌≢◌, ℕ, ◌<◌, Bool, ◌==◌, if◌then◌else◌, List, [], ◌∷◌, Some}
 use Rattle.std.specs.Prelude.{slice_get}
 use Rattle.audit_terms.specs.declared.sides.Sides.{Sides}
 use Rattle.audit_terms.specs.declared.frames.Frame.{Frame}
-use Rattle.audit_terms.specs.declared.lives.StreamLife.{StreamLife}
 use Rattle.audit_terms.specs.declared.streams.Stream.{Stream}
-use Rattle.audit_terms.specs.Life.{idle_life, is_opening}
+use Rattle.audit_terms.specs.Life.{is_opening}
 use Rattle.audit_terms.specs.Stream.{idle_stream, stream_said, stream_after}
 use Rattle.audit_terms.specs.code.runs.Streams.{frame_step}
-use Rattle.stream_credit.specs.code.QuietStream.{opened_of, has_ended, window_of, IsMovedBy}
+use Rattle.stream_credit.specs.code.Standings.{stream_of, AreUnshown, IsNextOpened, IsOpenedBy, AreMovedBy}
 use Rattle.quiet_pass.specs.declared.rows.Row.{Row}
-use Rattle.quiet_pass.specs.code.Standing.{AreUnshown}
-
--- the opening and the ends of a row's stream
-abbrev pub life_of : Row → StreamLife
-life_of row = record {
-  opened = opened_of row.opened;
-  ended = record { client = has_ended row.client; server = has_ended row.server };
-}
-
--- the stream of a row
-abbrev pub stream_of : Row → Stream
-stream_of row = record {
-  life = life_of row;
-  window = record { client = window_of row.client; server = window_of row.server };
-}
 
 -- a stream by its identifier: one without a row is not opened
 abbrev pub entry_in : List Row → (stream : ℕ) → Stream
 entry_in [] stream = idle_stream
-entry_in (row ∷ rows) stream = if row.stream == stream then stream_of row else entry_in rows stream
+entry_in (row ∷ rows) stream = if row.stream == stream then stream_of row.standings else entry_in rows stream
 
 -- the identifiers rise, all past the first given
 abbrev pub AreRisingFrom : (low : ℕ) → List Row → Type 0
@@ -53,17 +37,12 @@ pub record IsRowOf (rows : List Row) (stream at : ℕ) : Type 0 where
 -- a row after a frame on its stream: nothing of that is shown
 pub record IsRowAfter (frame : Frame) (old new : Row) : Type 0 where
   pub same : new.stream ≡ old.stream
-  pub unopened : is_opening frame.stream (life_of old) frame ≡ false
-  pub said : (initial : Sides ℕ) → AreUnshown (stream_said frame.stream initial (stream_of old) (frame_step frame))
-  pub after : (initial : Sides ℕ) → stream_of new
-      ≡ stream_after frame.stream initial (stream_of old) (frame_step frame)
+  pub next : IsNextOpened frame old.standings new.standings
 
 -- the row of a stream that a frame opens: nothing of that is shown
 pub record IsOpened (stream : ℕ) (initial : Sides ℕ) (frame : Frame) (row : Row) : Type 0 where
   pub same : row.stream ≡ stream
-  pub opening : is_opening stream idle_life frame ≡ true
-  pub said : AreUnshown (stream_said stream initial idle_stream (frame_step frame))
-  pub after : stream_of row ≡ stream_after stream initial idle_stream (frame_step frame)
+  pub by : IsOpenedBy stream initial frame row.standings
 
 -- a stream meets a frame, which opens it or not, by the rows before it and after it: nothing of that is shown, and no
 -- other stream changes
@@ -77,9 +56,7 @@ pub record HasMet (stream : ℕ) (initial : Sides ℕ) (frame : Frame) (opens : 
 -- a row after the initial windows in force go from some to others: nothing of that is shown
 pub record IsRowMoved (before after : Sides ℕ) (old new : Row) : Type 0 where
   pub same : new.stream ≡ old.stream
-  pub opened : new.opened ≡ old.opened
-  pub client : IsMovedBy before.client after.client old.client new.client
-  pub server : IsMovedBy before.server after.server old.server new.server
+  pub moved : AreMovedBy before after old.standings new.standings
 
 -- each row after that
 abbrev pub AreMoved : (before after : Sides ℕ) → (old new : List Row) → Type 0

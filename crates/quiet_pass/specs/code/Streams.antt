@@ -8,9 +8,9 @@ use Rattle.audit_terms.specs.declared.streams.Stream.{Stream}
 use Rattle.audit_terms.specs.Frame.{meets}
 use Rattle.audit_terms.specs.Life.{is_opening}
 use Rattle.audit_terms.specs.Stream.{stream_said, stream_after}
-use Rattle.stream_credit.specs.code.Silent.{moved, IsSilent}
+use Rattle.audit_terms.specs.code.Standing.{moved, IsSilent}
 use Rattle.quiet_pass.specs.declared.streams.Streams.{Streams}
-use Rattle.quiet_pass.specs.code.Standing.{AreUnshown}
+use Rattle.stream_credit.specs.code.Standings.{AreUnshown}
 use Rattle.quiet_pass.specs.code.Rows.{entry_in, AreRising, AreMoved}
 
 -- the rows are those of the streams: of the odd ones, which the client opens, and of the even ones, which the server

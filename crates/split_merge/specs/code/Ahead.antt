@@ -69,7 +69,7 @@ pub record IsEnd (changes : List Change) (streams : List ℕ) (quiets : List Qui
 pub record IsUnshown (credits_shown : Bool) (changes : List Change) (stream : ℕ) (frames : List Frame)
     (quiet : QuietStream) : Type 0 where
   pub hidden : credits_shown ≡ false
-  pub shows : ShowsNothing stream changes frames quiet.opened
+  pub shows : ShowsNothing stream changes frames quiet.standings.opened
 
 abbrev pub IsHushed : (credits_shown : Bool) → List Change → (stream : ℕ) → List Frame → QuietStream → Type 0
 IsHushed credits_shown changes stream frames quiet =

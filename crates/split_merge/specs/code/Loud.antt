@@ -2,7 +2,7 @@
 use Rattle.std.specs.Prelude.{◌≡◌, ℕ, ◌+◌, ◌^◌, ◌<◌, ◌==◌, if◌then◌else◌, Bool, true, List, [], ◌∷◌, ◌++◌, length}
 use Rattle.std.specs.Prelude.{get_or, slice_get, Option, Some, None, MatchOption, option_to_list}
 use Rattle.stream_credit.specs.declared.quiet_streams.QuietStream.{QuietStream}
-use Rattle.stream_credit.specs.code.QuietStream.{opened_of}
+use Rattle.stream_credit.specs.code.Standings.{opened_of}
 use Rattle.split_merge.specs.declared.splits.StreamRow.{StreamRow}
 use Rattle.split_merge.specs.declared.splits.SplitFrames.{SplitFrames}
 use Rattle.split_merge.specs.declared.visits.Visits.{Visits}
@@ -24,7 +24,7 @@ places_from at (quiet ∷ quiets) =
 abbrev pub opened_in : List QuietStream → List ℕ
 opened_in [] = []
 opened_in (quiet ∷ quiets) =
-    if quiet.is_quiet then option_to_list (opened_of quiet.opened) ++ opened_in quiets else opened_in quiets
+    if quiet.is_quiet then option_to_list (opened_of quiet.standings.opened) ++ opened_in quiets else opened_in quiets
 
 -- is the stream, one of these, quiet?
 abbrev pub quiet_in : (stream : ℕ) → List ℕ → List QuietStream → Bool

@@ -1,24 +1,18 @@
-use Rattle.std.proofs.Common.{◌∙◌, sym}
-use Rattle.settings_pair.proofs.Words.{append-nil}
-use Rattle.settings_pair.proofs.WaitingLemmas.{change_of-ack, settings_said-ack, waiting-after_ack, waiting-after_other}
+use Rattle.std.proofs.Common.{◌≡◌, None, Option, Some, ap, is_none, refl, sym, ◌∙◌}
+use Rattle.settings_pair.proofs.Words.{Frame, Settings, change_taking, taken}
 use Rattle.settings_pair.proofs.pairing.meet.Goals as goal
 
-pub returns-then-not-is_ack : goal.returns-then-not-is_ack
-returns-then-not-is_ack c =
-    let none = sym c.is_ack.ensures ∙ c.if-not-is_ack.true in record {
-      waiting = λ now h. waiting-after_other now c.args.seen.now c.args.frame.now _ none h;
-      changes = λ now h. rw (none, append-nil);
-      findings = λ now h. rw (none, append-nil);
-    }
+-- a frame that takes settings brings a change
+none-taken : (frame : Frame) (settings : Option Settings) → is_none (change_taking frame settings) ≡ is_none settings
+none-taken frame None = refl
+none-taken frame (Some settings) = refl
 
 pub returns : goal.returns
 returns c =
-    let ack = sym c.is_ack.ensures ∙ c.if-not-is_ack.false in
-    let took = c.take-taken.ensures in record {
-      waiting = λ now h. waiting-after_ack now c.args.seen.now c.args.frame.now c.args.waiting.now ack h _ _
-          c.other.ensures took.rest took.within;
-      changes = λ now h. rw (change_of-ack now c.args.seen.now c.args.frame.now c.args.waiting.now ack h _ _
-          c.other.ensures took.oldest) c.in_ok-add.ensures.changes;
-      findings = λ now h. rw (settings_said-ack now c.args.seen.now c.args.frame.now c.args.waiting.now ack h _ _
-          c.other.ensures took.oldest) c.in_ok-add.ensures.findings;
+    let frame = c.args.frame.now in record {
+      pending = λ now h. (c.in_ok-change.ensures now h).kept;
+      changes = λ now h. rw ((c.in_ok-change.ensures now h).brings) c.in_ok-add.ensures.changes;
+      findings = λ now h.
+          rw (sym (none-taken frame (taken now frame)) ∙ ap is_none (c.in_ok-change.ensures now h).brings)
+          c.in_ok-add.ensures.findings;
     }

@@ -1,14 +1,8 @@
-use Rattle.stream_credit.proofs.Words.{sym, ◌∙◌, subst, same_Some}
+use Rattle.stream_credit.proofs.Words.{refl, subst, same_Some}
 use Rattle.quiet_pass.specs.code.Rows.{IsOpened}
-use Rattle.quiet_pass.proofs.StreamFrames.{idle-opened}
 use Rattle.quiet_pass.proofs.rows.Row.opened.Goals as goal
 
 pub returns : goal.returns
 returns c = λ x e.
-    let life = c.idle-idle.ensures in
     subst (IsOpened c.args.stream c.args.initial.now c.args.frame.now) (same_Some _ _ e)
-    (idle-opened c.args.stream c.args.initial.now c.args.frame.now
-    (rw life at (sym c.is_opening.ensures ∙ c.if-not-is_opening.false)) _ _ c.if-frame-eq0.false
-    (rw life at (sym c.is_not_opened.ensures ∙ c.if-is_not_opened.false))
-    (rw c.is_last_of-client_ends.ensures at (c.opening_standing.ensures _ c.in_ok-opening_standing.was))
-    (rw c.is_last_of-server_ends.ensures at (c.opening_standing-2.ensures _ c.in_ok-opening_standing-2.was)))
+    (record { same = refl; by = c.opened.ensures _ c.in_ok-opened.was })

@@ -57,5 +57,5 @@ returns c =
           let next = ahead-next rest stream c.args.frame.now row ahead found.index.distinct found.row
           c.index_mut-2.result.now in
           rw (is, streams-counted) (ahead-met rest stream c.args.frame.now row ahead found.index.distinct found.row
-          c.meet.new.self (c.in_ok-meet.ensures _ _ (rw c.index_mut-2.ensures.value next)));
+          c.meet.new.self (c.meet.ensures _ _ (rw c.index_mut-2.ensures.value next)));
     }

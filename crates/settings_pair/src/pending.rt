@@ -6,24 +6,25 @@ ghost use Rattle.audit_terms.specs.Side.{other};
 ghost use Rattle.audit_terms.specs.Sides.{side_of};
 ghost use Rattle.audit_terms.specs.Frame.{is_ack};
 ghost use Rattle.audit_terms.specs.InForce.{InForce};
-ghost use Rattle.quiet_pass.specs.code.Pending.{sent_by, IsPending, IsBrought};
+ghost use Rattle.settings_pair.specs.code.Pending.{sent_by, IsPending, IsBrought};
 
 use audit_terms::{Body, Change, Frame, PackedSettings, Settings, Side, Sides, change_by};
 use std::alloc::{AllocError, Global};
 
 /// The SETTINGS of a connection so far: a few, as connections go.
 #[derive(Drop)]
-pub(crate) struct Pending {
+pub struct Pending {
     /// All that the client sent.
-    client: Vec<PackedSettings>,
+    pub client: Vec<PackedSettings>,
     /// All that the server sent.
-    server: Vec<PackedSettings>,
+    pub server: Vec<PackedSettings>,
     /// How many acknowledgements of each side took one of the other side's.
-    taken: Sides<usize>,
+    pub taken: Sides<usize>,
 }
 
 impl Pending {
-    pub(crate) fn new(alloc: Global) -> Self
+    /// The SETTINGS before any frame: none.
+    pub fn new(alloc: Global) -> Self
         ensures client { result.client.items ≡ [] }
         ensures server { result.server.items ≡ [] }
         ensures taken { (d : SideTerm) → side_of d result.taken ≡ 0 }
@@ -52,8 +53,13 @@ impl Pending {
         }
     }
 
-    /// The change that a frame brings, if it is an acknowledgement that takes a SETTINGS; and what stands after it.
-    pub(crate) fn meet(&mut self, frame: &Frame) -> Result<Option<Change>, AllocError>
+    /// The change that a frame brings, if it is an acknowledgement that takes a SETTINGS, the oldest of the other side
+    /// that none took; and what stands after it.
+    ///
+    /// # Errors
+    ///
+    /// Without memory for settings.
+    pub fn meet(&mut self, frame: &Frame) -> Result<Option<Change>, AllocError>
         ensures { IfOk result (λ change. (now : InForce) → IsPending now self.old
             → IsBrought now frame.now change self.new) }
     {
@@ -70,16 +76,13 @@ impl Pending {
         }
     }
 
-    /// The same of an acknowledgement.
+    /// What an acknowledgement brings, if it takes a SETTINGS.
     fn take(&mut self, frame: &Frame) -> Option<Change>
         requires { is_ack frame.now.body ≡ true }
         ensures { (now : InForce) → IsPending now self.old → IsBrought now frame.now result self.new }
     {
         let settings = self.next(frame.side)?;
-        match frame.side {
-            Side::Client => self.taken.client += 1,
-            Side::Server => self.taken.server += 1,
-        }
+        *self.taken.of_mut(frame.side) += 1;
         Some(change_by(frame, settings))
     }
 }

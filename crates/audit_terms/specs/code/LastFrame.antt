@@ -1,10 +1,10 @@
--- What is kept of the last frame of a side. No public clause cites this.
+-- What is kept of the last frame of a side: all that `breaks_block` asks of it.
 use Rattle.std.specs.Prelude.{◌==◌, ◌&&◌, not, Bool, if◌then◌else◌, Option, Some, None}
 use Rattle.audit_terms.specs.declared.frames.Frame.{Frame}
 use Rattle.audit_terms.specs.FrameType.{continuation_type}
 use Rattle.audit_terms.specs.LocalFault.{leaves_block_open}
-use Rattle.quiet_pass.specs.declared.last_frames.LastFrame.{LastFrame}
-use Rattle.quiet_pass.specs.declared.last_frames.LastFrame.TheVariants.{Missing, Closed, Open}
+use Rattle.audit_terms.specs.declared.last_frames.LastFrame.{LastFrame}
+use Rattle.audit_terms.specs.declared.last_frames.LastFrame.TheVariants.{Missing, Closed, Open}
 
 -- what is kept of it
 abbrev pub last_of : Option Frame → LastFrame

@@ -1,7 +1,7 @@
 use Rattle.stream_credit.proofs.Words.{◌<◌, sym, ◌∙◌, ap, subst, arith, same_Some, mark}
-use Rattle.quiet_pass.specs.code.Standing.{IsStandingAfter}
-use Rattle.quiet_pass.proofs.StreamFrames.{standing_goes_on, standing_ends}
-use Rattle.quiet_pass.proofs.standings.live_after.Goals as goal
+use Rattle.stream_credit.specs.code.Standings.{IsStandingAfter}
+use Rattle.stream_credit.proofs.StandingLemmas.{standing_goes_on, standing_ends}
+use Rattle.stream_credit.proofs.standings.live_after.Goals as goal
 
 pub returns-then-ends_window : goal.returns-then-ends_window
 returns-then-ends_window c = λ x e.

@@ -1,4 +1,4 @@
--- The SETTINGS that each side sent, as they are kept. No public clause cites this.
+-- The SETTINGS that each side sent, as they are kept.
 use Rattle.std.specs.Prelude.{◌≡◌, List, Option}
 use Rattle.audit_terms.specs.declared.sides.Side.{Side}
 use Rattle.audit_terms.specs.declared.sides.Side.TheVariants.{Client, Server}
@@ -6,7 +6,7 @@ use Rattle.audit_terms.specs.declared.settings.Settings.{Settings}
 use Rattle.audit_terms.specs.declared.frames.Frame.{Frame}
 use Rattle.audit_terms.specs.declared.items.Change.{Change}
 use Rattle.audit_terms.specs.InForce.{InForce, change_of, in_force_after}
-use Rattle.quiet_pass.specs.declared.pending.Pending.{Pending}
+use Rattle.settings_pair.specs.declared.pending.Pending.{Pending}
 
 -- all SETTINGS that a side sent
 abbrev pub sent_by : Side → Pending → List Settings

@@ -1,0 +1,66 @@
+//! How a side stands on a stream of which nothing is shown, in one number: the credit of its live window, which is more
+//! than 0; 0 where its window is not live; and [`ENDED`] where it has ended the stream.
+
+ghost use Rattle.std.specs.Prelude.{◌≡◌};
+ghost use Rattle.std.specs.Option.{ForSome};
+ghost use Rattle.audit_terms.specs.code.Standing.{has_credit, has_ended, mark, IsBalance, IsCreditOf, IsMovedBy};
+
+use crate::windows::LARGEST_WINDOW;
+
+/// What stands for a credit where the side has ended the stream: its window is not live then. It is one more than any
+/// credit.
+pub const ENDED: u32 = LARGEST_WINDOW + 1;
+
+/// Does a side that stands so have a live window?
+pub fn has_credit(standing: u32) -> bool
+    ensures { result ≡ has_credit standing }
+{
+    0 < standing && standing < ENDED
+}
+
+/// Has a side that stands so ended the stream?
+pub fn has_ended(standing: u32) -> bool
+    ensures { result ≡ has_ended standing }
+{
+    standing == ENDED
+}
+
+/// How a side stands whose window is not live, by whether it has ended the stream.
+pub fn mark(is_ended: bool) -> u32
+    ensures { result ≡ mark is_ended }
+{
+    if is_ended { ENDED } else { 0 }
+}
+
+/// A credit after it rises by so many bytes and falls by so many, if it is not below 0 then, and no more than the
+/// largest (RFC 9113, 6.9.1).
+pub fn balance(credit: u32, rise: u32, fall: u32) -> Option<u32>
+    ensures { ForSome result (IsBalance credit rise fall) }
+{
+    let after = i64::from(credit) + i64::from(rise) - i64::from(fall);
+    if after < 0 || after > i64::from(LARGEST_WINDOW) {
+        return None;
+    }
+    Some(after as u32)
+}
+
+/// A credit as it is kept, if some is left and it is no more than the largest (RFC 9113, 6.9.1).
+fn kept(credit: i64) -> Option<u32>
+    ensures { ForSome result (IsCreditOf credit) }
+{
+    if credit <= 0 || credit > i64::from(LARGEST_WINDOW) {
+        return None;
+    }
+    Some(credit as u32)
+}
+
+/// How a side stands after a change of the initial window, if its credit is still more than 0 and no more than the
+/// largest (6.9.2).
+pub fn moved(standing: u32, before: u32, after: u32) -> Option<u32>
+    ensures { ForSome result (IsMovedBy before after standing) }
+{
+    if !has_credit(standing) {
+        return Some(standing);
+    }
+    kept(i64::from(standing) + i64::from(after) - i64::from(before))
+}
