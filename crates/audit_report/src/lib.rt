@@ -21,8 +21,8 @@
 //!   own number first, since frame n stands at n - 1, then by halving. Lines go onto one growing text, or a worker's
 //!   own; that of a finding is first made from its end on, in a few bytes that serve all (`lines`).
 //! - [`worked_examples`] shows stalls: of both sides, of several windows, without an end, by a clock that went back.
-//! - Refused by the prover: an empty text, the cut record left out, ends exchanged, a sign left out, a half whose
-//!   connections are numbered afresh, an end of a stall that has none.
+//! - Refused by the prover: the cut record left out, ends exchanged, a sign left out, a half whose connections are
+//!   numbered afresh, an end of a stall that has none.
 //! - Tested: in `crate_tests` the lines on one packet of each kind, and by whole reports that the calls succeed where
 //!   there is memory; by `threads_test.py` that several workers write.
 //! - Trusted: what `itoa` states of the digits that it writes of a number, and std of `join`.

@@ -22,8 +22,7 @@
 //! - 2^31 bytes, at which reading stops, are refused as the whole is. Where the file header refuses a capture, it alone
 //!   is kept (`brief`), since what follows changes no answer (`pcap_records::laws::header_refuses`).
 //! - docs/ARCHITECTURE.md follows the data all the way through the crates, and says how workers divide the work.
-//! - Refused by the prover: standard input read beside FILE. An empty text is refused in `audit_report`, and faults
-//!   that are connection errors alone in `audit_terms`.
+//! - Refused by the prover: an empty report, a verdict by errors alone, standard input read beside FILE, FILE left out.
 //! - Tested, in `crate_tests`: the texts of faults; in `tests/` at the root: what the program answers to words, the
 //!   texts of help and of refused words, whole reports, long captures.
 #![tactic(auto)]
