@@ -3,3 +3,4 @@ mod Pairs
 mod FrameNumbers
 mod Sweep
 mod Standing
+mod Freeing

@@ -7,3 +7,4 @@ pub mod Reported
 pub mod Roles
 pub mod Shares
 pub mod Tally
+pub mod Freeing

@@ -49,7 +49,7 @@ pub fn push_end_line(out: &mut Vec<u8>, findings: &[Finding]) -> Result<(), Allo
 }
 
 /// The same, by the last finding.
-fn push_end_line_after(out: &mut Vec<u8>, last: Option<Finding>) -> Result<(), AllocError>
+pub fn push_end_line_after(out: &mut Vec<u8>, last: Option<Finding>) -> Result<(), AllocError>
     ensures { OnOk result (out.new.items ≡ out.old.items ++ end_line_after last) }
 {
     match last {

@@ -1,11 +1,10 @@
 ghost use Rattle.std.specs.Prelude.{◌≡◌, ◌+◌, ◌≤◌, ◌++◌, OnOk, drop};
 ghost use Rattle.audit_terms.specs.code.runs.Orderly.{IsOrderly};
-ghost use Rattle.audit_report.specs.FrameLookup.{frame_numbered};
-ghost use Rattle.audit_report.specs.FindingLine.{finding_line, shown_line, finding_lines};
-ghost use Rattle.audit_report.specs.code.Findings.{moment_text, said_text};
+ghost use Rattle.audit_report.specs.FindingLine.{finding_line, finding_lines, shown_line};
+ghost use Rattle.audit_report.specs.code.Findings.{IsSpelled, said_text};
 
-use crate::lines::{LONGEST, put_field, put_signed, put_word, put_words};
-use crate::lookup::frame_at;
+use crate::lines::{LONGEST, put_field, put_signed, put_text, put_word, put_words};
+use crate::moments::Moment;
 use audit_terms::{Finding, Frame};
 use std::alloc::AllocError;
 
@@ -21,8 +20,9 @@ pub fn push_finding_lines(
         ++ finding_lines credits_shown frames.now findings.now) }
 {
     let mut line = [0; LONGEST];
+    let mut moment = Moment::first();
     for finding in findings {
-        push_shown_line(out, &mut line, finding, frames, credits_shown)?;
+        push_shown_line(out, &mut line, &mut moment, finding, frames, credits_shown)?;
     }
     Ok(())
 }
@@ -31,16 +31,19 @@ pub fn push_finding_lines(
 fn push_shown_line(
     out: &mut Vec<u8>,
     line: &mut [u8; LONGEST],
+    moment: &mut Moment,
     finding: &Finding,
     frames: &[Frame],
     credits_shown: bool,
 ) -> Result<(), AllocError>
-    requires { IsOrderly frames.now }
-    ensures { OnOk result (out.new.items ≡ out.old.items
+    requires frames { IsOrderly frames.now }
+    requires moment { IsSpelled moment.old }
+    ensures line { OnOk result (out.new.items ≡ out.old.items
         ++ shown_line credits_shown frames.now finding.now) }
+    ensures moment { IsSpelled moment.new }
 {
     if credits_shown || !finding.kind.is_credit() {
-        push_finding_line(out, line, finding, frames)?;
+        push_finding_line(out, line, moment, finding, frames)?;
     }
     Ok(())
 }
@@ -49,57 +52,42 @@ fn push_shown_line(
 fn push_finding_line(
     out: &mut Vec<u8>,
     line: &mut [u8; LONGEST],
+    moment: &mut Moment,
     finding: &Finding,
     frames: &[Frame],
 ) -> Result<(), AllocError>
-    requires { IsOrderly frames.now }
-    ensures { OnOk result (out.new.items ≡ out.old.items ++ finding_line frames.now finding.now) }
+    requires frames { IsOrderly frames.now }
+    requires moment { IsSpelled moment.old }
+    ensures line { OnOk result (out.new.items ≡ out.old.items ++ finding_line frames.now finding.now) }
+    ensures moment { IsSpelled moment.new }
 {
-    let begin = put_finding_line(line, finding, frames);
+    let begin = put_finding_line(line, moment, finding, frames);
     out.extend_from_slice(&line[begin..])
 }
 
 /// Makes the line of a finding, with the record and the time of its frame, which is found among the frames by its
 /// number, and answers where it begins. For a frame that is not there both are 0.
-fn put_finding_line(line: &mut [u8; LONGEST], finding: &Finding, frames: &[Frame]) -> usize
-    requires { IsOrderly frames.now }
+fn put_finding_line(
+    line: &mut [u8; LONGEST],
+    moment: &mut Moment,
+    finding: &Finding,
+    frames: &[Frame],
+) -> usize
+    requires frames { IsOrderly frames.now }
+    requires moment { IsSpelled moment.old }
     ensures begins { result ≤ 192 }
     ensures made { drop result line.new ≡ finding_line frames.now finding.now }
+    ensures moment { IsSpelled moment.new }
 {
+    let number = finding.place.number();
+    moment.go_to(number, frames);
     let end = put_word(line, LONGEST, "\n");
     let end = put_said(line, end, finding);
-    put_moment(line, end, finding.place.number(), frames)
-}
-
-/// The frame of this number. Frames numbered from 1 without a gap have it at its own place: that is where it is looked
-/// for first.
-fn frame_of(frames: &[Frame], number: u32) -> Option<Frame>
-    requires { IsOrderly frames.now }
-    ensures { result ≡ frame_numbered frames.now number }
-{
-    match frames.get((number as usize).saturating_sub(1)) {
-        Some(frame) if frame.number == number => Some(*frame),
-        _ => frame_at(frames, number),
-    }
-}
-
-/// Puts the frame's number, its record and its time before what stands from `end` on, and answers where they begin.
-fn put_moment(line: &mut [u8; LONGEST], end: usize, number: u32, frames: &[Frame]) -> usize
-    requires frames { IsOrderly frames.now }
-    requires room { (80 ≤ end) × (end ≤ 192) }
-    ensures begins { result ≤ end }
-    ensures put { drop result line.new ≡ moment_text frames.now number ++ drop end line.old }
-{
-    let (record, nanos) = match frame_of(frames, number) {
-        Some(frame) => (frame.rec, frame.nanos),
-        None => (0, 0),
-    };
-    let end = put_field(line, end, " time ", nanos);
-    let end = put_field(line, end, " record ", record as u64);
+    let end = put_text(line, end, moment.text());
     put_field(line, end, "frame ", number as u64)
 }
 
-/// The same of what a finding says.
+/// Puts what a finding says before what stands from `end` on, and answers where it begins.
 fn put_said(line: &mut [u8; LONGEST], end: usize, finding: &Finding) -> usize
     requires { (86 ≤ end) × (end ≤ 192) }
     ensures begins { (result ≤ end) × (end ≤ result + 86) }

@@ -10,16 +10,26 @@ use itoa::{Buffer, write_digits};
 /// No line of a finding is longer.
 pub const LONGEST: usize = 192;
 
-/// Puts a word before what stands from `end` on, and answers where it begins.
+/// Puts a text before what stands from `end` on, and answers where it begins.
+#[inline]
+pub fn put_text(line: &mut [u8; LONGEST], end: usize, text: &[u8]) -> usize
+    requires { (length text.now ≤ end) × (end ≤ 192) }
+    ensures begins { result + length text.now ≡ end }
+    ensures put { drop result line.new ≡ text.now ++ drop end line.old }
+{
+    let begin = end - text.len();
+    line[begin..end].copy_from_slice(text);
+    begin
+}
+
+/// The same of a word.
 #[inline]
 pub fn put_word(line: &mut [u8; LONGEST], end: usize, word: &str) -> usize
     requires { (length word.now ≤ end) × (end ≤ 192) }
     ensures begins { result + length word.now ≡ end }
     ensures put { drop result line.new ≡ word.now ++ drop end line.old }
 {
-    let begin = end - word.len();
-    line[begin..end].copy_from_slice(word.as_bytes());
-    begin
+    put_text(line, end, word.as_bytes())
 }
 
 /// The same of two words.

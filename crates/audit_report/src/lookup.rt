@@ -15,3 +15,15 @@ pub fn frame_at(frames: &[Frame], number: u32) -> Option<Frame>
         Err(_) => None,
     }
 }
+
+/// The frame of this number. Frames numbered from 1 without a gap have it at its own place: that is where it is looked
+/// for first.
+pub fn frame_of(frames: &[Frame], number: u32) -> Option<Frame>
+    requires { IsOrderly frames.now }
+    ensures { result ≡ frame_numbered frames.now number }
+{
+    match frames.get((number as usize).saturating_sub(1)) {
+        Some(frame) if frame.number == number => Some(*frame),
+        _ => frame_at(frames, number),
+    }
+}

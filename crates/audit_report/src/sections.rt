@@ -58,7 +58,12 @@ fn push_section(
     push_outcome(telling, out, &told.outcome)
 }
 
-fn push_outcome(telling: Telling, out: &mut Vec<u8>, outcome: &Outcome) -> Result<(), AllocError>
+/// Adds the lines on what the flows of a connection hold.
+pub fn push_outcome(
+    telling: Telling,
+    out: &mut Vec<u8>,
+    outcome: &Outcome,
+) -> Result<(), AllocError>
     requires { HasOrderlyOutcome outcome.now }
     ensures { OnOk result (out.new.items ≡ out.old.items
         ++ outcome_text telling.frames_shown outcome.now) }

@@ -1,2 +1,4 @@
+mod Plain
 mod ShareLemmas
 mod Terms
+mod Unmoved

@@ -2,6 +2,7 @@
 
 ghost use Rattle.std.specs.Prelude.{◌≡◌, ℕ, ℤ, pos, ◌+◌, ◌-◌, ◌^◌, ◌<◌, ◌++◌, max, if◌then◌else◌, IfOk, OnOk};
 ghost use Rattle.std.specs.Prelude.{OnErr, not, ◌≤◌};
+ghost use Rattle.std.specs.Bool.{OnTrue};
 ghost use Rattle.std.specs.Ordering.{int_eq};
 ghost use Rattle.audit_terms.specs.Finding.{finding_at, say};
 ghost use Rattle.audit_terms.specs.Window.{overflows, overruns, stall_begins, stall_ends};
@@ -18,6 +19,8 @@ ghost use Rattle.audit_terms.specs.Connection.{opening_order_said, promise_order
 ghost use Rattle.audit_terms.specs.Connection.{is_even_promise};
 ghost use Rattle.audit_terms.specs.code.Room.{HasRoom, HaveRoom, HaveMovedLittle};
 ghost use Rattle.audit_terms.specs.code.runs.Orderly.{IsInRange};
+ghost use Rattle.fault_rules.specs.code.Plain.{IsPlainItem, plain_after, plain_said};
+ghost use Rattle.fault_rules.specs.code.Unmoved.{LeavesConnection};
 
 use crate::frame_faults::say_fault;
 use crate::spots::{Spot, say_at, say_each};
@@ -42,6 +45,9 @@ pub fn say_connection(
     ensures err { OnErr result (state.new ≡ state.old) }
     ensures little { HaveMovedLittle state.old.credit state.new.credit }
 {
+    if is_plain(item) {
+        return say_plain(found, state, &item.frame);
+    }
     say_item(found, state, item)?;
     let opened = opened_after(state, item);
     let promised = promised_after(state, &item.frame);
@@ -51,6 +57,32 @@ pub fn say_connection(
     state.push = new_push(&item.change, state.push);
     state.limit = limit_after(&item.change, &state.limit);
     Ok(())
+}
+
+/// Is it content or a grant, and no change? Of the connection it moves credit alone. Most frames are of this kind.
+#[inline]
+fn is_plain(item: &Item) -> bool
+    ensures { OnTrue result (IsPlainItem item.now) }
+{
+    let body = &item.frame.body;
+    item.change.is_none() && (body.is_content() || body.is_update())
+}
+
+/// What `say_connection` does at such a frame.
+fn say_plain(
+    found: &mut Vec<Finding>,
+    state: &mut ConnectionState,
+    frame: &Frame,
+) -> Result<(), AllocError>
+    requires frame { IsInRange frame.now }
+    requires room { HaveRoom (2 ^ 60) state.old.credit }
+    ensures said { OnOk result (found.new.items ≡ found.old.items ++ plain_said state.old frame.now) }
+    ensures after { OnOk result (state.new ≡ plain_after state.old frame.now) }
+    ensures err { OnErr result (state.new ≡ state.old) }
+    ensures little { HaveMovedLittle state.old.credit state.new.credit }
+{
+    say_length(found, state.limit.of(frame.side), frame)?;
+    say_windows(found, &mut state.credit, frame)
 }
 
 /// What a frame does to the connection window of a side, from the credit before it.
@@ -70,6 +102,18 @@ fn count(before: &i64, side: Side, frame: &Frame) -> Count
     }
 }
 
+/// Does a frame leave the connection window of a side as it is? It sends nothing through it, nor grants to it.
+#[inline]
+fn leaves_window(side: Side, frame: &Frame) -> bool
+    ensures { OnTrue result (LeavesConnection side frame.now) }
+{
+    if frame.side == side {
+        !frame.body.is_content()
+    } else {
+        frame.stream != 0 || !frame.body.is_update()
+    }
+}
+
 /// Adds what a frame shows of the connection window of a side, from the credit before it, and gives the credit after.
 fn say_window(
     found: &mut Vec<Finding>,
@@ -83,6 +127,9 @@ fn say_window(
     ensures after { IfOk result (λ after. after ≡ credit_after side before.now frame.now) }
     ensures moved { IfOk result (λ after. (n : ℕ) → HasRoom n before.now → HasRoom (n + 2 ^ 32) after) }
 {
+    if leaves_window(side, frame) {
+        return Ok(*before);
+    }
     let count = count(before, side, frame);
     let spot = Spot {
         side,

@@ -1,14 +1,16 @@
 //! What a step shows of one stream, and what it makes of it (RFC 9113, 5.1 and 6.9).
 
 ghost use Rattle.std.specs.Prelude.{◌≡◌, ℕ, ◌+◌, ◌-◌, ◌^◌, ◌<◌, ◌≤◌, ◌++◌, OnOk};
+ghost use Rattle.std.specs.Bool.{OnTrue};
 ghost use Rattle.audit_terms.specs.Finding.{say_of};
 ghost use Rattle.audit_terms.specs.Stream.{opens, frame_said, stream_said, stream_after, life_at};
 ghost use Rattle.audit_terms.specs.code.Room.{WindowHasRoom};
 ghost use Rattle.audit_terms.specs.code.runs.Streams.{IsAcknowledged};
+ghost use Rattle.fault_rules.specs.code.Plain.{IsPlainStep, MovesAlone};
 
 use crate::spots::{Spot, say_at, say_each};
 use crate::windows::{WindowStep, say_window};
-use audit_terms::{Finding, Frame, Kind, Side, Sides, Step, Stream, StreamLife};
+use audit_terms::{Body, Finding, Frame, Kind, Side, Sides, Step, Stream, StreamLife};
 use std::alloc::AllocError;
 
 /// Adds what a step shows of a stream, and brings the stream to its state after the step; `initial` are the initial
@@ -34,8 +36,6 @@ pub fn say_stream(
     ensures server { OnOk result ((bound : ℕ) → WindowHasRoom bound entry.old.window.server
         → WindowHasRoom (bound + 2 ^ 32) entry.new.window.server) }
 {
-    let opening = opens(stream, entry, step);
-    let life = life_at(stream, entry, step);
     let client = WindowStep {
         side: Side::Client,
         stream,
@@ -48,11 +48,44 @@ pub fn say_stream(
         initial,
         step,
     };
+    if is_plain(entry, step) {
+        say_window(found, &mut entry.window.client, false, &client)?;
+        return say_window(found, &mut entry.window.server, false, &server);
+    }
+    let opening = opens(stream, entry, step);
+    let life = life_at(stream, entry, step);
     say_step(found, entry, &client)?;
     say_window(found, &mut entry.window.client, opening, &client)?;
     say_window(found, &mut entry.window.server, opening, &server)?;
     entry.life = life;
     Ok(())
+}
+
+/// Has a step a frame that does nothing but move credit of the stream? Most have.
+#[inline]
+fn is_plain(entry: &Stream, step: &Step) -> bool
+    ensures { OnTrue result ((stream : ℕ) → IsPlainStep stream entry.now step.now) }
+{
+    match &step.frame {
+        Some(frame) => moves_alone(&entry.life, frame),
+        None => false,
+    }
+}
+
+/// Does a frame do nothing but move credit of a stream? The stream is opened, and the frame is content of a side that
+/// has not ended it, nor does so, or a grant of more than 0.
+#[inline]
+fn moves_alone(life: &StreamLife, frame: &Frame) -> bool
+    ensures { OnTrue result (MovesAlone life.now frame.now) }
+{
+    if life.opened.is_none() {
+        return false;
+    }
+    match frame.body {
+        Body::Content => !frame.sends_end(frame.side) && !life.ended.of(frame.side),
+        Body::WindowUpdate(amount) => amount.get() > 0,
+        _ => false,
+    }
 }
 
 /// Does a step open the stream (RFC 9113, 5.1.1)?

@@ -2,6 +2,7 @@
 
 ghost use Rattle.std.specs.Prelude.{◌≡◌, ℕ, ◌+◌, ◌-◌, ◌^◌, ◌<◌, ◌≤◌, ◌++◌, pos, ◌+ℤ◌, ◌-ℤ◌, nat_lt, ◌&&◌, None};
 ghost use Rattle.std.specs.Prelude.{if◌then◌else◌, IfOk, OnOk};
+ghost use Rattle.std.specs.Bool.{OnTrue};
 ghost use Rattle.audit_terms.specs.Sides.{side_of};
 ghost use Rattle.audit_terms.specs.Change.{new_initial};
 ghost use Rattle.audit_terms.specs.Finding.{say_of};
@@ -12,9 +13,10 @@ ghost use Rattle.audit_terms.specs.Stream.{opened_window_said};
 ghost use Rattle.audit_terms.specs.code.runs.Streams.{IsAcknowledged};
 ghost use Rattle.audit_terms.specs.code.Room.{HasRoom, WindowHasRoom};
 ghost use Rattle.fault_rules.specs.code.StreamSteps.{counted};
+ghost use Rattle.fault_rules.specs.code.Unmoved.{LeavesStream, LeavesWindow};
 
 use crate::spots::{Spot, say_each};
-use audit_terms::{Count, Finding, Kind, Side, Sides, Step, new_initial};
+use audit_terms::{Count, Finding, Frame, Kind, Side, Sides, Step, new_initial};
 use std::alloc::AllocError;
 
 /// A step as the window of one side on a stream meets it.
@@ -115,6 +117,36 @@ fn is_used_up(credit: &i64) -> bool
     *credit <= 0
 }
 
+/// Does a step leave a live window as it is? It brings no change, and no frame that does not.
+#[inline]
+fn leaves_window(met: &WindowStep<'_>) -> bool
+    ensures { OnTrue result (LeavesWindow met.now.side met.now.stream met.now.step.now) }
+{
+    if met.step.change.is_some() {
+        return false;
+    }
+    match &met.step.frame {
+        Some(frame) => leaves_stream(met.side, frame),
+        None => true,
+    }
+}
+
+/// Does a frame leave a live window of a side as it is? It sends nothing through it, grants nothing to it, and does not
+/// end it.
+#[inline]
+fn leaves_stream(side: Side, frame: &Frame) -> bool
+    ensures { OnTrue result ((stream : ℕ) → LeavesStream side stream frame.now) }
+{
+    if frame.ends_window(side) {
+        return false;
+    }
+    if frame.side == side {
+        !frame.body.is_content()
+    } else {
+        !frame.body.is_update()
+    }
+}
+
 /// Says what a step shows of a live window, and gives the window after it.
 fn say_live(
     found: &mut Vec<Finding>,
@@ -131,6 +163,9 @@ fn say_live(
     ensures room { IfOk result
         (λ after. (bound : ℕ) → HasRoom bound before.now → WindowHasRoom (bound + 2 ^ 32) after) }
 {
+    if leaves_window(met) {
+        return Ok(Some(*before));
+    }
     let live = LiveStep::of(before, met);
     let spot = met.spot();
     let by_setting = met.step.change.is_some() & live.count.overflows();

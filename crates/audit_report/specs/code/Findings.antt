@@ -1,20 +1,22 @@
 -- The parts of the line of a finding.
-use Rattle.std.specs.Prelude.{ℕ, List, ◌++◌, codes}
+use Rattle.std.specs.Prelude.{◌≡◌, ◌≤◌, ◌+◌, ℕ, List, ◌++◌, codes, drop}
 use Rattle.std.specs.Fmt.{signed_decimal}
-use Rattle.audit_report.specs.FindingLine.{record_at}
 use Rattle.audit_report.specs.Line.{field}
+use Rattle.audit_report.specs.declared.moments.Moment.{Moment}
 use Rattle.audit_terms.specs.declared.findings.Finding.{Finding}
-use Rattle.audit_terms.specs.declared.frames.Frame.{Frame}
 use Rattle.audit_terms.specs.Kind.{kind_name}
 use Rattle.audit_terms.specs.Place.{place_stream}
 use Rattle.audit_terms.specs.Side.{side_name}
-use Rattle.audit_report.specs.FrameLookup.{nanos_at}
 
--- `frame N record R time T`
-abbrev pub moment_text : List Frame → ℕ → List ℕ
-moment_text frames number = field (codes "frame ") number
-    ++ field (codes " record ") (record_at frames number)
-    ++ field (codes " time ") (nanos_at frames number)
+-- ` record R time T`
+abbrev pub moment_text : (rec nanos : ℕ) → List ℕ
+moment_text rec nanos = field (codes " record ") rec ++ field (codes " time ") nanos
+
+-- the moment has its text, which is short
+pub record IsSpelled (moment : Moment) : Type 0 where
+  pub within : moment.begin ≤ 192
+  pub short : 192 ≤ moment.begin + 54
+  pub text : drop moment.begin moment.spelled ≡ moment_text moment.rec moment.nanos
 
 -- ` SIDE KIND stream S value V`
 abbrev pub said_text : Finding → List ℕ

@@ -1,9 +1,12 @@
 use Rattle.std.proofs.Common.{◌≡◌, ◌++◌, drop}
 use Rattle.audit_report.specs.FindingLine.{finding_lines}
+use Rattle.audit_report.specs.code.Findings.{IsSpelled}
 use Rattle.audit_report.proofs.findings.push_finding_lines.Given as goal
 
 -- what is written, with the lines of the findings to come, is the whole
 abbrev pub invariant-loop-finding : goal.invariant-loop-finding
-invariant-loop-finding l = l.out.items ++ finding_lines l.credits_shown l.frames
-    (drop l.finding-index l.findings)
-    ≡ l.initial.out.items ++ finding_lines l.credits_shown l.frames l.findings
+invariant-loop-finding l = record {
+  spelled : IsSpelled l.moment;
+  written : l.out.items ++ finding_lines l.credits_shown l.frames (drop l.finding-index l.findings)
+      ≡ l.initial.out.items ++ finding_lines l.credits_shown l.frames l.findings;
+}

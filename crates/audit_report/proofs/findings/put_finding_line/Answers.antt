@@ -6,18 +6,23 @@ use Rattle.audit_report.specs.{FindingLine.finding_line, FindingLine.record_at, 
 use Rattle.audit_report.specs.{code.Findings.moment_text, code.Findings.said_text}
 use Rattle.audit_report.proofs.findings.put_finding_line.Goals as goal
 
--- three pieces, each before what was there, at the end of all
-joined : (a b e whole two one none : List ℕ) → whole ≡ a ++ two → two ≡ b ++ one → one ≡ e ++ none → none ≡ [] →
-    whole ≡ a ++ (b ++ e)
-joined a b e whole two one none p q r s =
-    p ∙ ap (λ l. a ++ l) (q ∙ ap (λ l. b ++ l) (r ∙ ap (λ l. e ++ l) s ∙ append-nil e))
+-- four pieces, each before what was there, at the end of all
+joined : (a b d e whole three two one none : List ℕ) → whole ≡ a ++ three → three ≡ b ++ two → two ≡ d ++ one
+    → one ≡ e ++ none → none ≡ [] → whole ≡ a ++ (b ++ (d ++ e))
+joined a b d e whole three two one none p q r s t =
+    p ∙ ap (λ l. a ++ l) (q ∙ ap (λ l. b ++ l) (r ∙ ap (λ l. d ++ l) (s ∙ ap (λ l. e ++ l) t ∙ append-nil e)))
 
-regroup : (a b c d e f g h i j k : List ℕ) → (a ++ b ++ c) ++ ((d ++ e ++ f ++ g ++ h ++ i ++ j) ++ k)
+regroup : (a b c d e f g h i j k : List ℕ) → a ++ ((b ++ c) ++ ((d ++ e ++ f ++ g ++ h ++ i ++ j) ++ k))
     ≡ (a ++ b ++ c ++ d ++ e ++ f ++ g ++ h ++ i ++ j) ++ k
 regroup a b c d e f g h i j k = simp append_assoc
 
-parts : (frames : List Frame) (finding : Finding) →
-    moment_text frames (place_number finding.place) ++ (said_text finding ++ codes "\n") ≡ finding_line frames finding
+-- the line with the record and the time of the frame of a number
+abbrev text_at : List Frame → Finding → (number : ℕ) → List ℕ
+text_at frames finding number = field (codes "frame ") number
+    ++ (moment_text (record_at frames number) (nanos_at frames number) ++ (said_text finding ++ codes "\n"))
+
+parts : (frames : List Frame) (finding : Finding)
+    → text_at frames finding (place_number finding.place) ≡ finding_line frames finding
 parts frames finding =
     let number = place_number finding.place in
     regroup (field (codes "frame ") number) (field (codes " record ") (record_at frames number))
@@ -29,7 +34,10 @@ pub returns-clause-made : goal.returns-clause-made
 returns-clause-made c =
     let frames = c.args.frames.now in
     let finding = c.args.finding.now in
-    joined (moment_text frames c.number.result) (said_text finding) (codes "\n") _ _ _ (drop 192 c.args.line.now)
-    c.put_moment.ensures.put c.put_said-end.ensures.put c.put_word-end.ensures.put
+    let number = c.number-number.result in
+    let moment = rw (c.go_to.ensures.rec, c.go_to.ensures.nanos) at c.text.ensures.text in
+    joined (field (codes "frame ") number) (moment_text (record_at frames number) (nanos_at frames number))
+    (said_text finding) (codes "\n") _ _ _ _ (drop 192 c.args.line.now) c.put_field.ensures.put
+    (rw moment at c.put_text-end.ensures.put) c.put_said-end.ensures.put c.put_word-end.ensures.put
     (drop_all 192 c.args.line.now (omega arith))
-    ∙ ap (λ n. moment_text frames n ++ (said_text finding ++ codes "\n")) c.number.ensures ∙ parts frames finding
+    ∙ ap (text_at frames finding) c.number-number.ensures ∙ parts frames finding

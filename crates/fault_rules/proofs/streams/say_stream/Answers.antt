@@ -7,20 +7,20 @@ three o p q r a b d h i j = j ∙ rw (i, h) (simp append_assoc)
 
 pub returns-clause-said : goal.returns-clause-said
 returns-clause-said c =
-    three _ _ _ _ _ _ _ c.in_ok-say_step.ensures (rw c.opens-opening.ensures at c.in_ok-say_window.ensures.said)
-    (rw c.opens-opening.ensures at c.in_ok-say_window-2.ensures.said)
+    three _ _ _ _ _ _ _ c.in_ok-say_step.ensures (rw c.opens-opening.ensures at c.in_ok-say_window-2.ensures.said)
+    (rw c.opens-opening.ensures at c.in_ok-say_window-3.ensures.said)
 
 pub returns-clause-after : goal.returns-clause-after
 returns-clause-after c =
     rw (
       c.life_at-life.ensures,
-      c.in_ok-say_window.ensures.window,
       c.in_ok-say_window-2.ensures.window,
+      c.in_ok-say_window-3.ensures.window,
       c.opens-opening.ensures,
     ) refl
 
 pub returns-clause-client : goal.returns-clause-client
-returns-clause-client c = c.in_ok-say_window.ensures.room
+returns-clause-client c = c.in_ok-say_window-2.ensures.room
 
 pub returns-clause-server : goal.returns-clause-server
-returns-clause-server c = c.in_ok-say_window-2.ensures.room
+returns-clause-server c = c.in_ok-say_window-3.ensures.room

@@ -1,7 +1,7 @@
 use Rattle.std.proofs.Common.{◌≡◌, ℕ, ◌<◌, List, length, get_or, Some, subst, sym}
 use Rattle.audit_terms.specs.{declared.frames.Frame.Frame, code.runs.Orderly.IsOrderly}
 use Rattle.audit_report.{specs.FrameLookup.frame_numbered, proofs.FrameNumbers.frame_numbered_at}
-use Rattle.audit_report.proofs.findings.frame_of.Goals as goal
+use Rattle.audit_report.proofs.lookup.frame_of.Goals as goal
 
 -- a frame with the number, wherever it stands, is the one
 found_at : (frames : List Frame) (n i : ℕ) (f : Frame) → IsOrderly frames → i < length frames → f ≡ get_or frames i f →

@@ -1,0 +1,75 @@
+//! The record and the time of a frame, spelled once for all lines that have them: those of one frame, and of all that
+//! end in one record.
+
+ghost use Rattle.std.specs.Prelude.{◌≡◌, ◌+◌, ◌≤◌, drop, length};
+ghost use Rattle.audit_terms.specs.code.runs.Orderly.{IsOrderly};
+ghost use Rattle.audit_report.specs.FindingLine.{record_at};
+ghost use Rattle.audit_report.specs.FrameLookup.{nanos_at};
+ghost use Rattle.audit_report.specs.code.Findings.{IsSpelled, moment_text};
+
+use crate::lines::{LONGEST, put_field};
+use crate::lookup::frame_of;
+use audit_terms::Frame;
+
+/// A record and a time, and both as a line has them.
+#[derive(Drop)]
+pub struct Moment {
+    pub rec: u32,
+    pub nanos: u64,
+    /// What stands here from `begin` on.
+    pub spelled: [u8; LONGEST],
+    pub begin: usize,
+}
+
+impl Moment {
+    /// Record 0 and time 0.
+    pub fn first() -> Moment
+        ensures { IsSpelled result }
+    {
+        let mut spelled = [0; LONGEST];
+        let begin = spell(&mut spelled, 0, 0);
+        Moment {
+            rec: 0,
+            nanos: 0,
+            spelled,
+            begin,
+        }
+    }
+
+    /// Goes to the frame of this number. For one that is not there both are 0.
+    pub fn go_to(&mut self, number: u32, frames: &[Frame])
+        requires frames { IsOrderly frames.now }
+        requires spelled { IsSpelled self.old }
+        ensures spelled { IsSpelled self.new }
+        ensures rec { self.new.rec ≡ record_at frames.now number }
+        ensures nanos { self.new.nanos ≡ nanos_at frames.now number }
+    {
+        let (rec, nanos) = match frame_of(frames, number) {
+            Some(frame) => (frame.rec, frame.nanos),
+            None => (0, 0),
+        };
+        if self.rec != rec || self.nanos != nanos {
+            self.begin = spell(&mut self.spelled, rec, nanos);
+            self.rec = rec;
+            self.nanos = nanos;
+        }
+    }
+
+    /// Both, as a line has them.
+    pub fn text(&self) -> &[u8]
+        requires { IsSpelled self.now }
+        ensures text { result.now ≡ moment_text self.now.rec self.now.nanos }
+        ensures short { length result.now ≤ 54 }
+    {
+        &self.spelled[self.begin..]
+    }
+}
+
+/// Puts a record and a time at the end of a line, and answers where they begin.
+fn spell(line: &mut [u8; LONGEST], rec: u32, nanos: u64) -> usize
+    ensures begins { (result ≤ 192) × (192 ≤ result + 54) }
+    ensures put { drop result line.new ≡ moment_text rec nanos }
+{
+    let end = put_field(line, LONGEST, " time ", nanos);
+    put_field(line, end, " record ", rec as u64)
+}
