@@ -23,6 +23,8 @@ BUILT = {
     "h2audit-import": HERE.parent / "companions" / "target" / "release" / "h2audit-import",
 }
 MOST_SAID = 1 << 16
+# What an import leaves in a folder, and the report of an audit of what it made.
+MADE, MAP, COURSE, REPORT = (f"imported.{kind}" for kind in ("pcap", "map", "course", "report"))
 VARIABLES = {"h2audit": "H2AUDIT", "h2audit-import": "H2AUDIT_IMPORT"}
 
 

@@ -2,6 +2,7 @@
 
 from __future__ import annotations
 
+from collections.abc import Iterator
 from dataclasses import dataclass
 from itertools import chain
 
@@ -27,10 +28,10 @@ class Wanted:
     seen: bool = False
 
 
-def requests_of(seen: Seen, wanted: Wanted) -> list[Request]:
+def requests_of(seen: Seen, wanted: Wanted) -> Iterator[Request]:
     """In the order in which they were opened."""
     courses = [course_of(seen, side) for side in (CLIENT, SERVER)]
-    return [request_of(seen, stream, courses, wanted) for stream in seen.told.streams.values()]
+    return (request_of(seen, stream, courses, wanted) for stream in seen.told.streams.values())
 
 
 def course_of(seen: Seen, side: int) -> Course:
