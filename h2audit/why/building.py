@@ -118,7 +118,7 @@ def connections_of(sources: Sources, wanted: Wanted, progress: Callable[[int, in
             yield connection_said(outcome, audit, opened, course, sources, wanted)
         audit = next(audits, None)
     if audit is not None:
-        raise Broken("the report has connections that are not in the capture that was made")
+        raise Broken("the report is not about it: it has connections that are not in the capture that was made")
 
 
 def are_one(outcome: Outcome, audit: Audit, opened: Opened, origin: Origin) -> bool:
