@@ -19,6 +19,8 @@ NAMED, UNNAMED = "named", "unnamed"
 # What stands in the folder of an import, by the names under which h2audit-why looks for it.
 MADE, MAP, COURSE, REPORT = (f"imported.{kind}" for kind in ("pcap", "map", "course", "report"))
 NO_REQUESTS = "no requests: "
+# The status of h2audit-why where python3-hpack is missing.
+MISSING = 7
 # Of the lines that h2audit shows with --frames alone.
 CREDITS = (b" connection-credit stream ", b" stream-credit stream ")
 
@@ -65,4 +67,6 @@ def rows_of(folder: str, order: Order) -> Answer:
         answer = verdict(programs.run(words, None, output, order["timeout"]))
         if answer["outcome"] == "audited":
             return {"rows": programs.report_of(output).packed}
-    return {"outcome": "partial", "reason": f"{NO_REQUESTS}{answer['reason']}", "is_unanswered": True}
+    # Another try brings no library.
+    is_lucky = answer["status"] != MISSING
+    return {"outcome": "partial", "reason": f"{NO_REQUESTS}{answer['reason']}", "is_worth_a_try": is_lucky}

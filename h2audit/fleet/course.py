@@ -358,5 +358,5 @@ def folder_of_parts(capture: Capture) -> str:
 
 def is_worth_a_try(answer: Answer) -> bool:
     """Whether something failed that may go well another time: not where a file or a program is missing."""
-    has_failed = answer["outcome"] == "failed" or answer.get("is_unanswered", False)
+    has_failed = answer["outcome"] == "failed" or answer.get("is_worth_a_try", False)
     return bool(has_failed) and not str(answer["reason"]).startswith(("no-program", "not-"))

@@ -65,10 +65,11 @@ class Unusable(Exception):
 class Database:
     """The database of captures, opened to be written."""
 
-    def __init__(self, path: str, is_resumed: bool, reports: str | None = None) -> None:
+    def __init__(self, path: str, is_resumed: bool, reports: str | None = None, is_private: bool = False) -> None:
+        """Makes it where it is not there; a private one is its owner's alone."""
         self.reports = reports
         path = os.path.abspath(path)
-        self.held = held(path)
+        self.held = held(path, 0o600 if is_private else 0o666)
         is_there = os.fstat(self.held).st_size > 0
         try:
             self.base = sqlite3.connect(path, isolation_level=None, timeout=60)
@@ -201,13 +202,13 @@ class Database:
             lines.clear()
 
 
-def held(path: str) -> int:
+def held(path: str, mode: int) -> int:
     """The open file of a database, which no other h2audit-fleet writes until it is closed.
 
     This lock is not one of SQLite's, which would shut out those that read. It has to be closed after the database: to
     close any open file of it gives up SQLite's locks.
     """
-    file = os.open(path, os.O_RDWR | os.O_CREAT | os.O_NONBLOCK, 0o666)
+    file = os.open(path, os.O_RDWR | os.O_CREAT | os.O_NONBLOCK, mode)
     try:
         if not stat.S_ISREG(os.fstat(file).st_mode):
             raise Unusable("it is no file")

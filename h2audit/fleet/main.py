@@ -11,7 +11,7 @@ from contextlib import contextmanager
 from types import FrameType
 
 from h2audit.fleet import collect, names, tasks
-from h2audit.fleet.answers import NO_REQUESTS
+from h2audit.fleet.answers import NAMED, NO_REQUESTS
 from h2audit.fleet.carrier import Client
 from h2audit.fleet.course import Capture, Course, Limits, Lost
 from h2audit.fleet.database import Database, Unusable
@@ -93,7 +93,7 @@ def audited(asked: Asked, interruption: Interruption) -> int:
         workers = workers_of(asked, len(os.sched_getaffinity(0)))
     except ImportError as missing:
         return failed(NAME, MISSING, f"{missing.name} is not installed (Debian: apt-get install python3-distributed)")
-    database = Database(asked.db, asked.resume, asked.reports)
+    database = Database(asked.db, asked.resume, asked.reports, asked.requests == NAMED)
     try:
         interruption.is_asked_for = True
         database.forget(walk.folders.values())

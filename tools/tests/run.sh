@@ -119,7 +119,7 @@ try_built 'many captures: large imports on a cluster' fleet_imports_test "$built
 try 'many captures: without daemons' fleet_collect_test "${audits[@]}"
 try_built 'many captures: requests' fleet_requests_test "$built"
 try_built 'many captures: requests, lost workers, memory, time' fleet_answers_test "$built" Misfortunes
-try_built 'many captures: hostile names, many requests' fleet_answers_test "$built" Names
+try_built 'many captures: hostile names, many requests' fleet_answers_test "$built" Names Owner
 try_built 'many captures: requests of large captures' fleet_answers_test "$built" Large
 try_split 'splitter: full parts and disks, names' splitter_test "$split"
 try 'install and package' tools/tests/package_test.sh "$program" "$split"
