@@ -28,7 +28,8 @@ SIDES = ("client", "server")
 HELD = ("stream-window", "connection-window", "tcp")
 OLD_TABLES = ("connections", "findings", "stalls", "unopened", "passed_over")
 NEW_TABLES = ("requests", "directions", "certainty")
-KEYS = sorted((TOP / "tests" / "tls").glob("*.keys"))
+FOLDERS = (TOP / "tests" / "tls", TOP / "tests" / "corpus")
+KEYS = sorted(path for folder in FOLDERS for path in folder.glob("*.keys"))
 Rows = dict[str, list[dict[str, Any]]]
 
 
@@ -36,9 +37,10 @@ def samples() -> Iterator[tuple[str, bytes]]:
     """Captures with their names: of examples/, of TLS, of scripts, and made at random; some are damaged."""
     for path in sorted((TOP / "examples").glob("*.pcap")):
         yield path.name, path.read_bytes()
-    for path in sorted((TOP / "tests" / "tls").iterdir()):
-        if ".pcap" in path.name:
-            yield path.name, path.read_bytes()
+    for folder in FOLDERS:
+        for path in sorted(folder.iterdir()):
+            if ".pcap" in path.name:
+                yield path.name, path.read_bytes()
     for sample in {sample.digest: sample for sample in by_hand()}.values():
         yield f"{sample.name}.hand.pcap", sample.capture
     for name in ("stalls", "larger_windows"):
