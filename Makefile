@@ -22,7 +22,8 @@ CHECKS = tests split sources layout believed storeys
 RUST_SOURCES := h2audit/report/kinds.txt $(shell find companions -name target -prune -o -type f -print)
 SOURCES := crates.txt $(shell find crates -name out -prune -o -name '*.rt' -print -o -name '*.antt' -print)
 
-.PHONY: run deps build companions install deb check $(CHECKS:%=check-%) test test-tools bench believed pictures
+.PHONY: run deps build companions install deb version check $(CHECKS:%=check-%) test test-tools bench \
+	believed pictures
 
 # Shows two reports at once, from a build without proof: of a connection with stalls and a window below zero, and of one
 # with an overrun, whose status of 1 is the program's answer.
@@ -85,6 +86,7 @@ install: $(PROGRAM) $(SPLIT) $(RUST_BUILT)/built
 	install -D -m 755 -t $(DESTDIR)$(PREFIX)/bin $(RUST_PROGRAMS:%=$(RUST_BUILT)/%) $(PYTHON_PROGRAMS:%=tools/%)
 	$(foreach folder,$(PYTHON_PACKAGES),install -D -m 644 -t $(share)/h2audit/$(folder) \
 		$(filter-out %/__pycache__,$(wildcard $(folder)/*.*)) &&) true
+	install -D -m 644 -t $(share)/h2audit VERSION
 	install -D -m 644 -t $(share)/man/man1 tools/man/h2audit.1 $(BESIDE:%=tools/man/%.1)
 	install -D -m 644 tools/completions/h2audit.bash $(share)/bash-completion/completions/h2audit
 	$(foreach name,$(BESIDE),ln -sf h2audit $(share)/bash-completion/completions/$(name) &&) true
@@ -98,6 +100,10 @@ deb: $(PROGRAM) $(SPLIT) $(RUST_BUILT)/built
 		$(MAKE) --no-print-directory install DESTDIR="$$stage" PREFIX=/usr \
 		ZSHDIR=/usr/share/zsh/vendor-completions > /dev/null && \
 		tools/package/build_deb.sh "$$stage" "$(abspath $(PACKAGES))"
+
+# Writes what VERSION says, and the date of its release, where they stand once more.
+version:
+	$(PYTHON) -m tools.version
 
 # What tells in two minutes on four processors whether a change holds together, and proves nothing: layout, types of
 # Python, the front end on every crate but the few lines of h2audit_cli, the tests of calls, the definitions to believe,

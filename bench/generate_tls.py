@@ -62,4 +62,5 @@ def main() -> None:
         capture.write(path)
 
 
-main()
+if __name__ == "__main__":
+    main()

@@ -1,17 +1,19 @@
 """Calls the program with words, and compares its exit status, standard output and standard error:
-command_test.py PROGRAM..
+python3 -m tests.command_test PROGRAM..
 """
 
 import os
 import pathlib
 import subprocess
-import sys
 import tempfile
+import unittest
 from collections.abc import Iterator
+
+from tests.programs import needed
 
 TOP = pathlib.Path(__file__).resolve().parents[1]
 HELP = (TOP / "tests" / "help.txt").read_text()
-VERSION = "h2audit 1.0.0\n"
+VERSION = f"h2audit {(TOP / 'VERSION').read_text()}"
 
 # A big-endian header: magic, version 2.4, time zone, accuracy, snapshot length, Ethernet.
 HEADER = bytes.fromhex("a1b2c3d4 0002 0004 00000000 00000000 00040000 00000001")
@@ -119,41 +121,30 @@ def calls() -> Iterator[Call]:
                 yield f"--{option} {number} example.pcap", b"", (0, REPORT, "")
 
 
-def call(program: pathlib.Path, folder: str, words: str, given: bytes) -> Left:
+def call(program: str, folder: str, words: str, given: bytes) -> Left:
     """What a call leaves. Its words may have bytes that are no text, as os.fsdecode reads them."""
     split = [os.fsencode(word) for word in words.split(" ")]
     ran = subprocess.run([program, *split], cwd=folder, input=given, capture_output=True, timeout=60)
     return ran.returncode, ran.stdout.decode(), ran.stderr.decode()
 
 
-def differing(program: pathlib.Path, folder: str) -> tuple[list[str], int]:
-    """The calls that leave something else, and how many there were in all."""
-    wrong, count = [], 1
-    for words, given, wanted in calls():
-        left = call(program, folder, words, given)
-        count += 1
-        if left != wanted:
-            wrong.append(f"{words!r} of {program}: left {left!r}, wanted {wanted!r}")
-    with open("/dev/full", "wb") as full:
-        ran = subprocess.run([program], input=HEADER, stdout=full, stderr=subprocess.PIPE, timeout=60)
-        if (ran.returncode, ran.stderr) != (4, b"h2audit: write failed\n"):
-            wrong.append(f"(on a full device) of {program}: left {ran.returncode}, {ran.stderr!r}")
-    return wrong, count
+class Calls(unittest.TestCase):
+    def test_each(self) -> None:
+        with tempfile.TemporaryDirectory() as folder:
+            for name, content in FILES.items():
+                (pathlib.Path(folder) / name).write_bytes(content)
+            for program in PROGRAMS:
+                for words, given, wanted in calls():
+                    with self.subTest(words, program=program):
+                        self.assertEqual(call(program, folder, words, given), wanted)
 
-
-def main(programs: list[str]) -> None:
-    failed = passed = 0
-    with tempfile.TemporaryDirectory() as folder:
-        for name, content in FILES.items():
-            (pathlib.Path(folder) / name).write_bytes(content)
-        for program in programs:
-            wrong, calls = differing(pathlib.Path(program).resolve(), folder)
-            failed, passed = failed + len(wrong), passed + calls - len(wrong)
-            for line in wrong:
-                print(line)
-    print(f"{passed} passed, {failed} failed")
-    sys.exit(1 if failed else 0)
+    def test_full_device(self) -> None:
+        for program in PROGRAMS:
+            with open("/dev/full", "wb") as full:
+                ran = subprocess.run([program], input=HEADER, stdout=full, stderr=subprocess.PIPE, timeout=60)
+            self.assertEqual((ran.returncode, ran.stderr), (4, b"h2audit: write failed\n"), program)
 
 
 if __name__ == "__main__":
-    main(sys.argv[1:] or sys.exit(__doc__))
+    PROGRAMS = needed()
+    unittest.main()

@@ -1,4 +1,5 @@
-"""Audits whole captures by the program, in each mix of workers, groups and block lengths: reports_test.py PROGRAM..
+"""Audits whole captures by the program, in each mix of workers, groups and block lengths:
+python3 -m tests.reports_test PROGRAM..
 
 A file of reports/ has rows. A row begins with a line `== NAME`. Its script follows (captures.py says how it is
 written), then `-- status N` with the exit status, what standard error says, and the report with its credit lines: the
@@ -15,11 +16,12 @@ import itertools
 import os
 import pathlib
 import subprocess
-import sys
+import unittest
 from collections.abc import Callable, Iterator
 from concurrent.futures import ThreadPoolExecutor
 
 from tests.captures import capture_of, frame_of
+from tests.programs import needed
 
 TOP = pathlib.Path(__file__).resolve().parents[1]
 EXAMPLES = TOP / "examples"
@@ -220,16 +222,17 @@ def tests() -> Iterator[tuple[str, Test]]:
         yield capture.stem, functools.partial(example, capture=capture)
 
 
-def main(programs: list[str]) -> None:
-    named = [(f"{name} of {program}", test, program) for program in programs for name, test in tests()]
-    with ThreadPoolExecutor(os.cpu_count()) as pool:
-        answers = [ended.result() for ended in [pool.submit(test, program) for _, test, program in named]]
-    differing = [name for (name, _, _), same in zip(named, answers) if not same]
-    for name in differing:
-        print(f"{name}: differs")
-    print(f"{len(answers) - len(differing)} passed, {len(differing)} failed")
-    sys.exit(1 if differing else 0)
+class Reports(unittest.TestCase):
+    def test_each(self) -> None:
+        """As many at a time as there are processors."""
+        with ThreadPoolExecutor(os.cpu_count()) as pool:
+            asked = [(name, program, pool.submit(test, program)) for program in PROGRAMS for name, test in tests()]
+        self.assertGreater(len(asked), 100)
+        for name, program, answer in asked:
+            with self.subTest(name, program=program):
+                self.assertTrue(answer.result())
 
 
 if __name__ == "__main__":
-    main(sys.argv[1:] or sys.exit(__doc__))
+    PROGRAMS = needed()
+    unittest.main()

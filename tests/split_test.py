@@ -1,4 +1,4 @@
-"""Splits captures, audits the parts and merges their reports: split_test.py H2AUDIT SPLIT..
+"""Splits captures, audits the parts and merges their reports: python3 -m tests.split_test H2AUDIT SPLIT..
 
 Each part has to be what parts.py makes of the capture, byte for byte, and the merged report has to be that of h2audit
 over the whole capture. The captures are those of examples/ and random ones, with every kind of packet and with
@@ -11,17 +11,19 @@ import shutil
 import signal
 import struct
 import subprocess
-import sys
 import tempfile
+import unittest
 from collections.abc import Iterator
 
 from tests.parts import parts_of, records_of
+from tests.programs import needed
 from tools.tests.companions import companion
 
 TOP = pathlib.Path(__file__).resolve().parents[1]
 
 MERGE = companion("h2audit-merge")
-HELP = (pathlib.Path(__file__).parent / "split_help.txt").read_text()
+HELP = (TOP / "tests" / "split_help.txt").read_text()
+VERSION = (TOP / "VERSION").read_text()
 PREFACE = b"PRI * HTTP/2.0\r\n\r\nSM\r\n\r\n" + bytes.fromhex("000000 04 00 00000000")
 DATA = bytes.fromhex("000005 00 00 00000001") + b"hello"
 MAGICS = {"<": (0xA1B2C3D4, 0xA1B23C4D), ">": (0xA1B2C3D4, 0xA1B23C4D)}
@@ -180,23 +182,6 @@ def rotated(capture: bytes) -> list[bytes]:
     return [capture[:24] + body for body in bodies]
 
 
-def check_capture(audit: pathlib.Path, program: pathlib.Path, name: str, capture: bytes, turn: int) -> list[str]:
-    """Compares parts and merged reports of one capture."""
-    count = (1, 2, 3, 5, 16)[turn % 5]
-    forms: tuple[list[bytes], ...] = ([capture], rotated(capture), [])
-    pieces = forms[turn % 3]
-    words = ["--frames"] if turn % 2 else []
-    with tempfile.TemporaryDirectory() as made:
-        folder = pathlib.Path(made)
-        parts = split(program, folder, count, capture, pieces)
-        if read_parts(parts, count) != parts_of(capture, count):
-            return [f"{name}: parts"]
-        whole = run(audit, *words, given=capture)
-        if merged(audit, parts, count, words) != whole:
-            return [f"{name}: merged report"]
-    return []
-
-
 def refusals(program: pathlib.Path) -> list[str]:
     """What is refused: words, files, and what the program says."""
     little, big = header_of("<", 0xA1B2C3D4, 1), header_of(">", 0xA1B2C3D4, 1)
@@ -234,7 +219,7 @@ def refusals(program: pathlib.Path) -> list[str]:
         ("-o out good", 2, None),
         ("--unknown", 2, None),
         ("--help", 0, HELP),
-        ("--version", 0, "h2audit-split 1.0.0\n"),
+        ("--version", 0, f"h2audit-split {VERSION}"),
     ]
     wrong = []
     for words, status, text in calls:
@@ -322,20 +307,32 @@ def merge_endings(audit: pathlib.Path, program: pathlib.Path) -> list[str]:
     return []
 
 
-def main(audit: pathlib.Path, programs: list[pathlib.Path]) -> int:
-    wrong: list[str] = []
-    count = 0
-    for program in programs:
-        wrong += refusals(program) + merge_refusals(audit, program) + merge_endings(audit, program)
-        for turn, (name, capture) in enumerate(captures()):
-            wrong += check_capture(audit, program, name, capture, turn)
-            count += 1
-    for line in wrong:
-        print(line)
-    print(f"split_test: {count} captures, {len(wrong)} failed")
-    return 1 if wrong else 0
+class Splits(unittest.TestCase):
+    def test_refusals(self) -> None:
+        for program in PROGRAMS:
+            self.assertEqual(refusals(program), [])
+
+    def test_merge(self) -> None:
+        for program in PROGRAMS:
+            self.assertEqual(merge_refusals(AUDIT, program) + merge_endings(AUDIT, program), [])
+
+    def test_captures(self) -> None:
+        for program in PROGRAMS:
+            for turn, (name, capture) in enumerate(captures()):
+                with self.subTest(name, program=program):
+                    self.check(program, capture, turn)
+
+    def check(self, program: pathlib.Path, capture: bytes, turn: int) -> None:
+        """Compares parts and merged reports of one capture."""
+        count = (1, 2, 3, 5, 16)[turn % 5]
+        forms: tuple[list[bytes], ...] = ([capture], rotated(capture), [])
+        words = ["--frames"] if turn % 2 else []
+        with tempfile.TemporaryDirectory() as made:
+            parts = split(program, pathlib.Path(made), count, capture, forms[turn % 3])
+            self.assertTrue(read_parts(parts, count) == parts_of(capture, count), "parts")
+            self.assertEqual(merged(AUDIT, parts, count, words), run(AUDIT, *words, given=capture))
 
 
 if __name__ == "__main__":
-    audit, *programs = [pathlib.Path(word).resolve() for word in sys.argv[1:]]
-    sys.exit(main(audit, programs))
+    AUDIT, *PROGRAMS = [pathlib.Path(name) for name in needed()]
+    unittest.main()

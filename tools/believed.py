@@ -24,7 +24,7 @@ import re
 import sys
 from dataclasses import dataclass, field
 
-from h2audit.report.command import IO_FAILED, Words, failed, io_reason, run
+from h2audit.report.command import Words, failed, run
 
 CALLS = {
     "h2audit/src/auditing.rt": ["audit"],
@@ -396,8 +396,6 @@ def main(words: list[str]) -> int:
         return answered(asked, reading, rows, added)
     except Astray as reason:
         return failed("believed.py", 1, str(reason))
-    except OSError as why:
-        return failed("believed.py", IO_FAILED, io_reason(why))
 
 
 def answered(asked: argparse.Namespace, reading: Reading, rows: Rows, added: Rows) -> int:

@@ -94,6 +94,7 @@ def settle() -> None:
     warnings.simplefilter("ignore")
     logging.disable(logging.CRITICAL)
     os.environ.setdefault("DASK_LOGGING__DISTRIBUTED", "critical")
+    os.environ["PYTHONSAFEPATH"] = "1"  # what lies in the folder that they begin in is no module of theirs
     for module in (tasks, large, answers, programs, sniff, ends, sys.modules[__name__]):
         cloudpickle.register_pickle_by_value(module)
     dask.config.set({"distributed.scheduler.allowed-failures": 0, "logging.distributed": "critical"})

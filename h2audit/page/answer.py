@@ -1,7 +1,5 @@
 """What h2audit-why --json says of a capture, beside the report of the same capture."""
 
-from __future__ import annotations
-
 from dataclasses import dataclass
 from functools import cached_property
 from typing import TYPE_CHECKING, Any
@@ -60,7 +58,7 @@ def sentence(text: str) -> str:
     return text[:1].upper() + text[1:] + "." * (text[-1:] not in ".!?")
 
 
-def attach(audit: Audit, document: Json) -> None:
+def attach(audit: "Audit", document: Json) -> None:
     """Joins the answer to the report: times of the whole connection, of open stalls, and packets with their files."""
     audit.answer = Answer(document)
     said = {one["number"]: one for one in audit.answer.connections}
@@ -73,7 +71,7 @@ def attach(audit: Audit, document: Json) -> None:
                 name_files(one, found, files)
 
 
-def attach_stalls(one: Connection, found: Json) -> None:
+def attach_stalls(one: "Connection", found: Json) -> None:
     for stall in found["stalls"]:
         key = stall["side"], stall["stream"], stall["begin"]["frame"]
         one.why[key] = stall["why"]
@@ -81,7 +79,7 @@ def attach_stalls(one: Connection, found: Json) -> None:
             one.open_until[key] = stall["begin"]["time"] + stall["nanos"]
 
 
-def name_files(one: Connection, found: Json, files: list[str]) -> None:
+def name_files(one: "Connection", found: Json, files: list[str]) -> None:
     """Of several files: each finding's own, and the packet's number in it, as the answer says them."""
     places = [fault["at"] for fault in found["faults"]]
     places += [at for stall in found["stalls"] for at in (stall["begin"], stall["end"]) if at]

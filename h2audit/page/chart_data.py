@@ -5,8 +5,6 @@ the points, but never the first, last, least and greatest of a window, nor those
 marks; and at last windows have no chart, those without trouble first.
 """
 
-from __future__ import annotations
-
 import base64
 import json
 import zlib

@@ -1,7 +1,5 @@
 """The whole page: one HTML file that loads nothing, since its policy lets it load nothing."""
 
-from __future__ import annotations
-
 import base64
 import hashlib
 from importlib import resources

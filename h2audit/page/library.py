@@ -1,17 +1,20 @@
 """The plotting library of the page: dygraphs (MIT licence), from the Debian package libjs-dygraphs."""
 
-from __future__ import annotations
-
 import os
 import re
 from dataclasses import dataclass
+
+from h2audit.report.command import MISSING, Failed
 
 FOLDER = "/usr/share/javascript/dygraphs"
 PACKAGE = "libjs-dygraphs"
 
 
-class Missing(Exception):
+class Missing(Failed):
     """The library is not installed."""
+
+    def __init__(self, why: str) -> None:
+        super().__init__(MISSING, why)
 
 
 @dataclass(frozen=True)

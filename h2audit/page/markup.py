@@ -1,7 +1,5 @@
 """HTML of which no text can become markup: what is written is escaped, unless it is markup already."""
 
-from __future__ import annotations
-
 from collections.abc import Iterable
 from html import escape
 

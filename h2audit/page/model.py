@@ -1,7 +1,5 @@
 """What a report says, gathered by connections and by their windows."""
 
-from __future__ import annotations
-
 from array import array
 from bisect import bisect_left
 from dataclasses import dataclass, field
@@ -32,12 +30,12 @@ FIRST_CONNECTION_CREDIT = 65535
 class Window:
     """One side's window: its credit lines, and the notes of its stalls and faults."""
 
-    connection: Connection
+    connection: "Connection"
     side: str
     stream: int
-    frames: array[int] = field(default_factory=lambda: array("q"))
-    times: array[int] = field(default_factory=lambda: array("q"))
-    credits: array[int] = field(default_factory=lambda: array("q"))
+    frames: "array[int]" = field(default_factory=lambda: array("q"))
+    times: "array[int]" = field(default_factory=lambda: array("q"))
+    credits: "array[int]" = field(default_factory=lambda: array("q"))
     stalls: list[Note] = field(default_factory=list)
     faults: list[Note] = field(default_factory=list)
 

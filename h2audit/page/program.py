@@ -12,18 +12,14 @@ reading, writing or running a program failed, 5 for want of memory, 7 if a libra
 one line on standard error.
 """
 
-from __future__ import annotations
-
 import argparse
 import os
 
 from h2audit.page.document import page
-from h2audit.page.library import Missing, library
+from h2audit.page.library import library
 from h2audit.page.sources import audit_of
-from h2audit.report.command import IO_FAILED, MISSING, OK, REFUSED, Words, failed, io_reason
-from h2audit.report.lines import Refused
+from h2audit.report.command import OK, Words
 from h2audit.report.output import written
-from h2audit.why.making import Failed
 
 NAME = "h2audit-page"
 
@@ -65,17 +61,8 @@ def title_of(asked: argparse.Namespace) -> str:
 
 def main(words: list[str]) -> int:
     asked = arguments(words)
-    try:
-        audit = audit_of(asked)
-        text = page(audit, title_of(asked), library())
-        with written(asked.output) as out:
-            out.write(text.encode())
-    except Refused as why:
-        return failed(NAME, REFUSED, f"report refused: {why}")
-    except Failed as why:
-        return failed(NAME, why.status, str(why))
-    except Missing as why:
-        return failed(NAME, MISSING, str(why))
-    except OSError as why:
-        return failed(NAME, IO_FAILED, io_reason(why))
+    audit = audit_of(asked)
+    text = page(audit, title_of(asked), library())
+    with written(asked.output) as out:
+        out.write(text.encode())
     return OK

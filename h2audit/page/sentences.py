@@ -1,7 +1,5 @@
 """What the page says of one finding: what happened, how long its stall took, who is to blame, and when it was."""
 
-from __future__ import annotations
-
 from h2audit.page.model import Connection
 from h2audit.page.words import clock, waited
 from h2audit.report.blame import OTHER_SIDE, STALL_BEGIN, STALL_END, duration, what_happened, who_is_to_blame

@@ -1,7 +1,5 @@
 """The points of a window's chart, and how a long one is thinned: stalls, faults and extremes stay."""
 
-from __future__ import annotations
-
 from array import array
 from bisect import bisect_left
 from dataclasses import dataclass
@@ -13,9 +11,9 @@ from h2audit.page.model import Window
 class Series:
     """Points by frame, time and credit, and what is marked at them."""
 
-    frames: array[int]
-    times: array[int]
-    credits: array[int]
+    frames: "array[int]"
+    times: "array[int]"
+    credits: "array[int]"
     # The two points of each shade, of which an open stall has no second, and how many stalls it stands for.
     stalls: list[tuple[int, int | None, int]]
     # The point of each cross, the kind and value of its first fault, and how many faults of the kind it stands for.
@@ -92,7 +90,7 @@ def last_time(window: Window) -> int:
 Marks = tuple[list[tuple[int, int | None, int]], list[tuple[int, str, int, int]]]
 
 
-def marks(window: Window, frames: array[int]) -> Marks:
+def marks(window: Window, frames: "array[int]") -> Marks:
     def place(frame: int) -> int:
         return bisect_left(frames, frame)
 
@@ -124,7 +122,7 @@ def thinned(whole: Series, most: int, most_marks: int) -> Series:
     )
 
 
-def extremes(credits: array[int], most: int) -> set[int]:
+def extremes(credits: "array[int]", most: int) -> set[int]:
     """The first and the last point, and of each of most/2 stretches the least and the greatest."""
     length = max(2, -(-2 * len(credits) // max(most, 2)))
     kept = {0, len(credits) - 1}

@@ -1,7 +1,5 @@
 """Where a page comes from: a report, or captures that h2audit-any audits and h2audit-why explains."""
 
-from __future__ import annotations
-
 import contextlib
 import json
 import os
@@ -12,13 +10,10 @@ from typing import BinaryIO
 
 from h2audit.page.answer import attach
 from h2audit.page.model import Audit, read_audit
-from h2audit.report.command import IO_FAILED, WRONG_WORDS, opened
+from h2audit.report.command import IO_FAILED, WRONG_WORDS, Failed, opened
 from h2audit.report.interrupts import Interrupted, end_by, signals_raise
-from h2audit.why.making import HERE, Failed, Running, folder, program_named, running, without_name
+from h2audit.why.making import Running, folder, program_named, running, without_name
 
-# Where the two programs stand in the repository, and what names others.
-BUILT = {"h2audit-any": HERE.parent / "companions" / "target" / "release" / "h2audit-any"}
-VARIABLES = {"h2audit-any": "H2AUDIT_ANY", "h2audit-why": "H2AUDIT_WHY"}
 # No fault, a fault, and nothing that could be audited: then too the page says what there was.
 AUDITED = (0, 1, 6)
 # So many bytes tell text from what is none.
@@ -68,9 +63,9 @@ def captures(asked: Namespace, place: Path, first: BinaryIO) -> list[str]:
 def audited(asked: Namespace, place: Path, names: list[str]) -> Audit:
     """The report with its credit lines, and the answer, which two programs make side by side."""
     words = [word for log in asked.key_log for word in ("-k", log)] + ["--sort"] * asked.sort
-    auditor = ["--h2audit", program_named("h2audit", None)]
-    why = [program("h2audit-why"), "--json", *["--no-requests"] * asked.no_requests]
-    report = [program("h2audit-any"), "--frames"]
+    auditor = ["--h2audit", program_named("h2audit")]
+    why = [program_named("h2audit-why"), "--json", *["--no-requests"] * asked.no_requests]
+    report = [program_named("h2audit-any"), "--frames"]
     with (
         running([*report, *auditor, *words, "--", *names], place / "report") as auditing,
         running([*why, *auditor, *words, "--", *names], place / "answer") as answering,
@@ -89,15 +84,3 @@ def ended(name: str, running: Running) -> None:
     if status not in AUDITED:
         why = without_name(said) if status >= 0 else f"ended by signal {-status}"
         raise Failed(status if status in (2, 3, 4, 5, 7) else IO_FAILED, f"{os.path.basename(name)}: {why}")
-
-
-def program(name: str) -> str:
-    """The program that the environment names, else that of the repository, beside this one, or the path's."""
-    if named := os.environ.get(VARIABLES[name]):
-        return named
-    for path in (HERE / name, BUILT.get(name)):
-        if path and os.access(path, os.X_OK) and path.is_file():
-            return str(path)
-    if found := shutil.which(name):
-        return found
-    raise Failed(IO_FAILED, f"{name}: not found; name it by the variable {VARIABLES[name]}")

@@ -1,7 +1,5 @@
 """The top of the page: one sentence, what limits it, who broke which rule, and whom to ask."""
 
-from __future__ import annotations
-
 from h2audit.page.markup import Content, Markup, element, items, row, table
 from h2audit.page.model import Audit, Connection
 from h2audit.page.top import Asked, asked, headline, limits

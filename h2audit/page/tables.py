@@ -1,7 +1,5 @@
 """The parts of the page that need no script: connections, findings and windows, in tables."""
 
-from __future__ import annotations
-
 from dataclasses import dataclass
 
 from h2audit.page.chart_data import Packed

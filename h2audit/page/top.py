@@ -1,7 +1,5 @@
 """The answer at a glance: one sentence, what limits it, who broke which rule, and whom to ask."""
 
-from __future__ import annotations
-
 from collections import defaultdict
 from collections.abc import Iterator
 from dataclasses import dataclass, field

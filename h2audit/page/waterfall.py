@@ -4,8 +4,6 @@ What h2audit-why --json tells of each request is kept as lists of numbers, defla
 would be too large, spans are joined first, and then those with the least trouble are left out.
 """
 
-from __future__ import annotations
-
 import base64
 import json
 import zlib

@@ -1,7 +1,5 @@
 """What the page says in words: how much there was, what came of it, and what to doubt."""
 
-from __future__ import annotations
-
 from collections import Counter
 from dataclasses import dataclass
 from datetime import datetime, timezone

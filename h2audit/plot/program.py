@@ -17,8 +17,7 @@ import os
 
 from h2audit.plot.drawing import LARGEST_WINDOW, draw, save
 from h2audit.plot.windows import chosen, connections_of
-from h2audit.report.command import IO_FAILED, MISSING, OK, REFUSED, Words, failed, io_reason, number, opened
-from h2audit.report.lines import Refused
+from h2audit.report.command import OK, Words, number, opened
 from h2audit.report.output import written
 
 NAME = "h2audit-plot"
@@ -74,23 +73,11 @@ def problem_of(asked: argparse.Namespace) -> str | None:
     return None if ending in FORMATS else f"{asked.output}: no {ending} is drawn, but {' or '.join(FORMATS)}"
 
 
-def plot(asked: argparse.Namespace) -> None:
-    """Reads the report, draws it, and writes the picture."""
+def main(words: list[str]) -> int:
+    asked = arguments(words)
     with opened(asked.report) as report:
         connections = connections_of(report)
     figure = draw(*chosen(connections, asked), asked.by_frame, asked.title)
     with written(asked.output) as out:
         save(figure, out, asked.format)
-
-
-def main(words: list[str]) -> int:
-    asked = arguments(words)
-    try:
-        plot(asked)
-    except Refused as why:
-        return failed(NAME, REFUSED, f"report refused: {why}")
-    except OSError as why:
-        return failed(NAME, IO_FAILED, io_reason(why))
-    except ModuleNotFoundError:
-        return failed(NAME, MISSING, "matplotlib is not installed (Debian: apt-get install python3-matplotlib)")
     return OK

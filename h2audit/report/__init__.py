@@ -2,4 +2,7 @@
 signal does, and how a file is written.
 """
 
-VERSION = "1.0.0"
+import pathlib
+
+# The file stands beside the package, in the repository and where it is installed.
+VERSION = (pathlib.Path(__file__).resolve().parents[2] / "VERSION").read_text(encoding="ascii").strip()

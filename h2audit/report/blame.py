@@ -4,8 +4,6 @@ The table of kinds is kinds.txt, which the programs in Rust are built with (comp
 docs/REPORT_FORMAT.md (who broke the rule) and docs/AUDIT_RULES.md (the sections).
 """
 
-from __future__ import annotations
-
 import pathlib
 from dataclasses import dataclass
 from typing import TYPE_CHECKING
@@ -71,7 +69,7 @@ def who_broke_it(side: str, word: str) -> str | None:
     return {NAMED: side, OTHER: OTHER_SIDE[side], NOBODY: None}[kind_of(word).blame]
 
 
-def section_of(finding: Finding) -> str:
+def section_of(finding: "Finding") -> str:
     """The sections of RFC 9113 that the finding is against: those of its kind, or fewer where side or value decide."""
     kind, value = finding.kind, finding.value
     if kind == "wrong-stream" and 0 <= value < len(FRAME_TYPES):
@@ -87,7 +85,7 @@ def section_of(finding: Finding) -> str:
     return kind_of(kind).sections
 
 
-def what_happened(finding: Finding) -> str:
+def what_happened(finding: "Finding") -> str:
     """What the finding tells, without who is to blame."""
     value = finding.value
     return kind_of(finding.kind).sentence.format(
@@ -106,7 +104,7 @@ def frame_type(value: int) -> str:
     return FRAME_TYPES[value] if 0 <= value < len(FRAME_TYPES) else f"a frame of type {value}"
 
 
-def who_is_to_blame(finding: Finding) -> str:
+def who_is_to_blame(finding: "Finding") -> str:
     """Who broke the rule, and by which section; of a stall, whom to ask."""
     side = finding.who_broke_it
     if side is None:
@@ -118,7 +116,7 @@ def who_is_to_blame(finding: Finding) -> str:
     return f"the {side} broke RFC 9113" + f", {section}" * bool(section)
 
 
-def sentence_of(finding: Finding, more: str = "") -> str:
+def sentence_of(finding: "Finding", more: str = "") -> str:
     """One sentence for a finding; more is added to what happened."""
     return f"{what_happened(finding)}{more} ({finding.kind}); {who_is_to_blame(finding)}"
 

@@ -1,9 +1,8 @@
 """Command lines of the programs beside h2audit, and how they end: one line on standard error says what went wrong."""
 
-from __future__ import annotations
-
 import argparse
 import contextlib
+import errno
 import io
 import os
 import re
@@ -22,19 +21,38 @@ DIGITS = r"\d{1,20}"
 BUFFER = 2**18
 
 
+class Failed(Exception):
+    """What ends a program: the status for it, and why."""
+
+    def __init__(self, status: int, why: str) -> None:
+        super().__init__(why)
+        self.status = status
+
+    def said(self) -> str:
+        """The line that says it."""
+        return str(self)
+
+
 class Words(argparse.ArgumentParser):
     """A command line of which one line says what is wrong with it."""
 
     def add_version(self) -> None:
         """The option that all programs have beside --help."""
         self.add_argument(
-            "-V", "--version", action="version", version=f"{self.prog} {VERSION}", help="print the version"
+            "-V",
+            "--version",
+            action="version",
+            version=f"{self.prog} {VERSION}",
+            help="print the name and the version, and nothing else",
         )
 
     def _print_message(self, message: str, file: IO[str] | None = None) -> None:
         """Where help or version cannot be written, that is an error: later versions of argparse pass over it."""
         if message:
-            (file or sys.stderr).write(message)
+            try:
+                (file or sys.stderr).write(message)
+            except OSError as why:
+                raise OSError(why.errno, why.strerror, "standard output") from None
 
     def error(self, message: str) -> NoReturn:
         self.exit(WRONG_WORDS, f"{self.prog}: {printable(message)}\n")
@@ -66,6 +84,19 @@ def io_reason(why: OSError) -> str:
     return f"{why.filename or 'input or output'}: {why.strerror or why}"
 
 
+def told(why: Failed | MemoryError | ModuleNotFoundError | OSError) -> tuple[int, str]:
+    """The status for what ended a program, and the line that says why."""
+    match why:
+        case Failed():
+            return why.status, why.said()
+        case MemoryError() | OSError(errno=errno.ENOMEM):  # as where no program can be started for want of it
+            return NO_MEMORY, "out of memory"
+        case ModuleNotFoundError():
+            return MISSING, f"{why.name} is not installed (Debian: apt-get install python3-{why.name})"
+        case OSError():
+            return IO_FAILED, io_reason(why)
+
+
 @contextlib.contextmanager
 def opened(path: str) -> Iterator[BinaryIO]:
     """The file of this name, or standard input for -."""
@@ -87,17 +118,17 @@ def hold_standard_files() -> None:
 
 
 def run(main: Callable[[list[str]], int]) -> NoReturn:
-    """Runs a program by its words, and ends with its status; help and version have one too."""
+    """Runs a program by its words, and ends with its status; help and version have one too. What it raises and does not
+    catch ends it by one line.
+    """
     hold_standard_files()
     program = os.path.basename(sys.argv[0])
     try:
         status = main(sys.argv[1:])
     except SystemExit as ended:
         status = ended.code if isinstance(ended.code, int) else OK
-    except MemoryError:
-        status = failed(program, NO_MEMORY, "out of memory")
-    except OSError as why:  # help, version, or what a program prints
-        status = failed(program, IO_FAILED, f"{why.filename or 'standard output'}: {why.strerror}")
+    except (Failed, MemoryError, ModuleNotFoundError, OSError) as why:
+        status = failed(program, *told(why))
     leave(status, program)
 
 

@@ -5,13 +5,12 @@ The programs in Rust read by companions/reports; tests/report_lines.txt has line
 A report may be large, so its lines are handed on one by one, and none is read that is longer than any line of a report.
 """
 
-from __future__ import annotations
-
 import re
 from collections.abc import Callable, Iterator
 from typing import BinaryIO, NamedTuple
 
 from h2audit.report.blame import is_fault, who_broke_it
+from h2audit.report.command import REFUSED, Failed
 
 # No number of a report has more digits, and no line more bytes.
 NUMBER = r"\d{1,20}"
@@ -37,8 +36,14 @@ STALL = re.compile(rf"stall {SIDE} stream ({NUMBER}) from ({NUMBER}) (?:open|to 
 AUDIT = re.compile(rf"audit (?:of all frames|stopped at frame ({NUMBER}))")
 
 
-class Refused(Exception):
+class Refused(Failed):
     """Why a report is not taken."""
+
+    def __init__(self, why: str) -> None:
+        super().__init__(REFUSED, why)
+
+    def said(self) -> str:
+        return f"report refused: {self}"
 
 
 class Capture(NamedTuple):

@@ -1,7 +1,5 @@
 """Findings with what a reader is told of them: of a stall, its other end."""
 
-from __future__ import annotations
-
 from dataclasses import dataclass
 
 from h2audit.report.blame import STALL_BEGIN, STALL_END, duration, sentence_of
@@ -14,7 +12,7 @@ class Note:
 
     packet: int
     finding: Finding
-    other: Note | None = None
+    other: "Note | None" = None
     # The name of the file that has the packet, where it is not the one that is read.
     file: str = ""
 

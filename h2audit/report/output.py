@@ -1,7 +1,5 @@
 """Writes what a program makes to a file, which is there only once it is whole; no error and no signal leaves a part."""
 
-from __future__ import annotations
-
 import contextlib
 import os
 import signal

@@ -2,5 +2,3 @@
 
 It reads the report of h2audit, the frames of the capture in the clear, and the course of TCP that the import tells.
 """
-
-VERSION = "1.0.0"

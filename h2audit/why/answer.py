@@ -1,7 +1,5 @@
 """What the answer holds: facts with the frame, the packet and the time at which a reader can check them."""
 
-from __future__ import annotations
-
 from dataclasses import dataclass, field
 from typing import TYPE_CHECKING
 
@@ -182,7 +180,7 @@ class ConnectionSaid:
     notes: list[str] = field(default_factory=list)
     stopped_at: At | None = None
     gaps: list[tuple[int, int]] = field(default_factory=list)
-    seen: Seen | None = None  # what it was said from, where that is wanted
+    seen: "Seen | None" = None  # what it was said from, where that is wanted
 
     @property
     def is_audited(self) -> bool:

@@ -1,7 +1,5 @@
 """What the report says of each connection: findings, stalls with both ends, and the credit of each window."""
 
-from __future__ import annotations
-
 from array import array
 from bisect import bisect_left, bisect_right
 from collections.abc import Iterator
@@ -19,8 +17,8 @@ FIRST_CREDIT = 65535
 class Window:
     """The credit of one window after each frame that changes it."""
 
-    frames: array[int] = field(default_factory=lambda: array("q"))
-    credits: array[int] = field(default_factory=lambda: array("q"))
+    frames: "array[int]" = field(default_factory=lambda: array("q"))
+    credits: "array[int]" = field(default_factory=lambda: array("q"))
 
     def before(self, frame: int) -> int | None:
         """The credit that the report tells last before a frame."""

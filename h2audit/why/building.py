@@ -1,7 +1,5 @@
 """Builds the answer, one connection after the other, from what was made, its report, its map and the course of TCP."""
 
-from __future__ import annotations
-
 from collections.abc import Callable, Iterator
 from dataclasses import dataclass
 from itertools import repeat

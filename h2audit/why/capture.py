@@ -3,13 +3,13 @@
 By the rules of docs/AUDIT_RULES.md, sections 1 to 3, so that connections and frames have the report's numbers.
 """
 
-from __future__ import annotations
-
 import mmap
 import struct
 from array import array
 from collections.abc import Iterator
 from dataclasses import dataclass, field
+
+from h2audit.report.command import IO_FAILED, Failed
 
 RAW_IP = 101
 MAGIC_OF_NANOS = 0xA1B23C4D
@@ -22,8 +22,11 @@ CLIENT, SERVER = 0, 1
 SIDES = ("client", "server")
 
 
-class Broken(Exception):
+class Broken(Failed):
     """What was made is no capture of an import."""
+
+    def __init__(self, why: str) -> None:
+        super().__init__(IO_FAILED, why)
 
 
 @dataclass(slots=True)
@@ -31,10 +34,10 @@ class Segments:
     """The payloads of one side, in the order of the capture: for each its record, number, place and end in the file."""
 
     initial: int | None = None
-    records: array[int] = field(default_factory=lambda: array("q"))
-    numbers: array[int] = field(default_factory=lambda: array("q"))
-    begins: array[int] = field(default_factory=lambda: array("q"))
-    ends: array[int] = field(default_factory=lambda: array("q"))
+    records: "array[int]" = field(default_factory=lambda: array("q"))
+    numbers: "array[int]" = field(default_factory=lambda: array("q"))
+    begins: "array[int]" = field(default_factory=lambda: array("q"))
+    ends: "array[int]" = field(default_factory=lambda: array("q"))
 
     def add(self, record: int, number: int, begin: int, end: int) -> None:
         self.records.append(record)

@@ -1,7 +1,5 @@
 """What held back each request most: the window of its stream or of the connection, TCP, or an application."""
 
-from __future__ import annotations
-
 from bisect import bisect_left, bisect_right
 from itertools import accumulate
 

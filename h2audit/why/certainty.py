@@ -1,7 +1,5 @@
 """Whether a fault can be doubted, and which packets set the window that it is about."""
 
-from __future__ import annotations
-
 from bisect import bisect_right
 
 from h2audit.report.lines import Finding

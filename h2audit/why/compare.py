@@ -1,7 +1,5 @@
 """Two captures of the same work, before and after a change: their requests matched by method, path and turn."""
 
-from __future__ import annotations
-
 from collections import Counter
 from collections.abc import Iterator
 from dataclasses import dataclass

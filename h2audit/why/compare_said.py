@@ -1,7 +1,5 @@
 """What two captures of the same work show side by side, as text and for machines."""
 
-from __future__ import annotations
-
 from collections.abc import Iterator
 from typing import Any
 

@@ -1,18 +1,20 @@
 """Reads the course of TCP that `h2audit-import --course` tells (docs/MAP.md)."""
 
-from __future__ import annotations
-
 from collections.abc import Iterable
 from dataclasses import dataclass, field
 from typing import NamedTuple
 
+from h2audit.report.command import IO_FAILED, Failed
 from h2audit.why.capture import SIDES
 
 FIRST_LINE = "h2audit-course 1"
 
 
-class NoCourse(Exception):
+class NoCourse(Failed):
     """Another file, or one of another version."""
+
+    def __init__(self, why: str) -> None:
+        super().__init__(IO_FAILED, why)
 
 
 class Place(NamedTuple):

@@ -1,7 +1,5 @@
 """The answer for machines: one document, or a line for each request. schema.json says what stands in it."""
 
-from __future__ import annotations
-
 import json
 from collections.abc import Iterator
 from typing import Any

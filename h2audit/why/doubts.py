@@ -1,7 +1,5 @@
 """What limits an answer: what was not audited, what was lost, clocks that go back, and what cannot be seen."""
 
-from __future__ import annotations
-
 from collections import Counter
 
 from h2audit.why.answer import Answer, At, ConnectionSaid, NotAudited, Request, Warning

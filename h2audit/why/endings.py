@@ -1,7 +1,5 @@
 """How a connection ended, what its peers said, and settings that were never acknowledged."""
 
-from __future__ import annotations
-
 from h2audit.why.answer import Ended, SettingSaid, Signal
 from h2audit.why.capture import SIDES
 from h2audit.why.names import text_of

@@ -1,16 +1,14 @@
 """One connection captured at both ends: which connections are the same, and how far the two clocks are apart."""
 
-from __future__ import annotations
-
 from bisect import bisect_right
 from dataclasses import dataclass
 from itertools import accumulate
 
+from h2audit.report.command import Failed
 from h2audit.why import frames as kind_of
 from h2audit.why.answer import Answer, ConnectionSaid
 from h2audit.why.capture import CLIENT, SERVER, SIDES
 from h2audit.why.frames import Column
-from h2audit.why.making import Failed
 from h2audit.why.seen import Seen
 from h2audit.why.words import count, printable_list
 

@@ -1,7 +1,5 @@
 """What both ends of a connection tell of its stalls, as text and for machines."""
 
-from __future__ import annotations
-
 from collections.abc import Iterator
 from typing import Any
 

@@ -1,7 +1,5 @@
 """What each stall waited for, by both ends of its connection: the way, the peer's answer, or bytes that were lost."""
 
-from __future__ import annotations
-
 from dataclasses import dataclass
 
 from h2audit.why.answer import At, FaultSaid, StallSaid

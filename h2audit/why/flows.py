@@ -1,7 +1,5 @@
 """The bytes that one side sent without a hole, and at which record each arrived (docs/AUDIT_RULES.md, section 3)."""
 
-from __future__ import annotations
-
 import heapq
 import mmap
 from array import array
@@ -19,8 +17,8 @@ class Flow:
     """A flow's bytes; pieces end at `ends` and arrived at `records`. With a gap, the record that came past it first."""
 
     octets: bytes
-    ends: array[int]
-    records: array[int]
+    ends: "array[int]"
+    records: "array[int]"
     gap: int | None = None
     gap_record: int = 0
 

@@ -3,8 +3,6 @@
 They are held in columns, since a capture may have a million.
 """
 
-from __future__ import annotations
-
 import struct
 from array import array
 from dataclasses import dataclass, field
@@ -27,12 +25,12 @@ class Column:
     flow: Flow
     kinds: bytearray = field(default_factory=bytearray)
     flags: bytearray = field(default_factory=bytearray)
-    streams: array[int] = field(default_factory=lambda: array("q"))
-    lengths: array[int] = field(default_factory=lambda: array("q"))
-    places: array[int] = field(default_factory=lambda: array("q"))  # of payloads, in the flow
-    begun: array[int] = field(default_factory=lambda: array("q"))  # records of first bytes
-    records: array[int] = field(default_factory=lambda: array("q"))  # records of last bytes
-    numbers: array[int] = field(default_factory=lambda: array("q"))
+    streams: "array[int]" = field(default_factory=lambda: array("q"))
+    lengths: "array[int]" = field(default_factory=lambda: array("q"))
+    places: "array[int]" = field(default_factory=lambda: array("q"))  # of payloads, in the flow
+    begun: "array[int]" = field(default_factory=lambda: array("q"))  # records of first bytes
+    records: "array[int]" = field(default_factory=lambda: array("q"))  # records of last bytes
+    numbers: "array[int]" = field(default_factory=lambda: array("q"))
     tail: int = 0
 
     def payload(self, index: int) -> bytes:
@@ -46,7 +44,7 @@ class Frames:
 
     sides: tuple[Column, Column]
     order: bytearray
-    indices: array[int]
+    indices: "array[int]"
 
     def __len__(self) -> int:
         return len(self.order)

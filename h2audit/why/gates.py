@@ -1,7 +1,5 @@
 """What fails a run in CI: the reasons that a command line may name, and what holds of each in an answer."""
 
-from __future__ import annotations
-
 import argparse
 import re
 from collections.abc import Callable, Iterator

@@ -2,8 +2,6 @@
 request, and one for the connection itself. Of two ends each capture has its suites.
 """
 
-from __future__ import annotations
-
 from collections.abc import Iterator, Sequence
 from dataclasses import dataclass, field
 from xml.sax.saxutils import escape, quoteattr

@@ -1,7 +1,5 @@
 """Whether cancelled streams used a connection's credit that was never given back."""
 
-from __future__ import annotations
-
 from dataclasses import dataclass, field
 
 from h2audit.why import frames as kind_of

@@ -1,7 +1,5 @@
 """Runs the import and the audit in a folder of their owner alone, which goes with every end of the program."""
 
-from __future__ import annotations
-
 import contextlib
 import os
 import shutil
@@ -13,42 +11,36 @@ from collections.abc import Iterator, Sequence
 from pathlib import Path
 from typing import IO
 
-from h2audit.report.command import IO_FAILED
+from h2audit.report.command import IO_FAILED, Failed
 from h2audit.report.interrupts import SIGNALS
 
 HERE = Path(os.path.realpath(sys.argv[0])).parent
 # Where programs stand: as built in the repository, beside this one, or in the path.
+IN_RUST = HERE.parent / "companions" / "target" / "release"
 BUILT = {
     "h2audit": HERE.parent / "crates" / "h2audit_cli" / "out" / "h2audit_cli",
-    "h2audit-import": HERE.parent / "companions" / "target" / "release" / "h2audit-import",
+    "h2audit-any": IN_RUST / "h2audit-any",
+    "h2audit-import": IN_RUST / "h2audit-import",
 }
 MOST_SAID = 1 << 16
 # What an import leaves in a folder, and the report of an audit of what it made.
 MADE, MAP, COURSE, REPORT = (f"imported.{kind}" for kind in ("pcap", "map", "course", "report"))
-VARIABLES = {"h2audit": "H2AUDIT", "h2audit-import": "H2AUDIT_IMPORT"}
+VARIABLES = {name: name.upper().replace("-", "_") for name in (*BUILT, "h2audit-why")}
 
 
-class Failed(Exception):
-    """A program that ended otherwise than by its work: the status for it, and what it said."""
-
-    def __init__(self, status: int, said: str) -> None:
-        super().__init__(said)
-        self.status = status
-
-
-def program_named(name: str, named: str | None) -> str:
+def program_named(name: str, named: str | None = None, option: str = "") -> str:
     """The program that the command line or the environment names, else that of the repository, beside this, or the
     path's.
     """
     if named := named or os.environ.get(VARIABLES[name]):
         return named
-    for place in (BUILT[name], HERE / name):
-        if os.access(place, os.X_OK) and place.is_file():
+    for place in (BUILT.get(name), HERE / name):
+        if place and os.access(place, os.X_OK) and place.is_file():
             return str(place)
     if found := shutil.which(name):
         return found
-    option = "--h2audit" if name == "h2audit" else "--import"
-    raise Failed(IO_FAILED, f"{name}: not found; name it with {option}, or by the variable {VARIABLES[name]}")
+    with_option = f"with {option}, or " if option else ""
+    raise Failed(IO_FAILED, f"{name}: not found; name it {with_option}by the variable {VARIABLES[name]}")
 
 
 @contextlib.contextmanager
@@ -64,7 +56,7 @@ def folder() -> Iterator[Path]:
 
 
 @contextlib.contextmanager
-def running(words: Sequence[str], output: Path | None = None) -> Iterator[Running]:
+def running(words: Sequence[str], output: Path | None = None) -> "Iterator[Running]":
     """A program that runs meanwhile. Where this one is interrupted, that one ends too."""
     with contextlib.ExitStack() as stack:
         out = stack.enter_context(open(output or os.devnull, "wb"))

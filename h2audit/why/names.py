@@ -1,7 +1,5 @@
 """Field blocks of one side, decoded by python3-hpack: names of requests, statuses, trailers."""
 
-from __future__ import annotations
-
 import re
 import sys
 from collections.abc import Iterable

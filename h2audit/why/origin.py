@@ -1,19 +1,22 @@
 """Reads the map of an import (docs/MAP.md): the packet of each record, addresses, and what became of connections."""
 
-from __future__ import annotations
-
 import re
 from array import array
 from collections.abc import Iterable
 from dataclasses import dataclass, field
 from urllib.parse import unquote_to_bytes
 
+from h2audit.report.command import IO_FAILED, Failed
+
 FIRST_LINE = "h2audit-map 1"
 STANDING_IN = re.compile(r"2(?:4\d|5[0-5])\.\d+\.\d+\.\d+")
 
 
-class NoMap(Exception):
+class NoMap(Failed):
     """Another file, or one of another version."""
+
+    def __init__(self, why: str) -> None:
+        super().__init__(IO_FAILED, why)
 
 
 @dataclass(slots=True)
@@ -40,8 +43,8 @@ class Unopened:
 class Origin:
     files: list[str] = field(default_factory=list)
     addresses: dict[str, str] = field(default_factory=dict)
-    record_files: array[int] = field(default_factory=lambda: array("l", (0,)))
-    record_packets: array[int] = field(default_factory=lambda: array("q", (0,)))
+    record_files: "array[int]" = field(default_factory=lambda: array("l", (0,)))
+    record_packets: "array[int]" = field(default_factory=lambda: array("q", (0,)))
     passed: dict[str, int] = field(default_factory=dict)
     passed_more: list[str] = field(default_factory=list)
     capture: dict[str, int] = field(default_factory=dict)

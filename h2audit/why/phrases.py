@@ -1,7 +1,5 @@
 """Says in words what held back a request, whom to ask, and which window would do."""
 
-from __future__ import annotations
-
 from h2audit.why.answer import Cause, ConnectionSaid, Request
 from h2audit.why.audit import FIRST_CREDIT
 from h2audit.why.capture import SIDES

@@ -10,11 +10,8 @@ line, 3 if a capture is refused, 4 if reading or writing failed, 5 if there was 
 audited, 7 if python3-hpack is missing.
 """
 
-from __future__ import annotations
-
 import argparse
 import contextlib
-import errno
 import os
 import shutil
 import sys
@@ -23,23 +20,11 @@ from collections.abc import Callable, Iterator
 from pathlib import Path
 from typing import TYPE_CHECKING
 
-from h2audit.report.command import (
-    IO_FAILED,
-    MISSING,
-    NO_MEMORY,
-    OK,
-    REFUSED,
-    Words,
-    failed,
-    io_reason,
-    number,
-    printable,
-)
+from h2audit.report.command import IO_FAILED, OK, Failed, Words, failed, number, printable
 from h2audit.report.interrupts import Interrupted, end_by, signals_raise
-from h2audit.report.lines import Refused
-from h2audit.why import VERSION, gates, two
+from h2audit.why import gates, two
 from h2audit.why.answer import Answer
-from h2audit.why.making import COURSE, MADE, MAP, REPORT, Failed, folder, program_named, run, running, without_name
+from h2audit.why.making import COURSE, MADE, MAP, REPORT, folder, program_named, run, running, without_name
 from h2audit.why.text import Page
 
 if TYPE_CHECKING:
@@ -88,8 +73,7 @@ def arguments(words: list[str]) -> argparse.Namespace:
     )
     parser.add_argument("--h2audit", metavar="PROGRAM", help="the program that audits")
     parser.add_argument("--import", dest="importer", metavar="PROGRAM", help="the program that imports")
-    parser.add_argument("-V", "--version", action="version", version=f"{NAME} {VERSION}",
-                        help="print the name and the version, and nothing else")  # fmt: skip
+    parser.add_version()
     gates.add_options(parser)
     two.add_options(parser)
     asked = parser.parse_args(words)
@@ -133,7 +117,8 @@ class Progress:
 
 def answered(asked: argparse.Namespace, progress: Progress) -> Answer:
     """Imports, audits, and reads what both made."""
-    importer, auditor = program_named("h2audit-import", asked.importer), program_named("h2audit", asked.h2audit)
+    importer = program_named("h2audit-import", asked.importer, "--import")
+    auditor = program_named("h2audit", asked.h2audit, "--h2audit")
     with folder() as place:
         out, report = place / MADE, place / REPORT
         imported(asked, importer, place, progress)
@@ -174,7 +159,7 @@ def read(asked: argparse.Namespace, place: Path, audit_ends: AuditEnds, progress
 
 
 @contextlib.contextmanager
-def sources_in(place: Path, audit_ends: AuditEnds, progress: Progress) -> Iterator[Sources]:
+def sources_in(place: Path, audit_ends: AuditEnds, progress: Progress) -> "Iterator[Sources]":
     """What stands in a folder of an import, once the audit of what was made has ended."""
     from h2audit.why.building import Sources
     from h2audit.why.capture import made_of
@@ -263,7 +248,7 @@ def work(asked: argparse.Namespace) -> int:
     return OK if all(one.audited for one in found.answers) else failed(NAME, NOTHING_AUDITED, "nothing was audited")
 
 
-def write_junit(judged: list[Judged], path: str) -> None:
+def write_junit(judged: "list[Judged]", path: str) -> None:
     from h2audit.report import output
     from h2audit.why import junit
 
@@ -271,41 +256,13 @@ def write_junit(judged: list[Judged], path: str) -> None:
         file.writelines(junit.pieces_of(judged))
 
 
-def outcome_of(asked: argparse.Namespace) -> int:
-    """The status of a run, with one line on standard error where it failed."""
-    from h2audit.why.capture import Broken
-    from h2audit.why.course import NoCourse
-    from h2audit.why.origin import NoMap
+def main(words: list[str]) -> int:
+    asked = arguments(words)
+    import hpack  # noqa: F401  where it is missing, that is said before any work
 
     try:
         with signals_raise():
             return work(asked)
-    except Failed as why:
-        return failed(NAME, why.status, str(why))
-    except Refused as why:
-        return failed(NAME, REFUSED, f"report refused: {why}")
-    except (Broken, NoCourse, NoMap) as why:
-        return failed(NAME, IO_FAILED, str(why))
-    except OSError as why:
-        if why.errno != errno.ENOMEM:
-            return failed(NAME, IO_FAILED, io_reason(why))
-    except MemoryError:
-        pass
-    return failed(NAME, NO_MEMORY, "out of memory")
-
-
-def main(words: list[str]) -> int:
-    try:
-        asked = arguments(words)
-        sys.stdout.flush()
-    except OSError as why:  # help or version had nowhere to go
-        return failed(NAME, IO_FAILED, io_reason(why))
-    try:
-        import hpack  # noqa: F401
-    except ImportError:
-        return failed(NAME, MISSING, "hpack is not installed (Debian: apt-get install python3-hpack)")
-    try:
-        return outcome_of(asked)
     except Interrupted as why:
         stopped = int(why.args[0])
     end_by(stopped)

@@ -1,7 +1,5 @@
 """The requests of a connection: their names, lives, ends and shares."""
 
-from __future__ import annotations
-
 from collections.abc import Iterator
 from dataclasses import dataclass
 from itertools import chain

@@ -1,7 +1,5 @@
 """The round trip of a connection and the place where it was captured, by the times of answers."""
 
-from __future__ import annotations
-
 from collections.abc import Callable
 
 from h2audit.why.answer import RoundTrip

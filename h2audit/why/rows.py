@@ -5,8 +5,6 @@ h2audit/fleet/schema.sql. They are those of `document`, but for letters that a t
 as escapes, and for long names, which are cut.
 """
 
-from __future__ import annotations
-
 from collections.abc import Iterable, Iterator
 from itertools import repeat
 from typing import Any

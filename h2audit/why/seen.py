@@ -1,7 +1,5 @@
 """One connection as all sources tell it: frames and requests, the report, the course of TCP, and the map."""
 
-from __future__ import annotations
-
 from bisect import bisect_left, bisect_right
 from collections.abc import Iterator
 from dataclasses import dataclass, field

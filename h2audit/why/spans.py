@@ -3,8 +3,6 @@
 docs/WHY.md defines each share. All times are whole nanoseconds, so shares sum to the life exactly.
 """
 
-from __future__ import annotations
-
 from array import array
 from bisect import bisect_right
 from collections.abc import Iterable, Iterator

@@ -1,7 +1,5 @@
 """Why each stall of the report was one: nothing was granted, it was granted late, or the window is too small."""
 
-from __future__ import annotations
-
 from h2audit.why import frames as kind_of
 from h2audit.why.answer import StallSaid
 from h2audit.why.audit import Stalled

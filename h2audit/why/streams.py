@@ -1,7 +1,5 @@
 """What the frames of a connection tell: its streams with their requests, settings, grants, and how it was ended."""
 
-from __future__ import annotations
-
 import struct
 from array import array
 from bisect import bisect_right
@@ -24,7 +22,7 @@ LONGEST_DEBUG = 1024
 class Direction:
     """What one side sends on a stream: the indices of its frames in its column, and the frame that ends it."""
 
-    frames: array[int] = field(default_factory=lambda: array("q"))
+    frames: "array[int]" = field(default_factory=lambda: array("q"))
     content: int = 0
     ended: int = 0
     fields: Fields | None = None
@@ -71,8 +69,8 @@ class GoAway(NamedTuple):
 class Grants:
     """The grants for one window, by frame."""
 
-    frames: array[int] = field(default_factory=lambda: array("q"))
-    amounts: array[int] = field(default_factory=lambda: array("q"))
+    frames: "array[int]" = field(default_factory=lambda: array("q"))
+    amounts: "array[int]" = field(default_factory=lambda: array("q"))
     sums: list[int] = field(default_factory=list)
 
     def upto(self, frame: int) -> int:

@@ -1,7 +1,5 @@
 """The answer in one sentence."""
 
-from __future__ import annotations
-
 from collections import Counter
 from dataclasses import dataclass
 

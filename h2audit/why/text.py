@@ -1,7 +1,5 @@
 """The answer as text: a warning first, then the connections with the most trouble, and in each the worst request."""
 
-from __future__ import annotations
-
 from collections.abc import Iterator
 
 from h2audit.report.blame import sentence_of

@@ -1,7 +1,5 @@
 """The answers that need two captures: before and after a change, and both ends of a connection."""
 
-from __future__ import annotations
-
 import argparse
 from collections.abc import Callable, Iterator
 from typing import TYPE_CHECKING, NamedTuple
@@ -79,7 +77,7 @@ def ends(asked: argparse.Namespace, answered: Answers, page_of: Pages) -> Found:
 
 
 def judged(answers: list[Answer], failures: list[list[Failure]], by_place: list[dict[Place, list[str]]]
-           ) -> list[Judged]:  # fmt: skip
+           ) -> "list[Judged]":  # fmt: skip
     """What a JUnit file holds: of two ends, each capture by its side."""
     from h2audit.why.junit import Judged
 

@@ -2,8 +2,6 @@
 later, and what it sends then comes half a round trip after that.
 """
 
-from __future__ import annotations
-
 from collections.abc import Iterable
 
 from h2audit.why import frames as kind_of

@@ -1,7 +1,5 @@
 """How the answer is worded: durations, rates, codes, names of sides, lists of streams."""
 
-from __future__ import annotations
-
 from collections.abc import Sequence
 
 CODES = (

@@ -2,16 +2,16 @@
 # Builds a Debian package: build_deb.sh STAGE FOLDER
 #
 # STAGE has what `make install` put there with PREFIX=/usr. The package goes to FOLDER, and its name is printed. Its
-# version is the first of the changelog. The same files give the same package, byte for byte.
+# version is that of VERSION. The same files give the same package, byte for byte.
 set -euo pipefail
 cd "$(dirname "$0")"
 
 stage=$1
 folder=$2
-version=$(sed -n '1s/^h2audit (\(.*\)) .*/\1/p' changelog)
+version=$(tr - '~' < ../../VERSION)
 architecture=$(dpkg --print-architecture)
 package=$folder/h2audit_${version}_$architecture.deb
-SOURCE_DATE_EPOCH=$(date -d "$(sed -n 's/^ -- .*>  //p' changelog)" +%s)
+SOURCE_DATE_EPOCH=$(date -d "$(sed -n '/^ -- /{s/.*>  //p;q}' changelog)" +%s)
 export SOURCE_DATE_EPOCH
 
 # The newest version of the C library whose names the programs ask for.

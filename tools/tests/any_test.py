@@ -11,14 +11,14 @@ import pathlib
 import signal
 import struct
 import subprocess
-import sys
 import tempfile
 import unittest
 
+from tests.programs import named
 from tools.tests import import_tools as tools
 from tools.tests.signals import SIGNALS, until
 
-PROGRAM = os.path.abspath(sys.argv.pop(1)) if len(sys.argv) > 1 and "/" in sys.argv[1] else None
+PROGRAM = next(iter(named()), None)
 EXAMPLE = tools.EXAMPLES / "use_after_reset.pcap"
 TLS = "nghttp-nghttpd-13"
 NOTHING_READ = "h2audit-any: no connection could be read"

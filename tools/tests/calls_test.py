@@ -4,12 +4,11 @@ Random bytes, with which tables are keyed so that nobody can choose colliding pa
 contract says that the bytes that were drawn are those that a table takes, or that a read of each length is taken.
 """
 
-import os
 import pathlib
-import sys
 import tempfile
 import unittest
 
+from tests.programs import needed
 from tools.tests import cost_captures
 from tools.tests.counting import Counter
 
@@ -79,5 +78,5 @@ class Calls(unittest.TestCase):
 
 
 if __name__ == "__main__":
-    PROGRAM = os.path.abspath(sys.argv.pop(1))
+    (PROGRAM,) = needed()
     unittest.main()

@@ -77,14 +77,28 @@ class HelpAndVersion(unittest.TestCase):
 
 
 class Statuses(unittest.TestCase):
-    def test_memory(self) -> None:
-        """Want of memory is status 5, and nothing else is."""
-        script = (
-            "import sys; from h2audit.report.command import run\n"
-            "def main(words): raise MemoryError\nsys.argv[0] = '/a/h2audit-page'; run(main)"
+    def test_what_ends_a_program(self) -> None:
+        """What a program raises is one line and a status: want of memory is 5, and nothing else is."""
+        rows = (
+            ("MemoryError", 5, "out of memory"),
+            ("OSError(12, 'Cannot allocate memory')", 5, "out of memory"),
+            ("Failed(6, 'nothing\\nwas read')", 6, "nothing\\nwas read"),
+            ("Refused('line 2 is none')", 3, "report refused: line 2 is none"),
+            ("OSError(28, 'No space left', 'a')", 4, "a: No space left"),
+            ("OSError(28, 'No space left')", 4, "input or output: No space left"),
+            (
+                "ModuleNotFoundError('none', name='hpack')",
+                7,
+                "hpack is not installed (Debian: apt-get install python3-hpack)",
+            ),
         )
-        run = subprocess.run([sys.executable, "-c", script], cwd=TOP, capture_output=True)
-        self.assertEqual((run.returncode, run.stderr), (5, b"h2audit-page: out of memory\n"))
+        for raised, status, why in rows:
+            script = (
+                "import sys; from h2audit.report.command import Failed, run; from h2audit.report.lines import Refused\n"
+                f"def main(words): raise {raised}\nsys.argv[0] = '/a/h2audit-page'; run(main)"
+            )
+            run = subprocess.run([sys.executable, "-c", script], cwd=TOP, capture_output=True, text=True)
+            self.assertEqual((run.returncode, run.stderr), (status, f"h2audit-page: {why}\n"))
 
     def test_missing_library(self) -> None:
         """A library that is missing is named by its package, with status 7."""

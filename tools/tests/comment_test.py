@@ -11,12 +11,12 @@ import random
 import re
 import struct
 import subprocess
-import sys
 import tempfile
 import unittest
 
 import zstandard
 
+from tests.programs import named
 from tools.tests.companions import companion
 from tools.tests.pcapng_blocks import (
     block,
@@ -36,7 +36,7 @@ TOP = pathlib.Path(__file__).resolve().parents[2]
 PROGRAM = companion("h2audit-comment")
 IMPORT = companion("h2audit-import")
 TLS = TOP / "tests" / "tls"
-AUDIT = pathlib.Path(sys.argv.pop(1)).resolve() if len(sys.argv) > 1 and "/" in sys.argv[1] else None
+AUDIT = next(iter(named()), None)
 EXAMPLES = TOP / "examples"
 # What a packet is: all that tshark shows of its place, time, interface and bytes.
 FIELDS = [

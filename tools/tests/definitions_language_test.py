@@ -3,8 +3,9 @@ whether they are shown (True), refuted (False) or neither (None), of text that c
 
 import pathlib
 import re
-import sys
 import tempfile
+import unittest
+from functools import partial
 from random import Random
 
 from tools.definitions.evaluating import Definitions
@@ -247,20 +248,23 @@ def damaged(chance: Random) -> str:
     return ""
 
 
-def main() -> int:
-    wrong = [f"{text}: {shown(text)}, and not {wanted}" for text, wanted in CLAIMS if shown(text) is not wanted]
-    for text, line, part in UNREADABLE:
-        if not said(text).startswith(f"small/specs/Text.antt:{line}: ") or part not in said(text):
-            wrong.append(f"{text!r}: {said(text)}")
-    wrong += filter(None, (damaged(Random(number)) for number in range(DAMAGED)))
-    print(
-        *wrong,
-        f"{DAMAGED} damaged modules, {len(CLAIMS)} claims, {len(UNREADABLE)} texts that cannot be read: "
-        f"{len(wrong)} wrong",
-        sep="\n" if wrong else "",
-    )
-    return 1 if wrong else 0
+class Language(unittest.TestCase):
+    def test_claims(self) -> None:
+        for text, wanted in CLAIMS:
+            with self.subTest(text):
+                self.assertIs(deeply(partial(shown, text)), wanted)
+
+    def test_unreadable(self) -> None:
+        for text, line, part in UNREADABLE:
+            with self.subTest(text):
+                why = deeply(partial(said, text))
+                self.assertTrue(why.startswith(f"small/specs/Text.antt:{line}: "), why)
+                self.assertIn(part, why)
+
+    def test_damaged(self) -> None:
+        for number in range(DAMAGED):
+            self.assertEqual(deeply(partial(damaged, Random(number))), "")
 
 
 if __name__ == "__main__":
-    sys.exit(deeply(main))
+    unittest.main()

@@ -3,8 +3,6 @@
 Want of memory, time and programs, lost workers, hostile captures, large ones in parts, and what is left behind.
 """
 
-from __future__ import annotations
-
 import contextlib
 import os
 import pathlib

@@ -10,7 +10,6 @@ import os
 import pathlib
 import sqlite3
 import subprocess
-import sys
 import tempfile
 import time
 from collections.abc import Callable
@@ -20,14 +19,14 @@ from typing import Any
 from bench import generate
 from tests import captures as scripts
 from tests import reports_test
+from tests.programs import named
 from tools.tests.companions import companion
 
 TOP = pathlib.Path(__file__).resolve().parents[2]
 
 FLEET = TOP / "tools" / "h2audit-fleet"
 # The first word of a test may name h2audit.
-HAS_PROGRAM = len(sys.argv) > 1 and os.access(sys.argv[1], os.X_OK)
-PROGRAM = str(pathlib.Path(sys.argv.pop(1)).resolve()) if HAS_PROGRAM else None
+PROGRAM = next(iter(named()), None)
 STAND_IN = TOP / "tools" / "tests" / "fleet_stand_in"
 # Seconds for what takes a few on a machine that is not busy.
 PATIENCE = 200

@@ -3,8 +3,6 @@
 What is wanted of each capture is what `h2audit-why --json` says of it alone, with the same key logs.
 """
 
-from __future__ import annotations
-
 import os
 import pathlib
 import random
@@ -333,7 +331,7 @@ class Tables(unittest.TestCase):
 
 def answers(captures: list[pathlib.Path], words: list[str]) -> Iterator[tuple[pathlib.Path, Json]]:
     """What --json says of each capture that is not refused."""
-    from h2audit.why.making import Failed
+    from h2audit.report.command import Failed
 
     keys = [word for key in KEYS for word in ("-k", str(key))]
     for path in captures:

@@ -17,6 +17,7 @@ import unittest
 from typing import ClassVar
 
 from h2audit.fleet import database, names, pool, programs, tasks
+from h2audit.report import VERSION
 from tools.tests.fleet_captures import (
     PATIENCE,
     PROGRAM,
@@ -142,7 +143,7 @@ class Tables(unittest.TestCase):
                 report[:2] = [None, None]
             else:
                 report += [int(word) for word in sample.report.splitlines()[0].split()[2::2]]
-            program = ["h2audit", "h2audit 1.0.0", 1]
+            program = ["h2audit", f"h2audit {VERSION}", 1]
             wanted = (len(sample.capture), sample.digest, *outcome, *program, *report)
             self.assertEqual(row, [wanted], sample.name)
 
@@ -390,6 +391,15 @@ class Words(OneCapture):
         self.assertEqual((status, said), (1, f"{summary(self.machine.samples)}\n"))
         self.assertRegex(error, r"^h2audit-fleet: dashboard at http://127\.0\.0\.1:\d+/status\n$")
         self.assertEqual(list((self.machine.folder / "temporary").iterdir()), [])
+
+    def test_modules_where_it_runs(self) -> None:
+        """What lies in the folder that it is run in is no module of any worker."""
+        for name in ("multiprocessing", "queue", "socket", "struct", "tempfile"):
+            (self.machine.folder / f"{name}.py").write_text("open('found', 'w')\n")
+        for words in ((), ("--dashboard", "127.0.0.1:0")):
+            status, said, error = self.machine.run("--jobs", "1", *words, "captures")
+            self.assertEqual((status, (self.machine.folder / "found").exists()), (1, False), error)
+            self.machine.database.unlink()
 
     def test_no_program(self) -> None:
         (self.machine.bin / "h2audit").unlink()

@@ -12,7 +12,6 @@ import pathlib
 import pty
 import random
 import select
-import shutil
 import signal
 import stat
 import struct
@@ -23,6 +22,7 @@ import unittest
 from collections.abc import Callable, Iterable, Iterator
 
 from tools.tests import import_tools as tools
+from tools.tests.packages import needs
 from tools.tests.pcapng_blocks import block, interface, packet, section
 
 NAME = "nghttp-nghttpd-13"
@@ -194,7 +194,7 @@ class Links(unittest.TestCase):
             line = tools.lines_of(made, "connection")[0]
             self.assertIn("client [2001:db8::1]:38292 server [2001:db8::2]:21001", line)
 
-    @unittest.skipUnless(shutil.which("tshark"), "tshark is not installed")
+    @needs("tshark")
     def test_tshark(self) -> None:
         """tshark sees the same segments in each of these forms."""
         forms = [(ETHERNET, PACKETS), *((link, fronted(datagrams(), front)) for link, front in FRONTS), *of_ipv6()]

@@ -5,13 +5,13 @@ PROGRAM is h2audit. What is wanted of a report is what h2audit-any prints of the
 
 import pathlib
 import subprocess
-import sys
 import tempfile
 import unittest
 
+from tests.programs import named
 from tools.tests import import_tools as tools
 
-PROGRAM = pathlib.Path(sys.argv.pop(1)).resolve() if len(sys.argv) > 1 else pathlib.Path("h2audit")
+PROGRAM = next(iter(named()), "h2audit")
 NO_MAP = "no map of h2audit-import, version 1"
 
 

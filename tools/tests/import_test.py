@@ -11,18 +11,19 @@ import functools
 import json
 import os
 import re
-import shutil
 import subprocess
-import sys
 import tempfile
 import unittest
 from collections.abc import Iterator
 from typing import Any
 
+from h2audit.report.blame import FRAME_TYPES
+from tests.programs import named
 from tools.tests import derived_report
 from tools.tests import import_tools as tools
+from tools.tests.packages import needs
 
-PROGRAM = os.path.abspath(sys.argv.pop()) if len(sys.argv) > 1 and not sys.argv[-1].startswith("-") else None
+PROGRAM = next(iter(named()), None)
 # Frames of each connection, as the peers' logs and tshark count them.
 FRAMES = {
     "nghttp-nghttpd-13": [20], "small-window-v6": [35], "curl-nginx-12-any-cooked": [131],
@@ -35,18 +36,6 @@ FORMS: tuple[tuple[list[str], str], ...] = (([], ".report"), (["--frames"], ".fr
 # What is said of packets whose times go back, as those of two interfaces do.
 BACK = {"two-interfaces": "h2audit-any: times go back at packet 32: are the files in order? reordercap\n"}
 NGHTTP_LOGS = ("nghttp-nghttpd-13", "small-window-v6", "loss-and-reordering")
-TYPES = (
-    "DATA",
-    "HEADERS",
-    "PRIORITY",
-    "RST_STREAM",
-    "SETTINGS",
-    "PUSH_PROMISE",
-    "PING",
-    "GOAWAY",
-    "WINDOW_UPDATE",
-    "CONTINUATION",
-)
 needs_program = unittest.skipUnless(PROGRAM, "h2audit is not built")
 
 
@@ -60,7 +49,7 @@ def frames_of(data: bytes) -> Iterator[tuple[str, int, int]]:
     data = data[24:] if data.startswith(b"PRI * HTTP/2.0") else data
     while len(data) >= 9:
         length = int.from_bytes(data[:3], "big")
-        yield TYPES[data[3]], length, int.from_bytes(data[5:9], "big") & 0x7FFFFFFF
+        yield FRAME_TYPES[data[3]], length, int.from_bytes(data[5:9], "big") & 0x7FFFFFFF
         data = data[9 + length :]
 
 
@@ -95,7 +84,7 @@ class Records(unittest.TestCase):
                 said = [(kind, int(length), int(stream)) for kind, length, stream in said]
                 self.assertEqual(list(frames_of(data)), said, (name, word))
 
-    @unittest.skipUnless(shutil.which("tshark"), "tshark is not installed")
+    @needs("tshark")
     def test_tshark(self) -> None:
         """The bytes of both sides are those that tshark shows."""
         for name in ("nghttp-nghttpd-13", "curl-apache-upload", "key-updates", "loss-and-reordering"):
@@ -191,7 +180,7 @@ class Reports(unittest.TestCase):
                 found = stalls_of(report_of(name)[0], stream, side)
                 self.assertEqual(found, wanted, (name, side))
 
-    @unittest.skipUnless(shutil.which("tshark"), "tshark is not installed")
+    @needs("tshark")
     def test_derived(self) -> None:
         """Each line of a stored report, derived from tshark's frames and times, files of records, and the RFC."""
         for name in FRAMES:

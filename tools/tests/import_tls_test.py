@@ -25,10 +25,11 @@ import time
 import unittest
 from collections.abc import Iterable, Iterator, Sequence
 
+from tests.programs import named
 from tools.tests import import_tools as tools
 from tools.tests import tls_talk
 
-PROGRAM = os.path.abspath(sys.argv.pop()) if len(sys.argv) > 1 and not sys.argv[-1].startswith("-") else None
+PROGRAM = next(iter(named()), None)
 EXAMPLE = tools.EXAMPLES / "stream_overrun_go.pcap"
 # What python3-cryptography has no cipher for, and what needs another kind of key exchange than a certificate.
 NOT_READ = ("ARIA",)
@@ -422,7 +423,6 @@ def talk_of_13(folder: str) -> None:
 
 if __name__ == "__main__":
     if sys.argv[1:2] == ["--talk"]:
-        assert PROGRAM  # the last word, which is the folder here
-        talk_of_13(PROGRAM)
+        talk_of_13(sys.argv[2])
     else:
         unittest.main()

@@ -43,7 +43,7 @@ installed() {
 
 # By the repository, and not by the Makefile: each module and asset.
 modules() {
-    find h2audit -name __pycache__ -prune -o -type f -printf "./$1/share/h2audit/%p\n"
+    find h2audit VERSION -name __pycache__ -prune -o -type f -printf "./$1/share/h2audit/%p\n"
 }
 
 # The completions for fish, and the man pages, with what ends their names: words FOLDER and ENDING.

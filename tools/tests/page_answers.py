@@ -1,7 +1,5 @@
 """Reports with the answers of h2audit-why about them, made by hand for the tests of the page."""
 
-from __future__ import annotations
-
 import io
 import json
 from typing import Any

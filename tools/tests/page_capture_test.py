@@ -3,8 +3,6 @@
     python3 -m tools.tests.page_capture_test [H2AUDIT] [TEST..]
 """
 
-from __future__ import annotations
-
 import html
 import os
 import pathlib

@@ -1,7 +1,6 @@
 """Tests of h2audit-page without a browser: what the page holds, what a large report becomes, and hostile reports."""
 
 import base64
-import contextlib
 import hashlib
 import html.parser
 import io
@@ -22,6 +21,7 @@ from h2audit.page import chart_data, document, program, tables
 from h2audit.page.library import Missing, library
 from h2audit.page.model import Audit, read_audit
 from h2audit.page.series import Series, series_of, thinned
+from tools.tests.running import ran
 from tools.tests.signals import SIGNALS, signalled
 
 TOP = pathlib.Path(__file__).resolve().parents[2]
@@ -283,15 +283,10 @@ class Hostile(unittest.TestCase):
 
 def answer(report: str, *words: str) -> tuple[int, str]:
     """The status of a run over a report's text, and its line on standard error."""
-    said = io.StringIO()
-    with tempfile.NamedTemporaryFile() as file, contextlib.redirect_stderr(said):
+    with tempfile.NamedTemporaryFile() as file:
         file.write(report.encode())
         file.flush()
-        try:
-            status = program.main([file.name, "-o", "/dev/null", *words])
-        except SystemExit as ended:
-            status = int(ended.code or 0)
-    return status, said.getvalue()
+        return ran("h2audit-page", program.main, file.name, "-o", "/dev/null", *words)
 
 
 class Refusals(unittest.TestCase):

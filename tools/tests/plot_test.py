@@ -4,8 +4,6 @@
     python3 -m tools.tests.plot_test --write    draws the pictures of docs/ anew
 """
 
-import contextlib
-import io
 import os
 import pathlib
 import re
@@ -17,6 +15,7 @@ import xml.etree.ElementTree as xml
 
 from h2audit.plot import drawing, program
 from h2audit.plot.windows import chosen, connections_of, windows_of
+from tools.tests.running import ran
 from tools.tests.signals import SIGNALS, hidden_in, signalled
 
 TOP = pathlib.Path(__file__).resolve().parents[2]
@@ -37,13 +36,7 @@ CHOICES = {
 
 def answer(*words: str) -> tuple[int, str]:
     """The status of a run and its line on standard error."""
-    said = io.StringIO()
-    with contextlib.redirect_stderr(said):
-        try:
-            status = program.main(list(words))
-        except SystemExit as ended:
-            status = int(ended.code or 0)
-    return status, said.getvalue()
+    return ran("h2audit-plot", program.main, *words)
 
 
 def reports() -> list[pathlib.Path]:

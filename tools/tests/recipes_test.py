@@ -13,10 +13,11 @@ import pathlib
 import re
 import shutil
 import subprocess
-import sys
 import tempfile
+import unittest
 from collections.abc import Iterator
 
+from tests.programs import named
 from tools.tests.companions import companion
 
 TOP = pathlib.Path(__file__).resolve().parents[2]
@@ -24,6 +25,7 @@ PAIR = re.compile(r"^```sh\n(.*?)^```\n+```text\n(.*?)^```$", re.M | re.S)
 LINK = re.compile(r"\]\(([^)#:]+)(?:#[^)]*)?\)")
 # What the stand-in has no report for.
 NEEDS_PROGRAM = re.compile(r"h2audit-(any|import|why) |h2audit-page \S+\.pcap |tcpdump -i |h2audit-fleet .*-requests ")
+STAND_IN = TOP / "tools" / "tests" / "h2audit_stand_in"
 AWKS = {awk: path for awk in ("mawk", "gawk", "original-awk") if (path := shutil.which(awk))}
 
 
@@ -73,27 +75,29 @@ def printed(command: str, bin_of: pathlib.Path) -> str:
     return run.stdout + run.stderr
 
 
-def main(words: list[str]) -> int:
-    program = pathlib.Path(words[0]).resolve() if words else TOP / "tools" / "tests" / "h2audit_stand_in"
-    for line in broken_links():
-        print(line)
-    wrong, number = len(broken_links()), 0
-    with tempfile.TemporaryDirectory() as folder:
-        for awk in AWKS:
-            bin_of = tools_folder(folder, program, awk)
-            for place, command, wanted in recipes():
-                if awk != next(iter(AWKS)) and "awk" not in command or not words and NEEDS_PROGRAM.search(command):
-                    continue
-                number += 1
-                found = printed(command, bin_of)
-                if found != wanted:
-                    wrong += 1
-                    print(f"{place}, {awk}: it is\n{found}and should be\n{wanted}")
-    if not number:
-        wrong = 1
-    print(f"{number} runs of commands, with {', '.join(AWKS)}: {wrong} wrong")
-    return 1 if wrong else 0
+class Documents(unittest.TestCase):
+    def test_links(self) -> None:
+        self.assertEqual(broken_links(), [])
+
+    def test_commands(self) -> None:
+        found = 0
+        with tempfile.TemporaryDirectory() as folder:
+            for awk in AWKS:
+                bin_of = tools_folder(folder, pathlib.Path(PROGRAM or STAND_IN), awk)
+                for place, command, wanted in recipes():
+                    if (
+                        awk != next(iter(AWKS))
+                        and "awk" not in command
+                        or not PROGRAM
+                        and NEEDS_PROGRAM.search(command)
+                    ):
+                        continue
+                    found += 1
+                    with self.subTest(place, awk=awk):
+                        self.assertEqual(printed(command, bin_of), wanted)
+        self.assertGreater(found, 10)
 
 
 if __name__ == "__main__":
-    sys.exit(main(sys.argv[1:]))
+    PROGRAM = next(iter(named()), None)
+    unittest.main()

@@ -11,11 +11,11 @@ import pathlib
 import resource
 import struct
 import subprocess
-import sys
 import tempfile
 import unittest
 
 from bench.generate import CLIENT, SERVER, Capture, Connection, frame, window_update
+from tests.programs import needed
 
 TOP = pathlib.Path(__file__).resolve().parents[2]
 
@@ -220,5 +220,5 @@ class Refusals(unittest.TestCase):
 
 
 if __name__ == "__main__":
-    PROGRAM = os.path.abspath(sys.argv.pop(1))
+    (PROGRAM,) = needed()
     unittest.main()

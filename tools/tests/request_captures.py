@@ -4,8 +4,6 @@
 hang, faults of which some can be doubted, lost packets, and clocks that go back.
 """
 
-from __future__ import annotations
-
 import struct
 from dataclasses import dataclass, field
 from random import Random

@@ -6,15 +6,14 @@ address space holds meanwhile. So does one of the memory that is allocated at on
 the reading up to its end.
 """
 
-import os
 import pathlib
 import struct
-import sys
 import tempfile
 import unittest
 from collections.abc import Iterator
 
 from tests.captures import ACK, END_HEADERS, FILE_HEADER, PREFACE, SYN, SYN_ACK, frame, frame_of, packet
+from tests.programs import needed
 from tools.tests.counting import Counter
 
 TOP = pathlib.Path(__file__).resolve().parents[2]
@@ -157,5 +156,5 @@ class Sizes(unittest.TestCase):
 
 
 if __name__ == "__main__":
-    PROGRAM = os.path.abspath(sys.argv.pop(1))
+    (PROGRAM,) = needed()
     unittest.main()

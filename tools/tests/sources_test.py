@@ -1,15 +1,19 @@
 """Tests of all sources: the form and the types of Python, and the length of lines.
 
-    python3 -m tools.tests.sources_test [Lines | Form | Types]
+    python3 -m tools.tests.sources_test [Lines | Imports | Form | Types | Packages]
 
 Python is formatted by black, its imports by isort; flake8 and mypy check it, as pyproject.toml and .flake8 say.
 """
 
+import os
 import pathlib
 import re
-import shutil
 import subprocess
+import sys
+import tempfile
 import unittest
+
+from tools.tests.packages import require
 
 TOP = pathlib.Path(__file__).resolve().parents[2]
 FOLDERS = (".ci", "bench", "h2audit", "tests", "tools")
@@ -52,10 +56,28 @@ class Lines(unittest.TestCase):
         self.assertEqual(too_long, [], f"more than {LONGEST} characters")
 
 
+class Imports(unittest.TestCase):
+    """One style: whole names from the top of the repository, and no path or future of a module's own."""
+
+    OTHER = re.compile(rb"^\s*(from \.|from __future__|sys\.path\.|sys\.path\[:0\])", re.M)
+
+    def test_style(self) -> None:
+        found = [str(file.relative_to(TOP)) for file in sources(".py", PYTHON) if self.OTHER.search(file.read_bytes())]
+        self.assertEqual(found, [])
+
+    def test_each_module(self) -> None:
+        """Each can be imported, and does nothing then."""
+        files = [file.relative_to(TOP).with_suffix("") for file in sources(".py", PYTHON) if file.suffix]
+        names = [".".join(file.parts) for file in files]
+        script = "import importlib, sys\nfor name in sys.argv[1:]: importlib.import_module(name)"
+        run = subprocess.run([sys.executable, "-c", script, *names], cwd=TOP, capture_output=True, text=True)
+        self.assertEqual((run.returncode, run.stdout, run.stderr), (0, "", ""))
+
+
 class Checked(unittest.TestCase):
     def passes(self, program: str, *words: str) -> None:
         """A Debian package that has this name says nothing against any source in Python."""
-        self.assertTrue(shutil.which(program), f"install the Debian package {program}, or run make deps as root")
+        require(self, program)
         files = map(str, sources(".py", PYTHON))
         run = subprocess.run([program, *words, *files], cwd=TOP, capture_output=True, text=True, timeout=220)
         self.assertEqual(run.returncode, 0, f"\n{run.stdout}{run.stderr}")
@@ -70,6 +92,26 @@ class Form(Checked):
 
     def test_faults(self) -> None:
         self.passes("flake8")
+
+
+class Packages(unittest.TestCase):
+    def test_missing(self) -> None:
+        """Tests name the packages that are missing, and install none."""
+        listed = re.findall(r"needed\+?=\((.*)\)$", (TOP / "tools" / "deps.sh").read_text(), re.M)
+        with tempfile.TemporaryDirectory() as folder:
+            for name in ("dpkg-query", "apt-get"):
+                program = pathlib.Path(folder, name)
+                program.write_text(f"#!/bin/sh\n: > {folder}/$1\nexit 1\n")
+                program.chmod(0o755)
+            surroundings = {**os.environ, "PATH": f"{folder}:{os.environ['PATH']}"}
+            run = subprocess.run(
+                [TOP / "tools" / "tests" / "run.sh"], capture_output=True, text=True, env=surroundings, timeout=60
+            )
+            ran = {path.name for path in pathlib.Path(folder).iterdir()}
+        self.assertEqual((run.returncode, run.stdout, ran), (1, "", {"dpkg-query", "apt-get", "-W"}))
+        said = "deps: install these Debian packages first, or run make deps as root: "
+        self.assertTrue(run.stderr.startswith(said + listed[0]), run.stderr)
+        self.assertIn(f" {listed[-1]}\n", run.stderr)
 
 
 class Types(Checked):

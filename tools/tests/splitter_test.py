@@ -14,11 +14,11 @@ import resource
 import signal
 import struct
 import subprocess
-import sys
 import tempfile
 import unittest
 
 from tests.parts import part_of
+from tests.programs import needed
 from tests.split_test import datagram_of, header_of, record_of, segment_of
 
 TOP = pathlib.Path(__file__).resolve().parents[2]
@@ -303,5 +303,5 @@ class Names(Splits):
 
 
 if __name__ == "__main__":
-    SPLIT = os.path.abspath(sys.argv.pop(1))
+    (SPLIT,) = needed()
     unittest.main()

@@ -8,13 +8,12 @@ The reader begins a walk over packets where the one before it is done. Here a re
 started before it (count.c), so there is a walk for each MiB but the last.
 """
 
-import os
 import pathlib
-import sys
 import tempfile
 import unittest
 
 from tests.captures import PREFACE, SERVER, SYN, SYN_ACK, Capture, capture_of, frame_of
+from tests.programs import needed
 from tools.tests.counting import Counter
 
 TOP = pathlib.Path(__file__).resolve().parents[2]
@@ -176,5 +175,5 @@ class Threads(unittest.TestCase):
 
 
 if __name__ == "__main__":
-    PROGRAM = os.path.abspath(sys.argv.pop(1))
+    (PROGRAM,) = needed()
     unittest.main()

@@ -1,7 +1,5 @@
 """A connection captured at both ends, generated with known times, for tests of h2audit-why --ends."""
 
-from __future__ import annotations
-
 import json
 import pathlib
 import struct

@@ -3,8 +3,6 @@
     python3 -m tools.tests.why_causes_test [H2AUDIT] [TEST..]
 """
 
-from __future__ import annotations
-
 import signal
 import struct
 import sys

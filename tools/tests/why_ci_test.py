@@ -3,8 +3,6 @@
     python3 -m tools.tests.why_ci_test [H2AUDIT] [TEST..]
 """
 
-from __future__ import annotations
-
 import os
 import pathlib
 import re
@@ -15,9 +13,9 @@ import unittest
 import xml.etree.ElementTree as ElementTree
 from collections import Counter
 
+from h2audit.report.command import Failed
 from h2audit.why import document, gates
 from h2audit.why.answer import Answer
-from h2audit.why.making import Failed
 from h2audit.why.program import Progress, answered, arguments
 from tests.captures import PREFACE, SYN, SYN_ACK, Capture, capture_of, frame
 from tests.reports_test import rows

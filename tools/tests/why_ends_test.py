@@ -3,8 +3,6 @@
     python3 -m tools.tests.why_ends_test [H2AUDIT] [TEST..]
 """
 
-from __future__ import annotations
-
 import os
 import pathlib
 import random

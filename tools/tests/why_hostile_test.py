@@ -3,8 +3,6 @@
     python3 -m tools.tests.why_hostile_test [H2AUDIT] [TEST..]
 """
 
-from __future__ import annotations
-
 import pathlib
 import struct
 import sys

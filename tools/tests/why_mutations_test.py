@@ -3,8 +3,6 @@
     python3 -m tools.tests.why_mutations_test [H2AUDIT] [NUMBER [FIRST]]
 """
 
-from __future__ import annotations
-
 import contextlib
 import io
 import pathlib
@@ -12,9 +10,9 @@ import random
 import sys
 import tempfile
 
+from h2audit.report.command import Failed
 from h2audit.why import document
 from h2audit.why.answer import Answer
-from h2audit.why.making import Failed
 from h2audit.why.program import Progress, answered, arguments
 from h2audit.why.text import Page
 from tools.tests.why_tools import TOP, has_programs, programs_of

@@ -3,8 +3,6 @@
 A client speaks to the proxy, and the proxy to the server, so that one capture has the connection as each end sees it.
 """
 
-from __future__ import annotations
-
 import contextlib
 import os
 import pathlib

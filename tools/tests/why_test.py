@@ -3,21 +3,19 @@
     python3 -m tools.tests.why_test [H2AUDIT] [TEST..]
 """
 
-from __future__ import annotations
-
 import json
 import pathlib
 import random
-import shutil
 import subprocess
 import sys
 import unittest
 from collections import Counter
 from collections.abc import Iterator
 
-from h2audit.why.making import Failed
+from h2audit.report.command import Failed
 from h2audit.why.spans import IDLE, NAMES, SENDING, STREAM_STALL, TCP, UNSEEN, WAITING, Course, Life
 from tools.tests import random_captures
+from tools.tests.packages import needs
 from tools.tests.why_tools import TOP, OnCaptures, has_programs, programs_of, ran, said_of
 
 EXAMPLES = sorted((TOP / "examples").glob("*.pcap"))
@@ -75,7 +73,7 @@ class Stored(OnCaptures):
             self.assertEqual((one.stdout, one.returncode), (other.stdout, other.returncode))
             self.assertTrue(one.stdout)
 
-    @unittest.skipUnless(shutil.which("tshark"), "tshark is not installed")
+    @needs("tshark")
     def test_by_tshark(self) -> None:
         """Names of requests, GOAWAY and RST_STREAM with their codes are those that tshark sees."""
         names = 0

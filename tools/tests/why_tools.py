@@ -1,7 +1,5 @@
 """What the tests of h2audit-why share: where the programs stand, and runs of them."""
 
-from __future__ import annotations
-
 import json
 import os
 import pathlib
@@ -15,6 +13,7 @@ from h2audit.report.lines import Finding, Opening, Stall, read_lines
 from h2audit.why import document
 from h2audit.why.program import Progress, answered, arguments
 from h2audit.why.spans import NAMES
+from tests.programs import named
 
 TOP = pathlib.Path(__file__).resolve().parents[2]
 
@@ -29,8 +28,7 @@ Json = dict[str, Any]
 
 def programs_of(words: list[str]) -> list[str]:
     """Takes the program that audits off the command line of a test, where one is named first, and leaves the rest."""
-    if len(words) > 1 and os.access(words[1], os.X_OK):
-        os.environ["H2AUDIT"] = str(pathlib.Path(words.pop(1)).resolve())
+    os.environ.update({"H2AUDIT": program for program in named()})
     for name, path in BUILT.items():
         if name not in os.environ and path.exists():
             os.environ[name] = str(path)

@@ -3,8 +3,6 @@
 Unlike a proxy it ends no TCP, so handshakes take the round trip, and lost packets are sent again.
 """
 
-from __future__ import annotations
-
 import contextlib
 import os
 import pathlib

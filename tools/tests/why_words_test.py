@@ -3,8 +3,6 @@
     python3 -m tools.tests.why_words_test [H2AUDIT] [TEST..]
 """
 
-from __future__ import annotations
-
 import contextlib
 import os
 import pty

@@ -14,6 +14,8 @@ import time
 import unittest
 from collections.abc import Callable
 
+from h2audit.report import VERSION
+from tools import version
 from tools.tests.companions import companion
 
 TOP = pathlib.Path(__file__).resolve().parents[2]
@@ -30,13 +32,17 @@ def output_of(*words: str | pathlib.Path, home: str | None = None) -> str:
     return subprocess.run(words, check=True, capture_output=True, text=True, cwd=TOP, env=surroundings).stdout
 
 
+def path_of(name: str) -> pathlib.Path:
+    """A program beside h2audit and h2audit-split, by its name."""
+    return TOP / "tools" / name if name.removeprefix("h2audit-") in IN_PYTHON else companion(name)
+
+
 def options_of(name: str) -> list[str]:
     """The long options of a program's help."""
     if name in HELP_TEXTS:
         text = HELP_TEXTS[name].read_text()
     else:
-        in_python = name.removeprefix("h2audit-") in IN_PYTHON
-        text = output_of(TOP / "tools" / name if in_python else companion(name), "--help").split("\noptions:\n")[1]
+        text = output_of(path_of(name), "--help").split("\noptions:\n")[1]
     return sorted(set(OPTION.findall(text)))
 
 
@@ -44,20 +50,35 @@ PROGRAMS = {name: options_of(name) for name in (*HELP_TEXTS, *(f"h2audit-{end}" 
 
 
 class Version(unittest.TestCase):
-    def test_package(self) -> None:
-        """The package has the version that the program prints, and so have the programs in Python."""
-        source = (TOP / "crates" / "h2audit" / "src" / "command_line" / "command.rt").read_text()
-        (version,) = re.findall(r'const VERSION: &str = "(.*)";', source)
+    """The version is that of VERSION, wherever it stands once more."""
+
+    def test_places(self) -> None:
+        for place in version.places():
+            self.assertEqual(place.found(), [place.wanted], f"{place.file}: run make version")
+
+    def test_printed(self) -> None:
+        for name in PROGRAMS.keys() - HELP_TEXTS.keys():
+            for word in ("-V", "--version"):
+                self.assertEqual(output_of(path_of(name), word), f"{name} {VERSION}\n")
+
+    def test_changes(self) -> None:
+        """Both lists of changes begin with it, or with what is not released."""
+        heading = re.findall(r"^## (.*)$", (TOP / "CHANGELOG.md").read_text(), re.M)[0]
+        if VERSION.endswith("-dev"):
+            self.assertEqual(heading, "Unreleased")
+        else:
+            self.assertTrue(version.date_of(VERSION) and heading.startswith(f"{VERSION} ("), heading)
         changelog = (TOP / "tools" / "package" / "changelog").read_text()
-        self.assertTrue(changelog.startswith(f"h2audit ({version}) "))
-        self.assertIn(f'VERSION = "{version}"\n', (TOP / "h2audit" / "report" / "__init__.py").read_text())
+        self.assertTrue(changelog.startswith(f"h2audit ({VERSION.replace('-', '~')}) "))
 
 
 class Man(unittest.TestCase):
     def test_lint(self) -> None:
-        """mandoc finds nothing; whether other manuals are on this machine says nothing of ours."""
+        """mandoc finds nothing. Whether other manuals are on this machine says nothing of ours, and where the system
+        would be named stands the version."""
         run = subprocess.run(["mandoc", "-Tlint", *MAN.glob("*.1")], capture_output=True, text=True)
-        self.assertEqual([line for line in run.stdout.splitlines() if "referenced manual not found" not in line], [])
+        passed = re.compile("referenced manual not found|operating system explicitly specified: Os h2audit ")
+        self.assertEqual([line for line in run.stdout.splitlines() if not passed.search(line)], [])
 
     def test_options(self) -> None:
         for name, options in PROGRAMS.items():
