@@ -7,6 +7,7 @@
     ends      when connections had their last packets
     programs  one run of a program over a capture: its bytes, its digest, its time
     tasks     what a worker does with a capture; large has the tasks of large ones
+    answers   what h2audit-why tells of a capture, for the tables of requests
     carrier   what is asked of that which carries tasks to workers
     pool      the workers of this machine; worker is what each of them does
     cluster   the workers of a scheduler of dask by its address
@@ -19,5 +20,5 @@
     progress  the line that tells how far it is
 
 The modules that a worker of dask needs are sent to it with each task, and import nothing but the standard library:
-programs, sniff, ends, tasks and large. So a worker needs h2audit and python3-distributed alone.
+programs, sniff, ends, answers, tasks and large. So a worker needs h2audit and python3-distributed alone.
 """

@@ -16,7 +16,7 @@ from dataclasses import dataclass, field
 from functools import partial
 from typing import Any
 
-from h2audit.fleet import large, tasks
+from h2audit.fleet import answers, large, tasks
 from h2audit.fleet.carrier import Client, Future
 from h2audit.fleet.tasks import Answer, Order
 from h2audit.fleet.walk import Found
@@ -161,14 +161,16 @@ class Course:
         for capture in captures:
             capture.tries += 1
         paths = [capture.found.path for capture in captures]
-        future = self.client.submit(tasks.audit_all, paths, self.order, priority=USUAL)
+        work = large.answered_all if answers.are_wanted(self.order) else tasks.audit_all
+        future = self.client.submit(work, paths, self.order, priority=USUAL)
         self.fly(future, partial(self.after_all, captures))
 
     def begin(self, capture: Capture) -> None:
         capture.tries += 1
         path = capture.found.path
         if not capture.is_large:
-            self.submit(capture, self.after_whole, tasks.audit, path, self.order)
+            work = large.answered if answers.are_wanted(self.order) else tasks.audit
+            self.submit(capture, self.after_whole, work, path, self.order)
             return
         self.large += 1
         parts = 0 if capture.is_imported else capture.parts
@@ -240,7 +242,7 @@ class Course:
         capture.seconds += answer.get("seconds") or 0.0
         if answer["outcome"] == "import":
             self.hold_for_import(capture)
-        elif answer["outcome"] == "failed" and capture.tries < self.limits.tries and is_worth_a_try(answer):
+        elif capture.tries < self.limits.tries and is_worth_a_try(answer):
             self.again(capture, answer)
         else:
             self.finish(capture, answer)
@@ -288,7 +290,7 @@ class Course:
             self.import_first(capture)
         elif answer["outcome"] == "split":
             capture.seconds += answer["seconds"]
-            if capture.is_imported:
+            if capture.is_imported and not answers.are_wanted(self.order):
                 # Its parts take its room.
                 with suppress(OSError):
                     os.unlink(capture.divided["made"])
@@ -355,5 +357,6 @@ def folder_of_parts(capture: Capture) -> str:
 
 
 def is_worth_a_try(answer: Answer) -> bool:
-    """Whether another try may end otherwise: not where a file or a program is missing."""
-    return not str(answer["reason"]).startswith(("no-program", "not-"))
+    """Whether something failed that may go well another time: not where a file or a program is missing."""
+    has_failed = answer["outcome"] == "failed" or answer.get("is_worth_a_try", False)
+    return bool(has_failed) and not str(answer["reason"]).startswith(("no-program", "not-"))

@@ -13,19 +13,22 @@ import stat
 import tempfile
 from collections.abc import Iterable, Iterator
 from contextlib import contextmanager, suppress
+from itertools import chain
 from pathlib import Path
 from typing import Any
 
 from h2audit.fleet import names
-from h2audit.fleet.rows import HTTP2, Row, Rows, rows_of, unpacked
+from h2audit.fleet.rows import HTTP2, REQUESTS, Row, Rows, Told, rows_of, unpacked
 from h2audit.fleet.verdicts import Verdicts
 from h2audit.report.blame import KINDS
 from h2audit.report.lines import Refused
 
 SCHEMA = Path(__file__).with_name("schema.sql")
-SCHEMA_VERSION = 2
+SCHEMA_VERSION = 3
 APPLICATION = 1748123206
-TABLES = ("passed_over", "unopened", "findings", "stalls", "connections")
+# Those that h2audit-why tells of, and those of reports.
+TOLD = (REQUESTS, "directions", "certainty")
+TABLES = (*TOLD, "passed_over", "unopened", "findings", "stalls", "connections")
 HEADS = ("records", "segments", "snapped", "not_ipv4", "fragments", "not_tcp", "refused")
 COLUMNS = (
     "path",
@@ -45,6 +48,7 @@ COLUMNS = (
     "report_sha256",
     "report_bytes",
     *HEADS,
+    REQUESTS,
 )
 ROWS_AT_ONCE = 10000
 VERDICTS = f"""
@@ -61,16 +65,22 @@ class Unusable(Exception):
 class Database:
     """The database of captures, opened to be written."""
 
-    def __init__(self, path: str, is_resumed: bool, reports: str | None = None) -> None:
+    def __init__(self, path: str, is_resumed: bool, reports: str | None = None, is_private: bool = False) -> None:
+        """Makes it where it is not there; a private one is its owner's alone."""
         self.reports = reports
         path = os.path.abspath(path)
-        self.held = held(path)
+        self.held = held(path, 0o600 if is_private else 0o666)
         is_there = os.fstat(self.held).st_size > 0
         try:
             self.base = sqlite3.connect(path, isolation_level=None, timeout=60)
             self.check() if is_there else self.make()
+            self.columns = {
+                table: len(self.base.execute(f"PRAGMA table_info({table})").fetchall()) - 1 for table in TOLD
+            }
             if not is_resumed and self.base.execute("SELECT 1 FROM captures LIMIT 1").fetchone():
                 raise Unusable("it has captures already: --resume goes on with it")
+            # What is taken away may be names of requests.
+            self.base.execute("PRAGMA secure_delete = ON")
             self.base.execute("PRAGMA journal_mode = WAL")
             self.base.execute("PRAGMA synchronous = NORMAL")
         except (sqlite3.Error, Unusable) as error:
@@ -105,7 +115,7 @@ class Database:
 
     def entered(self) -> Iterator[tuple[str, Any]]:
         """What stands for each capture: its path, and what a change of it would change."""
-        wanted = "path, outcome, size, modified, version, options"
+        wanted = "path, outcome, reason, size, modified, version, options"
         for path, *more in self.base.execute(f"SELECT {wanted} FROM captures"):
             yield path, tuple(more)
 
@@ -130,19 +140,21 @@ class Database:
         """Enters a capture with all that its report says; what was there of it goes. Answers with the row."""
         row = {column: answer.get(column) for column in COLUMNS}
         row |= {"path": names.word_of(path), "entered": now()}
-        rows = Rows(answer.get("ends"))
-        packed = answer.get("report")
+        rows, told = Rows(answer.get("ends")), Told(self.columns)
+        packed, packed_rows = answer.get("report"), answer.get("rows")
         try:
             if packed is not None and self.reports:
                 keep(self.reports, answer["report_sha256"], packed)
             with self.transaction():
-                self.put_rows(self.put(row), rows_of(unpacked(packed), rows) if packed is not None else ())
-                row |= dict(zip(HEADS, rows.heads))
+                found = rows_of(unpacked(packed), rows) if packed is not None else iter(())
+                more = told.of(unpacked(packed_rows)) if packed_rows is not None else iter(())
+                self.put_rows(self.put(row), chain(found, more))
+                row |= dict(zip(HEADS, rows.heads)) | {REQUESTS: told.requests if packed_rows is not None else None}
                 self.put(row)
         except (Refused, sqlite3.IntegrityError, OverflowError) as why:
             # SQLite holds numbers below 2^63.
             why = Refused("a number of the report is too large") if isinstance(why, OverflowError) else why
-            row |= {"outcome": "failed", "reason": f"bad-report: {why}"} | dict.fromkeys(HEADS)
+            row |= {"outcome": "failed", "reason": f"bad-report: {why}"} | dict.fromkeys((*HEADS, REQUESTS))
             with self.transaction():
                 self.put_rows(self.put(row), ())
             rows.http2 = 0
@@ -190,13 +202,13 @@ class Database:
             lines.clear()
 
 
-def held(path: str) -> int:
+def held(path: str, mode: int) -> int:
     """The open file of a database, which no other h2audit-fleet writes until it is closed.
 
     This lock is not one of SQLite's, which would shut out those that read. It has to be closed after the database: to
     close any open file of it gives up SQLite's locks.
     """
-    file = os.open(path, os.O_RDWR | os.O_CREAT | os.O_NONBLOCK, 0o666)
+    file = os.open(path, os.O_RDWR | os.O_CREAT | os.O_NONBLOCK, mode)
     try:
         if not stat.S_ISREG(os.fstat(file).st_mode):
             raise Unusable("it is no file")

@@ -1,4 +1,8 @@
-"""Tasks of large captures: each is imported first where it has to be, split, audited in parts, and merged.
+"""Tasks of captures that stand in a folder for a while, imported: those whose requests are entered, and large ones.
+
+    answered      the audit of a small capture with its requests
+
+A large one is imported first where it has to be, split, audited in parts, and merged:
 
     import_first  the import of a capture that may be large, into a folder that all workers share
     split         a large capture into parts, in such a folder
@@ -16,7 +20,7 @@ import tempfile
 import time
 from typing import IO
 
-from h2audit.fleet import programs
+from h2audit.fleet import answers, programs
 from h2audit.fleet.tasks import (
     AUDIT,
     IMPORT,
@@ -31,6 +35,7 @@ from h2audit.fleet.tasks import (
     has_more,
     is_imported,
     kept,
+    may_be_large,
     named,
     on_capture,
     opened,
@@ -49,8 +54,9 @@ def import_first(path: bytes, folder: str, order: Order) -> Answer:
 
 
 def import_file(file: int, name: str, folder: str, order: Order) -> Answer:
-    made, map_file = (os.path.join(folder, f"imported.{kind}") for kind in ("pcap", "map"))
-    words = [IMPORT_ALONE, *words_of_keys(order), "-o", made, "-m", map_file, name]
+    made, map_file, course = (os.path.join(folder, each) for each in (answers.MADE, answers.MAP, answers.COURSE))
+    words = [IMPORT_ALONE, *words_of_keys(order), "-o", made, "-m", map_file]
+    words += [*["--course", course] * answers.are_wanted(order), name]
     with tempfile.TemporaryFile() as output:
         answer = run_on(words, file, output, order, is_fed=False) | {"program": IMPORT}
     if answer["outcome"] != "audited":
@@ -103,7 +109,8 @@ def part(folder: str, number: int, order: Order) -> Answer:
     answer: Answer = {"outcome": "failed", "status": None, "worker": worker_name()}
     try:
         with open(name + ".report", "w+b") as output:
-            run = programs.run([AUDIT, "--workers", "1", name + ".pcap"], None, output, order["timeout"])
+            words = [AUDIT, *answers.words_of_audit(order), name + ".pcap"]
+            run = programs.run(words, None, output, order["timeout"])
     except (programs.NoProgram, OSError) as why:
         return answer | {"reason": named(why)}
     return answer | verdict(run) | {"seconds": run.seconds}
@@ -119,8 +126,8 @@ def merge(path: bytes, divided: Answer, order: Order) -> Answer:
     whole |= {"program": IMPORT if "map" in divided else MERGE, "worker": worker_name()}
     answer: Answer = {"outcome": "failed", "status": None}
     try:
-        with tempfile.TemporaryFile() as output:
-            answer |= verdict(programs.run(words_of_merge(divided), None, output, order["timeout"]))
+        with answers.report_file(folder_of(divided), order) as output:
+            answer |= verdict(programs.run(words_of_merge(divided, order), None, output, order["timeout"]))
             if answer["outcome"] == "audited":
                 answer |= after_merge(path, divided, output, order)
     except (Unread, programs.NoProgram, OSError) as why:
@@ -128,10 +135,15 @@ def merge(path: bytes, divided: Answer, order: Order) -> Answer:
     return whole | answer | {"seconds": time.monotonic() - begin}
 
 
-def words_of_merge(divided: Answer) -> list[str]:
+def folder_of(divided: Answer) -> str:
+    """The folder of an import, or of parts where there is none."""
+    return str(os.path.dirname(divided["map"]) if "map" in divided else divided["folder"])
+
+
+def words_of_merge(divided: Answer, order: Order) -> list[str]:
     """What gives the report: the merge of the parts that stand, or the audit of what an import made."""
     if divided["outcome"] == "imported":
-        return [AUDIT, "--workers", "1", divided["made"]]
+        return [AUDIT, *answers.words_of_audit(order), divided["made"]]
     return [MERGE, *["--standing"] * bool(divided["reason"]), divided["folder"]]
 
 
@@ -140,9 +152,8 @@ def after_merge(path: bytes, divided: Answer, report: IO[bytes], order: Order) -
     file = opened(path)
     try:
         if "map" in divided:
-            answer = of_original(file, divided["map"], report, order)
-            is_part = answer["outcome"] == "audited" and divided["reason"]
-            return answer | ({"outcome": "partial", "status": REFUSED, "reason": divided["reason"]} if is_part else {})
+            answer = of_original(file, divided, report, order)
+            return answer | of_refused_parts(divided, answer)
         answer = {"outcome": "audited"} | kept(report)
         if has_more(file, order, answer):
             return {"outcome": "import"}
@@ -152,13 +163,48 @@ def after_merge(path: bytes, divided: Answer, report: IO[bytes], order: Order) -
         os.close(file)
 
 
-def of_original(file: int, map_file: str, report: IO[bytes], order: Order) -> Answer:
-    """The report of what an import made, as one about the original."""
-    os.lseek(report.fileno(), 0, os.SEEK_SET)
-    with tempfile.TemporaryFile() as output:
-        run = programs.run([IMPORT, "--map", map_file], report.fileno(), output, order["timeout"])
-        answer = verdict(run)
-        return answer | (kept(output) | ends_of(file, IMPORT, output, order) if answer["outcome"] == "audited" else {})
+def of_refused_parts(divided: Answer, answer: Answer) -> Answer:
+    """What parts that were refused say of the whole, where the others stand."""
+    reasons = [reason for reason in (divided["reason"], answer["reason"]) if reason]
+    if answer["outcome"] not in ("audited", "partial") or not divided["reason"]:
+        return {}
+    return {"outcome": "partial", "status": REFUSED, "reason": "; ".join(reasons)}
+
+
+def of_original(file: int, divided: Answer, report: IO[bytes], order: Order) -> Answer:
+    """The report of what an import made, as one about the original, and its requests where they are wanted."""
+    with tempfile.TemporaryFile() as plain, tempfile.TemporaryFile() as output:
+        if answers.are_wanted(order):
+            answers.without_credits(report, plain)
+        source = (plain if answers.are_wanted(order) else report).fileno()
+        os.lseek(source, 0, os.SEEK_SET)
+        answer = verdict(programs.run([IMPORT, "--map", divided["map"]], source, output, order["timeout"]))
+        if answer["outcome"] != "audited":
+            return answer
+        answer |= kept(output)
+        if not answers.are_wanted(order):
+            return answer | ends_of(file, IMPORT, output, order)
+        folder = folder_of(divided)
+        return answer | answers.ends_of(folder, output) | answers.rows_of(folder, order)
+
+
+def answered(path: bytes, order: Order) -> Answer:
+    """The audit of a capture with its requests; or says that it is, or may be, a large one."""
+    return on_capture(path, lambda file, known: answered_file(path, file, known, order))
+
+
+def answered_all(paths: list[bytes], order: Order) -> list[Answer]:
+    return [answered(path, order) for path in paths]
+
+
+def answered_file(path: bytes, file: int, known: Answer, order: Order) -> Answer:
+    if may_be_large(file, order):
+        return {"outcome": "import"}
+    with tempfile.TemporaryDirectory(prefix="h2audit-fleet-", dir=order.get("scratch")) as folder:
+        imported = while_unchanged(file, lambda name: import_file(file, name, folder, order))
+        if parts_of(imported.get("made_size"), order):
+            return {"outcome": "import"}
+        return merge(path, known | imported, order) if imported["outcome"] == "imported" else imported
 
 
 def in_parts(path: bytes, parts: int, order: Order) -> Answer:
@@ -182,7 +228,7 @@ def imported_in_parts(path: bytes, scratch: str, folder: str, order: Order) -> A
     if not parts:
         return answer
     divided = split_made(answer, folder, parts, order)
-    if divided["outcome"] == "split":
+    if divided["outcome"] == "split" and not answers.are_wanted(order):
         os.unlink(answer["made"])
     return divided
 

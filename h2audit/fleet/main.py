@@ -11,6 +11,7 @@ from contextlib import contextmanager
 from types import FrameType
 
 from h2audit.fleet import collect, names, tasks
+from h2audit.fleet.answers import NAMED, NO_REQUESTS
 from h2audit.fleet.carrier import Client
 from h2audit.fleet.course import Capture, Course, Limits, Lost
 from h2audit.fleet.database import Database, Unusable
@@ -92,7 +93,7 @@ def audited(asked: Asked, interruption: Interruption) -> int:
         workers = workers_of(asked, len(os.sched_getaffinity(0)))
     except ImportError as missing:
         return failed(NAME, MISSING, f"{missing.name} is not installed (Debian: apt-get install python3-distributed)")
-    database = Database(asked.db, asked.resume, asked.reports)
+    database = Database(asked.db, asked.resume, asked.reports, asked.requests == NAMED)
     try:
         interruption.is_asked_for = True
         database.forget(walk.folders.values())
@@ -133,6 +134,7 @@ def run(
         "imports": asked.imports,
         "timeout": asked.timeout,
         "split_above": asked.split_above * MEGABYTE,
+        "requests": asked.requests,
     }
     shared = asked.scratch or (tempfile.gettempdir() if asked.scheduler is None else None)
     limits = Limits(asked.retries + 1, os.path.abspath(shared) if shared else None)
@@ -155,16 +157,20 @@ def options_of(asked: Asked) -> str:
     for key in asked.keys:
         with open(key, "rb") as file:
             digest.update(hashlib.sha256(file.read()).digest())
-    return f"import {asked.imports}" + f" keys {digest.hexdigest()}" * bool(asked.keys)
+    requests = f" requests {asked.requests}" * bool(asked.requests)
+    return f"import {asked.imports}" + f" keys {digest.hexdigest()}" * bool(asked.keys) + requests
 
 
 def missing_in(database: Database, walk: Walk, version: str, options: str) -> list[Found]:
-    """The captures that do not stand in the database, failed there, or have changed since by their size or time."""
+    """The captures that do not stand in the database, failed there, also without requests that are wanted, or have
+    changed since by their size or time.
+    """
     standing = {path: row for path, row in database.entered()}
 
     def stands(found: Found) -> bool:
-        outcome, *row = standing.get(names.word_of(found.path), ("failed",))
-        return bool(outcome != "failed") and row == [found.size, found.modified, version, options]
+        outcome, reason, *row = standing.get(names.word_of(found.path), ("failed", None))
+        has_failed = outcome == "failed" or NO_REQUESTS in (reason or "")
+        return not has_failed and row == [found.size, found.modified, version, options]
 
     return [found for found in walk.in_order() if not stands(found)]
 

@@ -1,18 +1,36 @@
-"""The rows of the tables that a report makes. It is read line by line, so memory does not grow with the report."""
+"""The rows of the tables that a report makes, and those that h2audit-why wrote.
 
+Both are read line by line, so memory does not grow with them.
+"""
+
+import json
 import zlib
 from collections.abc import Iterable, Iterator, Mapping
 from io import BufferedReader, RawIOBase
 from typing import BinaryIO
 
 from h2audit.report.blame import OTHER_SIDE, STALL_BEGIN, STALL_END, who_broke_it
-from h2audit.report.lines import Audited, Capture, Finding, Flow, Line, Opening, PassedOver, Stall, Unopened, read_lines
+from h2audit.report.lines import (
+    Audited,
+    Capture,
+    Finding,
+    Flow,
+    Line,
+    Opening,
+    PassedOver,
+    Refused,
+    Stall,
+    Unopened,
+    read_lines,
+)
 
 # A table's name, and the values of a row but for the capture's number.
 Row = tuple[str, tuple[object, ...]]
 BITS_OF_PACKED, PIECE = 15, 1 << 16
 # What the bytes of a connection are that was audited.
 HTTP2 = "http2"
+# The first of the lines that h2audit-why writes, the most bytes of another, and the table that is counted.
+FIRST_ROW, LONGEST_ROW, REQUESTS = b"h2audit-rows 1\n", 1 << 20, "requests"
 
 
 class Unpacked(RawIOBase):
@@ -129,3 +147,40 @@ def flow_values(flow: Flow | None) -> tuple[int | str | None, ...]:
 def rows_of(report: BinaryIO, rows: Rows) -> Iterator[Row]:
     """The rows of a report; Refused where it is none."""
     return rows.of(read_lines(report))
+
+
+# What h2audit-why tells
+
+
+class Told:
+    """Rows that h2audit-why wrote, each checked to be one of these tables, which have so many columns."""
+
+    def __init__(self, columns: Mapping[str, int]) -> None:
+        self.columns = columns
+        self.requests = 0
+
+    def of(self, lines: BinaryIO) -> Iterator[Row]:
+        if lines.readline(LONGEST_ROW) != FIRST_ROW:
+            raise Refused("rows of h2audit-why of another version")
+        number = 1
+        while line := lines.readline(LONGEST_ROW):
+            number += 1
+            table, values = row_in(line)
+            if self.columns.get(table) != len(values):
+                raise Refused(f"line {number} of h2audit-why is no row")
+            self.requests += table == REQUESTS
+            yield table, values
+
+
+def row_in(line: bytes) -> Row:
+    """The table and the values of a line; of no table where it is no row."""
+    try:
+        table, *values = json.loads(line)
+    except (ValueError, TypeError, RecursionError):
+        return "", ()
+    return (table, tuple(values)) if isinstance(table, str) and all(map(is_value, values)) else ("", ())
+
+
+def is_value(value: object) -> bool:
+    """A number, a text that no terminal acts on, or nothing."""
+    return value is None or isinstance(value, int) or isinstance(value, str) and value.isprintable()

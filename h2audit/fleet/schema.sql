@@ -1,6 +1,6 @@
 -- The database of h2audit-fleet. docs/FLEET.md says what each column means.
 PRAGMA application_id = 1748123206;
-PRAGMA user_version = 2;
+PRAGMA user_version = 3;
 
 CREATE TABLE captures (
     id INTEGER PRIMARY KEY,
@@ -26,7 +26,8 @@ CREATE TABLE captures (
     not_ipv4 INTEGER,
     fragments INTEGER,
     not_tcp INTEGER,
-    refused INTEGER
+    refused INTEGER,
+    requests INTEGER
 );
 
 CREATE TABLE passed_over (
@@ -100,20 +101,101 @@ CREATE TABLE kinds (
     broke TEXT NOT NULL CHECK (broke IN ('the named side', 'the other side', 'nobody'))
 ) WITHOUT ROWID;
 
+-- What h2audit-why tells of each request, where --requests or --unnamed-requests asked for it.
+CREATE TABLE requests (
+    capture INTEGER NOT NULL,
+    connection INTEGER NOT NULL,
+    stream INTEGER NOT NULL,
+    name TEXT,
+    method TEXT,
+    request_path TEXT,
+    authority TEXT,
+    status INTEGER,
+    grpc_status INTEGER,
+    promised_on INTEGER,
+    packet INTEGER NOT NULL,
+    frame INTEGER,
+    time INTEGER NOT NULL,
+    nanos INTEGER NOT NULL,
+    stalled_nanos INTEGER NOT NULL,
+    hung INTEGER NOT NULL CHECK (hung IN (0, 1)),
+    ended TEXT NOT NULL,
+    ended_by TEXT CHECK (ended_by IN ('client', 'server')),
+    code INTEGER,
+    end_packet INTEGER,
+    end_frame INTEGER,
+    end_time INTEGER,
+    cause TEXT NOT NULL,
+    why TEXT,
+    side TEXT CHECK (side IN ('client', 'server')),
+    ask TEXT CHECK (ask IN ('client', 'server')),
+    cause_nanos INTEGER NOT NULL,
+    first_packet INTEGER,
+    last_packet INTEGER,
+    proved INTEGER NOT NULL CHECK (proved IN (0, 1)),
+    text TEXT NOT NULL,
+    needed_window INTEGER,
+    PRIMARY KEY (capture, connection, stream),
+    FOREIGN KEY (capture, connection) REFERENCES connections (capture, number)
+) WITHOUT ROWID;
+
+-- What one side sent of a request: the seven shares sum to its life.
+CREATE TABLE directions (
+    capture INTEGER NOT NULL,
+    connection INTEGER NOT NULL,
+    stream INTEGER NOT NULL,
+    side TEXT NOT NULL CHECK (side IN ('client', 'server')),
+    nanos INTEGER NOT NULL,
+    content INTEGER NOT NULL,
+    stalls INTEGER NOT NULL,
+    waiting_nanos INTEGER NOT NULL,
+    sending_nanos INTEGER NOT NULL,
+    stream_stall_nanos INTEGER NOT NULL,
+    connection_stall_nanos INTEGER NOT NULL,
+    tcp_nanos INTEGER NOT NULL,
+    idle_nanos INTEGER NOT NULL,
+    unseen_nanos INTEGER NOT NULL,
+    first_packet INTEGER,
+    last_packet INTEGER,
+    PRIMARY KEY (capture, connection, stream, side),
+    FOREIGN KEY (capture, connection, stream) REFERENCES requests (capture, connection, stream)
+) WITHOUT ROWID;
+
+-- Whether a fault can be doubted, and what set the window that it is about.
+CREATE TABLE certainty (
+    capture INTEGER NOT NULL,
+    connection INTEGER NOT NULL,
+    frame INTEGER NOT NULL,
+    side TEXT NOT NULL CHECK (side IN ('client', 'server')),
+    kind TEXT NOT NULL,
+    stream INTEGER NOT NULL,
+    certainty TEXT NOT NULL CHECK (certainty IN ('certain', 'settings', 'gap', 'clock')),
+    doubt TEXT,
+    set_by TEXT,
+    PRIMARY KEY (capture, connection, frame, kind, stream, side),
+    FOREIGN KEY (capture, connection) REFERENCES connections (capture, number)
+) WITHOUT ROWID;
+
 CREATE INDEX captures_by_outcome ON captures (outcome, reason);
 CREATE INDEX connections_by_client ON connections (client);
 CREATE INDEX connections_by_server ON connections (server);
 CREATE INDEX faults_by_kind_and_side ON findings (kind, broke) WHERE broke <> 'nobody';
 CREATE INDEX stalls_by_nanos ON stalls (nanos);
+CREATE INDEX requests_by_cause ON requests (cause, cause_nanos);
 
--- Each fault, with the endpoint of the side that broke the rule.
+-- Each fault, with the endpoint of the side that broke the rule, and whether it can be doubted, where that is known.
 CREATE VIEW faults AS
 SELECT captures.path, findings.connection, findings.frame, findings.record, findings.time, findings.kind,
        findings.stream, findings.value, findings.broke,
-       CASE findings.broke WHEN 'client' THEN connections.client ELSE connections.server END AS endpoint
+       CASE findings.broke WHEN 'client' THEN connections.client ELSE connections.server END AS endpoint,
+       certainty.certainty, certainty.doubt
 FROM findings
 JOIN captures ON captures.id = findings.capture
 JOIN connections ON connections.capture = findings.capture AND connections.number = findings.connection
+LEFT JOIN certainty
+    ON certainty.capture = findings.capture AND certainty.connection = findings.connection
+       AND certainty.frame = findings.frame AND certainty.kind = findings.kind
+       AND certainty.stream = findings.stream AND certainty.side = findings.side
 WHERE findings.broke <> 'nobody';
 
 -- How many faults of each kind each side has, in how many connections and captures.
@@ -251,3 +333,39 @@ SELECT captures.path,
 FROM captures
 LEFT JOIN (SELECT capture, COUNT(*) AS connections FROM connections WHERE holds = 'http2' GROUP BY capture) AS http2
     ON http2.capture = captures.id;
+
+-- The requests that a window or TCP held back, the worst first: those that hung, then by how long they were held.
+CREATE VIEW worst_requests AS
+SELECT captures.path, requests.connection, requests.stream, requests.name, requests.status, requests.hung,
+       requests.cause, requests.why, requests.cause_nanos AS nanos, requests.cause_nanos / 1e6 AS milliseconds,
+       100.0 * requests.cause_nanos / requests.nanos AS percent, requests.ask,
+       CASE requests.ask WHEN 'client' THEN connections.client WHEN 'server' THEN connections.server END AS endpoint,
+       requests.first_packet, requests.last_packet, requests.text
+FROM requests
+JOIN captures ON captures.id = requests.capture
+JOIN connections ON connections.capture = requests.capture AND connections.number = requests.connection
+WHERE requests.cause IN ('stream-window', 'connection-window', 'tcp')
+ORDER BY requests.hung DESC, requests.cause_nanos DESC, captures.path, requests.connection, requests.stream;
+
+-- What each peer held back, by which window or TCP, and for how long; of a client its address.
+CREATE VIEW held_back_by_peer AS
+SELECT CASE requests.ask
+           WHEN 'client' THEN rtrim(rtrim(connections.client, '0123456789'), ':')
+           ELSE connections.server
+       END AS peer,
+       requests.ask AS role, requests.cause, requests.name, COUNT(*) AS requests, SUM(requests.hung) AS hung,
+       MAX(requests.cause_nanos) / 1e6 AS longest_milliseconds,
+       TOTAL(requests.cause_nanos) / 1e6 AS total_milliseconds, COUNT(DISTINCT requests.capture) AS captures
+FROM requests
+JOIN connections ON connections.capture = requests.capture AND connections.number = requests.connection
+WHERE requests.ask IS NOT NULL AND requests.cause IN ('stream-window', 'connection-window', 'tcp')
+GROUP BY peer, role, requests.cause, requests.name;
+
+-- How long windows stalled the requests of each name, and for what share of their lives, those stalled longest first.
+CREATE VIEW stalls_by_name AS
+SELECT name, COUNT(*) AS requests, SUM(stalled_nanos > 0) AS stalled, SUM(hung) AS hung,
+       MAX(stalled_nanos) / 1e6 AS longest_milliseconds, TOTAL(stalled_nanos) / 1e6 AS total_milliseconds,
+       100.0 * TOTAL(stalled_nanos) / NULLIF(TOTAL(nanos), 0) AS percent, COUNT(DISTINCT capture) AS captures
+FROM requests
+GROUP BY name
+ORDER BY TOTAL(stalled_nanos) DESC, name;

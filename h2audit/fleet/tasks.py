@@ -24,8 +24,8 @@ from h2audit.fleet import ends, programs, sniff
 Answer = dict[str, Any]
 
 AUDIT, IMPORT, SPLIT, MERGE = "h2audit", "h2audit-any", "h2audit-split", "h2audit-merge"
-# What h2audit-any does in one, for an import that stands for a while.
-IMPORT_ALONE = "h2audit-import"
+# What h2audit-any does in one, for an import that stands for a while; and what tells of its requests.
+IMPORT_ALONE, WHY = "h2audit-import", "h2audit-why"
 NO_FAULT, FAULTS, REFUSED, IO_FAILED, NO_MEMORY, NOTHING_READ = 0, 1, 3, 4, 5, 6
 MOST_PARTS = 500
 # How large a compressed capture is shows as it is read. One that would be large, grown so much, is imported first.
@@ -41,7 +41,8 @@ HTTP2, NOT_HTTP2, OPEN_STALL = b" http2 frames ", b" not-http2\n", b" open\n"
 
 class Order(TypedDict):
     """How captures are to be audited: files of keys, when to import, seconds for each run of a program, above how many
-    bytes a capture is split, 0 for none, and in which folder files may stand that the end of the run takes away.
+    bytes a capture is split, 0 for none, in which folder files may stand that the end of the run takes away, and how
+    requests are entered, "named" or "unnamed".
     """
 
     keys: list[str]
@@ -49,6 +50,7 @@ class Order(TypedDict):
     timeout: float
     split_above: int
     scratch: NotRequired[str | None]
+    requests: NotRequired[str | None]
 
 
 class Unread(Exception):
@@ -125,7 +127,9 @@ def beside(answer: Answer, imported: Answer) -> Answer:
 
 
 def is_imported(file: int, order: Order) -> bool:
-    """Whether a capture needs an import, by its first bytes; where there are keys, any may."""
+    """Whether a capture needs an import, by its first bytes. Where there are keys any may, for requests each does."""
+    if order.get("requests"):
+        return True
     if order["imports"] != "auto":
         return order["imports"] == "always"
     return bool(order["keys"]) or sniff.kind_of(os.pread(file, sniff.FILE_HEADER, 0)) == sniff.OTHER

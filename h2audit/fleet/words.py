@@ -3,6 +3,7 @@
 import argparse
 from dataclasses import dataclass
 
+from h2audit.fleet.answers import NAMED, UNNAMED
 from h2audit.report.command import Words, number
 
 MEGABYTE = 1000000
@@ -37,6 +38,7 @@ class Asked:
     dashboard: str | None
     keys: list[str]
     imports: str
+    requests: str | None
     timeout: int
     retries: int
     split_above: int
@@ -101,6 +103,20 @@ def add_audit(words: Words) -> None:
         default="auto",
         help="import captures that an import may read more of (auto), all, or none",
     )
+    requests = words.add_mutually_exclusive_group()
+    requests.add_argument(
+        "--requests",
+        action="store_const",
+        const=NAMED,
+        help="enter requests too, as h2audit-why tells of them, with their names, which may be secret",
+    )
+    requests.add_argument(
+        "--unnamed-requests",
+        dest="requests",
+        action="store_const",
+        const=UNNAMED,
+        help="the same without names and statuses",
+    )
     words.add_argument(
         "--timeout",
         metavar="SECONDS",
@@ -158,9 +174,11 @@ def read_words(words: list[str]) -> Asked:
 def problem_of(asked: Asked) -> str | None:
     has_tls = [word is not None for word in (asked.tls_ca, asked.tls_cert, asked.tls_key)]
     if asked.collect is not None:
-        return "--collect takes no PATH and no --list" if asked.paths or asked.lists else None
+        return problem_of_collection(asked)
     if not asked.paths and not asked.lists:
         return "a PATH, --list or --collect is needed"
+    if asked.requests and asked.imports == "never":
+        return "--requests and --unnamed-requests import each capture: not with --import never"
     if asked.scheduler is None:
         is_for_one = any(has_tls) or asked.unencrypted
         return "--tls-ca, --tls-cert, --tls-key and --unencrypted are for a --scheduler" if is_for_one else None
@@ -169,6 +187,12 @@ def problem_of(asked: Asked) -> str | None:
     if asked.dashboard is not None:
         return "--dashboard is for workers on this machine; a scheduler has its own"
     return problem_of_scheduler(asked, has_tls)
+
+
+def problem_of_collection(asked: Asked) -> str | None:
+    if asked.paths or asked.lists:
+        return "--collect takes no PATH and no --list"
+    return "--collect enters no requests: not with --requests or --unnamed-requests" if asked.requests else None
 
 
 def problem_of_scheduler(asked: Asked, has_tls: list[bool]) -> str | None:

@@ -9,6 +9,7 @@ from h2audit.why.answer import Answer, ConnectionSaid
 from h2audit.why.capture import CLIENT, SERVER, SIDES
 from h2audit.why.ends import Both, Joined, lost_words
 from h2audit.why.ends_stalls import FaultOfBoth, StallOfBoth, faults_of, stalls_of, way_words
+from h2audit.why.gates import Place
 from h2audit.why.summing import summary_of
 from h2audit.why.text import BOLD, RED, YELLOW, Page
 from h2audit.why.words import count, escaped, printable_list, time_of
@@ -36,8 +37,8 @@ def lines_of(found: Joined, page: Page) -> Iterator[str]:
 
 def of_connection(both: Both, page: Page) -> Iterator[str]:
     yield from page.folded(head_of(both), "  ", BOLD)
-    if both.drifts:
-        yield from page.folded("  the clocks drift apart: parts of late stalls may be wrong by as much", "    ", YELLOW)
+    for doubt in doubts(both):
+        yield from page.folded(f"  {doubt}", "    ", YELLOW)
     for fault in faults_of(both):
         yield from page.folded(f"  {fault_words(both, fault)}", "    ", RED)
     for lost in lost_words(both):
@@ -87,6 +88,29 @@ def fault_words(both: Both, one: FaultOfBoth) -> str:
     if one.shown_by == "both":
         return said + "both captures show it"
     return said + f"the {one.shown_by}'s order of frames alone shows it"
+
+
+def by_place(found: Joined, page: Page) -> list[dict[Place, list[str]]]:
+    """What both ends say of connections and requests, in each capture: a stall stands in that of its sender."""
+    said: list[dict[Place, list[str]]] = [{}, {}]
+    for side, some in enumerate(found.alone):
+        for one in some:
+            said[side][one.number, None] = [f"in the {SIDES[side]}'s capture alone"]
+    for both in found.pairs:
+        for side, end in enumerate(both.ends):
+            faults = [fault_words(both, one) for one in faults_of(both) if one.shown_by in ("both", SIDES[side])]
+            said[side][end.said.number, None] = [head_of(both), *doubts(both), *faults, *lost_words(both)]
+        for stall in stalls_of(both):
+            of_sender, requests = said[stall.stall.side], both.ends[stall.stall.side].said.requests
+            names = {request.stream: request.name for request in requests}
+            stream = stall.stall.stream if stall.stall.stream in names else None
+            place = both.ends[stall.stall.side].said.number, stream
+            of_sender.setdefault(place, []).append(stall_words(stall, names.get(stall.stall.stream), page))
+    return said
+
+
+def doubts(both: Both) -> list[str]:
+    return ["the clocks drift apart: parts of late stalls may be wrong by as much"] * both.drifts
 
 
 def json_of(found: Joined) -> str:

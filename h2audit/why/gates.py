@@ -19,6 +19,10 @@ UNITS = {"ns": 1, "us": 10**3, "µs": 10**3, "ms": 10**6, "s": 10**9}
 DURATION = re.compile(r"(\d{1,9})(?:\.(\d{1,9}))?(ns|us|µs|ms|s)", re.ASCII)
 
 
+# A connection, and a stream of it; (0, None) is the capture.
+Place = tuple[int, int | None]
+
+
 @dataclass(frozen=True, slots=True)
 class Failure:
     """One thing that fails a run: of a request, of a connection (stream None), or of the capture (connection 0)."""

@@ -1,15 +1,25 @@
 """The answer as a JUnit file, as Jenkins, GitLab and others read it: a suite for each connection, a test for each
-request, and one for the connection itself.
+request, and one for the connection itself. Of two ends each capture has its suites.
 """
 
-from collections.abc import Iterator
+from collections.abc import Iterator, Sequence
 from dataclasses import dataclass, field
 from xml.sax.saxutils import escape, quoteattr
 
 from h2audit.why.answer import Answer, ConnectionSaid
-from h2audit.why.gates import Failure, name_of
+from h2audit.why.gates import Failure, Place, name_of
 from h2audit.why.summing import summary_of
 from h2audit.why.words import escaped
+
+
+@dataclass(frozen=True, slots=True)
+class Judged:
+    """An answer and what fails of it; of two ends whose capture it is, and what both say of a place in it."""
+
+    answer: Answer
+    failures: list[Failure]
+    whose: str = ""
+    said: dict[Place, list[str]] = field(default_factory=dict)
 
 
 @dataclass(slots=True)
@@ -38,12 +48,13 @@ def is_skipped(case: Case) -> bool:
     return bool(case.skipped and not case.failures)
 
 
-def pieces_of(answer: Answer, failures: list[Failure]) -> Iterator[bytes]:
+def pieces_of(judged: Sequence[Judged]) -> Iterator[bytes]:
     """The file, piece by piece: ASCII, with references for other characters."""
-    suites = suites_of(answer, failures)
+    suites = [suite for one in judged for suite in suites_of(one)]
     counts = [sum(some) for some in zip(*(suite.counts for suite in suites))]
+    nanos = max(summary_of(one.answer).nanos for one in judged)
     yield b'<?xml version="1.0" encoding="UTF-8"?>\n'
-    yield octets(f"<testsuites{attributes('h2audit-why', counts, summary_of(answer).nanos)}>\n")
+    yield octets(f"<testsuites{attributes('h2audit-why', counts, nanos)}>\n")
     for suite in suites:
         yield octets(f"  <testsuite{attributes(suite.name, suite.counts, suite.nanos)}>\n")
         yield from (octets(line) for case in suite.cases for line in lines_of(case, suite.name))
@@ -51,26 +62,28 @@ def pieces_of(answer: Answer, failures: list[Failure]) -> Iterator[bytes]:
     yield b"</testsuites>\n"
 
 
-def suites_of(answer: Answer, failures: list[Failure]) -> list[Suite]:
-    by_place: dict[tuple[int, int | None], list[Failure]] = {}
-    for failure in failures:
+def suites_of(judged: Judged) -> list[Suite]:
+    by_place: dict[Place, list[Failure]] = {}
+    for failure in judged.failures:
         by_place.setdefault((failure.connection, failure.stream), []).append(failure)
-    summary = summary_of(answer)
+    answer, summary = judged.answer, summary_of(judged.answer)
     said = [summary.text, *(one.text for one in answer.warnings), *(one.text for one in answer.not_audited)]
     of_capture = Case("capture", summary.nanos, "\n".join(said), "" if answer.audited else "nothing was audited")
     of_capture.failures = by_place.get((0, None), [])
-    files = ", ".join(answer.files)
-    return [Suite(files, summary.nanos, [of_capture]), *(suite_of(one, by_place) for one in answer.connections)]
+    files = Suite(judged.whose + ", ".join(answer.files), summary.nanos, [of_capture])
+    return [files, *(suite_of(one, judged, by_place) for one in answer.connections)]
 
 
-def suite_of(one: ConnectionSaid, by_place: dict[tuple[int, int | None], list[Failure]]) -> Suite:
+def suite_of(one: ConnectionSaid, judged: Judged, by_place: dict[Place, list[Failure]]) -> Suite:
     nanos = max(one.until - one.begin, 0)
     skipped = "" if one.is_audited else f"not audited: {one.reason or one.outcome}"
-    cases = [Case("connection", nanos, "\n".join(one.notes), skipped, by_place.get((one.number, None), []))]
+    said = "\n".join([*one.notes, *judged.said.get((one.number, None), [])])
+    cases = [Case("connection", nanos, said, skipped, by_place.get((one.number, None), []))]
     for request in one.requests:
-        failed = by_place.get((one.number, request.stream), [])
-        cases.append(Case(name_of(request), request.nanos, request.cause.text, failures=failed))
-    return Suite(f"connection {one.number} {one.client} -> {one.server}", nanos, cases)
+        place = one.number, request.stream
+        said = "\n".join([request.cause.text, *judged.said.get(place, [])])
+        cases.append(Case(name_of(request), request.nanos, said, failures=by_place.get(place, [])))
+    return Suite(f"{judged.whose}connection {one.number} {one.client} -> {one.server}", nanos, cases)
 
 
 def lines_of(case: Case, suite: str) -> Iterator[str]:

@@ -23,6 +23,8 @@ BUILT = {
     "h2audit-import": IN_RUST / "h2audit-import",
 }
 MOST_SAID = 1 << 16
+# What an import leaves in a folder, and the report of an audit of what it made.
+MADE, MAP, COURSE, REPORT = (f"imported.{kind}" for kind in ("pcap", "map", "course", "report"))
 VARIABLES = {name: name.upper().replace("-", "_") for name in (*BUILT, "h2audit-why")}
 
 

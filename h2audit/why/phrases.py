@@ -20,17 +20,16 @@ TCP_WORDS = {
 
 
 class Phrases:
-    """The phrases of one connection's requests."""
+    """The phrases of one connection's requests. Those that waited for the connection's window name each other."""
 
-    def __init__(self, said: ConnectionSaid, seen: Seen) -> None:
-        self.said, self.seen = said, seen
+    def __init__(self, said: ConnectionSaid, seen: Seen, waiting: list[Request]) -> None:
+        self.said, self.seen, self.waiting = said, seen, waiting
         self.leaks: dict[int, str] = {}
         self.behind: dict[int, list[int]] = {0: [], 1: []}
         self.longest: dict[tuple[int, int], int] = {}
         self.counts: dict[tuple[int, int], int] = {}
-        for request in said.requests:
-            if request.cause.kind == "connection-window":
-                self.behind[request.cause.side].append(request.stream)
+        for request in waiting:
+            self.behind[request.cause.side].append(request.stream)
         self.leaking = [one for one in said.stalls if one.why == "cancelled-streams"]
         for one in said.stalls:
             key = one.side, one.stream
@@ -166,9 +165,9 @@ class Phrases:
 
     def never_had(self, cause: Cause, begin: int) -> str:
         """Streams that waited for the connection's credit and never had a byte."""
-        without = [one.stream for one in self.said.requests
-                   if one.cause.kind == "connection-window" and one.cause.side == cause.side
-                   and not one.sides[cause.side].content and one.until > begin]  # fmt: skip
+        without = [one.stream for one in self.waiting
+                   if one.cause.side == cause.side and not one.sides[cause.side].content
+                   and one.until > begin]  # fmt: skip
         return f"; {streams_named(without)} never had a byte" if without else ""
 
     def of_application(self, request: Request, cause: Cause) -> str:

@@ -11,21 +11,29 @@ audited, 7 if python3-hpack is missing.
 """
 
 import argparse
+import contextlib
 import os
 import shutil
 import sys
 import time
-from collections.abc import Iterator
+from collections.abc import Callable, Iterator
 from pathlib import Path
+from typing import TYPE_CHECKING
 
 from h2audit.report.command import IO_FAILED, OK, Failed, Words, failed, number, printable
 from h2audit.report.interrupts import Interrupted, end_by, signals_raise
 from h2audit.why import gates, two
 from h2audit.why.answer import Answer
-from h2audit.why.making import folder, program_named, run, running, without_name
+from h2audit.why.making import COURSE, MADE, MAP, REPORT, folder, program_named, run, running, without_name
 from h2audit.why.text import Page
 
+if TYPE_CHECKING:
+    from h2audit.why.building import Sources
+    from h2audit.why.junit import Judged
+
 NAME = "h2audit-why"
+# Waits for the audit: its status, and what it said.
+AuditEnds = Callable[[], tuple[int, str]]
 FAILED, NOTHING_AUDITED = 1, 6
 IMPORTED, AUDITED = (0, 6), (0, 1)
 SECONDS_BEFORE_PROGRESS = 2.0
@@ -54,6 +62,7 @@ def arguments(words: list[str]) -> argparse.Namespace:
     form = parser.add_mutually_exclusive_group()
     form.add_argument("--json", action="store_true", help="one document with all of it (docs/WHY.md)")
     form.add_argument("--json-lines", action="store_true", help="a line of JSON for each request")
+    form.add_argument("--rows", metavar="DIR", help="rows for h2audit-fleet, of an import that stands in a folder")
     parser.add_argument("--color", choices=("auto", "always", "never"), default="auto",
                         help="colours: on a terminal without NO_COLOR, always, or never")  # fmt: skip
     parser.add_argument(
@@ -69,7 +78,16 @@ def arguments(words: list[str]) -> argparse.Namespace:
     two.add_options(parser)
     asked = parser.parse_args(words)
     two.check(parser, asked)
+    check_rows(parser, asked)
     return asked
+
+
+def check_rows(parser: Words, asked: argparse.Namespace) -> None:
+    """Ends the program where --rows stands beside what is about a capture, or makes something else of it."""
+    if asked.rows is not None and (asked.files or asked.compare or asked.ends or asked.key_log):
+        parser.error("--rows takes an import, and no capture")
+    if asked.rows is not None and gates.gates_of(asked).is_asked:
+        parser.error("--rows has no reasons to fail, and no JUnit file")
 
 
 class Progress:
@@ -102,7 +120,7 @@ def answered(asked: argparse.Namespace, progress: Progress) -> Answer:
     importer = program_named("h2audit-import", asked.importer, "--import")
     auditor = program_named("h2audit", asked.h2audit, "--h2audit")
     with folder() as place:
-        out, report = place / "made.pcap", place / "report"
+        out, report = place / MADE, place / REPORT
         imported(asked, importer, place, progress)
         with running([auditor, "--frames", str(out)], report) as audit:
             return read(asked, place, audit.end, progress)
@@ -110,7 +128,7 @@ def answered(asked: argparse.Namespace, progress: Progress) -> Answer:
 
 def imported(asked: argparse.Namespace, importer: str, place: Path, progress: Progress) -> None:
     progress.say("imports")
-    words = [importer, "-o", str(place / "made.pcap"), "-m", str(place / "map"), "--course", str(place / "course")]
+    words = [importer, "-o", str(place / MADE), "-m", str(place / MAP), "--course", str(place / COURSE)]
     words += ["--sort"] * asked.sort
     for log in asked.key_log:
         words += ["-k", log]
@@ -131,27 +149,49 @@ def failure(program: str, status: int, said: str) -> Failed:
     )
 
 
-def read(asked: argparse.Namespace, place: Path, audit_ends: object, progress: Progress) -> Answer:
-    from h2audit.why.building import Sources, answer_of
+def read(asked: argparse.Namespace, place: Path, audit_ends: AuditEnds, progress: Progress) -> Answer:
+    from h2audit.why.building import answer_of
+    from h2audit.why.requests import Wanted
+
+    with sources_in(place, audit_ends, progress) as sources:
+        wanted = Wanted(not asked.no_requests, asked.query, asked.json or asked.json_lines, bool(asked.ends))
+        return answer_of(sources, wanted, progress.connections)
+
+
+@contextlib.contextmanager
+def sources_in(place: Path, audit_ends: AuditEnds, progress: Progress) -> "Iterator[Sources]":
+    """What stands in a folder of an import, once the audit of what was made has ended."""
+    from h2audit.why.building import Sources
     from h2audit.why.capture import made_of
     from h2audit.why.course import read_course
     from h2audit.why.origin import read_map
-    from h2audit.why.requests import Wanted
 
     progress.say("reads")
-    with open(place / "map", encoding="utf-8", errors="surrogateescape", newline="\n") as lines:
+    with open(place / MAP, encoding="utf-8", errors="surrogateescape", newline="\n") as lines:
         origin = read_map(lines)
-    with open(place / "course", encoding="utf-8", errors="surrogateescape", newline="\n") as lines:
+    with open(place / COURSE, encoding="utf-8", errors="surrogateescape", newline="\n") as lines:
         courses = read_course(lines)
-    made = made_of(str(place / "made.pcap"))
+    made = made_of(str(place / MADE))
     progress.say("audits")
-    assert callable(audit_ends)
     status, said = audit_ends()
     if status not in AUDITED:
         raise failure("h2audit", status, said)
-    with open(place / "report", "rb") as report:
-        wanted = Wanted(not asked.no_requests, asked.query, asked.json or asked.json_lines, bool(asked.ends))
-        return answer_of(Sources(made, report, origin, courses), wanted, progress.connections)
+    with open(place / REPORT, "rb") as report:
+        yield Sources(made, report, origin, courses)
+
+
+def rows_written(asked: argparse.Namespace, progress: Progress) -> int:
+    """The rows of an import that stands with its report. No connection is kept when the next one is read."""
+    from h2audit.why import rows
+    from h2audit.why.building import connections_of
+    from h2audit.why.requests import Wanted
+
+    with sources_in(Path(asked.rows), lambda: (OK, ""), progress) as sources:
+        wanted = Wanted(not asked.no_requests, asked.query, spans=False)
+        connections = connections_of(sources, wanted, progress.connections, is_whole=False)
+        sys.stdout.writelines(rows.lines_of(connections, wanted))
+        sys.stdout.flush()
+    return OK
 
 
 def written(answer: Answer, asked: argparse.Namespace) -> Iterator[str]:
@@ -174,43 +214,46 @@ def page_of(answer: Answer, asked: argparse.Namespace) -> Page:
     return Page(answer, colours, width, asked.all)
 
 
-def answers(asked: argparse.Namespace, progress: Progress) -> tuple[list[Answer], Iterator[str]]:
+def answers(asked: argparse.Namespace, progress: Progress) -> two.Found:
     """The answers on the captures, and what is said of them."""
     if asked.compare or asked.ends:
         say = two.compare if asked.compare else two.ends
         return say(asked, lambda one: answered(one, progress), lambda answer: page_of(answer, asked))
     answer = answered(asked, progress)
-    return [answer], written(answer, asked)
+    return two.Found([answer], written(answer, asked))
 
 
 def work(asked: argparse.Namespace) -> int:
     progress = Progress()
+    if asked.rows is not None:
+        return rows_written(asked, progress)
     try:
-        found, said = answers(asked, progress)
+        found = answers(asked, progress)
     finally:
         progress.end()
     wanted = gates.gates_of(asked)
     # Of a comparison the capture after the change may fail the run, of two ends both.
-    judged = found if asked.ends else found[-1:]
-    failures = [failure for one in judged for failure in gates.failures_of(one, wanted)]
+    judged = found.answers if asked.ends else found.answers[-1:]
+    by_answer = [gates.failures_of(one, wanted) for one in judged]
+    failures = [failure for some in by_answer for failure in some]
     if asked.junit:
-        write_junit(judged[0], failures, asked.junit)
+        write_junit(two.judged(judged, by_answer, found.by_place), asked.junit)
     if not asked.quiet:
-        sys.stdout.writelines(said)
+        sys.stdout.writelines(found.said)
         sys.stdout.flush()
     for line in gates.lines_of(failures) if wanted.is_asked else ():
         failed(NAME, FAILED, line)
     if failures:
         return FAILED
-    return OK if all(one.audited for one in found) else failed(NAME, NOTHING_AUDITED, "nothing was audited")
+    return OK if all(one.audited for one in found.answers) else failed(NAME, NOTHING_AUDITED, "nothing was audited")
 
 
-def write_junit(answer: Answer, failures: list[gates.Failure], path: str) -> None:
+def write_junit(judged: "list[Judged]", path: str) -> None:
     from h2audit.report import output
     from h2audit.why import junit
 
     with output.written(path) as file:
-        file.writelines(junit.pieces_of(answer, failures))
+        file.writelines(junit.pieces_of(judged))
 
 
 def main(words: list[str]) -> int:

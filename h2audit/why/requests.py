@@ -1,5 +1,6 @@
 """The requests of a connection: their names, lives, ends and shares."""
 
+from collections.abc import Iterator
 from dataclasses import dataclass
 from itertools import chain
 
@@ -25,10 +26,10 @@ class Wanted:
     seen: bool = False
 
 
-def requests_of(seen: Seen, wanted: Wanted) -> list[Request]:
+def requests_of(seen: Seen, wanted: Wanted) -> Iterator[Request]:
     """In the order in which they were opened."""
     courses = [course_of(seen, side) for side in (CLIENT, SERVER)]
-    return [request_of(seen, stream, courses, wanted) for stream in seen.told.streams.values()]
+    return (request_of(seen, stream, courses, wanted) for stream in seen.told.streams.values())
 
 
 def course_of(seen: Seen, side: int) -> Course:

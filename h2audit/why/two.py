@@ -2,12 +2,26 @@
 
 import argparse
 from collections.abc import Callable, Iterator
+from typing import TYPE_CHECKING, NamedTuple
 
 from h2audit.why.answer import Answer
+from h2audit.why.capture import SIDES
+from h2audit.why.gates import Failure, Place
 from h2audit.why.text import Page
+
+if TYPE_CHECKING:
+    from h2audit.why.junit import Judged
 
 Answers = Callable[[argparse.Namespace], Answer]
 Pages = Callable[[Answer], Page]
+
+
+class Found(NamedTuple):
+    """The answers on the captures, what is said of them, and of two ends what is said of each place in either."""
+
+    answers: list[Answer]
+    said: Iterator[str]
+    by_place: list[dict[Place, list[str]]] = []
 
 
 def add_options(parser: argparse.ArgumentParser) -> None:
@@ -29,8 +43,6 @@ def check(parser: argparse.ArgumentParser, asked: argparse.Namespace) -> None:
         parser.error(f"{option} has no lines of JSON: --json")
     if asked.compare and asked.no_requests:
         parser.error("--compare matches requests by their names: not with --no-requests")
-    if asked.ends and asked.junit:
-        parser.error("--ends has no JUnit file: it is of one capture")
 
 
 def of_file(asked: argparse.Namespace, file: str) -> argparse.Namespace:
@@ -38,7 +50,7 @@ def of_file(asked: argparse.Namespace, file: str) -> argparse.Namespace:
     return argparse.Namespace(**{**vars(asked), "files": [file]})
 
 
-def compare(asked: argparse.Namespace, answered: Answers, page_of: Pages) -> tuple[list[Answer], Iterator[str]]:
+def compare(asked: argparse.Namespace, answered: Answers, page_of: Pages) -> Found:
     """The two answers, and what is said of both."""
     from h2audit.why import compare_said
     from h2audit.why.compare import compared
@@ -46,11 +58,11 @@ def compare(asked: argparse.Namespace, answered: Answers, page_of: Pages) -> tup
     before, after = (answered(of_file(asked, file)) for file in asked.compare)
     both = compared(before, after)
     if asked.json:
-        return [before, after], iter((compare_said.json_of(both),))
-    return [before, after], (line + "\n" for line in compare_said.lines_of(both, page_of(after)))
+        return Found([before, after], iter((compare_said.json_of(both),)))
+    return Found([before, after], (line + "\n" for line in compare_said.lines_of(both, page_of(after))))
 
 
-def ends(asked: argparse.Namespace, answered: Answers, page_of: Pages) -> tuple[list[Answer], Iterator[str]]:
+def ends(asked: argparse.Namespace, answered: Answers, page_of: Pages) -> Found:
     """The two answers, and what is said of the connections that both captures have."""
     from h2audit.why import ends_said
     from h2audit.why.ends import joined
@@ -58,5 +70,18 @@ def ends(asked: argparse.Namespace, answered: Answers, page_of: Pages) -> tuple[
     client, server = (answered(of_file(asked, file)) for file in asked.ends)
     found = joined(client, server)
     if asked.json:
-        return [client, server], iter((ends_said.json_of(found),))
-    return [client, server], (line + "\n" for line in ends_said.lines_of(found, page_of(server)))
+        said = iter((ends_said.json_of(found),))
+    else:
+        said = (line + "\n" for line in ends_said.lines_of(found, page_of(server)))
+    return Found([client, server], said, ends_said.by_place(found, page_of(server)) if asked.junit else [])
+
+
+def judged(answers: list[Answer], failures: list[list[Failure]], by_place: list[dict[Place, list[str]]]
+           ) -> "list[Judged]":  # fmt: skip
+    """What a JUnit file holds: of two ends, each capture by its side."""
+    from h2audit.why.junit import Judged
+
+    if not by_place:
+        return [Judged(*one) for one in zip(answers, failures)]
+    whose = [f"{side}'s " for side in SIDES]
+    return [Judged(*one) for one in zip(answers, failures, whose, by_place)]

@@ -8,6 +8,8 @@ complete -c h2audit-fleet -l reports -x -a '(__fish_complete_directories)' -d 'K
 complete -c h2audit-fleet -l collect -x -a '(__fish_complete_directories)' -d 'Enter the reports of a folder'
 complete -c h2audit-fleet -s k -l keys -r -d 'A key log of TLS'
 complete -c h2audit-fleet -l import -x -a 'auto always never' -d 'When to import'
+complete -c h2audit-fleet -l requests -d 'Enter requests too, with their names'
+complete -c h2audit-fleet -l unnamed-requests -d 'Enter requests too, without names'
 complete -c h2audit-fleet -l timeout -x -d 'Seconds for a capture'
 complete -c h2audit-fleet -l retries -x -d 'How often a capture is tried again'
 complete -c h2audit-fleet -l split-above -x -a '0 256 512 1024' -d 'Split captures of more megabytes'

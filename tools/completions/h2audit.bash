@@ -95,14 +95,15 @@ _h2audit_any() {
 
 _h2audit_why() {
     local word=${COMP_WORDS[COMP_CWORD]} before=${COMP_WORDS[COMP_CWORD - 1]}
-    local options='--key-log -k --sort --all --query --no-requests --json --json-lines --color --width --h2audit --import'
-    options+=' --fail-on --fail-stall --require-http2 --junit --quiet --compare --ends --help -h --version -V'
+    local options='--key-log -k --sort --all --query --no-requests --json --json-lines --rows --color --width --h2audit'
+    options+=' --import --fail-on --fail-stall --require-http2 --junit --quiet --compare --ends --help -h --version -V'
     [[ $word == = ]] && word=
     [[ $before == = ]] && before=${COMP_WORDS[COMP_CWORD - 2]}
     case $before in
     --fail-on) _h2audit_offer -W 'fault certain-fault stall hung tcp error gap not-audited' -- "$word" ;;
     --fail-stall) _h2audit_offer -W '10ms 100ms 1s' -- "$word" ;;
     --color) _h2audit_offer -W 'auto always never' -- "$word" ;;
+    --rows) _h2audit_offer -d -- "$word" ;;
     --width) _h2audit_offer -W '80 100 120 160' -- "$word" ;;
     *)
         case $word in
@@ -115,8 +116,8 @@ _h2audit_why() {
 
 _h2audit_fleet() {
     local word=${COMP_WORDS[COMP_CWORD]} before=${COMP_WORDS[COMP_CWORD - 1]}
-    local options='--db --list --resume --require-http2 --reports --collect --keys --import --timeout --retries --split-above'
-    options+=' --scratch --jobs --dashboard --scheduler --tls-ca --tls-cert --tls-key --unencrypted --version --help'
+    local options='--db --list --resume --require-http2 --reports --collect --keys --import --requests --unnamed-requests'
+    options+=' --timeout --retries --split-above --scratch --jobs --dashboard --scheduler --tls-ca --tls-cert --tls-key --unencrypted --version --help'
     options+=' -k -j -V -h'
     case $before in
     --import) _h2audit_offer -W 'auto always never' -- "$word" ;;

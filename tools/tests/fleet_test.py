@@ -431,7 +431,7 @@ class Writer(OneCapture):
         """Where no more can be written one line says so, and what stands is whole; so it is with kept reports."""
         for number in range(60):
             (self.machine.captures / f"{number}.pcap").write_bytes(self.capture)
-        little = ("prlimit", "--fsize=90000")
+        little = ("prlimit", "--fsize=140000")
         status, said, error = self.machine.run("--jobs", "1", "captures", before=little)
         self.assertEqual((status, said), (4, ""))
         why = "(disk I/O error|database or disk is full)"
@@ -454,8 +454,8 @@ class Writer(OneCapture):
             with self.assertRaisesRegex((database.Unusable, OSError), why):
                 database.Database(str(self.machine.folder / name), True)
         for change, why in (
-            ("PRAGMA user_version = 1", "schema is 1, of an older h2audit-fleet, and this one writes"),
-            ("PRAGMA user_version = 3", "schema is 3, of a newer h2audit-fleet, and this one writes"),
+            ("PRAGMA user_version = 2", "schema is 2, of an older h2audit-fleet, and this one writes 3: name a new"),
+            ("PRAGMA user_version = 4", "schema is 4, of a newer h2audit-fleet, and this one writes 3: name a new"),
             ("PRAGMA application_id = 7", "it is no database of h2audit-fleet"),
         ):
             self.machine.database.unlink(missing_ok=True)

@@ -24,7 +24,7 @@ TOP = pathlib.Path(__file__).resolve().parents[2]
 PAIR = re.compile(r"^```sh\n(.*?)^```\n+```text\n(.*?)^```$", re.M | re.S)
 LINK = re.compile(r"\]\(([^)#:]+)(?:#[^)]*)?\)")
 # What the stand-in has no report for.
-NEEDS_PROGRAM = re.compile(r"h2audit-(any|import|why) |h2audit-page \S+\.pcap |tcpdump -i ")
+NEEDS_PROGRAM = re.compile(r"h2audit-(any|import|why) |h2audit-page \S+\.pcap |tcpdump -i |h2audit-fleet .*-requests ")
 STAND_IN = TOP / "tools" / "tests" / "h2audit_stand_in"
 AWKS = {awk: path for awk in ("mawk", "gawk", "original-awk") if (path := shutil.which(awk))}
 

@@ -117,6 +117,10 @@ try_built 'many captures: large imports in parts' fleet_imports_test "$built" Fo
 try_built 'many captures: large imports, lost workers' fleet_imports_test "$built" Misfortunes
 try_built 'many captures: large imports on a cluster' fleet_imports_test "$built" OnCluster
 try 'many captures: without daemons' fleet_collect_test "${audits[@]}"
+try_built 'many captures: requests' fleet_requests_test "$built"
+try_built 'many captures: requests, lost workers, memory, time' fleet_answers_test "$built" Misfortunes
+try_built 'many captures: hostile names, many requests' fleet_answers_test "$built" Names Owner
+try_built 'many captures: requests of large captures' fleet_answers_test "$built" Large
 try_split 'splitter: full parts and disks, names' splitter_test "$split"
 try 'install and package' tools/tests/package_test.sh "$program" "$split"
 try_built 'the answer in words: captures' why_test "$built"
@@ -125,6 +129,7 @@ try_built 'the answer in words: jobs of CI' why_ci_test "$built"
 try_built 'the answer in words: before and after' why_compare_test "$built"
 try_built 'the answer in words: two ends, generated' why_ends_test "$built" Generated
 try_built 'the answer in words: two ends of a wire' why_ends_test "$built" Wire
+try_built 'the answer in words: two clocks, two ends as JUnit' why_two_ends_test "$built"
 try_built 'the answer in words: words' why_words_test "$built"
 try_built 'the answer in words: damaged captures' why_mutations_test "$built"
 try_built 'the answer in words: both ends of a wire' why_place_test "$built"

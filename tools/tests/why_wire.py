@@ -97,7 +97,8 @@ def wire(round_trip: float, loses: Loses = lambda _, __: False) -> Iterator[Wire
 @contextlib.contextmanager
 def captured_at(made: Wire, end: int, path: pathlib.Path) -> Iterator[None]:
     """Captures TCP at an end of the wire."""
-    options = ["-i", "wire", "-U", "--immediate-mode", "-s", "0", "-Z", "root", "-w", str(path)]
+    # A packet takes a slot of 256 KiB at once, so of the usual buffer a busy machine loses some.
+    options = ["-i", "wire", "-U", "--immediate-mode", "-s", "0", "-B", "65536", "-Z", "root", "-w", str(path)]
     words = [*made.within(end), "tcpdump", *options, "tcp"]
     child = subprocess.Popen(words, stderr=subprocess.PIPE)
     assert child.stderr

@@ -123,6 +123,35 @@ class Words(OnCaptures):
         self.assertEqual(ran("--h2audit", "/nothere", self.EXAMPLE).returncode, 4)
         self.assertEqual(ran("--import", "/bin/false", self.EXAMPLE).returncode, 4)
 
+    def test_rows(self) -> None:
+        """--rows takes a folder and no capture; what is missing in it, or is of another capture, is named."""
+        capture = str(self.EXAMPLE)
+        for words in ((capture,), ("-k", "keys"), ("--quiet",), ("--json",), ("--compare", "a", "b")):
+            run = ran("--rows", self.folder, *words)
+            self.assertEqual((run.returncode, run.stdout, len(run.stderr.splitlines())), (2, b"", 1), words)
+        self.refuses("imported.map: No such file or directory")
+        self.imported(capture, str(TOP / "examples" / "stream_stalls_nghttpd.pcap"))
+        self.audited()
+        self.imported(capture)
+        self.refuses("the report is not about it: it has connections that are not in the capture that was made")
+        self.audited()
+        self.assertEqual(ran("--rows", self.folder).returncode, 0)
+        (self.folder / "imported.course").write_text("h2audit-course 2\n")
+        self.refuses("what h2audit-import told of TCP is of another version")
+
+    def audited(self) -> None:
+        words = [os.environ["H2AUDIT"], "--frames", str(self.folder / "imported.pcap")]
+        (self.folder / "imported.report").write_bytes(subprocess.run(words, capture_output=True).stdout)
+
+    def imported(self, *captures: str) -> None:
+        words = ["-o", "imported.pcap", "-m", "imported.map", "--course", "imported.course", *captures]
+        subprocess.run([os.environ["H2AUDIT_IMPORT"], *words], cwd=self.folder, check=True, capture_output=True)
+
+    def refuses(self, why: str) -> None:
+        run = ran("--rows", self.folder)
+        self.assertEqual(run.returncode, 4)
+        self.assertRegex(run.stderr.decode(), f"^h2audit-why: .*{why}.*\n$")
+
     def test_full(self) -> None:
         """Where nothing can be written, one line says so."""
         for words in (["--help"], ["--version"], [str(self.EXAMPLE)], ["--json", str(self.EXAMPLE)]):
