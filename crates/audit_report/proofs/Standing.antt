@@ -10,8 +10,8 @@ use Rattle.audit_report.specs.code.Reported.{AreToldOf, IsOutcomeOf, outcome_tex
 use Rattle.audit_report.specs.declared.{extents.Extent.Extent, told.Outcome.Outcome, told.Told.Told}
 use Rattle.audit_terms.specs.declared.{findings.Finding.Finding, sides.Sides.Sides}
 use Rattle.audit_terms.specs.declared.sides.Side.TheVariants.{Client, Server}
-use Rattle.h2_frames.specs.declared.connections.Cut.{Cut}
-use Rattle.h2_frames.specs.declared.connections.Cut.TheVariants.{Http2, NotHttp2, NoPreface, NoHandshake}
+use Rattle.h2_frames.specs.declared.cuts.Cut.{Cut}
+use Rattle.h2_frames.specs.declared.cuts.Cut.TheVariants.{Http2, NotHttp2, NoPreface, NoHandshake}
 use Rattle.tcp_streams.specs.declared.members.Connection.{Connection}
 use Rattle.audit_report.specs.declared.told.Outcome.TheVariants as outcome
 

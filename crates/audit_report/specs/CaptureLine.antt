@@ -1,7 +1,7 @@
 -- The first line: how many whole records the capture has, and how many of them are what.
 use Rattle.std.specs.Prelude.{ℕ, List, Bool, true, false, length, count_by, ◌++◌, codes}
 use Rattle.audit_report.specs.Line.{line, field}
-use Rattle.pcap_records.specs.declared.capture.Record.{Record}
+use Rattle.pcap_records.specs.declared.pcap_record.Record.{Record}
 use Rattle.packet_heads.specs.declared.packets.Packet.{Packet}
 use Rattle.packet_heads.specs.declared.packets.Packet.TheVariants.{Segment, Skipped, Refused}
 use Rattle.packet_heads.specs.declared.packets.Skip.TheVariants.{NotIpv4, Fragment, NotTcp}

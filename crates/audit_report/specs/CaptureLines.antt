@@ -4,7 +4,7 @@ use Rattle.audit_report.specs.CaptureLine.{capture_line}
 use Rattle.audit_report.specs.RecordLines.{record_lines_from}
 use Rattle.audit_report.specs.CutRecordLine.{cut_record_line}
 use Rattle.audit_report.specs.UnopenedLines.{unopened_lines}
-use Rattle.pcap_records.specs.declared.capture.Records.{Records}
+use Rattle.pcap_records.specs.declared.pcap_record.Records.{Records}
 use Rattle.packet_heads.specs.declared.packets.Packet.{Packet}
 use Rattle.tcp_streams.specs.declared.members.Stray.{Stray}
 

@@ -6,10 +6,10 @@ use Rattle.audit_terms.specs.declared.sides.Side.{Side}
 use Rattle.audit_terms.specs.Side.{side_name}
 use Rattle.audit_terms.specs.Sides.{side_of}
 use Rattle.audit_terms.specs.declared.sides.Sides.{Sides}
-use Rattle.h2_frames.specs.declared.connections.Cut.{Cut}
-use Rattle.h2_frames.specs.declared.connections.Cut.TheVariants.{Http2}
+use Rattle.h2_frames.specs.declared.cuts.Cut.{Cut}
+use Rattle.h2_frames.specs.declared.cuts.Cut.TheVariants.{Http2}
 use Rattle.audit_report.specs.declared.extents.Extent.{Extent}
-use Rattle.tcp_streams.specs.declared.streams.Flow.{Flow}
+use Rattle.tcp_streams.specs.declared.flows.Flow.{Flow}
 use Rattle.tcp_streams.specs.Bytes.{bytes_of}
 
 -- how many bytes a flow has, and where bytes are missing, if later ones were captured

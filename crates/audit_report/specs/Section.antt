@@ -10,8 +10,8 @@ use Rattle.audit_report.specs.declared.extents.Extent.{Extent}
 use Rattle.audit_terms.specs.declared.findings.Finding.{Finding}
 use Rattle.audit_terms.specs.declared.sides.Side.TheVariants.{Client, Server}
 use Rattle.audit_terms.specs.declared.sides.Sides.{Sides}
-use Rattle.h2_frames.specs.declared.connections.Cut.{Cut}
-use Rattle.h2_frames.specs.declared.connections.Cut.TheVariants.{Http2}
+use Rattle.h2_frames.specs.declared.cuts.Cut.{Cut}
+use Rattle.h2_frames.specs.declared.cuts.Cut.TheVariants.{Http2}
 use Rattle.audit_report.specs.Stalls.{stalls}
 use Rattle.tcp_streams.specs.declared.members.Connection.{Connection}
 

@@ -1,5 +1,5 @@
 ghost use Rattle.std.specs.Prelude.{◌≡◌, ◌++◌, OnOk, IfOk, length};
-ghost use Rattle.pcap_records.specs.declared.capture.Records.{Records};
+ghost use Rattle.pcap_records.specs.declared.pcap_record.Records.{Records};
 ghost use Rattle.audit_report.specs.CutRecordLine.{cut_record_line};
 ghost use Rattle.audit_report.specs.code.Packets.{AreRecordsOf, counts_line, packet_counts, packets_text};
 ghost use Rattle.audit_report.specs.CaptureLines.{capture_text};

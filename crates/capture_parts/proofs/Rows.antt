@@ -3,7 +3,7 @@ use Rattle.capture_parts.proofs.Terms.{AllByRecursion, BeginsWithRecord, Bool, I
 use Rattle.capture_parts.proofs.Terms.{append_assoc, arith, captured_length, concat, drop, drop-append_seam, length}
 use Rattle.capture_parts.proofs.Terms.{length-append, order_of, record_at, refl, ℕ, ◌++◌, ◌+◌, ◌∷◌, ◌≡◌}
 use Rattle.pcap_records.specs.Record as pcap
-use Rattle.pcap_records.specs.declared.capture.Record.{Record}
+use Rattle.pcap_records.specs.declared.pcap_record.Record.{Record}
 use Rattle.capture_parts.proofs.Standing.{captured-more}
 
 -- as many rows before the same rest

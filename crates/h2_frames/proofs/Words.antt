@@ -13,8 +13,8 @@ pub use Rattle.h2_frames.specs.code.Walk.{weight_of}
 pub use Rattle.h2_frames.specs.code.{Limit.AreTakenUpTo, Limit.IsPassed, Limit.is_past, Merge.merged, Pieces.IsMeasured}
 pub use Rattle.h2_frames.specs.code.{Pieces.IsOneTaken, Pieces.bytes_left, SameCut.IsSameCut}
 pub use Rattle.h2_frames.specs.code.{Steps.IsReadable, Steps.arrivals_from, Steps.with_setting, Unread.IsReady}
-pub use Rattle.h2_frames.specs.declared.connections.Cut.TheVariants.{Http2, NoHandshake, NoPreface, NotHttp2}
-pub use Rattle.h2_frames.specs.declared.connections.Cut.{Cut}
+pub use Rattle.h2_frames.specs.declared.cuts.Cut.TheVariants.{Http2, NoHandshake, NoPreface, NotHttp2}
+pub use Rattle.h2_frames.specs.declared.cuts.Cut.{Cut}
 pub use Rattle.h2_frames.specs.declared.unread.Next.TheVariants.{Over, Read, Unread as ToRead}
 pub use Rattle.h2_frames.specs.declared.{headers.Header.Header, limits.Limit.Limit, pieces.Pieces.Pieces}
 pub use Rattle.h2_frames.specs.declared.{settings.Setting.Setting, side_frames.SideFrame.SideFrame, unread.Next.Next}

@@ -1,6 +1,6 @@
 -- The frames of both sides as they were captured. A frame is there when its last byte arrives.
 use Rattle.std.specs.Prelude.{ℕ, ◌+◌, ◌-◌, Bool, ◌==◌, ◌&&◌, ◌||◌, nat_lt, List, [], ◌∷◌, ◌++◌, unwrap_or}
-use Rattle.tcp_streams.specs.declared.streams.Arrival.{Arrival}
+use Rattle.tcp_streams.specs.declared.flows.Arrival.{Arrival}
 use Rattle.tcp_streams.specs.Flow.{arrival_at}
 use Rattle.audit_terms.specs.declared.sides.Side.{Side}
 use Rattle.audit_terms.specs.declared.frames.Frame.{Frame}

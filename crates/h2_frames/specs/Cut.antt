@@ -1,13 +1,13 @@
 -- What the two flows of a connection hold (RFC 9113, 3.4 and 4.1). Which of the four a connection is, is decided in
 -- this order: no handshake, no preface, not HTTP/2, HTTP/2.
 use Rattle.std.specs.Prelude.{◌≡◌, ℕ, List, length, IsTrue, IsFalse}
-use Rattle.tcp_streams.specs.declared.streams.Flow.{Flow}
+use Rattle.tcp_streams.specs.declared.flows.Flow.{Flow}
 use Rattle.tcp_streams.specs.Bytes.{bytes_of}
 use Rattle.audit_terms.specs.declared.sides.Side.TheVariants.{Client, Server}
 use Rattle.audit_terms.specs.declared.sides.Sides.{Sides}
 use Rattle.audit_terms.specs.declared.frames.Frame.{Frame}
-use Rattle.h2_frames.specs.declared.connections.Cut.{Cut}
-use Rattle.h2_frames.specs.declared.connections.Cut.TheVariants.{Http2, NotHttp2, NoPreface, NoHandshake}
+use Rattle.h2_frames.specs.declared.cuts.Cut.{Cut}
+use Rattle.h2_frames.specs.declared.cuts.Cut.TheVariants.{Http2, NotHttp2, NoPreface, NoHandshake}
 use Rattle.h2_frames.specs.declared.spelling.Spelled.{Spelled}
 use Rattle.h2_frames.specs.Preface.{preface, IsPrefaceCutShort, BeginsWithPreface}
 use Rattle.h2_frames.specs.Spelling.{Spells}

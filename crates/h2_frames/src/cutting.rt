@@ -1,15 +1,15 @@
 ghost use Rattle.std.specs.Prelude.{◌≡◌, ℕ, List, IsTrue, IfOk, OnErr};
-ghost use Rattle.tcp_streams.specs.declared.streams.Flow.{Flow};
+ghost use Rattle.tcp_streams.specs.declared.flows.Flow.{Flow};
 ghost use Rattle.tcp_streams.specs.code.Orderly.{AreFlowsOfOne};
 ghost use Rattle.tcp_streams.specs.Bytes.{bytes_of};
 ghost use Rattle.h2_frames.specs.Cut.{IsCut};
 ghost use Rattle.h2_frames.specs.code.SameCut.{IsSameCut};
 ghost use Rattle.h2_frames.specs.code.Orderly.{HasOrderlyFrames};
 ghost use Rattle.h2_frames.specs.code.Walk.{IsFreshWalk, IsReadyWalk};
-ghost use Rattle.h2_frames.specs.declared.connections.Cut.{Cut};
+ghost use Rattle.h2_frames.specs.declared.cuts.Cut.{Cut};
 ghost use Rattle.h2_frames.specs.Preface.{BeginsWithPreface};
 
-use crate::connections::Cut;
+use crate::cuts::Cut;
 use crate::walk::{Begun, FrameWalk, begin};
 use std::alloc::{AllocError, Global};
 use tcp_streams::Flow;

@@ -41,7 +41,7 @@
 mod batches;
 mod beginning;
 mod bodies;
-mod connections;
+mod cuts;
 mod cutting;
 mod headers;
 pub mod laws;
@@ -56,6 +56,6 @@ mod walk;
 pub mod worked_examples;
 
 pub use batches::{FrameBatch, Merge};
-pub use connections::Cut;
+pub use cuts::Cut;
 pub use cutting::cut;
 pub use walk::{Begun, FrameWalk, begin};

@@ -15,8 +15,8 @@ use Rattle.audit_terms.specs.declared.frames.Frame.{Frame}
 use Rattle.audit_terms.specs.declared.sides.Sides.{Sides}
 use Rattle.h2_frames.specs.Cut as h2
 use Rattle.h2_frames.specs.code.Orderly.{HasOrderlyFrames}
-use Rattle.h2_frames.specs.declared.connections.Cut.{Cut}
-use Rattle.h2_frames.specs.declared.connections.Cut.TheVariants.{Http2, NotHttp2, NoPreface, NoHandshake}
+use Rattle.h2_frames.specs.declared.cuts.Cut.{Cut}
+use Rattle.h2_frames.specs.declared.cuts.Cut.TheVariants.{Http2, NotHttp2, NoPreface, NoHandshake}
 use Rattle.h2audit.specs.Audited.{IsFlowFrom}
 use Rattle.h2audit.specs.code.Flows.{AreToldFlows, FlowView, IsHeldBy, IsToldFlows, KeepsCut, flow_job, flow_jobs}
 use Rattle.h2audit.specs.code.Found.{frames_of, kept_in}
@@ -28,7 +28,7 @@ use Rattle.tcp_streams.specs.Bytes.{bytes_of}
 use Rattle.tcp_streams.specs.Flow.{IsGap}
 use Rattle.tcp_streams.specs.Sequence.{Source, source}
 use Rattle.tcp_streams.specs.declared.members.Connection.{Connection}
-use Rattle.tcp_streams.specs.declared.streams.Flow.{Flow}
+use Rattle.tcp_streams.specs.declared.flows.Flow.{Flow}
 
 pub flow_jobs-length : (opened : List Connection) → length (flow_jobs opened) ≡ length opened
 flow_jobs-length opened = length-map-range_with_len flow_job 0 (length opened)

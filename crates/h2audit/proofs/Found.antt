@@ -8,7 +8,7 @@ use Rattle.audit_terms.proofs.OrderlyFrames.{length-orderly}
 use Rattle.audit_terms.specs.{Finding.shown, Kind.is_fault, Pass.pass}
 use Rattle.audit_terms.specs.declared.{findings.Finding.Finding, frames.Frame.Frame}
 use Rattle.audit_terms.specs.declared.sides.{Side.TheVariants.Client, Side.TheVariants.Server, Sides.Sides}
-use Rattle.h2_frames.specs.{Cut.IsCut, declared.connections.Cut.Cut}
+use Rattle.h2_frames.specs.{Cut.IsCut, declared.cuts.Cut.Cut}
 use Rattle.h2audit.specs.Audited.{IsAudited, IsFlowOf, findings_of, has_fault}
 use Rattle.h2audit.specs.code.{Flows.AreToldAudits, Flows.AreToldFlows, Flows.IsHeldBy, Found.AreFound, Found.all_with}
 use Rattle.h2audit.specs.code.Found.{found_in, frames_of, has_fault_in, kept_in, left_after, put_in, with_next}
@@ -17,8 +17,8 @@ use Rattle.std.proofs.Common.{Bool, Global, List, Vec, [], ap, arith, length, ma
 use Rattle.std.proofs.{Common.◌^◌, Common.◌||◌, Common.◌∙◌, Common.◌∷◌, Common.◌≡◌, Common.◌≤◌, lemmas.List.map-append}
 use Rattle.std.{proofs.lemmas.List.Elements.All-cons, proofs.lemmas.List.Elements.All-nil, specs.List.list_any}
 use Rattle.stop_desk.specs.declared.parts.Part.{Part}
-use Rattle.tcp_streams.specs.declared.{members.Connection.Connection, streams.Flow.Flow}
-use Rattle.h2_frames.specs.declared.connections.Cut.TheVariants as cut
+use Rattle.tcp_streams.specs.declared.{members.Connection.Connection, flows.Flow.Flow}
+use Rattle.h2_frames.specs.declared.cuts.Cut.TheVariants as cut
 
 -- a list in memory of these items, in the place of another one
 abbrev list-of : {X Y : Type 0} → Vec X Global → (items : List Y) → length items < 2 ^ 63 → Vec Y Global

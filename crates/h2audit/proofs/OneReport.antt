@@ -13,14 +13,14 @@ use Rattle.audit_report.specs.Section.{connection_text, findings_text, sections_
 use Rattle.audit_report.specs.declared.audited.Audited.{Audited}
 use Rattle.audit_report.specs.declared.extents.Extent.{Extent}
 use Rattle.h2_frames.specs.code.SameCut.{IsSameCut}
-use Rattle.h2_frames.specs.declared.connections.Cut.{Cut}
-use Rattle.h2_frames.specs.declared.connections.Cut.TheVariants.{Http2, NotHttp2, NoPreface, NoHandshake}
+use Rattle.h2_frames.specs.declared.cuts.Cut.{Cut}
+use Rattle.h2_frames.specs.declared.cuts.Cut.TheVariants.{Http2, NotHttp2, NoPreface, NoHandshake}
 use Rattle.h2_frames.specs.laws.Unique.{IsSameFlow}
 use Rattle.h2_frames.proofs.Uniqueness.{cut-unique}
 use Rattle.packet_heads.specs.Decision.{packet_decisions}
 use Rattle.packet_heads.specs.declared.packets.Packet.{Packet}
 use Rattle.packet_heads.specs.declared.packets.Segment.{Segment}
-use Rattle.pcap_records.specs.declared.capture.Record.{Record}
+use Rattle.pcap_records.specs.declared.pcap_record.Record.{Record}
 use Rattle.pcap_records.proofs.Unique.{one_reading_lem}
 use Rattle.tcp_streams.specs.Bytes.{bytes_of, joined}
 use Rattle.tcp_streams.specs.Members.{segments_of}
@@ -28,7 +28,7 @@ use Rattle.tcp_streams.specs.Pair.{is_endpoint}
 use Rattle.tcp_streams.specs.Sequence.{source}
 use Rattle.tcp_streams.specs.code.Past.{Membership, connections_of, membership, past_of}
 use Rattle.tcp_streams.specs.declared.members.Connection.{Connection}
-use Rattle.tcp_streams.specs.declared.streams.Flow.{Flow}
+use Rattle.tcp_streams.specs.declared.flows.Flow.{Flow}
 use Rattle.tcp_streams.proofs.Belongings.{connections-shown}
 use Rattle.tcp_streams.proofs.UniqueFlow.{IsFlow-unique}
 use Rattle.h2audit.specs.Audited.{AreAudited, IsAudited, IsFlowFrom, findings_of, has_fault}

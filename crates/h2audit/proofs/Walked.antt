@@ -8,7 +8,7 @@ use Rattle.h2_frames.specs.code.Walk.{IsWalkAfter, tails_of, taken_of}
 use Rattle.h2_frames.specs.declared.batches.FrameBatch.{FrameBatch}
 use Rattle.h2_frames.specs.declared.walk.FrameWalk.{FrameWalk}
 use Rattle.h2audit.specs.code.Quiet.{AreTaken, IsWholeWalk}
-use Rattle.tcp_streams.specs.declared.streams.Flow.{Flow}
+use Rattle.tcp_streams.specs.declared.flows.Flow.{Flow}
 
 pub whole-at_end : (old new : FrameWalk) (client server : Flow) (frames : List Frame)
     → IsWalkAfter client server frames old → taken_of new ≡ taken_of old

@@ -2,7 +2,7 @@
 use Rattle.std.specs.Prelude.{◌≡◌, ℕ, Bool, List, None, Some}
 use Rattle.pcap_records.specs.Refusal.{refusal}
 use Rattle.pcap_records.specs.Reading.{IsReading}
-use Rattle.pcap_records.specs.declared.capture.Records.{Records}
+use Rattle.pcap_records.specs.declared.pcap_record.Records.{Records}
 use Rattle.packet_heads.specs.Decision.{packet_decisions}
 use Rattle.packet_heads.specs.declared.packets.Packet.{Packet}
 use Rattle.tcp_streams.specs.declared.members.Connection.{Connection}

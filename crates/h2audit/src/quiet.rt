@@ -8,7 +8,7 @@ ghost use Rattle.h2audit.specs.code.Quiet.{HasMet, HasTaken, IsFoundQuiet, IsQui
 ghost use Rattle.quiet_pass.specs.code.QuietPass.{IsQuietAfter};
 ghost use Rattle.quiet_pass.specs.declared.passes.QuietPass.{QuietPass as PassTerm};
 ghost use Rattle.tcp_streams.specs.code.Orderly.{AreFlowsOfOne};
-ghost use Rattle.tcp_streams.specs.declared.streams.Flow.{Flow};
+ghost use Rattle.tcp_streams.specs.declared.flows.Flow.{Flow};
 
 use audit_report::QuietConnection;
 use h2_frames::{Begun, FrameBatch, FrameWalk, begin};

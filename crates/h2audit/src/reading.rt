@@ -60,7 +60,7 @@ fn read_in_chunks<T: Threads, R: Read>(
     ensures err { IfErr result (λ e. accounted.IsReadingFault e reader.new) }
 {
     keep_up_to(ahead, reader, FILE_HEADER)?;
-    let begun = ConnectionWalk::begin(alloc, hash, reader.together());
+    let begun = ConnectionWalk::begin(alloc, hash, reader.in_one_slice());
     if reader.has_ended() {
         return Ok(header_by(begun));
     }

@@ -69,11 +69,11 @@ impl<R> CaptureReader<R> {
     }
 
     /// The same, where there is room for less than a chunk of a capture.
-    pub fn together(&self) -> &[u8]
+    pub fn in_one_slice(&self) -> &[u8]
         requires { self.now.bytes.room < 1048576 }
         ensures { result.now ≡ kept self.now }
     {
-        self.bytes.together()
+        self.bytes.in_one_slice()
     }
 
     /// The number of bytes that the reads gave after these.

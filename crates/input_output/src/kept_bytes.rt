@@ -69,7 +69,7 @@ impl KeptBytes {
     }
 
     /// The bytes, where there is room for less than a chunk.
-    pub(crate) fn together(&self) -> &[u8]
+    pub(crate) fn in_one_slice(&self) -> &[u8]
         requires { self.now.room < 1048576 }
         ensures { result.now ≡ self.now.kept }
     {

@@ -7,8 +7,8 @@ use Rattle.std.proofs.lemmas.List.{drop-append-le, length-map, length-take, take
 use Rattle.pcap_records.specs.code.Place.{RiseFrom}
 use Rattle.pcap_records.specs.code.Walk.{AreAll, IsThrough}
 use Rattle.pcap_records.specs.laws.Readings.{MoreBytesKeepAWalk}
-use Rattle.pcap_records.specs.declared.capture.Record.{Record}
-use Rattle.pcap_records.specs.declared.capture.Records.{Records}
+use Rattle.pcap_records.specs.declared.pcap_record.Record.{Record}
+use Rattle.pcap_records.specs.declared.pcap_record.Records.{Records}
 use Rattle.packet_heads.specs.declared.packets.Packet.{Packet}
 use Rattle.packet_heads.specs.declared.walk.PacketWalk.{PacketWalk}
 use Rattle.packet_heads.specs.Decision.{decision_on, packet_decision}

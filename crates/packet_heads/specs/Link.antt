@@ -2,7 +2,7 @@
 -- frame, or nothing.
 use Rattle.std.specs.Prelude.{ℕ, ◌+◌, ◌==◌, List, slice_range, if◌then◌else◌}
 use Rattle.pcap_records.specs.LinkType.{raw_ip}
-use Rattle.pcap_records.specs.declared.capture.Record.{Record}
+use Rattle.pcap_records.specs.declared.pcap_record.Record.{Record}
 use Rattle.packet_heads.specs.Ethernet.{header_length}
 
 -- the captured bytes of a record's packet

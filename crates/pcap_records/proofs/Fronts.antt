@@ -9,7 +9,7 @@ use Rattle.pcap_records.specs.declared.format.Endian.TheVariants.{Big, Little}
 use Rattle.pcap_records.specs.FileHeader.{ByteOrder, number_of}
 use Rattle.pcap_records.specs.Record.{captured_length, record_at}
 use Rattle.pcap_records.specs.code.Walk.{IsNextRecord}
-use Rattle.pcap_records.specs.declared.capture.Record.{Record}
+use Rattle.pcap_records.specs.declared.pcap_record.Record.{Record}
 
 -- a number is read from its own bytes alone
 abbrev pub ReadsFirst : ByteOrder → Type 0

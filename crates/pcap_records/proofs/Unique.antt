@@ -3,7 +3,7 @@ use Rattle.std.proofs.Common.{◌≡◌, ◌+◌, ℕ, List, drop, [], ◌∷◌
 use Rattle.pcap_records.specs.FileHeader.{ByteOrder, number_of}
 use Rattle.pcap_records.specs.laws.Readings.{OneReading}
 use Rattle.pcap_records.specs.Record.{AreRecords, captured_length}
-use Rattle.pcap_records.specs.declared.capture.Record.{Record}
+use Rattle.pcap_records.specs.declared.pcap_record.Record.{Record}
 
 -- the same bytes are the same records and the same rest
 AreRecords-unique : (number : ByteOrder) (unit at : ℕ) (bytes : List ℕ) (xs ys : List Record) (r s : List ℕ)

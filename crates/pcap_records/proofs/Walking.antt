@@ -10,8 +10,8 @@ use Rattle.pcap_records.specs.Record.{AreRecords, BeginsWithRecord, captured_len
 use Rattle.pcap_records.specs.Reading.{IsReading, cut_after}
 use Rattle.pcap_records.specs.code.Walk.{AreRead, Completes, HasPassed, HasStepped, IsNextRecord, IsThrough}
 use Rattle.pcap_records.proofs.Fronts.{ReadsFirst, reads_first, same_record}
-use Rattle.pcap_records.specs.declared.capture.Record.{Record}
-use Rattle.pcap_records.specs.declared.capture.Records.{Records}
+use Rattle.pcap_records.specs.declared.pcap_record.Record.{Record}
+use Rattle.pcap_records.specs.declared.pcap_record.Records.{Records}
 use Rattle.pcap_records.specs.declared.walk.RecordWalk.{RecordWalk}
 
 -- one more record that begins at the end

@@ -3,8 +3,8 @@ use Rattle.std.specs.Prelude.{◌≡◌, ℕ, ◌+◌, ◌==◌, if◌then◌els
 use Rattle.pcap_records.specs.FileHeader.{number_of, header_of, format_of, link_of}
 use Rattle.pcap_records.specs.Record.{AreRecords}
 use Rattle.pcap_records.specs.declared.format.Format.{Format}
-use Rattle.pcap_records.specs.declared.capture.Record.{Record}
-use Rattle.pcap_records.specs.declared.capture.Records.{Records}
+use Rattle.pcap_records.specs.declared.pcap_record.Record.{Record}
+use Rattle.pcap_records.specs.declared.pcap_record.Records.{Records}
 
 -- the number of the record that the end of the capture cuts off, where bytes are left after these ones
 abbrev pub cut_after : List Record → List ℕ → Option ℕ

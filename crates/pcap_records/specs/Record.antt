@@ -2,7 +2,7 @@
 -- length u32, and then the captured bytes.
 use Rattle.std.specs.Prelude.{◌≡◌, ℕ, ◌+◌, ◌*◌, ◌≤◌, List, [], ◌∷◌, length, drop}
 use Rattle.pcap_records.specs.FileHeader.{ByteOrder}
-use Rattle.pcap_records.specs.declared.capture.Record.{Record}
+use Rattle.pcap_records.specs.declared.pcap_record.Record.{Record}
 
 -- the captured length of the record at the front of these bytes
 abbrev pub captured_length : ByteOrder → List ℕ → ℕ

@@ -3,9 +3,9 @@ ghost use Rattle.pcap_records.specs.FileHeader.{format_of, header_of, is_version
 ghost use Rattle.pcap_records.specs.LinkType.{is_read};
 ghost use Rattle.pcap_records.specs.Refusal.{refusal_in, refusal_of};
 
-use crate::capture::{ETHERNET, RAW_IP};
 use crate::faults::PcapFault;
 use crate::format::{Endian, Format, format_of_magic};
+use crate::pcap_record::{ETHERNET, RAW_IP};
 use byteorder::{BigEndian, ByteOrder, LittleEndian};
 use input_output::{Capture, LIMIT};
 

@@ -26,22 +26,22 @@
 //! - `crate_tests` tests how faults print; whole reports test that a walk succeeds where there is memory.
 #![tactic(auto)]
 
-mod capture;
 mod faults;
 mod format;
 mod header;
 pub mod laws;
 mod nanos;
+mod pcap_record;
 mod reading;
 mod rows;
 mod walk;
 pub mod worked_examples;
 
-pub use capture::{ETHERNET, RAW_IP, Record, Records};
 pub use faults::PcapFault;
 pub use format::{Endian, Format, format_of_magic};
 pub use header::{FILE_HEADER, MOST_BYTES, link_in};
 pub use nanos::Nanos;
+pub use pcap_record::{ETHERNET, RAW_IP, Record, Records};
 pub use reading::{records, refusal, refusal_in_chunks};
 pub use rows::{RECORD_HEADER, captured_length};
 pub use walk::RecordWalk;

@@ -6,9 +6,9 @@ ghost use Rattle.pcap_records.specs.code.Walk.{HasPassed};
 ghost use Rattle.pcap_records.specs.Reading.{IsReading};
 ghost use Rattle.pcap_records.specs.Refusal.{refusal};
 
-use crate::capture::Records;
 use crate::faults::PcapFault;
 use crate::header::{format_or_refusal, header, header_in_chunks};
+use crate::pcap_record::Records;
 use crate::walk::RecordWalk;
 use input_output::Capture;
 use std::alloc::{AllocError, Global};

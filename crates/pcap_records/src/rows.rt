@@ -3,9 +3,9 @@ ghost use Rattle.pcap_records.specs.FileHeader.{number_of};
 ghost use Rattle.pcap_records.specs.Record.{captured_length, record_at};
 ghost use Rattle.pcap_records.specs.code.Walk.{IsNextRecord};
 
-use crate::capture::Record;
 use crate::format::Format;
 use crate::nanos::Nanos;
+use crate::pcap_record::Record;
 use byteorder::ByteOrder;
 use input_output::Capture;
 use std::alloc::{AllocError, Global};

@@ -7,10 +7,10 @@ ghost use Rattle.pcap_records.specs.LinkType.{is_read};
 ghost use Rattle.pcap_records.specs.Refusal.{refusal};
 ghost use Rattle.pcap_records.specs.code.Walk.{AreAll, HasPassed, HasStepped};
 
-use crate::capture::Record;
 use crate::faults::PcapFault;
 use crate::format::{Endian, Format};
 use crate::header::{FILE_HEADER, format_or_refusal, header, link_in};
+use crate::pcap_record::Record;
 use crate::rows::next_record;
 use byteorder::{BigEndian, LittleEndian};
 use input_output::Capture;

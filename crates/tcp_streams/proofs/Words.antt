@@ -30,7 +30,7 @@ pub use Rattle.tcp_streams.specs.code.{Interval.overlay, Interval.ClipsAlike, Pa
 pub use Rattle.tcp_streams.specs.code.Orderly.{AreTimely, AreMembers, payload_sum}
 pub use Rattle.tcp_streams.specs.code.{Past.past_of, Past.with_packet, Standings.standing_of}
 pub use Rattle.tcp_streams.specs.code.Table.{RecordsDescend, IsOpened, IsTableOf, IsUnopened}
-pub use Rattle.tcp_streams.specs.declared.{interval.Interval.Interval, members.Connection.Connection, streams.Flow.Flow}
+pub use Rattle.tcp_streams.specs.declared.{interval.Interval.Interval, members.Connection.Connection, flows.Flow.Flow}
 pub use Rattle.tcp_streams.specs.declared.{members.Stray.Stray, standings.Standing.TheVariants.Opened}
-pub use Rattle.tcp_streams.specs.declared.{started_side.StartedSide.StartedSide, streams.Arrival.Arrival}
+pub use Rattle.tcp_streams.specs.declared.{started_side.StartedSide.StartedSide, flows.Arrival.Arrival}
 pub use Rattle.tcp_streams.specs.declared.{table.Table.Table}

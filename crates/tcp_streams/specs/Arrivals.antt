@@ -1,6 +1,6 @@
 -- The arrivals of a flow: byte o arrives with the first whose `upto` is above o.
 use Rattle.std.specs.Prelude.{◌≡◌, ℕ, ◌<◌, List, [], ◌∷◌}
-use Rattle.tcp_streams.specs.declared.streams.Arrival.{Arrival}
+use Rattle.tcp_streams.specs.declared.flows.Arrival.{Arrival}
 
 -- arrivals that rise in offset and in record, and end at the flow's length
 abbrev pub Rises : ℕ → ℕ → List Arrival → ℕ → Type 0

@@ -2,7 +2,7 @@
 use Rattle.std.specs.Prelude.{ℕ, List, map}
 use Rattle.std.specs.List.{concat}
 use denote.Ref.{Bor}
-use Rattle.tcp_streams.specs.declared.streams.Flow.{Flow}
+use Rattle.tcp_streams.specs.declared.flows.Flow.{Flow}
 
 -- the pieces' bytes, one piece after the other
 abbrev pub joined : List (Bor (List ℕ)) → List ℕ

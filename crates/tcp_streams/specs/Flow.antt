@@ -2,7 +2,7 @@
 -- when its bytes were there, and whether bytes are missing before later ones.
 use Rattle.std.specs.Prelude.{◌≡◌, ℕ, ◌<◌, ◌≤◌, nat_lt, List, length, slice_get, find, Option, None, Some, IsSome}
 use Rattle.std.specs.Prelude.{IsSomeAnd}
-use Rattle.tcp_streams.specs.declared.streams.Arrival.{Arrival}
+use Rattle.tcp_streams.specs.declared.flows.Arrival.{Arrival}
 use Rattle.tcp_streams.specs.Arrivals.{Rises}
 use Rattle.tcp_streams.specs.Sequence.{Source, arrival, end_of_offsets}
 

@@ -7,13 +7,13 @@ ghost use Rattle.tcp_streams.specs.Members.{initial_of, side_segments};
 ghost use Rattle.tcp_streams.specs.Sequence.{source};
 ghost use Rattle.tcp_streams.specs.code.Assembled.{IsAssembled, IsOfCapture};
 
+use crate::flows::Flow;
 use crate::in_order::flow_in_order;
 use crate::layout::lay_out;
 use crate::members::Connection;
 use crate::overlay::set_apart;
 use crate::pieces::pieces_of;
 use crate::started_side::StartedSide;
-use crate::streams::Flow;
 use audit_terms::Side;
 use input_output::Capture;
 use packet_heads::Packets;

@@ -6,11 +6,11 @@ ghost use Rattle.tcp_streams.specs.Bytes.{joined};
 ghost use Rattle.tcp_streams.specs.code.Assembled.{IsAssembled, IsOfCapture};
 ghost use Rattle.tcp_streams.specs.code.Interval.{IsInside, arrival_with, width};
 
+use crate::flows::{Arrival, Flow};
 use crate::interval::Interval;
 use crate::layout::arrival_with;
 use crate::pieces::piece_of_member;
 use crate::started_side::StartedSide;
-use crate::streams::{Arrival, Flow};
 use input_output::Capture;
 use std::alloc::{AllocError, Global};
 

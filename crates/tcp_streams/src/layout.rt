@@ -4,8 +4,8 @@ ghost use Rattle.tcp_streams.specs.code.Assembled.{IsLaidOut};
 ghost use Rattle.tcp_streams.specs.code.Interval.{AreCaptured, IsInside, Spans, arrival_with, arrivals_in, at};
 ghost use Rattle.tcp_streams.specs.code.Interval.{bytes_in, run_length};
 
+use crate::flows::{Arrival, Flow, end_of};
 use crate::interval::Interval;
-use crate::streams::{Arrival, Flow, end_of};
 use input_output::Capture;
 use std::alloc::{AllocError, Global};
 

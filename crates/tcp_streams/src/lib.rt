@@ -28,6 +28,7 @@
 #![tactic(auto)]
 
 mod assembly;
+mod flows;
 mod in_order;
 mod interval;
 pub mod laws;
@@ -39,13 +40,12 @@ mod pair;
 mod pieces;
 mod standings;
 mod started_side;
-mod streams;
 mod table;
 mod walk;
 pub mod worked_examples;
 
 pub use assembly::assemble;
+pub use flows::{Arrival, Flow};
 pub use members::{Connection, Connections, Stray};
 pub use membership::connections;
-pub use streams::{Arrival, Flow};
 pub use walk::ConnectionWalk;

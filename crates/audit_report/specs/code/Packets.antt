@@ -6,7 +6,7 @@ use Rattle.audit_report.specs.Line.{field, line}
 use Rattle.audit_report.specs.RecordLines.{record_lines_from}
 use Rattle.audit_report.specs.UnopenedLines.{unopened_lines}
 use Rattle.packet_heads.specs.declared.packets.Packet.{Packet}
-use Rattle.pcap_records.specs.declared.capture.Records.{Records}
+use Rattle.pcap_records.specs.declared.pcap_record.Records.{Records}
 use Rattle.tcp_streams.specs.declared.members.Stray.{Stray}
 
 -- records of which there is one for each packet, and this one is cut

@@ -1,7 +1,7 @@
 -- What holds of the parts that records go to.
 use Rattle.std.specs.Prelude.{◌≡◌, ◌≢◌, ◌<◌, ℕ, Bool, List, [], Some, length}
 use Rattle.pcap_records.specs.Record as pcap
-use Rattle.pcap_records.specs.declared.capture.Record.{Record}
+use Rattle.pcap_records.specs.declared.pcap_record.Record.{Record}
 use Rattle.packet_heads.specs.Decision.{decision_on}
 use Rattle.packet_heads.specs.declared.packets.Endpoint.{Endpoint}
 use Rattle.packet_heads.specs.declared.packets.Packet.TheVariants as packets

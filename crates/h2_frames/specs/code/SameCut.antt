@@ -1,7 +1,7 @@
 -- When two cuts are the same.
 use Rattle.std.specs.Prelude.{◌≡◌}
-use Rattle.h2_frames.specs.declared.connections.Cut.{Cut}
-use Rattle.h2_frames.specs.declared.connections.Cut.TheVariants.{Http2, NotHttp2, NoPreface, NoHandshake}
+use Rattle.h2_frames.specs.declared.cuts.Cut.{Cut}
+use Rattle.h2_frames.specs.declared.cuts.Cut.TheVariants.{Http2, NotHttp2, NoPreface, NoHandshake}
 
 -- the same cut, wherever its frames lie in memory
 abbrev pub IsSameCut : Cut → Cut → Type 0

@@ -1,6 +1,6 @@
 -- What single steps of the code leave. Public clauses cite these only through Walk.
 use Rattle.std.specs.Prelude.{ℕ, List, [], ◌∷◌, nat_lt, ◌&&◌, not, ◌==◌, if◌then◌else◌, Some, is_none}
-use Rattle.tcp_streams.specs.declared.streams.Arrival.{Arrival}
+use Rattle.tcp_streams.specs.declared.flows.Arrival.{Arrival}
 use Rattle.h2_frames.specs.declared.side_frames.SideFrame.{SideFrame}
 use Rattle.audit_terms.specs.declared.settings.Settings.{Settings}
 use Rattle.audit_terms.specs.code.runs.Orderly.{IsInRange}

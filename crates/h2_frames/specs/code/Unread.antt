@@ -1,7 +1,7 @@
 -- What is still to be read of a side. Public clauses cite this only through Walk.
 use Rattle.std.specs.Prelude.{◌≡◌, ℕ, ◌+◌, ◌*◌, ◌<◌, ◌≤◌, ◌^◌, List, [], ◌∷◌, length}
 use Rattle.std.specs.List.{AllByRecursion}
-use Rattle.tcp_streams.specs.declared.streams.Arrival.{Arrival}
+use Rattle.tcp_streams.specs.declared.flows.Arrival.{Arrival}
 use Rattle.tcp_streams.specs.Arrivals.{Rises}
 use Rattle.audit_terms.specs.declared.sides.Side.{Side}
 use Rattle.h2_frames.specs.declared.side_frames.SideFrame.{SideFrame}

@@ -1,12 +1,12 @@
 -- A walk over the frames of a connection, in capture order. No definition of a report cites this.
 use Rattle.std.specs.Prelude.{◌≡◌, ℕ, ◌+◌, ◌*◌, ◌<◌, ◌^◌, List, [], ◌∷◌, ◌++◌, length, IsTrue}
-use Rattle.tcp_streams.specs.declared.streams.Flow.{Flow}
+use Rattle.tcp_streams.specs.declared.flows.Flow.{Flow}
 use Rattle.tcp_streams.specs.Bytes.{bytes_of}
 use Rattle.audit_terms.specs.declared.sides.Sides.{Sides}
 use Rattle.audit_terms.specs.declared.frames.Frame.{Frame}
 use Rattle.h2_frames.specs.declared.side_frames.SideFrame.{SideFrame}
 use Rattle.audit_terms.specs.code.runs.Orderly.{IsOrderly}
-use Rattle.h2_frames.specs.declared.connections.Cut.TheVariants.{NotHttp2, NoPreface, NoHandshake}
+use Rattle.h2_frames.specs.declared.cuts.Cut.TheVariants.{NotHttp2, NoPreface, NoHandshake}
 use Rattle.h2_frames.specs.declared.walk.Begun.{Begun}
 use Rattle.h2_frames.specs.declared.walk.Begun.TheVariants.{Http2 as BegunHttp2, NotHttp2 as BegunNotHttp2}
 use Rattle.h2_frames.specs.declared.walk.Begun.TheVariants.{NoPreface as BegunNoPreface}

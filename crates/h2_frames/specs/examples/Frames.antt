@@ -6,7 +6,7 @@ use Rattle.audit_terms.specs.declared.frames.Frame.{Frame}
 use Rattle.h2_frames.specs.declared.side_frames.SideFrame.{SideFrame}
 use Rattle.audit_terms.specs.declared.sides.Side.{Side}
 use Rattle.audit_terms.specs.declared.sides.Side.TheVariants.{Client, Server}
-use Rattle.tcp_streams.specs.declared.streams.Arrival.{Arrival}
+use Rattle.tcp_streams.specs.declared.flows.Arrival.{Arrival}
 use Rattle.h2_frames.specs.declared.spelling.Spelled.{Spelled}
 use Rattle.h2_frames.specs.Header.{header_of}
 use Rattle.h2_frames.specs.Preface.{preface}

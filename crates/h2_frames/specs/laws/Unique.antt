@@ -1,8 +1,8 @@
 -- Laws of the definitions.
 use Rattle.std.specs.Prelude.{◌≡◌, ℕ, List}
-use Rattle.tcp_streams.specs.declared.streams.Flow.{Flow}
+use Rattle.tcp_streams.specs.declared.flows.Flow.{Flow}
 use Rattle.tcp_streams.specs.Bytes.{bytes_of}
-use Rattle.h2_frames.specs.declared.connections.Cut.{Cut}
+use Rattle.h2_frames.specs.declared.cuts.Cut.{Cut}
 use Rattle.h2_frames.specs.declared.spelling.Spelled.{Spelled}
 use Rattle.h2_frames.specs.Spelling.{Spells}
 use Rattle.h2_frames.specs.Cut.{IsCut}

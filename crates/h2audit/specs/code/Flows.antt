@@ -12,8 +12,8 @@ use Rattle.audit_terms.specs.declared.sides.Side.{Side}
 use Rattle.audit_terms.specs.declared.sides.Side.TheVariants.{Client, Server}
 use Rattle.audit_terms.specs.declared.sides.Sides.{Sides}
 use Rattle.h2_frames.specs.Cut.{IsCut, IsHttp2}
-use Rattle.h2_frames.specs.declared.connections.Cut.{Cut}
-use Rattle.h2_frames.specs.declared.connections.Cut.TheVariants.{Http2, NotHttp2, NoPreface, NoHandshake}
+use Rattle.h2_frames.specs.declared.cuts.Cut.{Cut}
+use Rattle.h2_frames.specs.declared.cuts.Cut.TheVariants.{Http2, NotHttp2, NoPreface, NoHandshake}
 use Rattle.h2audit.specs.Audited.{AreAudited, IsFlowOf}
 use Rattle.h2audit.specs.code.Quiet.{IsQuietOf}
 use Rattle.stop_desk.specs.code.Board.{Job}
@@ -24,7 +24,7 @@ use Rattle.tcp_streams.specs.Bytes.{bytes_of}
 use Rattle.tcp_streams.specs.Members.{side_segments}
 use Rattle.tcp_streams.specs.code.Orderly.{AreMembers, IsOrderly, payload_sum}
 use Rattle.tcp_streams.specs.declared.members.Connection.{Connection}
-use Rattle.tcp_streams.specs.declared.streams.Flow.{Flow}
+use Rattle.tcp_streams.specs.declared.flows.Flow.{Flow}
 
 -- a connection of a capture, with the capture's packets
 pub record AreSources (capture : List ℕ) (packets : List Packet) (connection : Connection) : Type 0 where

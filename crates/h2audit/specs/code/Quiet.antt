@@ -13,7 +13,7 @@ use Rattle.h2_frames.specs.declared.batches.FrameBatch.{FrameBatch}
 use Rattle.h2_frames.specs.declared.walk.FrameWalk.{FrameWalk}
 use Rattle.quiet_pass.specs.code.QuietPass.{IsQuietAfter}
 use Rattle.quiet_pass.specs.declared.passes.QuietPass.{QuietPass}
-use Rattle.tcp_streams.specs.declared.streams.Flow.{Flow}
+use Rattle.tcp_streams.specs.declared.flows.Flow.{Flow}
 
 -- the flows hold so many frames, and tails; one pass over the frames shows nothing, where credits are not shown
 pub record IsQuietOf (client server : Flow) (quiet : QuietConnection) : Type 0 where

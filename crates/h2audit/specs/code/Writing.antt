@@ -9,7 +9,7 @@ use Rattle.audit_report.specs.declared.audited.Audited.{Audited}
 use Rattle.audit_report.specs.declared.headings.Heading.{Heading}
 use Rattle.audit_report.specs.declared.told.Told.{Told}
 use Rattle.packet_heads.specs.declared.packets.Packet.{Packet}
-use Rattle.pcap_records.specs.declared.capture.Records.{Records}
+use Rattle.pcap_records.specs.declared.pcap_record.Records.{Records}
 use Rattle.tcp_streams.specs.declared.members.Connection.{Connection}
 use Rattle.tcp_streams.specs.declared.members.Stray.{Stray}
 use Rattle.h2audit.specs.Audited.{verdict_of}

@@ -1,6 +1,6 @@
 -- What one packet keeps of its record, from which the order of all packets is proved.
 use Rattle.std.specs.Prelude.{◌≡◌, ℕ, ◌+◌, ◌≤◌, List, [], ◌∷◌}
-use Rattle.pcap_records.specs.declared.capture.Record.{Record}
+use Rattle.pcap_records.specs.declared.pcap_record.Record.{Record}
 use Rattle.packet_heads.specs.declared.packets.Packet.{Packet}
 use Rattle.packet_heads.specs.declared.packets.Packet.TheVariants.{Segment}
 use Rattle.packet_heads.specs.Decision.{packet_decision}

@@ -3,8 +3,8 @@ use Rattle.std.specs.Prelude.{◌≡◌, ℕ, ◌^◌, ◌<◌, List, length, ta
 use Rattle.pcap_records.specs.Reading.{IsReading}
 use Rattle.input_output.specs.code.Front.{SurvivesAppends}
 use Rattle.pcap_records.specs.code.Walk.{HasPassed}
-use Rattle.pcap_records.specs.declared.capture.Record.{Record}
-use Rattle.pcap_records.specs.declared.capture.Records.{Records}
+use Rattle.pcap_records.specs.declared.pcap_record.Record.{Record}
+use Rattle.pcap_records.specs.declared.pcap_record.Records.{Records}
 use Rattle.packet_heads.specs.declared.packets.Packet.{Packet}
 use Rattle.packet_heads.specs.declared.walk.CapturePackets.{CapturePackets}
 use Rattle.packet_heads.specs.declared.walk.PacketWalk.{PacketWalk}

@@ -1,7 +1,7 @@
 -- Where the records of a capture stand, how many there can be, and how late.
 use Rattle.std.specs.Prelude.{ℕ, ◌+◌, ◌^◌, ◌<◌, ◌≤◌, List, [], ◌∷◌, length}
 use Rattle.std.specs.List.{AllByRecursion}
-use Rattle.pcap_records.specs.declared.capture.Record.{Record}
+use Rattle.pcap_records.specs.declared.pcap_record.Record.{Record}
 
 -- from this offset on, the captured bytes of the records follow each other without overlap, inside a
 -- capture of this size

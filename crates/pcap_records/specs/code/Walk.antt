@@ -6,8 +6,8 @@ use Rattle.pcap_records.specs.LinkType.{is_read}
 use Rattle.pcap_records.specs.Reading.{IsReading}
 use Rattle.pcap_records.specs.code.Place.{AreTimely, RiseFrom}
 use Rattle.pcap_records.specs.Record.{AreRecords, BeginsWithRecord, record_at}
-use Rattle.pcap_records.specs.declared.capture.Record.{Record}
-use Rattle.pcap_records.specs.declared.capture.Records.{Records}
+use Rattle.pcap_records.specs.declared.pcap_record.Record.{Record}
+use Rattle.pcap_records.specs.declared.pcap_record.Records.{Records}
 use Rattle.pcap_records.specs.declared.walk.RecordWalk.{RecordWalk}
 
 -- whatever bytes come behind a front: what completes the records from `at` on completes all of them

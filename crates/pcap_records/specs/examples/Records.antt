@@ -1,6 +1,6 @@
 -- Bytes of worked examples.
 use Rattle.std.specs.Prelude.{ℕ, List, [], ◌∷◌, ◌++◌}
-use Rattle.pcap_records.specs.declared.capture.Record.{Record}
+use Rattle.pcap_records.specs.declared.pcap_record.Record.{Record}
 
 -- the magic of big-endian numbers and nanoseconds, and of little-endian numbers and microseconds
 abbrev pub big_nanoseconds : List ℕ

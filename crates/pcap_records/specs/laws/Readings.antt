@@ -2,8 +2,8 @@
 use Rattle.std.specs.Prelude.{◌≡◌, ◌≢◌, ◌<◌, ◌^◌, ℕ, List, ◌++◌, Some, None, length, take}
 use Rattle.pcap_records.specs.Reading.{IsReading}
 use Rattle.pcap_records.specs.Refusal.{refusal}
-use Rattle.pcap_records.specs.declared.capture.Record.{Record}
-use Rattle.pcap_records.specs.declared.capture.Records.{Records}
+use Rattle.pcap_records.specs.declared.pcap_record.Record.{Record}
+use Rattle.pcap_records.specs.declared.pcap_record.Records.{Records}
 use Rattle.pcap_records.specs.declared.faults.PcapFault.{PcapFault}
 use Rattle.pcap_records.specs.declared.faults.PcapFault.TheVariants.{TooLarge}
 use Rattle.pcap_records.specs.declared.walk.RecordWalk.{RecordWalk}

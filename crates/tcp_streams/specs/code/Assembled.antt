@@ -4,7 +4,7 @@ use Rattle.packet_heads.specs.code.Order.{AreNumberedFrom, PayloadsRise, TimesFi
 use Rattle.packet_heads.specs.declared.packets.Segment.{Segment}
 use Rattle.tcp_streams.specs.declared.interval.Interval.{Interval}
 use Rattle.tcp_streams.specs.declared.started_side.StartedSide.{StartedSide}
-use Rattle.tcp_streams.specs.declared.streams.Flow.{Flow}
+use Rattle.tcp_streams.specs.declared.flows.Flow.{Flow}
 use Rattle.tcp_streams.specs.code.Interval.{IsSame, at}
 use Rattle.tcp_streams.specs.code.Orderly.{AreMembers, AreTimely, IsOrderly, payload_sum}
 use Rattle.tcp_streams.specs.Bytes.{bytes_of}

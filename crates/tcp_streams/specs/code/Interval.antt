@@ -7,7 +7,7 @@ use Rattle.packet_heads.specs.declared.packets.Packet.{Packet}
 use Rattle.packet_heads.specs.declared.packets.Segment.{Segment}
 use Rattle.tcp_streams.specs.declared.interval.Interval.{Interval}
 use Rattle.tcp_streams.specs.declared.started_side.StartedSide.{StartedSide}
-use Rattle.tcp_streams.specs.declared.streams.Arrival.{Arrival}
+use Rattle.tcp_streams.specs.declared.flows.Arrival.{Arrival}
 use Rattle.tcp_streams.specs.Members.{is_sent_by}
 use Rattle.tcp_streams.specs.Packets.{segment_of}
 use Rattle.tcp_streams.specs.Sequence.{Source, end_of_offsets, modulus, payload_length, start_of}

@@ -9,7 +9,7 @@ use Rattle.packet_heads.specs.declared.packets.Packet.{Packet}
 use Rattle.packet_heads.specs.declared.packets.Packet.TheVariants.{Segment as Carried}
 use Rattle.packet_heads.specs.declared.packets.Segment.{Segment}
 use Rattle.tcp_streams.specs.declared.members.Connection.{Connection}
-use Rattle.tcp_streams.specs.declared.streams.Flow.{Flow}
+use Rattle.tcp_streams.specs.declared.flows.Flow.{Flow}
 use Rattle.tcp_streams.specs.Bytes.{bytes_of}
 use Rattle.tcp_streams.specs.Flow.{IsFlow}
 use Rattle.tcp_streams.specs.Members.{initial_of, side_segments}

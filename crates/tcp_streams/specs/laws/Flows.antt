@@ -5,7 +5,7 @@ use Rattle.packet_heads.specs.declared.packets.Packet.{Packet}
 use Rattle.packet_heads.specs.declared.packets.Segment.{Segment}
 use Rattle.packet_heads.specs.code.Order.{AreNumberedFrom, PayloadsRise}
 use Rattle.tcp_streams.specs.declared.members.Connection.{Connection}
-use Rattle.tcp_streams.specs.declared.streams.Arrival.{Arrival}
+use Rattle.tcp_streams.specs.declared.flows.Arrival.{Arrival}
 use Rattle.tcp_streams.specs.Flow.{IsFlow}
 use Rattle.tcp_streams.specs.code.Orderly.{AreMembers, payload_sum}
 use Rattle.tcp_streams.specs.Members.{side_segments}

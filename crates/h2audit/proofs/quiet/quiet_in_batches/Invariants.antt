@@ -4,7 +4,7 @@ use Rattle.h2_frames.specs.code.Batch.{IsNumbered}
 use Rattle.h2_frames.specs.code.Walk.{IsReadyWalk, IsWalkAfter, weight_of}
 use Rattle.h2audit.specs.code.Quiet.{IsMetButFor}
 use Rattle.h2audit.proofs.quiet.quiet_in_batches.Given as goal
-use Rattle.tcp_streams.specs.declared.streams.Flow.{Flow}
+use Rattle.tcp_streams.specs.declared.flows.Flow.{Flow}
 
 abbrev pub invariant-loop-more : goal.invariant-loop-more
 invariant-loop-more g l = record {

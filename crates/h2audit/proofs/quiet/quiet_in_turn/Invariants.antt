@@ -2,7 +2,7 @@ use Rattle.std.proofs.Common.{[]}
 use Rattle.h2_frames.specs.code.Walk.{IsReadyWalk, IsWalkAfter, weight_of}
 use Rattle.h2audit.specs.code.Quiet.{IsMetUpTo}
 use Rattle.h2audit.proofs.quiet.quiet_in_turn.Given as goal
-use Rattle.tcp_streams.specs.declared.streams.Flow.{Flow}
+use Rattle.tcp_streams.specs.declared.flows.Flow.{Flow}
 
 abbrev pub invariant-loop-pass : goal.invariant-loop-pass
 invariant-loop-pass l = record {

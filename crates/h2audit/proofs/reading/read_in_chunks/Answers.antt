@@ -19,8 +19,8 @@ returns-then-has_ended-clause-read g c =
       ok = search rules;
       answers = whole_answers now none;
       brief = λ _. c.keep_up_to.ensures.grown.room;
-      header = c.header_by.ensures (kept now) (rw c.together.ensures at c.begin-begun.ensures.ok)
-          (rw c.together.ensures at c.begin-begun.ensures.err);
+      header = c.header_by.ensures (kept now) (rw c.in_one_slice.ensures at c.begin-begun.ensures.ok)
+          (rw c.in_one_slice.ensures at c.begin-begun.ensures.err);
     }
 
 pub returns-in-Ok-clause-read : goal.returns-in-Ok-clause-read
@@ -33,7 +33,7 @@ returns-in-Ok-clause-read g c = IfOk-weaker c.behind_read.result _ _ (λ given i
     let read = rw is.0 at c.keep_and_walk-read.ensures in
     let ended = read.ended in
     let start = rw c.requires.kept at c.in_ok-keep_up_to.ensures.bytes in
-    let same : c.together.result.now ≡ kept header = c.together.ensures in
+    let same : c.in_one_slice.result.now ≡ kept header = c.in_one_slice.ensures in
     let filled : length (kept header) ≡ 24 = omega (
       arith,
       ap length same,
@@ -62,7 +62,7 @@ returns-in-Err-clause-read g c = IfOk-weaker c.behind_read-in-Err.result _ _ (λ
     let start = rw c.requires.kept at c.in_ok-keep_up_to.ensures.bytes in
     let same : kept now ≡ kept header = rw c.pass_over.ensures.kept refl in
     let filled : length (kept header) ≡ 24 = search rules in
-    let refused = ap refusal (same ∙ sym c.together.ensures) ∙ c.in-Err.ensures.err in
+    let refused = ap refusal (same ∙ sym c.in_one_slice.ensures) ∙ c.in-Err.ensures.err in
     rw is.1 (record {
       bytes = gave_front (g.R.Read.remaining c.args.reader.now.reader) (g.R.Read.remaining now.reader) now
           (kept header ++ passed)

@@ -1,7 +1,7 @@
 use Rattle.std.proofs.Common.{◌≡◌, ◌==◌, ◌+◌, ℕ, List, drop, ap, unwrap_or, arith}
 use Rattle.std.proofs.lemmas.Grind.{common_steps}
 use Rattle.pcap_records.specs.LinkType.{raw_ip}
-use Rattle.pcap_records.specs.declared.capture.Record.{Record}
+use Rattle.pcap_records.specs.declared.pcap_record.Record.{Record}
 use Rattle.packet_heads.specs.Decision.{decision_on, is_partial, segment_of}
 use Rattle.packet_heads.specs.Link.{datagram_start}
 use Rattle.packet_heads.specs.Ipv4.{segment_bytes}

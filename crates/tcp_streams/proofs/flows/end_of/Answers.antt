@@ -1,6 +1,6 @@
 use Rattle.tcp_streams.proofs.Words.{◌≡◌, ℕ, List, [], ◌∷◌, Some, ◌∙◌, arith, suc, ◌-◌, length, slice_get, ap, Rises}
 use Rattle.tcp_streams.proofs.Words.{Arrival}
-use Rattle.tcp_streams.proofs.streams.end_of.Goals as goal
+use Rattle.tcp_streams.proofs.flows.end_of.Goals as goal
 
 -- arrivals end where the last of them does
 Rises-last : (low rec : ℕ) (arrivals : List Arrival) (high : ℕ) (last : Arrival) → Rises low rec arrivals high
