@@ -69,7 +69,11 @@ fn push_audited(
         ++ (finding_lines telling.frames_shown audited.frames.items audited.findings.items
         ++ stall_lines (stalls audited.frames.items audited.findings.items) ++ end_line audited.findings.items)) }
 {
-    let AuditedFrames { frames, findings, .. } = audited;
+    let AuditedFrames {
+        frames,
+        findings,
+        ..
+    } = audited;
     let stalls = stall_pairs(telling.alloc, findings.as_slice(), frames.as_slice())?;
     let last = findings.last().copied();
     push_freeing(out, findings, frames, telling.frames_shown)?;
