@@ -6,15 +6,15 @@ use Rattle.audit_report.specs.declared.told.Outcome.TheVariants.{Audited, NoHand
 use Rattle.audit_report.specs.declared.told.Told.{Told}
 use Rattle.audit_terms.proofs.OrderlyFrames.{length-orderly}
 use Rattle.audit_terms.specs.{Finding.shown, Kind.is_fault, Pass.pass}
-use Rattle.audit_terms.specs.declared.{findings.Finding.Finding, frames.Frame.Frame}
+use Rattle.audit_terms.specs.declared.{findings.Finding.Finding}
 use Rattle.audit_terms.specs.declared.sides.{Side.TheVariants.Client, Side.TheVariants.Server, Sides.Sides}
 use Rattle.h2_frames.specs.{Cut.IsCut, declared.connections.Cut.Cut}
 use Rattle.h2audit.specs.Audited.{IsAudited, IsFlowOf, findings_of, has_fault}
 use Rattle.h2audit.specs.code.{Flows.AreToldAudits, Flows.AreToldFlows, Flows.IsHeldBy, Found.AreFound, Found.all_with}
 use Rattle.h2audit.specs.code.Found.{found_in, frames_of, has_fault_in, kept_in, left_after, put_in, with_next}
 use Rattle.packet_heads.specs.declared.packets.Packet.{Packet}
-use Rattle.std.proofs.Common.{Bool, Global, List, Vec, [], ap, arith, length, map, refl, subst, sym, ℕ, ◌++◌, ◌+◌, ◌<◌}
-use Rattle.std.proofs.{Common.◌^◌, Common.◌||◌, Common.◌∙◌, Common.◌∷◌, Common.◌≡◌, Common.◌≤◌, lemmas.List.map-append}
+use Rattle.std.proofs.Common.{Bool, Global, List, Vec, [], ap, arith, length, map, refl, subst, sym, ℕ, ◌++◌, ◌<◌}
+use Rattle.std.proofs.{Common.◌^◌, Common.◌||◌, Common.◌∙◌, Common.◌∷◌, Common.◌≡◌, lemmas.List.map-append}
 use Rattle.std.proofs.{Common.All, lemmas.List.Elements.All-cons, lemmas.List.Elements.All-head}
 use Rattle.std.{proofs.lemmas.List.Elements.All-nil, proofs.lemmas.List.Elements.All-tail, specs.List.list_any}
 use Rattle.stop_desk.specs.declared.parts.Part.{Part}

@@ -1,7 +1,7 @@
 -- The audits of connections that are told one after the other, and the text that grows.
 use Rattle.std.proofs.Common.{◌≡◌, ◌∙◌, ℕ, suc, ◌+◌, Bool, List, [], ◌∷◌, ◌++◌, ◌||◌, true, false, length, map, ap, arith, refl, sym, subst}
 use Rattle.std.proofs.lemmas.List.{length-take-le, take_more}
-use Rattle.std.proofs.Common.{◌<◌, get_or, take, All, append-nil, append_assoc, if◌then◌else◌, Vec, Global}
+use Rattle.std.proofs.Common.{◌<◌, get_or, take, All, append-nil, append_assoc, if◌then◌else◌}
 use Rattle.std.proofs.lemmas.List.Elements.{All-cons, All-head, All-nil, All-tail}
 use Rattle.std.specs.List.{list_any}
 use Rattle.audit_report.specs.code.Contents.{contents_in, opening_text}
@@ -12,7 +12,6 @@ use Rattle.audit_terms.specs.{Finding.shown, Pass.pass}
 use Rattle.h2audit.specs.code.Flows.{AreToldAudits, AreToldFlows}
 use Rattle.h2audit.specs.code.Found.{frames_of, has_fault_in, with_next}
 use Rattle.h2audit.specs.code.InTurn.{AreFoundIn, IsFoundIn, worse}
-use Rattle.h2audit.specs.declared.verdict.Verdict.{Verdict}
 use Rattle.h2audit.specs.declared.verdict.Verdict.TheVariants.{Clean, Faults}
 use Rattle.h2audit.proofs.Found.{put-orderly, step-of}
 use Rattle.packet_heads.specs.declared.packets.Packet.{Packet}

@@ -1,4 +1,4 @@
-use Rattle.std.proofs.Common.{◌≡◌, ℕ, arith, ◌∙◌, sym, List, ◌++◌, length, subst, ap, All}
+use Rattle.std.proofs.Common.{◌≡◌, ℕ, arith, ◌∙◌, sym, List, ◌++◌, length, subst, ap}
 use Rattle.std.specs.List.{enumerate_from}
 use Rattle.std.proofs.lemmas.List.{length-map}
 use Rattle.std.proofs.lemmas.Result.{IfOk-weaker}
@@ -7,7 +7,6 @@ use Rattle.std.proofs.lemmas.List.FromFn.{length-enumerate_from}
 use Rattle.audit_report.specs.CaptureLines.{capture_text}
 use Rattle.audit_report.specs.Section.{sections_text}
 use Rattle.audit_report.specs.code.Heading.{heading_of}
-use Rattle.audit_report.specs.code.Reported.{AreToldOf, HasOrderlyOutcome, IsToldOf}
 use Rattle.audit_report.specs.code.Packets.{AreRecordsOf}
 use Rattle.audit_report.specs.declared.told.Told.{Told}
 use Rattle.packet_heads.specs.Decision.{packet_decision, packet_decisions}
@@ -19,11 +18,9 @@ use Rattle.tcp_streams.specs.declared.members.Connection.{Connection}
 use Rattle.tcp_streams.specs.declared.members.Stray.{Stray}
 use Rattle.tcp_streams.specs.Membership.{AreConnections, strays_of}
 use Rattle.h2audit.specs.Report.{packets_of}
-use Rattle.h2audit.specs.Audited.{IsAudited}
 use Rattle.h2audit.specs.code.Flows.{AreToldAudits, IsToldFlows}
 use Rattle.h2audit.proofs.Opened.{opened-few}
 use Rattle.h2audit.proofs.Flows.{told-orderly}
-use Rattle.h2audit.proofs.Found.{found-audits}
 use Rattle.h2audit.proofs.auditing.audit_records.Goals as goal
 
 -- there is a packet for each record

@@ -1,8 +1,7 @@
-use Rattle.std.proofs.Common.{arith, append_assoc, ap, if◌then◌else◌, length, length-append, map, subst, sym, take}
-use Rattle.std.proofs.Common.{Bool, List, [], ◌+◌, ◌++◌, ◌<◌, ◌∙◌, ◌∷◌, ◌≡◌}
+use Rattle.std.proofs.Common.{arith, append_assoc, ap, if◌then◌else◌, length, length-append, subst, sym, take}
+use Rattle.std.proofs.Common.{Bool, List, [], ◌++◌, ◌<◌, ◌∙◌, ◌∷◌, ◌≡◌}
 use Rattle.std.proofs.lemmas.List.{append-nil, nil_from_length, take_all}
 use Rattle.std.specs.Vec.Iter.{into_iter_items}
-use Rattle.audit_report.specs.code.Heading.{heading_of}
 use Rattle.audit_report.specs.code.Reported.{told_text}
 use Rattle.audit_report.specs.declared.told.Told.{Told}
 use Rattle.stop_desk.specs.declared.parts.Part.{Part}

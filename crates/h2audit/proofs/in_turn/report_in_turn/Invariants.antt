@@ -1,4 +1,4 @@
-use Rattle.std.proofs.Common.{List, ◌≡◌, ◌+◌, ◌++◌, if◌then◌else◌, length, take}
+use Rattle.std.proofs.Common.{List, ◌≡◌, ◌++◌, if◌then◌else◌, length, take}
 use Rattle.std.specs.List.{list_any}
 use Rattle.std.specs.Vec.Iter.{into_iter_items}
 use Rattle.audit_report.specs.code.Reported.{told_text}
