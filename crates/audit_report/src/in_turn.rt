@@ -84,8 +84,8 @@ fn push_audited(
 /// So many findings and fewer are freed together.
 const FEW: usize = 1 << 12;
 
-/// Adds a line for each finding that is shown, in order. Whenever half of those that are left are written, they go, with
-/// the frames before those of the others.
+/// Adds a line for each finding that is shown, in order. Whenever half of those that are left are written, they
+/// go, with the frames before those of the others.
 fn push_freeing(
     out: &mut Vec<u8>,
     findings: Vec<Finding>,

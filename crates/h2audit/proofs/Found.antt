@@ -146,9 +146,11 @@ module _ (credits : Bool) (capture : List ℕ) (packets : List Packet) where
 abbrev IsOrderlyTold : Told → Type 0
 IsOrderlyTold told = HasOrderlyOutcome told.outcome
 
-pub put-orderly : (made : Told) (found : List (Vec Finding Global)) → IsOrderlyTold made → IsOrderlyTold (with_next made found)
+pub put-orderly : (made : Told) (found : List (Vec Finding Global)) → IsOrderlyTold made
+    → IsOrderlyTold (with_next made found)
 put-orderly made found orderly = by_outcome made.outcome found orderly where
-  by_outcome : (o : Outcome) (found : List (Vec Finding Global)) → HasOrderlyOutcome o → HasOrderlyOutcome (put_in o found)
+  by_outcome : (o : Outcome) (found : List (Vec Finding Global)) → HasOrderlyOutcome o
+      → HasOrderlyOutcome (put_in o found)
   by_outcome (Audited audited) [] orderly = orderly
   by_outcome (Audited audited) (one ∷ found) orderly = orderly
   by_outcome (Quiet quiet) found orderly = tt

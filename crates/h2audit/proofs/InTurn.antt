@@ -1,5 +1,6 @@
 -- The audits of connections that are told one after the other, and the text that grows.
-use Rattle.std.proofs.Common.{◌≡◌, ◌∙◌, ℕ, suc, ◌+◌, Bool, List, [], ◌∷◌, ◌++◌, ◌||◌, true, false, length, map, ap, arith, refl, sym, subst}
+use Rattle.std.proofs.Common.{◌≡◌, ◌∙◌, ℕ, suc, ◌+◌, Bool, List, [], ◌∷◌, ◌++◌, ◌||◌, true}
+use Rattle.std.proofs.Common.{false, length, map, ap, arith, refl, sym, subst}
 use Rattle.std.proofs.lemmas.List.{length-take-le, take_more}
 use Rattle.std.proofs.Common.{◌<◌, get_or, take, All, append-nil, append_assoc, if◌then◌else◌}
 use Rattle.std.proofs.lemmas.List.Elements.{All-cons, All-head, All-nil, All-tail}
