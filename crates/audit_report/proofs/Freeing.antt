@@ -1,5 +1,6 @@
 -- What the lines of findings still need, when those before them are written.
-use Rattle.std.proofs.Common.{◌≡◌, ◌∙◌, ℕ, zero, suc, ◌+◌, ◌<◌, ◌≤◌, Bool, List, [], ◌∷◌, ◌++◌, take, drop, length, refl}
+use Rattle.std.proofs.Common.{◌≡◌, ◌∙◌, ℕ, zero, suc, ◌+◌, ◌<◌, ◌≤◌, Bool, List, [], ◌∷◌}
+use Rattle.std.proofs.Common.{◌++◌, take, drop, length, refl}
 use Rattle.std.proofs.Common.{ap, sym, arith, get_or, nat_eq, false}
 use Rattle.std.proofs.lemmas.Grind.{common_steps}
 use Rattle.std.proofs.lemmas.List.{take-append-drop}
@@ -27,7 +28,8 @@ later-frame (suc count) low number [] below above = refl
 later-frame (suc count) low number (frame ∷ frames) below above =
     let here = below zero frame (omega arith) (omega arith) in
     let apart : nat_eq frame.number number ≡ false = grind (arith, common_steps) in
-    rw apart (later-frame count low number frames (λ k d within inside. below (suc k) d (omega arith) (omega arith)) above)
+    rw apart (later-frame count low number frames
+    (λ k d within inside. below (suc k) d (omega arith) (omega arith)) above)
 
 later-lines : (shown : Bool) (count low : ℕ) (frames : List Frame) (findings : List Finding)
     → AreBelow low count frames → Rise low findings

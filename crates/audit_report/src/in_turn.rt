@@ -69,7 +69,11 @@ fn push_audited(
         ++ (finding_lines telling.frames_shown audited.frames.items audited.findings.items
         ++ stall_lines (stalls audited.frames.items audited.findings.items) ++ end_line audited.findings.items)) }
 {
-    let AuditedFrames { frames, findings, .. } = audited;
+    let AuditedFrames {
+        frames,
+        findings,
+        ..
+    } = audited;
     let stalls = stall_pairs(telling.alloc, findings.as_slice(), frames.as_slice())?;
     let last = findings.last().copied();
     push_freeing(out, findings, frames, telling.frames_shown)?;
@@ -80,8 +84,8 @@ fn push_audited(
 /// So many findings and fewer are freed together.
 const FEW: usize = 1 << 12;
 
-/// Adds a line for each finding that is shown, in order. Whenever half of those that are left are written, they go, with
-/// the frames before those of the others.
+/// Adds a line for each finding that is shown, in order. Whenever half of those that are left are written, they
+/// go, with the frames before those of the others.
 fn push_freeing(
     out: &mut Vec<u8>,
     findings: Vec<Finding>,

@@ -22,13 +22,13 @@ says_nothing d before frame leaves =
 
 -- a window of a stream
 module _ (d : Side) (stream : ℕ) (initial : Sides ℕ) (step : Step) (before : ℤ) (leaves : LeavesWindow d stream step)
-    where
-  counted_stays : counted d stream initial step before ≡ before
-  counted_stays = rw leaves.change (omega (arith, ints, leaves.grant, leaves.content))
+  where
+    counted_stays : counted d stream initial step before ≡ before
+    counted_stays = rw leaves.change (omega (arith, ints, leaves.grant, leaves.content))
 
-  pub window_stays : window_after d stream initial step (Some before) ≡ Some before
-  window_stays = grind (arith, ints, counted_stays, leaves.end, leaves.grant)
+    pub window_stays : window_after d stream initial step (Some before) ≡ Some before
+    window_stays = grind (arith, ints, counted_stays, leaves.end, leaves.grant)
 
-  pub live_says_nothing : live_window_said d stream step (window_step d stream initial step before) ≡ []
-  live_says_nothing =
-      grind (arith, ints, counted_stays, leaves.change, leaves.end, leaves.grant, leaves.content)
+    pub live_says_nothing : live_window_said d stream step (window_step d stream initial step before) ≡ []
+    live_says_nothing =
+        grind (arith, ints, counted_stays, leaves.change, leaves.end, leaves.grant, leaves.content)

@@ -6,16 +6,17 @@ use Rattle.audit_report.specs.declared.told.Outcome.TheVariants.{Audited, NoHand
 use Rattle.audit_report.specs.declared.told.Told.{Told}
 use Rattle.audit_terms.proofs.OrderlyFrames.{length-orderly}
 use Rattle.audit_terms.specs.{Finding.shown, Kind.is_fault, Pass.pass}
-use Rattle.audit_terms.specs.declared.{findings.Finding.Finding, frames.Frame.Frame}
+use Rattle.audit_terms.specs.declared.{findings.Finding.Finding}
 use Rattle.audit_terms.specs.declared.sides.{Side.TheVariants.Client, Side.TheVariants.Server, Sides.Sides}
 use Rattle.h2_frames.specs.{Cut.IsCut, declared.cuts.Cut.Cut}
 use Rattle.h2audit.specs.Audited.{IsAudited, IsFlowOf, findings_of, has_fault}
 use Rattle.h2audit.specs.code.{Flows.AreToldAudits, Flows.AreToldFlows, Flows.IsHeldBy, Found.AreFound, Found.all_with}
 use Rattle.h2audit.specs.code.Found.{found_in, frames_of, has_fault_in, kept_in, left_after, put_in, with_next}
 use Rattle.packet_heads.specs.declared.packets.Packet.{Packet}
-use Rattle.std.proofs.Common.{Bool, Global, List, Vec, [], ap, arith, length, map, refl, subst, sym, ℕ, ◌++◌, ◌+◌, ◌<◌}
-use Rattle.std.proofs.{Common.◌^◌, Common.◌||◌, Common.◌∙◌, Common.◌∷◌, Common.◌≡◌, Common.◌≤◌, lemmas.List.map-append}
-use Rattle.std.{proofs.lemmas.List.Elements.All-cons, proofs.lemmas.List.Elements.All-nil, specs.List.list_any}
+use Rattle.std.proofs.Common.{Bool, Global, List, Vec, [], ap, arith, length, map, refl, subst, sym, ℕ, ◌++◌, ◌<◌}
+use Rattle.std.proofs.{Common.◌^◌, Common.◌||◌, Common.◌∙◌, Common.◌∷◌, Common.◌≡◌, lemmas.List.map-append}
+use Rattle.std.proofs.{Common.All, lemmas.List.Elements.All-cons, lemmas.List.Elements.All-head}
+use Rattle.std.{proofs.lemmas.List.Elements.All-nil, proofs.lemmas.List.Elements.All-tail, specs.List.list_any}
 use Rattle.stop_desk.specs.declared.parts.Part.{Part}
 use Rattle.tcp_streams.specs.declared.{members.Connection.Connection, flows.Flow.Flow}
 use Rattle.h2_frames.specs.declared.cuts.Cut.TheVariants as cut
@@ -141,6 +142,34 @@ module _ (credits : Bool) (capture : List ℕ) (packets : List Packet) where
   found-audits opened parts told are found =
       subst (AreToldAudits credits capture packets opened) (sym found.put)
       (told-audits opened parts found.found are found.are)
+
+abbrev IsOrderlyTold : Told → Type 0
+IsOrderlyTold told = HasOrderlyOutcome told.outcome
+
+pub put-orderly : (made : Told) (found : List (Vec Finding Global)) → IsOrderlyTold made
+    → IsOrderlyTold (with_next made found)
+put-orderly made found orderly = by_outcome made.outcome found orderly where
+  by_outcome : (o : Outcome) (found : List (Vec Finding Global)) → HasOrderlyOutcome o
+      → HasOrderlyOutcome (put_in o found)
+  by_outcome (Audited audited) [] orderly = orderly
+  by_outcome (Audited audited) (one ∷ found) orderly = orderly
+  by_outcome (Quiet quiet) found orderly = tt
+  by_outcome NotHttp2 found orderly = tt
+  by_outcome NoPreface found orderly = tt
+  by_outcome NoHandshake found orderly = tt
+
+-- there is as much told as there are parts, and their frames are orderly
+pub all-fit : (parts : List (Part Told)) (found : List (Vec Finding Global))
+    → All (λ (part : Part Told). IsOrderlyTold part.made) parts
+    → (length (all_with parts found) ≡ length parts) × All IsOrderlyTold (all_with parts found)
+all-fit [] found all = (refl, All-nil IsOrderlyTold)
+all-fit (p ∷ parts) found all =
+    let IsOrderlyPart = λ (part : Part Told). IsOrderlyTold part.made in
+    let rest = all-fit parts (left_after p.made.outcome found) (All-tail IsOrderlyPart p parts all) in (
+      omega (arith, rest.0),
+      All-cons IsOrderlyTold (with_next p.made found) (all_with parts (left_after p.made.outcome found))
+          (put-orderly p.made found (All-head IsOrderlyPart p parts all)) rest.1,
+    )
 
 -- a fault is in what is told exactly where it is in the findings
 fault-same : (o : Outcome) (held : Cut) (findings : List Finding) → IsOutcomeOf o held findings

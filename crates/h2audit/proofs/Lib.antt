@@ -7,3 +7,4 @@ mod Opened
 mod Walked
 mod OptionReads
 mod Added
+mod InTurn

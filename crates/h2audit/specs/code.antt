@@ -7,3 +7,4 @@ pub mod Options
 pub mod Choices
 pub mod Arguments
 pub mod Inputs
+pub mod InTurn

@@ -8,11 +8,14 @@ ghost use Rattle.tcp_streams.specs.code.Orderly.{AreMembers};
 ghost use Rattle.tcp_streams.specs.code.Walk.{IsConnectionWalkIn};
 ghost use Rattle.h2audit.specs.Report.{IsNoReport, IsReport};
 ghost use Rattle.h2audit.specs.code.Flows.{AreSources, AreToldFlows};
+ghost use Rattle.h2audit.specs.code.InTurn.{AreTold};
 ghost use Rattle.h2audit.specs.code.Writing.{AreLinesOf, IsToldBehind};
+ghost use Rattle.stop_desk.specs.declared.parts.Part.{Part as PartTerm};
 
 use crate::command_line::Options;
 use crate::connection::{audit_each, flows_each, verdict_on};
 use crate::fault::AuditFault;
+use crate::in_turn::report_in_turn;
 use crate::verdict::Verdict;
 use audit_report::{Heading, Telling, Told, capture_lines, headings_of, report};
 use audit_rounds::Division;
@@ -120,14 +123,35 @@ fn audit_records<R: Threads + Sync, G: Gate>(
         block: options.block(),
         hash,
     };
-    let told = audit_each(team, credits_shown, &division, parts)?;
-    report_told(
+    report_parts(
         team,
         credits_shown,
+        &division,
         lines,
         headings.as_slice(),
-        told.as_slice(),
+        parts,
     )
+}
+
+/// The report of connections, behind the lines of the capture, and its verdict. Of each these parts tell what its flows
+/// hold.
+fn report_parts<R: Threads + Sync, G: Gate>(
+    team: &Team<'_, R, G>,
+    credits_shown: bool,
+    division: &Division,
+    lines: Vec<u8>,
+    headings: &[Heading],
+    parts: Vec<Part<Told>>,
+) -> Result<(Vec<u8>, Verdict), AllocError>
+    requires each { length parts.items ≡ length headings.now }
+    requires orderly { All (λ (part : PartTerm ToldTerm). HasOrderlyOutcome part.made.outcome) parts.items }
+    ensures { IfOk result (λ r. AreTold credits_shown lines.items headings.now parts.items r.0.items r.1) }
+{
+    if credits_shown && team.workers == 1 {
+        return report_in_turn(team, credits_shown, division, lines, headings, parts);
+    }
+    let told = audit_each(team, credits_shown, division, parts)?;
+    report_told(team, credits_shown, lines, headings, told.as_slice())
 }
 
 /// The lines of a capture, and what the flows of its connections hold. Packets and strays are gone when it answers.

@@ -125,7 +125,7 @@ fn together(
 }
 
 /// What is told of a connection, with the next findings where its frames are kept.
-fn with_next(told: Told, found: &mut IntoIter<Vec<Finding>>) -> Told
+pub(crate) fn with_next(told: Told, found: &mut IntoIter<Vec<Finding>>) -> Told
     ensures with { result ≡ with_next told (into_iter_items found.old) }
     ensures left { into_iter_items found.new ≡ left_after told.outcome (into_iter_items found.old) }
 {
@@ -153,7 +153,8 @@ pub(crate) fn verdict_on(told: &[Told]) -> Verdict
     }
 }
 
-fn has_fault_in(outcome: &Outcome) -> bool
+/// Is one of the findings that are told of a connection a fault?
+pub(crate) fn has_fault_in(outcome: &Outcome) -> bool
     ensures { result ≡ has_fault_in outcome.now }
 {
     match outcome {

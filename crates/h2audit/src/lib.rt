@@ -32,6 +32,7 @@ mod command_line;
 mod connection;
 mod fault;
 mod flow_round;
+mod in_turn;
 pub mod laws;
 mod program;
 mod quiet;

@@ -1,4 +1,4 @@
-use Rattle.std.proofs.Common.{◌≡◌, ℕ, arith, ◌∙◌, sym, List, ◌++◌, length, subst, ap, All}
+use Rattle.std.proofs.Common.{◌≡◌, ℕ, arith, ◌∙◌, sym, List, ◌++◌, length, subst, ap}
 use Rattle.std.specs.List.{enumerate_from}
 use Rattle.std.proofs.lemmas.List.{length-map}
 use Rattle.std.proofs.lemmas.Result.{IfOk-weaker}
@@ -7,22 +7,20 @@ use Rattle.std.proofs.lemmas.List.FromFn.{length-enumerate_from}
 use Rattle.audit_report.specs.CaptureLines.{capture_text}
 use Rattle.audit_report.specs.Section.{sections_text}
 use Rattle.audit_report.specs.code.Heading.{heading_of}
-use Rattle.audit_report.specs.code.Reported.{AreToldOf, HasOrderlyOutcome, IsToldOf}
 use Rattle.audit_report.specs.code.Packets.{AreRecordsOf}
 use Rattle.audit_report.specs.declared.told.Told.{Told}
 use Rattle.packet_heads.specs.Decision.{packet_decision, packet_decisions}
 use Rattle.packet_heads.specs.code.Walk.{packets_in}
 use Rattle.packet_heads.specs.declared.packets.Packet.{Packet}
 use Rattle.pcap_records.specs.declared.pcap_record.Record.{Record}
+use Rattle.stop_desk.specs.declared.parts.Part.{Part}
 use Rattle.tcp_streams.specs.declared.members.Connection.{Connection}
 use Rattle.tcp_streams.specs.declared.members.Stray.{Stray}
 use Rattle.tcp_streams.specs.Membership.{AreConnections, strays_of}
 use Rattle.h2audit.specs.Report.{packets_of}
-use Rattle.h2audit.specs.Audited.{IsAudited}
-use Rattle.h2audit.specs.code.Flows.{AreToldAudits}
+use Rattle.h2audit.specs.code.Flows.{AreToldAudits, IsToldFlows}
 use Rattle.h2audit.proofs.Opened.{opened-few}
 use Rattle.h2audit.proofs.Flows.{told-orderly}
-use Rattle.h2audit.proofs.Found.{found-audits}
 use Rattle.h2audit.proofs.auditing.audit_records.Goals as goal
 
 -- there is a packet for each record
@@ -48,35 +46,23 @@ lines_and_flows-requires-clause-sources g c κs within = λ k d low. record {
   members = (rw (← c.as_slice.ensures.value) at c.requires.members) k d low;
 }
 
-pub audit_each-requires-after_bounds : goal.audit_each-requires-after_bounds
-audit_each-requires-after_bounds g c κs within =
-    told-orderly c.frames_shown-credits_shown.result c.args.capture.now (packets_in c.args.found) c.as_slice.result.now
-    c.in_ok-lines.parts.items c.in_ok-lines.ensures.flows
-
-pub report_told-requires-clause-each : goal.report_told-requires-clause-each
-report_told-requires-clause-each g c κs within =
+pub report_parts-requires-clause-each : goal.report_parts-requires-clause-each
+report_parts-requires-clause-each g c κs within =
     let credits = c.frames_shown-credits_shown.result in
     let capture = c.args.capture.now in
     let packets = packets_in c.args.found in
     let lent = c.as_slice.result.now in
-    let told = c.in_ok-told.told.items in
-    let audits = found-audits credits capture packets lent c.in_ok-lines.parts.items told
-    c.in_ok-lines.ensures.flows c.in_ok-told.ensures in
-    ap length c.as_slice-3.ensures.value
-    ∙ sym (AllZip-long IsToldOf told audits.audited audits.stands)
-    ∙ AllZip-long (IsAudited credits capture packets) lent audits.audited audits.audits
+    AllZip-long (λ connection (part : Part Told). IsToldFlows credits capture packets connection part.made) lent
+    c.in_ok-lines.parts.items c.in_ok-lines.ensures.flows
     ∙ ap length c.as_slice.ensures.value
     ∙ sym (length-map c.args.connections.opened.items heading_of)
     ∙ sym (ap length c.in_ok-headings.ensures)
     ∙ sym (ap length c.as_slice-2.ensures.value)
 
-pub report_told-requires-clause-orderly : goal.report_told-requires-clause-orderly
-report_told-requires-clause-orderly g c κs within =
-    let audits = found-audits c.frames_shown-credits_shown.result c.args.capture.now (packets_in c.args.found)
-    c.as_slice.result.now c.in_ok-lines.parts.items c.in_ok-told.told.items c.in_ok-lines.ensures.flows
-    c.in_ok-told.ensures in
-    subst (λ (l : List Told). All (λ (t : Told). HasOrderlyOutcome t.outcome) l) (sym c.as_slice-3.ensures.value)
-    audits.orderly
+pub report_parts-requires-clause-orderly : goal.report_parts-requires-clause-orderly
+report_parts-requires-clause-orderly g c κs within =
+    told-orderly c.frames_shown-credits_shown.result c.args.capture.now (packets_in c.args.found)
+    c.as_slice.result.now c.in_ok-lines.parts.items c.in_ok-lines.ensures.flows
 
 pub returns : goal.returns
 returns g c =
@@ -86,22 +72,19 @@ returns g c =
     let packets = packets_of capture found in
     let opened = c.args.connections.opened.items in
     let strays = c.args.connections.strays.items in
-    let told = c.in_ok-told.told.items in
     let given : packets_in c.args.found ≡ packets = c.requires.packets.exact in
-    let audits : AreToldAudits credits capture packets opened told =
-    subst (λ (p : List Packet). AreToldAudits credits capture p opened told) given
-    (subst (λ (cs : List Connection). AreToldAudits credits capture (packets_in c.args.found) cs told)
-    c.as_slice.ensures.value
-    (found-audits credits capture (packets_in c.args.found) c.as_slice.result.now c.in_ok-lines.parts.items told
-    c.in_ok-lines.ensures.flows c.in_ok-told.ensures)) in
-    let audited = audits.audited in
     let are : AreRecordsOf (packets_in c.args.found) c.args.found.cut found = record {
       count = sym (ap length given ∙ decisions-length found.link found.rows.items capture);
       cut_is = c.requires.packets.cut;
     } in
-    IfOk-weaker c.report_told.result _ _ (λ r is. rw (← c.frames_shown-credits_shown.ensures) (
-    let text = is opened audited (c.as_slice-2.ensures.value ∙ c.in_ok-headings.ensures)
-    (subst (λ (l : List Told). AreToldOf l audited) (sym c.as_slice-3.ensures.value) audits.stands) in
+    IfOk-weaker c.report_parts.result _ _ (λ r is. rw (← c.frames_shown-credits_shown.ensures) (
+    let audits : AreToldAudits credits capture packets opened is.told =
+    subst (λ (p : List Packet). AreToldAudits credits capture p opened is.told) given
+    (subst (λ (cs : List Connection). AreToldAudits credits capture (packets_in c.args.found) cs is.told)
+    c.as_slice.ensures.value
+    (is.audits capture (packets_in c.args.found) c.as_slice.result.now c.in_ok-lines.ensures.flows)) in
+    let audited = audits.audited in
+    let text = is.behind opened audited (c.as_slice-2.ensures.value ∙ c.in_ok-headings.ensures) audits.stands in
     record {
       found = found;
       taken = c.requires.taken;
@@ -118,4 +101,4 @@ returns g c =
             (c.requires.strays ∙ ap strays_of given);
         judged = text.1;
       };
-    })) c.report_told.ensures
+    })) c.report_parts.ensures
