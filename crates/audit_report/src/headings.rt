@@ -7,7 +7,8 @@ use packet_heads::Endpoint;
 use std::alloc::{AllocError, Global};
 use tcp_streams::Connection;
 
-/// What a report tells of the opening of a connection.
+/// What a report tells of the opening of a connection. Connections with their lists of members take more than four
+/// times as much memory.
 #[derive(Clone, Copy)]
 pub struct Heading {
     /// Who sent the opening SYN.

@@ -15,6 +15,9 @@ use std::alloc::{AllocError, Global};
 use stop_desk::{Round, Work};
 
 /// Blocks to be summed, each a job.
+///
+/// Each block is summed, also one alone: the sum says whether it is clear, and a clear block shows nothing without
+/// credits.
 #[derive(Drop)]
 pub(crate) struct SumRound<'a> {
     pub(crate) blocks: &'a [ConnectionBlock<'a>],

@@ -1,7 +1,6 @@
 //! The audit of connections, divided over workers: [`findings_of_each`] shows of each connection what one pass over its
 //! frames does (RFC 9113, 5.4.1), for every [`Division`] and every interleaving of the workers. docs/ARCHITECTURE.md
-//! has the rounds in a table, and says which connections go through them, and when in halves ("How the work is
-//! divided").
+//! has the rounds in a table, and says which connections go through them ("How the work is divided").
 //!
 //! - In the round over streams, a job is a group of those of a connection, but for the quiet ones, which are told when
 //!   the connection is split. A job goes through its streams one after the other, makes the looks that are due of each,

@@ -9,10 +9,11 @@
 //! - [`local_faults`]: what `say_local` says of all frames of a connection.
 //! - The first three answer exactly what the definitions of `audit_terms` say of one frame (`local_said`,
 //!   `connection_said`, `stream_said`). The plain pass and the rounds take them from here: both say each rule by the
-//!   same code, and differ only in how they walk. A step with a change has an acknowledgement for its frame
-//!   (`IsAcknowledged`), so one thing alone moves a window at a step: content, a grant, or a difference of initial
-//!   windows. Each is below 2^32, so credits stay below 2^60 over the fewer than 2^28 frames of a connection, and no
-//!   sum wraps; that bound is bookkeeping of code (`Room` of `audit_terms`).
+//!   same code, and differ only in how they walk. Quicker ways that only tell that nothing is shown have bodies of
+//!   their own (docs/RULES_IN_CODE.md). A step with a change has an acknowledgement for its frame (`IsAcknowledged`),
+//!   so one thing alone moves a window at a step: content, a grant, or a difference of initial windows. Each is below
+//!   2^32, so credits stay below 2^60 over the fewer than 2^28 frames of a connection, and no sum wraps; that bound is
+//!   bookkeeping of code (`Room` of `audit_terms`).
 //! - [`local_faults`] answers exactly `local_run` of `audit_terms`, one walk over the frames that knows no shares. The
 //!   code divides the frames into a share for each worker, of 4,096 frames at least. All that a share needs of those
 //!   before it is the last frame of each side. That is carried from share to share first, by going back from each

@@ -34,6 +34,7 @@ pub(crate) fn spot_of(frame: &Frame) -> Spot
 }
 
 /// Adds the finding of a kind at a spot, where a test holds.
+// In line, as is `say_each`: measured, with calls the findings with credits took a fifth longer.
 #[inline(always)]
 pub(crate) fn say_at(
     found: &mut Vec<Finding>,

@@ -13,6 +13,9 @@ const ENOUGH_FRAMES: u32 = 32_768;
 
 /// Up to where both sides take frames at a time: frames of earlier records, and those of this record up to this number
 /// within their side.
+///
+/// It is a record, so that each side is read alone: a batch of so many frames would leave some of one side over for the
+/// next.
 #[derive(Clone, Copy)]
 pub(crate) struct Limit {
     pub rec: u32,

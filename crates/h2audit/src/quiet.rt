@@ -130,6 +130,8 @@ fn take_batch<R: Threads>(
 
 /// Meets a batch of frames. Is nothing of them shown? The pass stands with this thread alone meanwhile: in its place
 /// it lies beside what others write.
+// Measured, as a field of one value with the sides' lists it took 260 to 280 ms of processor time in place of 159 to
+// 189, since cache lines went back and forth.
 fn meet_batch(pass: &mut QuietPass, batch: &FrameBatch) -> Result<bool, AllocError>
     requires { IsNumbered batch.now }
     ensures { IfOk result (HasMet batch.now pass.old pass.new) }

@@ -20,6 +20,9 @@ pub const LIMIT: usize = 2_147_483_648;
 const BESIDE_BYTES: usize = 67_108_864;
 
 /// How the reads of a capture went so far.
+///
+/// It is one state: of three marks two would never stand together, and each clause would have to say of all three what
+/// it means of one.
 #[derive(Clone, Copy, PartialEq, Eq)]
 pub enum ReadState {
     /// Well: each gave bytes.
@@ -233,6 +236,9 @@ impl<R: Read> CaptureReader<R> {
     /// Reads on, up to `limit`, until a walk over full chunks is done, which another thread lets go on. So neither
     /// sleeps until the other one is done. A reader need not be fit for another thread, so it is the walk that goes
     /// there; where no thread can be had, it comes after the reads.
+    ///
+    /// Measured, a virtual processor that sleeps takes 0.3 ms to wake. With a join after each chunk the reader slept
+    /// wherever the walk took longer than the read.
     fn read_beside<T: Threads, W: FrontWalk + Send>(
         &mut self,
         limit: usize,

@@ -12,7 +12,8 @@ use std::thread::{JoinHandle, Threads, spawn};
 const MOST_MAKERS: usize = 4;
 
 /// How many bytes of zeros are written at a time. Measured, more of them are slower where memory is used for the first
-/// time: the C library then writes them in another way.
+/// time: glibc then writes them by an instruction that begins anew at each new page, which took 8 % of the time of a
+/// capture with few frames.
 const STRIDE_BYTES: usize = 2_048;
 
 /// Makes chunks ahead, each by a thread of its own, beside the thread that reads.
@@ -20,6 +21,9 @@ const STRIDE_BYTES: usize = 2_048;
 /// Most of the time of reading goes into memory that is used for the first time. The threads here take that over; they
 /// know nothing of a capture, so no byte that is read depends on them. It cannot be dropped, so whoever has one has to
 /// [`ChunksAhead::finish`] it.
+///
+/// Measured, bunches of up to four chunks, made by two threads, took a fifth to a half longer, since two makers are
+/// slower than the reader.
 pub struct ChunksAhead<'a, T: Threads> {
     pub(crate) rt: &'a T,
     pub(crate) alloc: Global,

@@ -6,7 +6,9 @@ ghost use Rattle.input_output.specs.code.Front.{SurvivesAppends};
 use crate::chunks::Chunks;
 use std::alloc::{AllocError, Global};
 
-/// How many bytes a chunk of a capture has: 1 MiB.
+/// How many bytes a chunk of a capture has: 1 MiB, a power of two, since an index is divided by it.
+///
+/// Measured, chunks of 2 and 4 MiB were no faster, and cost a short capture memory.
 pub const CAPTURE_CHUNK: usize = 1_048_576;
 
 /// The bytes of a capture, held in chunks.

@@ -22,7 +22,7 @@
 //!   compiler refuses a reading that leaves threads behind, since `ChunksAhead` cannot be dropped.
 //! - `crate_tests` tests which calls readers and writers get.
 //! - Trusted: that a file or a pipe gives and keeps its bytes. No contract says that the records of reads and writes
-//!   are honest; docs/PROOFS.md names the functions to read for that ("What it does not say").
+//!   are honest; docs/PROOFS.md names the functions to read for that ("What is trusted").
 #![tactic(auto)]
 
 mod capture_reader;

@@ -4,6 +4,9 @@ use std::hash::{BuildHasher, DefaultHasher, RandomState};
 use std::random::RandomSource;
 
 /// Makes the hashers of a table. None is made but by [`TableHash::drawn`].
+///
+/// A key made of the capture's bytes would need no random bytes, but each key of a table would have to go through a
+/// one-way hash before the first look-up.
 #[derive(Clone, Copy)]
 pub struct TableHash {
     key: Key,

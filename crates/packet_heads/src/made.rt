@@ -9,6 +9,9 @@ use crate::packets::{Packet, Segment};
 use std::alloc::{AllocError, Global};
 
 /// The packets of a front of a capture: 4 bytes for each, and 44 more for each segment.
+///
+/// A capture may hold a record in every 16 bytes, and no segment. With 48 bytes for each packet its audit took 6.5
+/// times as much memory as the file has bytes, with marks it takes 3.7 times.
 #[derive(Drop)]
 pub struct MadePackets {
     pub(crate) marks: Growing<Mark>,

@@ -43,6 +43,7 @@ pub struct Visits {
     pub index: RowIndex,
     /// Rows that were sought before, by the last bits of their streams' numbers: the streams of a connection are
     /// numbered one after the other, so that those of one time seldom share a place here.
+    // A list of rows, one for each frame, would spare a second look-up, but take a tenth of the frames' memory.
     pub hints: Vec<u32>,
     /// The row that was visited last.
     pub last: u32,

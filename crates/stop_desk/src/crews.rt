@@ -86,6 +86,9 @@ fn fork<R: Threads + Sync, G: Gate, P: Round>(
 }
 
 /// A worker's share of the jobs with a little over, since some draw more than others; of a sole worker, all jobs.
+///
+/// Measured, a list that doubles instead takes 1.3 times the memory with very many jobs: it leaves its former places in
+/// the C library's heap.
 fn share_of(jobs: u32, workers: u32) -> usize
     requires { 0 < workers }
 {

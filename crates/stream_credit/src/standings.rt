@@ -108,6 +108,8 @@ impl Standings {
         {
             return None;
         }
+        // The second side is asked only after the first has answered: to ask both first took seven instructions more
+        // for each frame.
         Some(Standings {
             opened: self.opened,
             client: standing_after(self.client, Side::Client, frame)?,

@@ -35,6 +35,7 @@ fn command<'a>(alloc: Global) -> Result<Command<'a>, AllocError>
 }
 
 /// The arguments, in the order in which help shows them.
+// They are one list: a function that hands on one of clap's wide values costs the proof some ten seconds.
 fn arguments<'a>(alloc: Global) -> Result<Vec<Arg<'a>>, AllocError>
     ensures { IfOk result (λ args. AreArguments args.items) }
 {
