@@ -1,7 +1,11 @@
 -- Going down the connections and what is told of them, side by side.
 use Rattle.std.proofs.Common.{◌≡◌, ℕ, zero, suc, ◌+◌, ◌<◌, ◌≤◌, Bool, List, [], ◌∷◌, ◌++◌, take, drop, length, get_or}
-use Rattle.std.proofs.Common.{◌-◌, refl, ap, append_assoc, arith, length-drop}
+use Rattle.std.proofs.Common.{◌-◌, refl, ap, sym, ◌∙◌, append_assoc, arith, length-drop}
 use Rattle.std.proofs.lemmas.List.{drop_more, length-take, Elements.All-drop, Elements.All-take}
+use Rattle.std.proofs.lemmas.Grind.{flat_map-append}
+use Rattle.std.proofs.lemmas.List.{take-append-drop}
+use Rattle.audit_terms.specs.declared.{findings.Finding.Finding, frames.Frame.Frame}
+use Rattle.audit_report.specs.FindingLine.{finding_lines, shown_line}
 use Rattle.audit_report.specs.code.Contents.{contents_in, opening_text}
 use Rattle.audit_report.specs.code.Reported.{AreHeaded, HasOrderlyOutcome, extents_in, outcome_text, told_text}
 use Rattle.audit_report.specs.declared.{told.Told.Told, headings.Heading.Heading}
@@ -65,3 +69,20 @@ back-headed before next n headings back told told_back headed within upto b tb =
     let left' : length told_back ≡ length told - n = omega (arith, ap length tb, length-drop n told) in
     let P : Told → Type 0 = λ t. HasOrderlyOutcome t.outcome in
     record { each = omega arith; orderly = rw tb (All-drop P n told headed.orderly); numbers = omega arith }
+
+-- ---- the findings of one connection
+
+-- the lines of the first ones, and those of all others
+pub lines_in_parts : (shown : Bool) (frames : List Frame) (n : ℕ) (findings front back : List Finding)
+    → front ≡ take n findings → back ≡ drop n findings
+    → finding_lines shown frames findings ≡ finding_lines shown frames front ++ finding_lines shown frames back
+lines_in_parts shown frames n findings front back f b =
+    rw (f, b) (ap (finding_lines shown frames) (sym (take-append-drop n findings))
+    ∙ flat_map-append (shown_line shown frames) (take n findings) (drop n findings))
+
+-- the lines of a batch are made, those of the batch before put behind what is there, and others are to come
+pub lines_more : (o o' made made' cleared piece rest all whole : List ℕ) → o' ≡ o ++ made → made' ≡ cleared ++ piece
+    → cleared ≡ [] → all ≡ piece ++ rest → (o ++ made) ++ all ≡ whole → (o' ++ made') ++ rest ≡ whole
+lines_more o o' made made' cleared piece rest all whole pushed is none split so_far =
+    rw (pushed, is, none)
+    (append_assoc (o ++ made) piece rest ∙ ap (λ l. (o ++ made) ++ l) (sym split) ∙ so_far)

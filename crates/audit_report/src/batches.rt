@@ -1,11 +1,12 @@
 //! The sections of connections by several workers: in batches, of which halves are written side by side. So no more
 //! than a batch's text is in memory twice.
 
-ghost use Rattle.std.specs.Prelude.{◌≡◌, ◌+◌, ◌<◌, ◌≤◌, ◌++◌, Bool, IsOk, OnOk, length};
+ghost use Rattle.std.specs.Prelude.{◌≡◌, ◌+◌, ◌<◌, ◌≤◌, ◌++◌, Bool, OnOk, length};
 ghost use Rattle.std.specs.Thread.{IsSync};
 ghost use Rattle.audit_report.specs.code.Reported.{AreHeaded, told_text};
 ghost use Rattle.audit_report.specs.code.Shares.{IsHeaded, share_text};
 
+use crate::finding_shares::push_behind;
 use crate::headings::Heading;
 use crate::sections::push_sections;
 use crate::telling::Telling;
@@ -109,7 +110,7 @@ fn push_share<R: Threads + Sync>(
     out.reserve(share.told.len().saturating_mul(SECTION))?;
     let weight = together(share.told);
     if telling.workers < 2 || share.told.len() < 2 || weight < FEW {
-        return push_sections(telling, out, share.before, share.headings, share.told);
+        return push_sections(rt, telling, out, share.before, share.headings, share.told);
     }
     let (front, back) = share.split_at(count_within(share.told, weight / 2));
     push_halves(rt, telling, out, front, back)
@@ -145,19 +146,6 @@ fn push_halves<R: Threads + Sync>(
     { push_share(rt, telling.by(others), out, front) };
     let (later, earlier) = join_mut(rt, &mut push_back, &mut push_front);
     push_behind(out, earlier.and(later), behind.as_slice())
-}
-
-/// Adds the back's text, where both halves were made.
-fn push_behind(
-    out: &mut Vec<u8>,
-    made: Result<(), AllocError>,
-    behind: &[u8],
-) -> Result<(), AllocError>
-    ensures made { OnOk result (IsOk made) }
-    ensures text { OnOk result (out.new.items ≡ out.old.items ++ behind.now) }
-{
-    made?;
-    out.extend_from_slice(behind)
 }
 
 /// Adds the sections of a share's connections in batches.

@@ -15,11 +15,10 @@ ghost use Rattle.audit_terms.specs.declared.findings.Finding.{Finding as Finding
 
 use crate::connections::push_opening_text;
 use crate::contents::contents_in;
-use crate::endings::{push_end_line_after, push_stall_lines};
+use crate::endings::{push_end_line, push_end_line_after, push_stall_lines};
 use crate::extents::Reach;
 use crate::findings::push_finding_lines;
 use crate::headings::Heading;
-use crate::sections::push_outcome;
 use crate::stalls::stall_pairs;
 use crate::telling::Telling;
 use crate::told::{AuditedFrames, Outcome, Told};
@@ -54,7 +53,8 @@ fn push_held(telling: Telling, out: &mut Vec<u8>, outcome: Outcome) -> Result<()
 {
     match outcome {
         Outcome::Audited(audited) => push_audited(telling, out, Box::into_inner(audited)),
-        outcome => push_outcome(telling, out, &outcome),
+        Outcome::Quiet(_) => push_end_line(out, &[]),
+        _ => Ok(()),
     }
 }
 

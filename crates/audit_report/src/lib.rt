@@ -7,8 +7,8 @@
 //! - Which stalls findings tell of, the definition (`specs/Stalls.antt`) says by looking forward from each beginning
 //!   for the first end of the same side and stream; the code goes over the list once, from the back, with the nearest
 //!   end of each window in a table.
-//! - Several workers write halves of a batch of connections side by side. The contract of [`report`] knows no workers.
-//!   [`Telling`] is what goes along.
+//! - Several workers write halves of a batch of connections side by side, and the lines of one connection's findings in
+//!   shares. The contract of [`report`] knows no workers. [`Telling`] is what goes along.
 //! - [`Told`] is what is kept of a connection from its flows on. Of a flow that is its [`Reach`], length and gap. Of
 //!   frames it is their number where nothing is shown of them ([`QuietConnection`]), and else the frames and what was
 //!   found in them ([`AuditedFrames`]). It stands for an [`Audited`], which the definitions are over, and of which it
@@ -37,6 +37,7 @@ mod endings;
 mod endpoints;
 mod ends;
 mod extents;
+mod finding_shares;
 mod findings;
 mod headings;
 mod in_turn;

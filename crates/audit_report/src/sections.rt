@@ -13,16 +13,18 @@ use crate::connections::push_opening_text;
 use crate::contents::contents_in;
 use crate::endings::{push_end_line, push_stall_lines};
 use crate::extents::Reach;
-use crate::findings::push_finding_lines;
+use crate::finding_shares::{Lines, push_lines};
 use crate::headings::Heading;
 use crate::stalls::stall_pairs;
 use crate::telling::Telling;
 use crate::told::{Outcome, Told};
 use audit_terms::{Finding, Frame};
 use std::alloc::AllocError;
+use std::thread::Threads;
 
 /// Adds the sections of connections, before which there are so many others.
-pub fn push_sections(
+pub fn push_sections<R: Threads + Sync>(
+    rt: &R,
     telling: Telling,
     out: &mut Vec<u8>,
     before: u64,
@@ -34,13 +36,14 @@ pub fn push_sections(
         ++ told_text telling.frames_shown (before + 1) headings.now told.now) }
 {
     for (i, heading) in headings.iter().enumerate() {
-        push_section(telling, out, before + i as u64 + 1, heading, &told[i])?;
+        push_section(rt, telling, out, before + i as u64 + 1, heading, &told[i])?;
     }
     Ok(())
 }
 
 #[tactic(auto, using(crate::proofs::Joins::joins))]
-fn push_section(
+fn push_section<R: Threads + Sync>(
+    rt: &R,
     telling: Telling,
     out: &mut Vec<u8>,
     k: u64,
@@ -55,11 +58,12 @@ fn push_section(
     let extents = Reach::extents(&told.reach);
     let contents = contents_in(&told.outcome);
     push_opening_text(out, k, *heading, &extents, contents)?;
-    push_outcome(telling, out, &told.outcome)
+    push_outcome(rt, telling, out, &told.outcome)
 }
 
 /// Adds the lines on what the flows of a connection hold.
-pub fn push_outcome(
+fn push_outcome<R: Threads + Sync>(
+    rt: &R,
     telling: Telling,
     out: &mut Vec<u8>,
     outcome: &Outcome,
@@ -70,13 +74,16 @@ pub fn push_outcome(
 {
     match outcome {
         Outcome::Quiet(_) => push_end_line(out, &[]),
-        Outcome::Audited(audited) => push_audit(telling, out, &audited.frames, &audited.findings),
+        Outcome::Audited(audited) => {
+            push_audit(rt, telling, out, &audited.frames, &audited.findings)
+        },
         _ => Ok(()),
     }
 }
 
 #[tactic(auto, using(crate::proofs::Joins::joins))]
-fn push_audit(
+fn push_audit<R: Threads + Sync>(
+    rt: &R,
     telling: Telling,
     out: &mut Vec<u8>,
     frames: &[Frame],
@@ -87,7 +94,7 @@ fn push_audit(
         ++ (finding_lines telling.frames_shown frames.now findings.now ++ stall_lines (stalls frames.now findings.now)
         ++ end_line findings.now)) }
 {
-    push_finding_lines(out, findings, frames, telling.frames_shown)?;
+    push_lines(rt, telling, out, Lines { findings, frames })?;
     let stalls = stall_pairs(telling.alloc, findings, frames)?;
     push_stall_lines(out, &stalls)?;
     push_end_line(out, findings)

@@ -1,9 +1,9 @@
 //! A batch of connections. An error that lies early in a long connection spares what comes after it: of each long
 //! connection a front is gone through first, and all of it only where the front shows no error. Many short connections
-//! go through the rounds in halves, side by side: no part of the work is then left to one thread, and threads start
-//! once.
+//! are gone through in halves, side by side: no part of the work is then left to one thread, and threads start once.
 
-ghost use Rattle.std.specs.Prelude.{◌≡◌, ◌<◌, IfOk, length, map};
+ghost use Rattle.std.specs.Prelude.{◌≡◌, ◌<◌, ◌≤◌, IfOk, length, map};
+ghost use Rattle.std.specs.Bool.{OnTrue};
 ghost use Rattle.std.specs.List.{AllZip};
 ghost use Rattle.std.specs.Thread.{IsSync};
 ghost use Rattle.audit_rounds.specs.code.EarlyStops.{IsEarly, front_of};
@@ -65,8 +65,14 @@ fn found_after<R: Threads + Sync, G: Gate>(
     Ok(put_back(connections, found, later))
 }
 
+/// Is there nothing to divide of a connection: one worker in all, or no more frames than a block?
+fn is_undivided<R: Threads + Sync, G: Gate>(crew: &Crew<'_, R, G>, frames: &[Frame]) -> bool {
+    !crew.is_of_several || frames.len() <= crew.division.block as usize
+}
+
 /// What is shown of each connection, all of which are gone through. Where credits are shown, which most frames change,
-/// one worker needs no rounds for one connection: it meets the frames one by one, if that takes little time.
+/// one connection needs no rounds by one worker, nor where it has no more frames than a block: these are met one by
+/// one, if that takes little time.
 fn shown_of<R: Threads + Sync, G: Gate>(
     crew: &Crew<'_, R, G>,
     connections: &[&[Frame]],
@@ -74,7 +80,7 @@ fn shown_of<R: Threads + Sync, G: Gate>(
     requires { IsBatch connections.now }
     ensures { IfOk result (λ found. AreShown crew.now.credits_shown connections.now found.items) }
 {
-    if crew.credits_shown && crew.division.workers == 1 && connections.len() == 1 {
+    if crew.credits_shown && connections.len() == 1 && is_undivided(crew, connections[0]) {
         let frames = connections[0];
         if let Some(found) = shown_in_one_pass(crew.alloc, crew.credits_shown, frames)? {
             let all = vec![in crew.alloc; found]?;
@@ -128,6 +134,57 @@ fn are_short(workers: u32, connections: &[&[Frame]]) -> bool
     connections.iter().all(|frames| frames.len() <= most)
 }
 
+/// Where credits are shown and nothing is to divide of any connection, one thread goes over one after the other.
+fn take_turns<R: Threads + Sync, G: Gate>(crew: &Crew<'_, R, G>, connections: &[&[Frame]]) -> bool {
+    crew.credits_shown && connections.iter().all(|frames| is_undivided(crew, *frames))
+}
+
+/// Is it worth while to go over halves of these connections side by side?
+fn are_halved<R: Threads + Sync, G: Gate>(crew: &Crew<'_, R, G>, connections: &[&[Frame]]) -> bool
+    ensures { OnTrue result ((2 ≤ crew.now.division.workers) × (2 ≤ length connections.now)) }
+{
+    let workers = crew.division.workers;
+    if workers < 2 || connections.len() < 2 {
+        return false;
+    }
+    if take_turns(crew, connections) {
+        return LONG <= together(connections);
+    }
+    MANY <= connections.len() && are_short(workers, connections)
+}
+
+/// What is shown of each connection, fronts of long ones first.
+fn fronts_first<R: Threads + Sync, G: Gate>(
+    crew: &Crew<'_, R, G>,
+    connections: &[&[Frame]],
+) -> Result<Vec<Vec<Finding>>, AllocError>
+    requires { IsBatch connections.now }
+    ensures { IfOk result (λ found. AreShown crew.now.credits_shown connections.now found.items) }
+{
+    let early = found_early(crew, connections)?;
+    found_after(crew, connections, early)
+}
+
+/// The same of one connection after the other.
+fn in_turn<R: Threads + Sync, G: Gate>(
+    crew: &Crew<'_, R, G>,
+    connections: &[&[Frame]],
+) -> Result<Vec<Vec<Finding>>, AllocError>
+    requires { IsBatch connections.now }
+    ensures { IfOk result (λ found. AreShown crew.now.credits_shown connections.now found.items) }
+{
+    let mut all = Vec::with_capacity(crew.alloc, connections.len())?;
+    let mut done = 0;
+    while done < connections.len() {
+        let (_, rest) = connections.split_at(done);
+        let (one, _) = rest.split_at(1);
+        let mut found = fronts_first(crew, one)?;
+        all.append(&mut found)?;
+        done += 1;
+    }
+    Ok(all)
+}
+
 /// What is shown of the connections of both halves.
 fn both_shown(
     one: Result<Vec<Vec<Finding>>, AllocError>,
@@ -141,7 +198,7 @@ fn both_shown(
     Ok(found)
 }
 
-/// What is shown of each connection of a batch. Where one is long, fronts are gone through first.
+/// What is shown of each connection of a batch.
 pub(crate) fn by_halves<R: Threads + Sync, G: Gate>(
     crew: &Crew<'_, R, G>,
     connections: &[&[Frame]],
@@ -149,13 +206,17 @@ pub(crate) fn by_halves<R: Threads + Sync, G: Gate>(
     requires { IsBatch connections.now }
     ensures { IfOk result (λ found. AreShown crew.now.credits_shown connections.now found.items) }
 {
-    let workers = crew.division.workers;
-    if workers == 1 || connections.len() < MANY || !are_short(workers, connections) {
-        let early = found_early(crew, connections)?;
-        return found_after(crew, connections, early);
+    if !are_halved(crew, connections) {
+        return if take_turns(crew, connections) {
+            in_turn(crew, connections)
+        } else {
+            fronts_first(crew, connections)
+        };
     }
+    let workers = crew.division.workers;
     let (front, back) = in_halves(connections);
     let (rt, gate, alloc, credits_shown) = (crew.rt, crew.gate, crew.alloc, crew.credits_shown);
+    let several = crew.is_of_several;
     let few = crew.division.with_workers(workers / 2);
     let others = crew.division.with_workers(workers - workers / 2);
     let (one, other) = join(
@@ -163,11 +224,21 @@ pub(crate) fn by_halves<R: Threads + Sync, G: Gate>(
         || -> Result<Vec<Vec<Finding>>, AllocError>
             requires { IsSync R.row × IsSync G.row × IsBatch front.now }
             ensures { IfOk result (λ found. AreShown credits_shown front.entry.now found.items) }
-        { by_halves(&Crew::of(rt, gate, alloc, few, credits_shown), front) },
+        {
+            by_halves(
+                &Crew::of(rt, gate, alloc, few, credits_shown, several),
+                front,
+            )
+        },
         || -> Result<Vec<Vec<Finding>>, AllocError>
             requires { IsSync R.row × IsSync G.row × IsBatch back.now }
             ensures { IfOk result (λ found. AreShown credits_shown back.entry.now found.items) }
-        { by_halves(&Crew::of(rt, gate, alloc, others, credits_shown), back) },
+        {
+            by_halves(
+                &Crew::of(rt, gate, alloc, others, credits_shown, several),
+                back,
+            )
+        },
     );
     both_shown(one, other)
 }

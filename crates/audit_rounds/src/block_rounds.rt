@@ -91,5 +91,5 @@ pub(crate) fn rounds_over_blocks<R: Threads + Sync, G: Gate>(
     let settled = settle(&crew.team(), AuditRound::Blocks, stops, &round)?;
     let none = none_of_each(crew.alloc, connections.len())?;
     let own = gathered(none, settled.parts)?;
-    merged_each(crew.alloc, found, own)
+    merged_each(crew, found, own)
 }

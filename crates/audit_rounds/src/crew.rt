@@ -19,6 +19,8 @@ pub(crate) struct Crew<'a, R: Threads + Sync, G: Gate> {
     pub(crate) alloc: Global,
     pub(crate) division: Division,
     pub(crate) credits_shown: bool,
+    /// Do several work side by side on all connections, of whom this may be one?
+    pub(crate) is_of_several: bool,
 }
 
 impl<'a, R: Threads + Sync, G: Gate> Crew<'a, R, G> {
@@ -30,6 +32,7 @@ impl<'a, R: Threads + Sync, G: Gate> Crew<'a, R, G> {
         alloc: Global,
         division: Division,
         credits_shown: bool,
+        is_of_several: bool,
     ) -> Crew<'a, R, G>
         ensures division { result.division ≡ division }
         ensures credits_shown { result.credits_shown ≡ credits_shown }
@@ -40,6 +43,7 @@ impl<'a, R: Threads + Sync, G: Gate> Crew<'a, R, G> {
             alloc,
             division,
             credits_shown,
+            is_of_several,
         }
     }
 

@@ -47,17 +47,8 @@ impl Division {
 /// beside the frames is there for one batch at a time, and so many frames are enough to keep all workers at work.
 const BATCH: usize = 1 << 22;
 
-/// So many connections are in a batch at most. Where credits are shown, one worker goes over one after the other.
-fn most_for(credits_shown: bool, workers: u32) -> usize {
-    if credits_shown && workers == 1 {
-        1
-    } else {
-        BATCH
-    }
-}
-
-/// The next batch: the first of these connections, so many at most, and one at least.
-fn next_batch<'a, 'b>(connections: &'b [&'a [Frame]], most: usize) -> &'b [&'a [Frame]]
+/// The next batch: the first of these connections, one at least.
+fn next_batch<'a, 'b>(connections: &'b [&'a [Frame]]) -> &'b [&'a [Frame]]
     requires some { 0 < length connections.now }
     requires frames { All (λ frames. IsOrderly frames.now) connections.now }
     ensures some { 0 < length result.now }
@@ -65,10 +56,9 @@ fn next_batch<'a, 'b>(connections: &'b [&'a [Frame]], most: usize) -> &'b [&'a [
     ensures front { result.now ≡ take (length result.now) connections.now }
     ensures batch { IsBatch result.now }
 {
-    let most = connections.len().min(most);
     let mut count = 1;
     let mut together = connections[0].len();
-    while count < most && together + connections[count].len() <= BATCH {
+    while count < connections.len() && together + connections[count].len() <= BATCH {
         together += connections[count].len();
         count += 1;
     }
@@ -90,12 +80,13 @@ pub fn findings_of_each<R: Threads + Sync, G: Gate>(
     ensures { IfOk result (λ found. map (λ one. one.items) found.items
         ≡ map (λ frames. shown credits_shown (pass frames.now)) connections.now) }
 {
-    let crew = Crew::of(rt, gate, alloc, *division, credits_shown);
+    let several = 1 < division.workers;
+    let crew = Crew::of(rt, gate, alloc, *division, credits_shown, several);
     let mut all = Vec::with_capacity(alloc, connections.len())?;
     let mut done = 0;
     while done < connections.len() {
         let (_, rest) = connections.split_at(done);
-        let batch = next_batch(rest, most_for(credits_shown, division.workers));
+        let batch = next_batch(rest);
         let mut found = by_halves(&crew, batch)?;
         all.append(&mut found)?;
         done += batch.len();

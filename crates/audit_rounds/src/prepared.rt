@@ -170,6 +170,7 @@ pub(crate) fn prepare_each<'a, R: Threads + Sync, G: Gate>(
     }
     let (front, back) = in_halves(connections);
     let (rt, gate, alloc, credits_shown) = (crew.rt, crew.gate, crew.alloc, crew.credits_shown);
+    let several = crew.is_of_several;
     let few = crew.division.with_workers(workers / 2);
     let others = crew.division.with_workers(workers - workers / 2);
     let (one, other) = join(
@@ -177,11 +178,21 @@ pub(crate) fn prepare_each<'a, R: Threads + Sync, G: Gate>(
         || -> Result<MadeReady<'_>, AllocError>
             requires { IsSync R.row × IsSync G.row × IsBatch front.now }
             ensures { IfOk result (AreMadeReady credits_shown front.entry.now) }
-        { prepare_each(&Crew::of(rt, gate, alloc, few, credits_shown), front) },
+        {
+            prepare_each(
+                &Crew::of(rt, gate, alloc, few, credits_shown, several),
+                front,
+            )
+        },
         || -> Result<MadeReady<'_>, AllocError>
             requires { IsSync R.row × IsSync G.row × IsBatch back.now }
             ensures { IfOk result (AreMadeReady credits_shown back.entry.now) }
-        { prepare_each(&Crew::of(rt, gate, alloc, others, credits_shown), back) },
+        {
+            prepare_each(
+                &Crew::of(rt, gate, alloc, others, credits_shown, several),
+                back,
+            )
+        },
     );
     both_ready(one, other)
 }

@@ -9,3 +9,4 @@ pub mod GroupRanges
 pub mod ShownMerge
 mod MergedRuns
 mod PutBack
+mod Stretches

@@ -4,3 +4,4 @@ pub mod Loud
 pub mod Groups
 pub mod Split
 pub mod Pending
+pub mod Stretches

@@ -9,7 +9,8 @@
 //!   deals the rows out in consecutive ranges. A row names a range of one list of positions, so no frame is copied, and
 //!   a stream of three frames costs no list of its own.
 //! - [`merge`] puts lists of findings into one, up to the least connection error (5.4.1). It asks for neither sorted
-//!   nor distinct findings, since their order is total.
+//!   nor distinct findings, since their order is total. [`merge_by`] does so with two lists by several workers, each of
+//!   which takes a range of places.
 //! - [`pending_of`] gives the connections of a batch that are still to be gone through, and [`put_back`] puts what is
 //!   found of these in their places.
 //! - [`worked_examples`] shows splits, quiet streams, groups, and where a merge ends.
@@ -23,6 +24,7 @@ mod grouping;
 mod loud;
 mod merging;
 mod pending;
+mod ranges;
 mod row_index;
 mod splits;
 mod visits;
@@ -31,4 +33,5 @@ pub mod worked_examples;
 pub use grouping::groups;
 pub use merging::merge;
 pub use pending::{pending_of, put_back};
+pub use ranges::merge_by;
 pub use splits::{SplitFrames, StreamRow, split};

@@ -3,7 +3,7 @@ use Rattle.audit_report.proofs.Pairs.{sections_from_here, written_more}
 use Rattle.audit_report.proofs.sections.push_sections.Goals as goal
 
 pub loop-i-preserved : goal.loop-i-preserved
-loop-i-preserved c =
+loop-i-preserved g c =
     let i = c.loop-i.i in
     let before = c.args.before in
     written_more _ _ _ _ _ _ c.in_ok-push_section.ensures

@@ -1,15 +1,6 @@
-use Rattle.audit_rounds.proofs.Words.{subst, IfOk, AllZip-long, arith, rules, IfOk-weaker}
+use Rattle.audit_rounds.proofs.Words.{subst, IfOk, arith, rules}
 use Rattle.audit_rounds.specs.code.Batch.{AreShown}
-use Rattle.audit_rounds.proofs.Batches.{early-shown}
 use Rattle.audit_rounds.proofs.batch.+by_halves+fn-by_halves-join+arg2+fn-by_halves-join+arg3.Goals as goal
-
-pub found_after-requires-clause-number : goal.found_after-requires-clause-number
-found_after-requires-clause-number g t c κs within = AllZip-long _ _ _ c.in_ok-early.ensures
-
-pub returns-then-workers-eq1 : goal.returns-then-workers-eq1
-returns-then-workers-eq1 g t c = IfOk-weaker c.found_after.result _ _ (λ all is.
-    early-shown c.args.crew.now.credits_shown c.args.connections.now c.in_ok-early.early.items all.items
-    c.in_ok-early.ensures is) c.found_after.ensures
 
 pub returns : goal.returns
 returns g t c =

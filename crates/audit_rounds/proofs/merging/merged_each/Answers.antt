@@ -3,7 +3,7 @@ use Rattle.audit_rounds.proofs.Settles.{zip-none}
 use Rattle.audit_rounds.proofs.merging.merged_each.Goals as goal
 
 pub loop-one-preserved : goal.loop-one-preserved
-loop-one-preserved c =
+loop-one-preserved g c =
     let over = c.in_default.ensures in
     let was : into_iter_items c.loop-one.rest ≡ [] =
     nil_from_length _ (sym c.loop-one.rest.rest.ok.0 ∙ over.cases.0) in

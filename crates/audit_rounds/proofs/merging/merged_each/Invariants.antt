@@ -5,6 +5,6 @@ use Rattle.audit_rounds.proofs.merging.merged_each.Given as goal
 
 -- the lists so far, and those of what is left, are all
 abbrev pub invariant-loop-one : goal.invariant-loop-one
-invariant-loop-one l =
+invariant-loop-one g l =
     map items_in l.all.items ++ map both_in (zip (into_iter_items l.one-iterator) (into_iter_items l.rest))
     ≡ map both_in (zip l.fn.found.items l.fn.more.items)
