@@ -2,13 +2,12 @@
 
 import pathlib
 import re
-import sys
 from collections.abc import Iterator
 from typing import NamedTuple
 
+from tools import believed
+
 TOP = pathlib.Path(__file__).resolve().parents[2]
-sys.path.insert(0, str(TOP / "tools"))
-import believed  # noqa: E402
 
 FUNCTION = re.compile(r"^( *)(?:pub(?:\(crate\))? )?(?:const )?fn (\w+)", re.M)
 IMPL = re.compile(r"^impl(?:<[^>]*>)? (?:(?P<trait>\w+)(?:<.*?>)? for )?(?P<owner>\w+)", re.M)

@@ -1,7 +1,6 @@
-#!/usr/bin/python3
 """Tests the table of rules in code (docs/RULES_IN_CODE.md) against the rules and against the sources.
 
-    tools/tests/rules_test.py [Table | Refused]
+    python3 -m tools.tests.rules_test [Table | Refused]
 
 Each rule of docs/AUDIT_RULES.md has a row there with its definitions, and each function of a row is tied to one of
 them. Each rule of a section of RFC 9113 has a sentence of it beside one of its definitions, in the form that duvet
@@ -15,8 +14,8 @@ import unittest
 from collections.abc import Iterable
 from typing import NamedTuple
 
-import contracts
-from contracts import Definition, Key
+from tools.tests import contracts
+from tools.tests.contracts import Definition, Key
 
 TOP = pathlib.Path(__file__).resolve().parents[2]
 RULES, TABLE = TOP / "docs" / "AUDIT_RULES.md", TOP / "docs" / "RULES_IN_CODE.md"

@@ -55,8 +55,11 @@ Ways = dict[str, int]
 ROWS: list[tuple[str, bytes, Ways]] = [
     ("--workers 2", TWO_STREAMS, {"one side's flow": 1, "nothing is shown, so there is no round": 0}),
     ("--workers 2 --frames", TWO_STREAMS, {"one side's flow": 1, "one block, so there is no round": 0}),
-    ("--workers 2 --frames --block 4", TWO_STREAMS, {
-        "one side's flow": 1, "one of two groups": 1, "one of two blocks is summed, and is gone through": 2}),
+    (
+        "--workers 2 --frames --block 4",
+        TWO_STREAMS,
+        {"one side's flow": 1, "one of two groups": 1, "one of two blocks is summed, and is gone through": 2},
+    ),
     ("--workers 2", TWO_LOUD_STREAMS, {"one side's flow": 1, "one of two groups": 1}),
     ("--workers 2", SHORT, {"a part ahead, from 256 KiB on": 1, "one side's flow": 1}),
     ("--workers 4 --block 64", SHORT, {"a part ahead": 1, "one side's flow": 1, "61 blocks are summed": 3}),

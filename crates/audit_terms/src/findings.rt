@@ -101,7 +101,7 @@ pub fn put_in_order(found: &mut Vec<Finding>) -> Result<(), AllocError>
 }
 
 /// Where the first finding that stops stands.
-fn first_stop(found: &[Finding]) -> Option<usize>
+fn first_stop_index(found: &[Finding]) -> Option<usize>
     ensures { result ≡ position stops found.now }
 {
     found.iter().position(|one| one.stops())
@@ -111,7 +111,7 @@ fn first_stop(found: &[Finding]) -> Option<usize>
 pub fn cut_at_stop(found: &mut Vec<Finding>)
     ensures { found.new.items ≡ upto_stop found.old.items }
 {
-    if let Some(last) = first_stop(found) {
+    if let Some(last) = first_stop_index(found) {
         found.truncate(last + 1);
     }
 }

@@ -119,4 +119,5 @@ segments_name_lem link number row packet s e =
     ∙ drop-take start k packet in
     let (is, pair) = named k d (omega (arith, small)) (not-false _ version) (not-false _ protocol) (ltb-false _ 20 long)
     (ltb-false _ 20 short) in
-    rw (seen, is) (ap Some (pair ∙ ap (λ (y : Segment). let p : Endpoints = record { from = y.from; to = y.to } in p) same))
+    rw (seen, is) (ap Some
+    (pair ∙ ap (λ (y : Segment). let p : Endpoints = record { from = y.from; to = y.to } in p) same))

@@ -16,7 +16,7 @@ use std::alloc::{AllocError, Global};
 use std::thread::Threads;
 
 /// How many frames make a share at least.
-const SHARE: usize = 4096;
+const SHARE_FRAMES: usize = 4096;
 
 /// The local faults of a connection's frames, in order, each frame's in order of rank: a side that does not begin with
 /// SETTINGS, broken field blocks, frames on wrong streams, payloads that cannot be read, settings out of range and
@@ -31,7 +31,7 @@ pub fn local_faults(
     requires frames { IsOrderly frames.now }
     ensures { IfOk result (λ found. found.items ≡ local_run frames.now) }
 {
-    let size = frames.len().div_ceil(workers).max(SHARE);
+    let size = frames.len().div_ceil(workers).max(SHARE_FRAMES);
     if frames.len() <= size {
         return faults_after(alloc, none_before(), frames);
     }

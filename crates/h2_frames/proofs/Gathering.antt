@@ -40,7 +40,8 @@ pub record IsPartlyTaken (count wanted : ℕ) (old new : Pieces) : Type 0 where
 
 -- one part more
 abbrev pub partly_taken-turn : (count wanted : ℕ) (old now next : Pieces) (part : List ℕ)
-    → IsPartlyTaken count wanted old now → bytes_left now ≡ part ++ bytes_left next → length part ≤ wanted → IsMeasured next
+    → IsPartlyTaken count wanted old now → bytes_left now ≡ part ++ bytes_left next → length part ≤ wanted
+    → IsMeasured next
     → IsPartlyTaken count (wanted - length part) old next
 partly_taken-turn count wanted old now next part taken part_is fits counted =
     record {

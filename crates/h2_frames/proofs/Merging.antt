@@ -2,7 +2,8 @@
 use Rattle.std.proofs.Common.{◌≡◌, ℕ, ◌+◌, ◌-◌, ◌<◌, ◌≤◌, Bool, true, false, List, [], ◌∷◌, ◌++◌, length, refl, ap, sym}
 use Rattle.std.proofs.Common.{◌∙◌, arith, length-append}
 use Rattle.std.specs.Prelude.{◌&&◌, ◌||◌}
-use Rattle.h2_frames.proofs.Words.{nat_lt, ◌==◌, nat_tests, Arrival, Rises, Side, SideFrame, put_by, ordered_by, side_order}
+use Rattle.h2_frames.proofs.Words.{nat_lt, ◌==◌, nat_tests, Arrival, Rises, Side, SideFrame, put_by, ordered_by}
+use Rattle.h2_frames.proofs.Words.{side_order}
 use Rattle.h2_frames.proofs.Words.{merged, Spelled, Spells, byte_arrival, captured, captured_from, comes_after}
 use Rattle.h2_frames.proofs.Words.{numbered, capture_order}
 
@@ -79,7 +80,8 @@ later_number x y h k = grind (arith, nat_tests)
 captured-ascending : (side : Side) (arrivals : List Arrival) (high : ℕ) → Rises 0 0 arrivals high
     → (number offset : ℕ) (spelled : List Spelled) (bytes tail : List ℕ) → Spells bytes spelled tail
     → offset + length bytes ≤ high → (x : SideFrame) (last : ℕ) → x.frame.number < number → last ≤ offset
-    → x.frame.rec ≡ (byte_arrival arrivals last).rec → IsAscendingFrom x (captured_from side arrivals number offset spelled)
+    → x.frame.rec ≡ (byte_arrival arrivals last).rec
+    → IsAscendingFrom x (captured_from side arrivals number offset spelled)
 captured-ascending side arrivals high rises number offset [] bytes tail spells within x last h k e = tt
 captured-ascending side arrivals high rises number offset (s ∷ later) bytes tail spells within x last h k e =
     let makes = spells.4 in

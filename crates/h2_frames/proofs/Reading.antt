@@ -1,7 +1,8 @@
 -- One frame is read of what is ahead.
 use Rattle.h2_frames.proofs.Arriving.{arrivals_from-not_empty, arrivals_from-timely, first_timely, get_or-arrivals_from}
 use Rattle.h2_frames.proofs.Words.{AreAhead, IsOneTaken, IsReadable, Pieces, arrivals_from, byte_arrival, captured_from}
-use Rattle.h2_frames.proofs.Words.{Arrival, SideFrame, IsPlaced, IsReadOn, IsReady, Read, Spelled, ToRead, Unread, captured}
+use Rattle.h2_frames.proofs.Words.{Arrival, SideFrame, IsPlaced, IsReadOn, IsReady, Read, Spelled, ToRead, Unread}
+use Rattle.h2_frames.proofs.Words.{captured}
 use Rattle.h2_frames.proofs.{Arriving.arrivals_from-rise, Arriving.captured_from-from, Promised.promised-fits}
 use Rattle.h2_frames.specs.code.Pieces.{bytes_left}
 use Rattle.std.proofs.Common.{List, arith, get_or, length, length-append, refl, ◌*◌, ◌+◌, ◌-◌, ◌<◌, ◌∙◌, ◌∷◌, ◌≡◌, ◌≤◌}

@@ -42,7 +42,8 @@ few-on old new on ready = omega (arith, ready.few, on.client.weight, on.server.w
 
 -- one frame is taken
 pub walk-turn : (client server : Flow) (walk walk' : FrameWalk) (frames : List Frame) (f : SideFrame)
-    (frame : Frame) → taken_of walk' ≡ taken_of walk + 1 → frame ≡ record f.frame { number = taken_of walk + 1 } → IsInRange frame →
+    (frame : Frame) → taken_of walk' ≡ taken_of walk + 1 → frame ≡ record f.frame { number = taken_of walk + 1 }
+    → IsInRange frame →
     ((later : List SideFrame) → (tail other : List ℕ) → AreMerged walk'.client walk'.server later tail other →
     AreMerged walk.client walk.server (f ∷ later) tail other) →
     IsWalkAfter client server frames walk → IsWalkAfter client server (frames ++ frame ∷ []) walk'

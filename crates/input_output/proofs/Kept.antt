@@ -11,7 +11,8 @@ use Rattle.std.proofs.lemmas.Result.{on_ok_weaker}
 use Rattle.std.proofs.lemmas.List.{append-nil, append_assoc, nil_from_length, take_all}
 use Rattle.input_output.specs.code.Front.{SurvivesAppends}
 use Rattle.input_output.specs.Account.{HaveGiven, IsReadToEnd, kept}
-use Rattle.input_output.specs.code.Reading.{HasConsumed, HasGrown, HasPassedOver, HasReadOn, HaveAnswered, IsReadingFault}
+use Rattle.input_output.specs.code.Reading.{HasConsumed, HasGrown, HasPassedOver, HasReadOn, HaveAnswered}
+use Rattle.input_output.specs.code.Reading.{IsReadingFault}
 use Rattle.input_output.specs.code.Reading.{IsSound}
 use Rattle.input_output.specs.code.Reads.{HasRead}
 use Rattle.input_output.specs.declared.capture_reader.CaptureReader.{CaptureReader}

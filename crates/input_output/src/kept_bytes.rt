@@ -223,8 +223,8 @@ impl FullChunks {
     }
 }
 
-/// Makes a chunk longer by [`ROOM_BYTES`], up to `most` bytes. The first one may be moved, so that a short capture takes
-/// little; while it grows, later ones are begun.
+/// Makes a chunk longer by [`ROOM_BYTES`], up to `most` bytes. The first one may be moved, so that a short capture
+/// takes little; while it grows, later ones are begun.
 fn grow_chunk<T: Threads>(
     chunk: &mut Vec<u8>,
     most: usize,

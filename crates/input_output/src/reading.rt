@@ -1,7 +1,8 @@
 ghost use Rattle.std.specs.Prelude.{◌≡◌, ◌^◌, OnOk};
 ghost use Rattle.input_output.specs.code.Front.{SurvivesAppends};
 ghost use Rattle.input_output.specs.Account.{kept};
-ghost use Rattle.input_output.specs.code.Reading.{HasConsumed, HasGrown, HasPassedOver, HaveEnded, IsOpenWithin, IsSound};
+ghost use Rattle.input_output.specs.code.Reading.{HasConsumed, HasGrown, HasPassedOver, HaveEnded, IsOpenWithin};
+ghost use Rattle.input_output.specs.code.Reading.{IsSound};
 
 use crate::capture_reader::{CaptureReader, LIMIT, ReadState};
 use crate::chunks_ahead::ChunksAhead;

@@ -40,7 +40,8 @@ decisions-more link number from end (row ∷ rows) capture more rise within = rw
 )
 
 -- what a walk has made stands, whatever bytes come behind
-pub survives : MoreBytesKeepAWalk → (front : List ℕ) (walk : PacketWalk) → HasMade front walk → IsPacketWalkIn front walk
+pub survives : MoreBytesKeepAWalk → (front : List ℕ) (walk : PacketWalk) → HasMade front walk
+    → IsPacketWalkIn front walk
 survives keep front walk is more =
     let read = is.passed.read in
     record {

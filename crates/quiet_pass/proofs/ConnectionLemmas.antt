@@ -1,7 +1,7 @@
 -- The connection after a frame of which nothing is shown.
 use Rattle.stream_credit.proofs.Words.{◌≡◌, ℕ, nat_lt, Bool, false, Option, refl, Client, Server, Sides, Frame}
 use Rattle.stream_credit.proofs.Words.{Change, side_of, new_limit, new_push}
-use Rattle.stream_credit.proofs.SilentLemmas.{both, unsaid}
+use Rattle.stream_credit.proofs.QuietSteps.{both, unsaid}
 use Rattle.quiet_pass.specs.declared.connections.KeptConnection.{KeptConnection}
 use Rattle.quiet_pass.specs.code.Connection.{IsConnectionAfter, IsCreditAfter, IsOpenedAfter, IsPromisedAfter}
 

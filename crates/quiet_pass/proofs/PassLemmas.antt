@@ -13,17 +13,17 @@ use Rattle.audit_terms.specs.LocalFault.{local_said}
 use Rattle.audit_terms.specs.Pass.{PassState, pass_start, step_of, opens_stream, next, streams_said, said, full_from}
 use Rattle.audit_terms.specs.Pass.{first_of, streams_of, pass, item_of as item_in}
 use Rattle.audit_terms.specs.code.runs.States.{state_from, state_after}
-use Rattle.stream_credit.proofs.SilentLemmas.{both, unsaid, none-shown}
+use Rattle.stream_credit.proofs.QuietSteps.{both, unsaid, none-shown}
 use Rattle.audit_terms.specs.declared.last_frames.LastFrame.{LastFrame}
 use Rattle.settings_pair.specs.declared.pending.Pending.{Pending}
 use Rattle.quiet_pass.specs.declared.passes.QuietPass.{QuietPass}
 use Rattle.quiet_pass.specs.declared.streams.Streams.{Streams}
-use Rattle.stream_credit.specs.code.Standings.{IsUnshown, AreUnshown}
+use Rattle.stream_credit.specs.code.Standings.{IsQuiet, AreQuiet}
 use Rattle.audit_terms.specs.code.LastFrame.{last_of}
 use Rattle.settings_pair.specs.code.Pending.{IsPending, IsBrought}
 use Rattle.quiet_pass.specs.code.Connection.{connection_of, item_of, IsConnectionAfter}
 use Rattle.quiet_pass.specs.code.Streams.{AreStreams, AreMet, AreMetOn}
-use Rattle.quiet_pass.specs.code.QuietPass.{StandsFor, AreNamed, IsPlain, IsBroughtInto, IsRestMet, IsQuietStep}
+use Rattle.quiet_pass.specs.code.QuietPass.{StandsFor, AreNamed, BringsNothing, IsBroughtInto, IsRestMet, IsQuietStep}
 use Rattle.quiet_pass.specs.code.QuietPass.{IsQuietAfter}
 use Rattle.quiet_pass.specs.laws.QuietFrames.{QuietFramesShowNothing}
 use Rattle.stream_credit.proofs.StandingLemmas.{promises-other}
@@ -37,7 +37,7 @@ unopened frame entry zero =
     let even : (frame.stream % 2 == 1) ≡ false = rw zero refl in simp (even, promises-other, and-false)
 
 -- a frame that is no SETTINGS and no acknowledgement brings nothing
-plain-brought : (frame : Frame) (now : InForce) (pending : Pending) → IsPlain frame → IsPending now pending
+plain-brought : (frame : Frame) (now : InForce) (pending : Pending) → BringsNothing frame → IsPending now pending
     → IsBrought now frame None pending
 plain-brought frame now pending plain p = record {
   brings = rw plain.ack refl;
@@ -72,7 +72,7 @@ rest-settings {frame} {change} {old} {new} mid brought answered zero unpromised 
   last = b.last ∙ l;
 }
 
-pub rest-stream : {frame : Frame} {opens : Bool} {old new : QuietPass} → IsPlain frame
+pub rest-stream : {frame : Frame} {opens : Bool} {old new : QuietPass} → BringsNothing frame
     → ((streams : ℕ → Stream) → AreStreams streams old.streams → AreMetOn old.initial frame opens streams new.streams)
     → IsConnectionAfter frame opens None old.connection new.connection → new.pending ≡ old.pending
     → new.last ≡ old.last → new.initial ≡ old.initial → IsRestMet frame old new
@@ -102,10 +102,10 @@ last-if : (b : Bool) (frame : Frame) (previous : Option Frame) (last : LastFrame
     → (if b then last_of (Some frame) else last) ≡ last_of (if b then Some frame else previous)
 last-if b frame previous last e = grind arith
 
-flat-unshown : (rule : ℕ → List Finding) (streams : List ℕ)
-    → AreNamed streams → ((s : ℕ) → 0 < s → AreUnshown (rule s)) → AreUnshown (flat_map rule streams)
-flat-unshown rule [] named h = tt
-flat-unshown rule (s ∷ streams) named h = both _ _ (h s named.0) (flat-unshown rule streams named.1 h)
+flat-quiet : (rule : ℕ → List Finding) (streams : List ℕ)
+    → AreNamed streams → ((s : ℕ) → 0 < s → AreQuiet (rule s)) → AreQuiet (flat_map rule streams)
+flat-quiet rule [] named h = tt
+flat-quiet rule (s ∷ streams) named h = both _ _ (h s named.0) (flat-quiet rule streams named.1 h)
 
 none-taken : (frame : Frame) (settings : Option Settings) → is_none (change_taking frame settings) ≡ is_none settings
 none-taken frame None = refl
@@ -129,15 +129,15 @@ module _ (frame : Frame) (old mid : QuietPass) (state : PassState) (stands : Sta
   item : item_of frame rest.opens rest.change ≡ item_in state frame
   item = rw (opens-is, rest.opening state.streams stands.streams, own.brings) refl
 
-  settings-unshown : AreUnshown (settings_said state.in_force frame)
-  settings-unshown =
+  settings-quiet : AreQuiet (settings_said state.in_force frame)
+  settings-quiet =
       unsaid _ _ (ap (λ b. is_ack frame.body && b) (sym (none-taken frame (taken state.in_force frame)))
       ∙ ap (λ (c : Option Change). is_ack frame.body && is_none c) own.brings ∙ rest.answered)
 
-  connection-unshown : AreUnshown (connection_said state.connection (item_in state frame))
-  connection-unshown =
-      subst (λ (now : ConnectionState). AreUnshown (connection_said now (item_in state frame))) stands.connection
-      (subst (λ (item : Item). AreUnshown (connection_said (connection_of old.connection) item)) item
+  connection-quiet : AreQuiet (connection_said state.connection (item_in state frame))
+  connection-quiet =
+      subst (λ (now : ConnectionState). AreQuiet (connection_said now (item_in state frame))) stands.connection
+      (subst (λ (item : Item). AreQuiet (connection_said (connection_of old.connection) item)) item
       rest.connection.said)
 
   pub step-met : (last : Sides LastFrame)
@@ -147,12 +147,12 @@ module _ (frame : Frame) (old mid : QuietPass) (state : PassState) (stands : Sta
       → IsQuietStep state frame (record mid { last = last })
   step-met last followed client server = record {
     shown = λ streams named.
-        each-in_order IsUnshown _
+        each-in_order IsQuiet _
         (both _ (streams_said streams state frame)
         (both _ _ (both (local_said (side_of frame.side state.previous) frame) _
-        (rw (followed (side_of frame.side state.previous) (own-last frame.side)) tt) settings-unshown)
-        connection-unshown)
-        (flat-unshown
+        (rw (followed (side_of frame.side state.previous) (own-last frame.side)) tt) settings-quiet)
+        connection-quiet)
+        (flat-quiet
         (λ s. stream_said s state.in_force.initial (state.streams s) (step_of state.in_force frame s)) streams named
         all.said));
     stands = record {
@@ -195,9 +195,9 @@ frames-met {frame} step frames quiet =
 
 -- ---- the whole pass
 
-upto-unshown : (found : List Finding) → AreUnshown found → AreUnshown (upto_stop found)
-upto-unshown [] h = tt
-upto-unshown (x ∷ found) h = grind (arith, upto-unshown found h.1)
+upto-quiet : (found : List Finding) → AreQuiet found → AreQuiet (upto_stop found)
+upto-quiet [] h = tt
+upto-quiet (x ∷ found) h = grind (arith, upto-quiet found h.1)
 
 named-left : (test : ℕ → Bool) (streams : List ℕ) → AreNamed streams → AreNamed (filter test streams)
 named-left test [] h = tt
@@ -215,5 +215,5 @@ named-all (frame ∷ frames) =
 pub quiet-law : QuietFramesShowNothing
 quiet-law frames machine quiet =
     none-shown (pass frames)
-    (upto-unshown (full_from (streams_of frames) pass_start frames)
+    (upto-quiet (full_from (streams_of frames) pass_start frames)
     (quiet.shown (streams_of frames) (named-all frames)))

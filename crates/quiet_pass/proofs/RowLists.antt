@@ -5,7 +5,7 @@ use Rattle.std.proofs.Common.{slice_set, Some, true, false, refl, arith}
 use Rattle.quiet_pass.specs.declared.rows.Row.{Row}
 use Rattle.stream_credit.specs.code.Standings.{stream_of}
 use Rattle.quiet_pass.specs.code.Rows.{entry_in, AreRisingFrom, AreRising, IsPast, IsRowOf, IsRowAfter}
-use Rattle.quiet_pass.specs.code.Rows.{IsOpened, HasMet, IsRowMoved, AreMoved}
+use Rattle.quiet_pass.specs.code.Rows.{IsOpened, IsMetOn, IsRowMoved, AreMoved}
 
 -- ---- the row of a stream
 
@@ -45,7 +45,7 @@ module _ (row next : Row) (same : next.stream ≡ row.stream) where
 
 pub row-met : (rows : List Row) (at : ℕ) (frame : Frame) (next : Row) (of : IsRowOf rows frame.stream at)
     → IsRowAfter frame of.row next → AreRising rows → (initial : Sides ℕ)
-    → HasMet frame.stream initial frame false rows (slice_set rows at next)
+    → IsMetOn frame.stream initial frame false rows (slice_set rows at next)
 row-met rows at frame next of after rising initial =
     let row = of.row in
     let old = rw of.same at (entry-there 0 rows at row rising of.there) in
@@ -86,7 +86,7 @@ past-above [] stream h = h
 past-above (row ∷ rows) stream h = omega (arith, h.0)
 
 pub row-opened : (rows : List Row) (stream : ℕ) (initial : Sides ℕ) (frame : Frame) (row : Row) → IsPast rows stream →
-    IsOpened stream initial frame row → AreRising rows → HasMet stream initial frame true rows (rows ++ row ∷ [])
+    IsOpened stream initial frame row → AreRising rows → IsMetOn stream initial frame true rows (rows ++ row ∷ [])
 row-opened rows stream initial frame row past opened rising =
     let old = past-idle rows stream past in record {
       opening = rw old opened.by.opening;

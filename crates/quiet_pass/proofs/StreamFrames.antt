@@ -3,13 +3,13 @@ use Rattle.stream_credit.proofs.Words.{then_some, or_parts, ◌≡◌, ℕ, Bool
 use Rattle.stream_credit.proofs.Words.{subst, and-false, or-false, Side, Client, Server, Sides, Body, WindowUpdate}
 use Rattle.stream_credit.proofs.Words.{Frame, StreamLife, Stream, side_of, is_reset, increment, ends_window}
 use Rattle.stream_credit.proofs.Words.{life_after, stream_said, stream_after, frame_step, ForSome}
-use Rattle.stream_credit.proofs.Words.{same_Some, AreUnshown}
+use Rattle.stream_credit.proofs.Words.{same_Some, AreQuiet}
 use Rattle.audit_terms.specs.Frame.{is_content, is_headers, is_update, needs_opening, is_server_promise}
 use Rattle.audit_terms.specs.Life.{is_opening}
-use Rattle.stream_credit.proofs.SilentLemmas.{frame-unshown, IsCalm, calm-same, stream-unshown, stream-moved}
+use Rattle.stream_credit.proofs.QuietSteps.{frame-quiet, IsQuietAt, quiet-same, stream-quiet, stream-moved}
 use Rattle.stream_credit.proofs.StandingLemmas.{promises-other, unlast}
 use Rattle.quiet_pass.specs.declared.rows.Row.{Row}
-use Rattle.quiet_pass.specs.code.Rows.{entry_in, AreRising, HasMet}
+use Rattle.quiet_pass.specs.code.Rows.{entry_in, AreRising, IsMetOn}
 
 -- what a frame opens, where nothing is shown of it
 pub ForSome-quiet : (quiet opens : Bool) (P : Bool → Type 0) → (quiet ≡ true → P opens)
@@ -32,21 +32,22 @@ module _ (frame : Frame) (content : is_content frame.body ≡ false) (headers : 
   unopened : is_opening frame.stream entry.life frame ≡ false
   unopened = simp (headers, promises-other, and-false)
 
-  calm : (d : Side) → IsCalm d frame.stream initial (frame_step frame) (side_of d entry.window) (side_of d entry.window)
-  calm d =
+  quiet : (d : Side) → IsQuietAt d frame.stream initial (frame_step frame) (side_of d entry.window)
+      (side_of d entry.window)
+  quiet d =
       let none = no-increment frame.body update in
-      calm-same d frame.stream initial frame (grind arith)
+      quiet-same d frame.stream initial frame (grind arith)
       (simp (content, and-false)) (goes_on d) (side_of d entry.window)
 
-  said : AreUnshown (stream_said frame.stream initial entry (frame_step frame))
+  said : AreQuiet (stream_said frame.stream initial entry (frame_step frame))
   said =
-      stream-unshown frame.stream initial entry (frame_step frame) entry.window unopened calm
-      (frame-unshown frame.stream entry (frame_step frame) frame
+      stream-quiet frame.stream initial entry (frame_step frame) entry.window unopened quiet
+      (frame-quiet frame.stream entry (frame_step frame) frame
       (simp (content, headers, reset, update, unpromised)) (simp (content, headers)) (simp update))
 
   after : entry ≡ stream_after frame.stream initial entry (frame_step frame)
   after =
-      sym (stream-moved frame.stream initial entry (frame_step frame) entry.window unopened calm
+      sym (stream-moved frame.stream initial entry (frame_step frame) entry.window unopened quiet
       ∙ ap (λ (life : StreamLife). record { life = life; window = entry.window }) kept)
     where
       kept : life_after frame.stream entry.life frame ≡ entry.life
@@ -56,7 +57,7 @@ module _ (frame : Frame) (content : is_content frame.body ≡ false) (headers : 
           simp (unopened, client, server, and-false, or-false)
 
 pub idle-met : (frame : Frame) → needs_opening frame ≡ false → is_server_promise frame ≡ false → (initial : Sides ℕ)
-    (rows : List Row) → AreRising rows → HasMet frame.stream initial frame false rows rows
+    (rows : List Row) → AreRising rows → IsMetOn frame.stream initial frame false rows rows
 idle-met frame unneeded unpromised initial rows rising =
     let (others, update) = or_parts _ _ unneeded in
     let (either, reset) = or_parts _ _ others in

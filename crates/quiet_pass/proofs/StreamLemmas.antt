@@ -3,13 +3,14 @@
 use Rattle.stream_credit.proofs.Words.{◌≡◌, ℕ, ℤ, ◌<◌, true, List, ◌∷◌, Some, None, refl, sym, ◌∙◌, inl, inr, ints}
 use Rattle.stream_credit.proofs.Words.{◌==◌, Bool, false, ap, subst, arith, ne_eqb, Sides, Frame, Change, Stream, moved}
 use Rattle.stream_credit.proofs.Words.{int_lt, option_map, and-false, cases_Bool, same_Some, StreamLife, initial_after}
-use Rattle.stream_credit.proofs.Words.{[], Option, or-false, cases_eq, eq-eqb, IsSilent, window_of, and-true, IsMovedBy}
+use Rattle.stream_credit.proofs.Words.{[], Option, or-false, cases_eq}
+use Rattle.stream_credit.proofs.Words.{eq-eqb, IsQuietMove, window_of, and-true, IsMovedBy}
 use Rattle.std.proofs.Common.{◌%◌, ap₂}
 use Rattle.audit_terms.specs.Frame.{is_server_promise, promised_in, meets}
-use Rattle.stream_credit.proofs.SilentLemmas.{change_alone, calm-changes, stream-unshown, stream-moved}
+use Rattle.stream_credit.proofs.QuietSteps.{change_alone, quiet-changes, stream-quiet, stream-moved}
 use Rattle.quiet_pass.specs.declared.rows.Row.{Row}
 use Rattle.quiet_pass.specs.declared.streams.Streams.{Streams}
-use Rattle.quiet_pass.specs.code.Rows.{entry_in, AreRisingFrom, AreRising, HasMet, AreMoved}
+use Rattle.quiet_pass.specs.code.Rows.{entry_in, AreRisingFrom, AreRising, IsMetOn, AreMoved}
 use Rattle.quiet_pass.specs.code.Streams.{AreStreams, step_at, IsStep, AreMet, AreMetOn, AreAllMoved, IsEntryMoved}
 
 -- ---- a stream that the frame does not meet
@@ -19,12 +20,12 @@ step-moved : (s : ℕ) (initial after : Sides ℕ) (frame : Frame) (change : Opt
     → IsStep s initial (step_at frame change s) entry next
 step-moved s initial after frame change entry next m is unmet =
     let step = change_alone frame.number change in
-    let calm = calm-changes s initial frame.number change after entry.window next.window is m.client m.server
-    m.client_silent m.server_silent in
+    let quiet = quiet-changes s initial frame.number change after entry.window next.window is m.client m.server
+    m.client_quiet m.server_quiet in
     rw unmet (record {
-      said = stream-unshown s initial entry step next.window refl calm tt;
+      said = stream-quiet s initial entry step next.window refl quiet tt;
       after = ap (λ (life : StreamLife). record { life = life; window = next.window }) m.life
-          ∙ sym (stream-moved s initial entry step next.window refl calm);
+          ∙ sym (stream-moved s initial entry step next.window refl quiet);
     })
 
 -- windows that stay where the initial window does
@@ -32,8 +33,8 @@ window-stays : (i : ℕ) (window : Option ℤ) → window ≡ option_map (moved 
 window-stays i None = refl
 window-stays i (Some credit) = ap Some (omega (arith, ints))
 
-window-silent : (window : Option ℤ) → IsSilent window window
-window-silent window credit e next f =
+window-quiet : (window : Option ℤ) → IsQuietMove window window
+window-quiet window credit e next f =
     let same = same_Some credit next (sym e ∙ f) in
     let level : int_lt credit credit ≡ false = grind (arith, ints) in
     rw (← same) (refl, rw level refl)
@@ -45,14 +46,14 @@ step-unmet s initial frame rows entry m is =
       life = refl;
       client = window-stays initial.client entry.window.client;
       server = window-stays initial.server entry.window.server;
-      client_silent = window-silent entry.window.client;
-      server_silent = window-silent entry.window.server;
+      client_quiet = window-quiet entry.window.client;
+      server_quiet = window-quiet entry.window.server;
     }) refl m)
 
 -- ---- one stream
 
 step-met : (stream : ℕ) (initial : Sides ℕ) (frame : Frame) (opens : Bool) (old new : List Row)
-    → HasMet stream initial frame opens old new → (s : ℕ) (entry : Stream) → entry ≡ entry_in old s
+    → IsMetOn stream initial frame opens old new → (s : ℕ) (entry : Stream) → entry ≡ entry_in old s
     → meets s frame ≡ (stream == s) → IsStep s initial (step_at frame None s) entry (entry_in new s)
 step-met stream initial frame opens old new h s entry is m =
     elim (cases_eq stream s) [
@@ -98,7 +99,7 @@ module _ (initial : Sides ℕ) (frame : Frame) (opens : Bool) (old new : Streams
   meets-own s = rw unpromised (or-false (frame.stream == s))
 
   pub met-odd : frame.stream % 2 ≡ 1 → (AreRising old.opened.items
-      → HasMet frame.stream initial frame opens old.opened.items new.opened.items)
+      → IsMetOn frame.stream initial frame opens old.opened.items new.opened.items)
       → new.promised.items ≡ old.promised.items → AreMetOn initial frame opens streams new
   met-odd p met same =
       let m = met h.opened in record {
@@ -112,7 +113,7 @@ module _ (initial : Sides ℕ) (frame : Frame) (opens : Bool) (old new : Streams
       }
 
   pub met-even : frame.stream % 2 ≡ 0 → 0 < frame.stream → (AreRising old.promised.items
-      → HasMet frame.stream initial frame opens old.promised.items new.promised.items)
+      → IsMetOn frame.stream initial frame opens old.promised.items new.promised.items)
       → new.opened.items ≡ old.opened.items → AreMetOn initial frame opens streams new
   met-even p above met same =
       let m = met h.promised in record {
@@ -138,9 +139,9 @@ module _ (initial : Sides ℕ) (frame : Frame) (old new : Streams) (streams : �
       simp (differ-parity frame.stream s 1 0 odd q (λ e. cc), promised, even, and-true)
 
   pub met-promise : (AreRising old.opened.items
-      → HasMet frame.stream initial frame false old.opened.items new.opened.items)
+      → IsMetOn frame.stream initial frame false old.opened.items new.opened.items)
       → (AreRising old.promised.items
-      → HasMet (promised_in frame.body) initial frame true old.promised.items new.promised.items)
+      → IsMetOn (promised_in frame.body) initial frame true old.promised.items new.promised.items)
       → AreMetOn initial frame false streams new
   met-promise met opened =
       let m = met h.opened in
@@ -159,7 +160,7 @@ module _ (initial : Sides ℕ) (frame : Frame) (old new : Streams) (streams : �
 entries-moved : (before after : Sides ℕ) (old new : List Row) (stream : ℕ) → AreMoved before after old new
     → IsEntryMoved before after (entry_in old stream) (entry_in new stream)
 entries-moved before after [] [] stream m =
-    record { life = refl; client = refl; server = refl; client_silent = λ credit e. cc; server_silent = λ credit e. cc }
+    record { life = refl; client = refl; server = refl; client_quiet = λ credit e. cc; server_quiet = λ credit e. cc }
 entries-moved before after (one ∷ old) (two ∷ new) stream m =
     let row = m.0 in
     rw row.same (elim (cases_Bool (one.stream == stream)) [
@@ -167,8 +168,8 @@ entries-moved before after (one ∷ old) (two ∷ new) stream m =
         life = rw (row.moved.opened, row.moved.client.ended, row.moved.server.ended) refl;
         client = row.moved.client.moved;
         server = row.moved.server.moved;
-        client_silent = row.moved.client.silent;
-        server_silent = row.moved.server.silent;
+        client_quiet = row.moved.client.quiet;
+        server_quiet = row.moved.server.quiet;
       })
       | inr e ↦ rw e (entries-moved before after old new stream m.1)
     ])
@@ -183,7 +184,7 @@ rising-moved before after low _ _ m h = absurd m
 
 unmoved-standing : (i standing : ℕ) → IsMovedBy i i standing standing
 unmoved-standing i standing =
-    record { moved = window-stays i (window_of standing); silent = window-silent (window_of standing); ended = refl }
+    record { moved = window-stays i (window_of standing); quiet = window-quiet (window_of standing); ended = refl }
 
 unmoved-rows : (initial : Sides ℕ) (rows : List Row) → AreMoved initial initial rows rows
 unmoved-rows initial [] = tt

@@ -7,7 +7,7 @@ ghost use Rattle.std.specs.Option.{ForSome};
 ghost use Rattle.audit_terms.specs.Frame.{is_server_promise};
 ghost use Rattle.audit_terms.specs.Connection.{connection_start};
 ghost use Rattle.quiet_pass.specs.code.Connection.{connection_of, IsConnectionAfter, IsCountedCredit, IsCreditAfter};
-ghost use Rattle.quiet_pass.specs.code.Connection.{IsOpenedAfter, IsPromisedAfter, IsUnmoved};
+ghost use Rattle.quiet_pass.specs.code.Connection.{IsOpenedAfter, IsPromisedAfter, LeavesCredit};
 
 use audit_terms::standings::balance;
 use audit_terms::{
@@ -80,7 +80,7 @@ impl KeptConnection {
 
     /// The same of a frame that opens no stream, promises none and brings no change: most are of this kind.
     #[inline]
-    pub(crate) fn meet_plain(&mut self, frame: &Frame) -> bool
+    pub(crate) fn meet_lone(&mut self, frame: &Frame) -> bool
         requires { is_server_promise frame.now ≡ false }
         ensures { OnTrue result (IsConnectionAfter frame.now false Option.None self.old self.new) }
     {
@@ -113,7 +113,7 @@ impl KeptConnection {
     {
         match change {
             Some(_) => self.meet(frame, false, change),
-            None => self.meet_plain(frame),
+            None => self.meet_lone(frame),
         }
     }
 
@@ -148,8 +148,8 @@ impl KeptConnection {
 /// Whose credit a frame may move: it does nothing to the others.
 #[inline]
 fn moved_side(frame: &Frame) -> Option<Side>
-    ensures client { (result ≡ Option.Some Side.Client → ⊥) → IsUnmoved Side.Client frame.now }
-    ensures server { (result ≡ Option.Some Side.Server → ⊥) → IsUnmoved Side.Server frame.now }
+    ensures client { (result ≡ Option.Some Side.Client → ⊥) → LeavesCredit Side.Client frame.now }
+    ensures server { (result ≡ Option.Some Side.Server → ⊥) → LeavesCredit Side.Server frame.now }
 {
     if frame.body.is_content() {
         return Some(frame.side);

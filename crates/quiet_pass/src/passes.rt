@@ -7,7 +7,7 @@ ghost use Rattle.audit_terms.specs.Pass.{PassState};
 ghost use Rattle.audit_terms.specs.Side.{is_side};
 ghost use Rattle.audit_terms.specs.Frame.{is_ack};
 ghost use Rattle.audit_terms.specs.code.LastFrame.{last_of};
-ghost use Rattle.quiet_pass.specs.code.QuietPass.{StandsFor, IsQuietStep, IsQuietAfter, IsPlain, IsRestMet};
+ghost use Rattle.quiet_pass.specs.code.QuietPass.{StandsFor, IsQuietStep, IsQuietAfter, BringsNothing, IsRestMet};
 ghost use Rattle.quiet_pass.specs.code.QuietPass.{IsBroughtInto};
 
 use crate::connections::KeptConnection;
@@ -100,7 +100,7 @@ impl QuietPass {
     /// The same of a frame on a stream.
     fn meet_stream(&mut self, frame: &Frame) -> Result<bool, AllocError>
         requires streamed { 0 < frame.now.stream }
-        requires plain { IsPlain frame.now }
+        requires plain { BringsNothing frame.now }
         ensures { IfOk result (λ met. OnTrue met (IsRestMet frame.now self.old self.new)) }
     {
         let Some(opens) = self.streams.meet(&self.initial, frame)? else {
@@ -110,20 +110,20 @@ impl QuietPass {
             let is_quiet = self.connection.meet(frame, opens, &None);
             return Ok(is_quiet);
         }
-        let is_quiet = self.connection.meet_plain(frame);
+        let is_quiet = self.connection.meet_lone(frame);
         Ok(is_quiet)
     }
 
     /// The same of a frame on stream 0.
     fn meet_connection(&mut self, frame: &Frame) -> bool
         requires streamed { frame.now.stream ≡ 0 }
-        requires plain { IsPlain frame.now }
+        requires plain { BringsNothing frame.now }
         ensures { OnTrue result (IsRestMet frame.now self.old self.new) }
     {
         if frame.is_server_promise() {
             return false;
         }
-        self.connection.meet_plain(frame)
+        self.connection.meet_lone(frame)
     }
 
     /// The same of SETTINGS and acknowledgements.
@@ -161,7 +161,7 @@ impl QuietPass {
 
 /// Is it a SETTINGS or an acknowledgement? Other frames bring no change.
 fn is_of_settings(frame: &Frame) -> bool
-    ensures { OnFalse result (IsPlain frame.now) }
+    ensures { OnFalse result (BringsNothing frame.now) }
 {
     matches!(frame.body, Body::Settings(_) | Body::SettingsAck)
 }

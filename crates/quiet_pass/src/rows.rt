@@ -5,7 +5,7 @@ ghost use Rattle.std.specs.Prelude.{◌≡◌, ℕ, true, false, IfOk};
 ghost use Rattle.std.specs.Bool.{OnTrue};
 ghost use Rattle.std.specs.Option.{ForSome};
 ghost use Rattle.audit_terms.specs.declared.sides.Sides.{Sides as SidesTerm};
-ghost use Rattle.quiet_pass.specs.code.Rows.{IsRowOf, IsRowAfter, IsOpened, AreRising, HasMet};
+ghost use Rattle.quiet_pass.specs.code.Rows.{IsRowOf, IsRowAfter, IsOpened, AreRising, IsMetOn};
 ghost use Rattle.quiet_pass.specs.code.Rows.{AreMoved, IsPast, IsRowMoved};
 
 use audit_terms::{Frame, Sides};
@@ -96,7 +96,7 @@ fn is_row_of(rows: &[Row], at: usize, stream: u32) -> bool
 pub(crate) fn meet(rows: &mut Vec<Row>, at: usize, frame: &Frame) -> bool
     requires { IsRowOf rows.old.items frame.now.stream at }
     ensures { OnTrue result (AreRising rows.old.items → (initial : SidesTerm ℕ)
-        → HasMet frame.now.stream initial frame.now false rows.old.items rows.new.items) }
+        → IsMetOn frame.now.stream initial frame.now false rows.old.items rows.new.items) }
 {
     let Some(next) = rows[at].after(frame) else {
         return false;
@@ -124,7 +124,7 @@ pub(crate) fn open(
     frame: &Frame,
 ) -> Result<bool, AllocError>
     ensures { IfOk result (λ opened. OnTrue opened (AreRising rows.old.items
-        → HasMet stream initial.now frame.now true rows.old.items rows.new.items)) }
+        → IsMetOn stream initial.now frame.now true rows.old.items rows.new.items)) }
 {
     if !is_past(rows.as_slice(), stream) {
         return Ok(false);

@@ -6,7 +6,7 @@ ghost use Rattle.std.specs.Option.{ForSome};
 ghost use Rattle.audit_terms.specs.declared.sides.Sides.{Sides as SidesTerm};
 ghost use Rattle.audit_terms.specs.declared.streams.Stream.{Stream};
 ghost use Rattle.audit_terms.specs.Frame.{is_server_promise};
-ghost use Rattle.quiet_pass.specs.code.Rows.{AreRising, HasMet};
+ghost use Rattle.quiet_pass.specs.code.Rows.{AreRising, IsMetOn};
 ghost use Rattle.quiet_pass.specs.code.Streams.{AreStreams, AreMetOn, AreAllMoved};
 
 use crate::rows::{Row, find, meet, move_all, open};
@@ -78,7 +78,7 @@ impl Streams {
 /// Meets a frame on a stream that has to be opened, and answers whether nothing of that may be shown.
 fn meet_opened(rows: &mut Vec<Row>, frame: &Frame) -> bool
     ensures { OnTrue result (AreRising rows.old.items → (initial : SidesTerm ℕ)
-        → HasMet frame.now.stream initial frame.now false rows.old.items rows.new.items) }
+        → IsMetOn frame.now.stream initial frame.now false rows.old.items rows.new.items) }
 {
     match find(rows.as_slice(), frame.stream) {
         Some(at) => meet(rows, at, frame),
@@ -96,7 +96,7 @@ fn meet_on(
 ) -> Result<Option<bool>, AllocError>
     requires { is_server_promise frame.now ≡ false }
     ensures { IfOk result (λ met. ForSome met (λ opens. AreRising rows.old.items
-        → HasMet frame.now.stream initial.now frame.now opens rows.old.items rows.new.items)) }
+        → IsMetOn frame.now.stream initial.now frame.now opens rows.old.items rows.new.items)) }
 {
     if let Some(at) = find(rows.as_slice(), frame.stream) {
         let is_quiet = meet(rows, at, frame);

@@ -2,7 +2,8 @@
 use Rattle.audit_terms.proofs.OrderlyFrames.{orderly-filter}
 use Rattle.audit_terms.specs.code.runs.Changes.{AreAcknowledged, AreOrderly}
 use Rattle.split_merge.proofs.Terms.{All, List, Some, drop, refl, set, suc, sym, take, true, zero, ◌++◌, ◌+◌, ◌<◌, ◌^◌}
-use Rattle.split_merge.proofs.Terms.{All-filter, IsAheadOf, IsHushedOf, IsInRange, drop-set-lt, length-set, promised_by}
+use Rattle.split_merge.proofs.Terms.{All-filter, IsAheadOf, EndsQuietOf}
+use Rattle.split_merge.proofs.Terms.{IsInRange, drop-set-lt, length-set, promised_by}
 use Rattle.split_merge.proofs.Terms.{AllZip, AreAhead, Bool, Change, NotAmong, [], arith, get_or, is_ack, length, meets}
 use Rattle.split_merge.proofs.Terms.{AreDistinct, QuietStream, get_or_from_slice_get, slice_get_within, take_more_set}
 use Rattle.split_merge.proofs.Terms.{Frame, IsOrderly, drop_more, frames_of, nat_tests, slice_get, take_more, with_next}
@@ -151,7 +152,7 @@ module _ {changes : List Change} {all : List Frame} where
 pub record IsPartEnded (credits_shown : Bool) (changes : List Change) (all : List Frame) (streams : List ℕ)
     (quiets : List QuietStream) (many : ℕ) : Type 0 where
   pub long : length quiets ≡ length streams
-  pub hushed : AllZip (IsHushedOf credits_shown changes all) (take many streams) (take many quiets)
+  pub ends_quiet : AllZip (EndsQuietOf credits_shown changes all) (take many streams) (take many quiets)
   pub ahead : AllZip (IsAheadOf changes all (λ _. [])) (drop many streams) (drop many quiets)
 
 module _ {credits_shown : Bool} {changes : List Change} {all : List Frame} {streams : List ℕ}
@@ -171,14 +172,14 @@ module _ {credits_shown : Bool} {changes : List Change} {all : List Frame} {stre
   pub ended-next : IsAheadOf changes all (λ _. []) s (get_or quiets many d)
   ended-next = both.0
 
-  pub ended-more : (quiet : QuietStream) → IsHushedOf credits_shown changes all s quiet
+  pub ended-more : (quiet : QuietStream) → EndsQuietOf credits_shown changes all s quiet
       → IsPartEnded credits_shown changes all streams (set quiets many quiet) (many + 1)
   ended-more quiet done = record {
     long = length-set quiets many quiet ∙ h.long;
-    hushed = rw (
+    ends_quiet = rw (
       take_more streams many s within,
       get_or_from_slice_get streams many s s at,
       take_more_set quiets many quiet (omega (arith, within, h.long)),
-    ) (all_zipped_more (IsHushedOf credits_shown changes all) _ _ s quiet h.hushed done);
+    ) (all_zipped_more (EndsQuietOf credits_shown changes all) _ _ s quiet h.ends_quiet done);
     ahead = rw (drop-set-lt (many + 1) quiets many quiet (omega arith)) both.1;
   }

@@ -6,11 +6,12 @@ use Rattle.split_merge.proofs.LoudStreams.{loud-distinct, loud-filter, loud-not_
 use Rattle.split_merge.proofs.Positions.{frames_at-positions, noted-positions, positions-within}
 use Rattle.split_merge.proofs.Terms.{All-from_recursion, AllByRecursion, ArePositionsOf, length-append, noted_positions}
 use Rattle.split_merge.proofs.Terms.{AreDistinct, Bool, QuietStream, SplitFrames, drop-set-lt, length-drop, length_push}
-use Rattle.split_merge.proofs.Terms.{AreFilled, AreHushed, IsPlacing, IsTableOf, [], stream_run, streams_in, streams_of}
+use Rattle.split_merge.proofs.Terms.{AreFilled, EndQuiet, IsPlacing, IsTableOf, [], stream_run, streams_in, streams_of}
 use Rattle.split_merge.proofs.Terms.{CanPlace, append_assoc, drop-set-add, option_to_list, row_positions, take_more_set}
 use Rattle.split_merge.proofs.Terms.{Change, IsKept, IsLaid, IsSplit, Visited, ap, loud_of, quiet_in, rows_of, total_of}
 use Rattle.split_merge.proofs.Terms.{Frame, List, Option, Some, arith, drop, get_or, length, longer, noted, refl, shown}
-use Rattle.split_merge.proofs.Terms.{IsFilled, IsHushedOf, length-set, notes_from, opening_of, places_from, take-set-le}
+use Rattle.split_merge.proofs.Terms.{IsFilled, EndsQuietOf, length-set}
+use Rattle.split_merge.proofs.Terms.{notes_from, opening_of, places_from, take-set-le}
 use Rattle.split_merge.proofs.Terms.{IsRange, NotAmong, StreamRow, drop-drop, frames_of, laid_out, opened_in, slice_get}
 use Rattle.split_merge.proofs.Terms.{map, set, suc, sym, true, zero, ◌++◌, ◌+◌, ◌-◌, ◌<◌, ◌^◌, ◌∙◌, ◌∷◌, ◌≡◌, ◌≢◌, ◌≤◌}
 use Rattle.split_merge.proofs.Visited.{length-streams_in, noted_positions-append, positions-other, positions-own}
@@ -225,7 +226,7 @@ split-rows split frames from (stream ∷ streams) (row ∷ rows) above within h 
 module _ (credits_shown : Bool) (changes : List Change) (frames : List Frame) (streams : List ℕ)
     (quiets : List QuietStream) (split : SplitFrames) (all : streams ≡ streams_of frames)
     (distinct : AreDistinct streams) (above : NotAmong 0 streams)
-    (hushed : AreHushed credits_shown changes frames streams quiets)
+    (ends_quiet : EndQuiet credits_shown changes frames streams quiets)
     (laid : IsLaid (loud_of streams quiets) (opened_in quiets) (notes_from 0 frames) split) where
   pub split-is : IsSplit credits_shown changes frames split
   split-is =
@@ -233,17 +234,17 @@ module _ (credits_shown : Bool) (changes : List Change) (frames : List Frame) (s
       let rows = split-rows split frames 0 (loud_of streams quiets) split.rows.items
       (loud-not_among 0 streams quiets above) (omega arith) laid.filled in
       let nothing : ℕ → Type 0 = λ s. shown credits_shown (stream_run s (frames_of s frames) changes) ≡ [] in
-      let silent = zip-apart (IsHushedOf credits_shown changes frames) (λ s quiet. quiet.is_quiet ≡ true → nothing s) 0
+      let silent = zip-apart (EndsQuietOf credits_shown changes frames) (λ s quiet. quiet.is_quiet ≡ true → nothing s) 0
       streams quiets above
-      (λ s quiet n hush e. rw (hush e).hidden (hush e).shows.shown) hushed in
-      let told = zip-apart (IsHushedOf credits_shown changes frames)
+      (λ s quiet n hush e. rw (hush e).hidden (hush e).shows.shown) ends_quiet in
+      let told = zip-apart (EndsQuietOf credits_shown changes frames)
       (λ s quiet. quiet.is_quiet ≡ true
       → opening_of frames changes s ≡ option_to_list (opened_of quiet.standings.opened)) 0
-      streams quiets above (λ s quiet n hush e. ap option_to_list (hush e).shows.end) hushed in
+      streams quiets above (λ s quiet n hush e. ap option_to_list (hush e).shows.end) ends_quiet in
       record {
         is_quiet = λ s. quiet_in s streams quiets;
         streams = named ∙ rw (← all) (loud-filter streams quiets distinct
-            (AllZip-long (IsHushedOf credits_shown changes frames) streams quiets hushed));
+            (AllZip-long (EndsQuietOf credits_shown changes frames) streams quiets ends_quiet));
         ranges = All-from_recursion (IsRange split) _ rows.0;
         each = All-from_recursion (λ (row : StreamRow). ArePositionsOf frames row.stream (row_positions split row)) _
             rows.1;

@@ -2,7 +2,8 @@
 use Rattle.audit_terms.proofs.FindingOrder.{comes_after_is, in_order-alike, in_order-append_comm}
 use Rattle.audit_terms.proofs.OrderedLists.{ordered-both}
 use Rattle.audit_terms.specs.declared.findings.Finding.{Finding}
-use Rattle.split_merge.proofs.Terms.{List, [], append-nil, ap, append_assoc, comes_after, drop, drop_more, get_or, in_order}
+use Rattle.split_merge.proofs.Terms.{List, [], append-nil, ap, append_assoc, comes_after, drop, drop_more, get_or}
+use Rattle.split_merge.proofs.Terms.{in_order}
 use Rattle.split_merge.proofs.Terms.{length, refl, sym, take, ℕ, ◌+◌, ◌++◌, ◌<◌, ◌∙◌, ◌∷◌, ◌≡◌}
 use Rattle.split_merge.specs.code.Stretches.{all_in}
 use Rattle.std.proofs.lemmas.{Grind.flat_map-append, List.take-append-drop}
@@ -10,7 +11,8 @@ use denote.Ref.{Bor}
 
 -- the front of one stretch more stands behind the fronts, and its back behind the backs
 parted-more : (fronts backs front back rest : List Finding)
-    → in_order (((fronts ++ front) ++ (backs ++ back)) ++ rest) ≡ in_order ((fronts ++ backs) ++ ((front ++ back) ++ rest))
+    → in_order (((fronts ++ front) ++ (backs ++ back)) ++ rest)
+    ≡ in_order ((fronts ++ backs) ++ ((front ++ back) ++ rest))
 parted-more fronts backs front back rest =
     let swapped = in_order-alike (front ++ backs) (backs ++ front) (back ++ rest) (back ++ rest)
     (in_order-append_comm front backs) refl in
@@ -19,7 +21,8 @@ parted-more fronts backs front back rest =
     let there : (fronts ++ backs) ++ ((front ++ back) ++ rest) ≡ fronts ++ ((backs ++ front) ++ (back ++ rest)) =
     simp append_assoc in
     ap in_order here
-    ∙ in_order-alike fronts fronts ((front ++ backs) ++ (back ++ rest)) ((backs ++ front) ++ (back ++ rest)) refl swapped
+    ∙ in_order-alike fronts fronts ((front ++ backs) ++ (back ++ rest))
+    ((backs ++ front) ++ (back ++ rest)) refl swapped
     ∙ ap in_order (sym there)
 
 one-more : (before after : List (Bor (List Finding))) (stretch : Bor (List Finding)) → after ≡ before ++ stretch ∷ []

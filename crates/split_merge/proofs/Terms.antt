@@ -4,7 +4,7 @@ pub use Rattle.audit_terms.specs.Frame.{is_ack, meets, promised_by, promises}
 pub use Rattle.audit_terms.specs.Pass.{first_of, streams_of}
 pub use Rattle.audit_terms.specs.code.runs.{Orderly.IsInRange, Orderly.IsOrderly, Streams.frames_of, Streams.stream_run}
 pub use Rattle.audit_terms.specs.declared.{frames.Frame.Frame, items.Change.Change}
-pub use Rattle.split_merge.specs.code.Ahead.{AreAhead, AreHushed, IsAheadOf, IsHushedOf, with_next}
+pub use Rattle.split_merge.specs.code.Ahead.{AreAhead, EndQuiet, IsAheadOf, EndsQuietOf, with_next}
 pub use Rattle.split_merge.specs.code.Loud.{ArePlaces, CanPlace, IsPlacing, loud_of, opened_in, places_from, quiet_in}
 pub use Rattle.split_merge.specs.code.Split.{ArePositionsOf, opening_of, positions_from, positions_of, row_positions}
 pub use Rattle.split_merge.specs.code.Visits.{AreBelow, AreFilled, IsFilled, IsTableOf, NotAmong, NotBefore, is_among}

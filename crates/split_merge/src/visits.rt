@@ -10,7 +10,7 @@ ghost use Rattle.stream_credit.specs.code.QuietStream.{IsAheadIfQuiet};
 ghost use Rattle.split_merge.specs.code.Visits.{AreVisits, IsEmpty, IsIndex, IsTableOf, NotAmong, counted, noted};
 ghost use Rattle.split_merge.specs.code.Visits.{streams_in, with_stream};
 ghost use Rattle.split_merge.specs.code.Loud.{IsKept};
-ghost use Rattle.split_merge.specs.code.Ahead.{AreAhead, AreHushed, CanHaveRow, CanVisit, HasRow, IsEnd, IsHushed};
+ghost use Rattle.split_merge.specs.code.Ahead.{AreAhead, EndQuiet, CanHaveRow, CanVisit, HasRow, IsEnd, EndsQuiet};
 ghost use Rattle.split_merge.specs.code.Ahead.{MeetsNext, with_next};
 
 use crate::row_index::RowIndex;
@@ -75,8 +75,8 @@ impl Visits {
     ) -> Result<Visits, AllocError>
         requires { CanVisit changes.now frames.now }
         ensures visits { IfOk result (AreVisits frames.now) }
-        ensures hushed { IfOk result (λ table.
-            AreHushed credits_shown changes.now frames.now (streams_in table.rows.items) table.quiets.items) }
+        ensures ends_quiet { IfOk result (λ table.
+            EndQuiet credits_shown changes.now frames.now (streams_in table.rows.items) table.quiets.items) }
     {
         let mut table = Self::none_yet(alloc, hash, frames.len())?;
         table.note_all(credits_shown, changes, frames)?;
@@ -210,7 +210,7 @@ fn finish(
 )
     requires { IsEnd changes.now (streams_in rows.now) quiets.old.items }
     ensures { (all : List FrameTerm) → AreAhead changes.now all (λ _. []) (streams_in rows.now) quiets.old.items
-        → AreHushed credits_shown changes.now all (streams_in rows.now) quiets.new.items }
+        → EndQuiet credits_shown changes.now all (streams_in rows.now) quiets.new.items }
 {
     for row in 0..rows.len() {
         end(&mut quiets[row], rows[row].stream, credits_shown, changes);
@@ -221,7 +221,7 @@ fn finish(
 fn end(quiet: &mut QuietStream, stream: u32, credits_shown: bool, changes: &Changes<'_>)
     requires { (all : List FrameTerm) × IsAheadIfQuiet stream changes.now all [] quiet.old }
     ensures { (all : List FrameTerm) → IsAheadIfQuiet stream changes.now all [] quiet.old
-        → IsHushed credits_shown changes.now stream all quiet.new }
+        → EndsQuiet credits_shown changes.now stream all quiet.new }
 {
     quiet.finish(stream, changes);
     if credits_shown {

@@ -1,7 +1,7 @@
 pub mod Words
 mod ChangeLemmas
 mod MergedLemmas
-pub mod SilentLemmas
+pub mod QuietSteps
 mod WalkLemmas
 mod QuietLemmas
 mod RunLemmas

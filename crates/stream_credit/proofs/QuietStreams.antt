@@ -2,16 +2,16 @@
 use Rattle.audit_terms.proofs.OrderlyFrames.{orderly-earlier}
 use Rattle.stream_credit.proofs.ChangeLemmas.{drop-next, initial-next, none-left, passed-each}
 use Rattle.stream_credit.proofs.MergedLemmas.{acknowledge-all, merged-change, merged-first, steps_of-merged}
-use Rattle.stream_credit.proofs.SilentLemmas.{calm-changes, none-shown, stream-moved, stream-shown}
+use Rattle.stream_credit.proofs.QuietSteps.{quiet-changes, none-shown, stream-moved, stream-shown}
 use Rattle.stream_credit.proofs.Words.{Acknowledge, QuietStream, change_step, idle_stream, stream_said}
 use Rattle.stream_credit.proofs.Words.{AreAcknowledged, AreOrderly, slice_get_within, stream_after_all, stream_run_from}
-use Rattle.stream_credit.proofs.Words.{AreFrom, ShowsNothing, each-in_order, filter-append, initial_after, stream_after}
+use Rattle.stream_credit.proofs.Words.{AreFrom, IsQuietToEnd, each-in_order, filter-append, initial_after, stream_after}
 use Rattle.stream_credit.proofs.Words.{ArePassed, IsMovedBy, IsOrderly, frame_step, initial_at}
 use Rattle.stream_credit.proofs.Words.{Bool, Change, IsNext, Stream, arith, false, length, merged, shown}
 use Rattle.stream_credit.proofs.Words.{Finding, IsAhead, Sides, StartsAt, in_order, is_live, is_shown}
 use Rattle.stream_credit.proofs.Words.{Frame, IsPassed, slice_get, stream_of, window_of}
 use Rattle.stream_credit.proofs.Words.{List, None, Some, Step, drop, refl, sym, ℕ, ◌+◌, ◌-◌, ◌<◌, ◌^◌}
-use Rattle.stream_credit.proofs.Words.{IsUnshown}
+use Rattle.stream_credit.proofs.Words.{IsQuiet}
 use Rattle.stream_credit.proofs.{WalkLemmas.none-live, Words.[], Words.ap, Words.◌∙◌, Words.◌∷◌, Words.◌≡◌, Words.◌≤◌}
 
 -- ---- what a run comes to
@@ -80,13 +80,13 @@ module _ {stream : ℕ} {changes : List Change} {all rest : List Frame} {old : Q
       → slice_get changes old.met ≡ Some change → change.number < number → after ≡ initial_after (Some change) initial
       → IsPassed initial after old new → IsAhead stream changes all rest new
   ahead-change {new} {change} {after} number s e below a p =
-      let calm = calm-changes stream initial change.number (Some change) after (stream_of old.standings).window
-      (stream_of new.standings).window a p.moved.client.moved p.moved.server.moved p.moved.client.silent
-      p.moved.server.silent in
+      let quiet = quiet-changes stream initial change.number (Some change) after (stream_of old.standings).window
+      (stream_of new.standings).window a p.moved.client.moved p.moved.server.moved p.moved.client.quiet
+      p.moved.server.quiet in
       let step = change_step change in
       let entry : stream_of new.standings ≡ stream_after stream initial (stream_of old.standings) step =
       rw (p.moved.opened, p.moved.client.ended, p.moved.server.ended)
-      (sym (stream-moved stream initial (stream_of old.standings) step (stream_of new.standings).window refl calm)) in
+      (sym (stream-moved stream initial (stream_of old.standings) step (stream_of new.standings).window refl quiet)) in
       let met = p.met in
       ahead-by (omega (arith, slice_get_within changes old.met change e, met)) h.orderly h.acknowledged
       (rw (
@@ -97,13 +97,13 @@ module _ {stream : ℕ} {changes : List Change} {all rest : List Frame} {old : Q
         merged-change number rest change (drop (old.met + 1) changes) s below,
       )
       (outcome-next stream initial (stream_of old.standings) step (merged rest (drop (old.met + 1) changes))
-      (stream-shown stream initial (stream_of old.standings) step (stream_of new.standings).window refl calm tt)))
+      (stream-shown stream initial (stream_of old.standings) step (stream_of new.standings).window refl quiet tt)))
 
 -- a change moves no window that is not live
 pub unmoved : (before after standing : ℕ) → window_of standing ≡ None → IsMovedBy before after standing standing
 unmoved before after standing none = record {
   moved = rw none refl;
-  silent = rw none (λ x e. cc);
+  quiet = rw none (λ x e. cc);
   ended = refl;
 }
 
@@ -133,13 +133,13 @@ ahead-frame {stream} {changes} {all} {rest} {frame} {old} {new} h f n met =
     ahead-by h (rw met h.met) (orderly-earlier 0 (frame.number + 1) rest (omega arith) h.orderly.2) h.acknowledged.1
     (rw (met, n.after, merged-first frame rest left f)
     (outcome-next stream (initial_at old.met changes) (stream_of old.standings) (frame_step frame) (merged rest left)
-    (none-shown _ (each-in_order IsUnshown _ n.said))))
+    (none-shown _ (each-in_order IsQuiet _ n.said))))
 
 -- the end
-pub shows-nothing : {stream : ℕ} {changes : List Change} {all : List Frame} {quiet : QuietStream}
+pub quiet-to-end : {stream : ℕ} {changes : List Change} {all : List Frame} {quiet : QuietStream}
     → IsAhead stream changes all [] quiet → AreFrom (2 ^ 32 - 1) (drop quiet.met changes)
-    → ShowsNothing stream changes all quiet.standings.opened
-shows-nothing {changes = changes} {quiet = quiet} h f =
+    → IsQuietToEnd stream changes all quiet.standings.opened
+quiet-to-end {changes = changes} {quiet = quiet} h f =
     let over = none-left 0 quiet.met changes h.rise f in
     record {
       shown = rw over at h.shown;

@@ -6,13 +6,13 @@ use Rattle.stream_credit.proofs.Words.{other, is_side, side_of, is_reset, is_zer
 use Rattle.stream_credit.proofs.Words.{is_last_of, ends_window, is_not_opened, is_after_end, is_used_up}
 use Rattle.stream_credit.proofs.Words.{overflows, overruns, say_of, idle_stream, counted}
 use Rattle.stream_credit.proofs.Words.{frame_step, has_credit, has_ended, mark, window_of, opened_window_said}
-use Rattle.stream_credit.proofs.Words.{stream_window_said, opened_of, AreUnshown, IsBalanced, IsStandingAfter}
+use Rattle.stream_credit.proofs.Words.{stream_window_said, opened_of, AreQuiet, IsBalanced, IsStandingAfter}
 use Rattle.stream_credit.proofs.Words.{IsOpeningStanding, IsNextOpened, IsOpenedBy, life_of, stream_of}
 use Rattle.stream_credit.proofs.Words.{Standings}
 use Rattle.audit_terms.specs.Frame.{promises}
 use Rattle.audit_terms.specs.Life.{idle_life, is_opening}
-use Rattle.stream_credit.proofs.SilentLemmas.{both, unsaid, frame-unshown, IsCalm, calm-some, calm-ended}
-use Rattle.stream_credit.proofs.SilentLemmas.{stream-unshown, stream-moved}
+use Rattle.stream_credit.proofs.QuietSteps.{both, unsaid, frame-quiet, IsQuietAt, quiet-one, quiet-ended}
+use Rattle.stream_credit.proofs.QuietSteps.{stream-quiet, stream-moved}
 
 window-some : (standing : ℕ) → has_credit standing ≡ true → window_of standing ≡ Some (pos standing)
 window-some standing h = rw h refl
@@ -54,11 +54,11 @@ module _ (d : Side) (frame : Frame) (standing after : ℕ) (live : has_credit st
   now initial = let moved = c.moved in omega (arith, ints, moved)
 
   standing-by : (next : ℕ) → ((initial : Sides ℕ)
-      → IsCalm d frame.stream initial (frame_step frame) (Some (pos standing)) (window_of next))
+      → IsQuietAt d frame.stream initial (frame_step frame) (Some (pos standing)) (window_of next))
       → has_ended next ≡ is_last_of d frame.stream frame → IsStandingAfter d frame standing next
-  standing-by next calm ended = record {
-    said = λ initial. rw (window-some standing live) (calm initial).said;
-    window = λ initial. rw (window-some standing live) (sym (calm initial).after);
+  standing-by next quiet ended = record {
+    said = λ initial. rw (window-some standing live) (quiet initial).said;
+    window = λ initial. rw (window-some standing live) (sym (quiet initial).after);
     ended = rw (ended-none standing live) ended;
   }
 
@@ -68,7 +68,7 @@ module _ (d : Side) (frame : Frame) (standing after : ℕ) (live : has_credit st
       let within = c.within in
       let still : has_credit after ≡ true = grind (arith, nat_tests, within, some) in
       standing-by after (λ initial. rw (window-some after still)
-      (calm-some d frame.stream initial (frame_step frame) (pos standing) (pos after) (now initial) fits overrun goes_on
+      (quiet-one d frame.stream initial (frame_step frame) (pos standing) (pos after) (now initial) fits overrun goes_on
       (some-left standing live ∙ sym (some-left after still))))
       (ended-none after still ∙ sym (unlast d frame goes_on))
 
@@ -78,7 +78,7 @@ module _ (d : Side) (frame : Frame) (standing after : ℕ) (live : has_credit st
   standing_ends ends =
       let is = mark-is (is_last_of d frame.stream frame) in
       standing-by (mark (is_last_of d frame.stream frame)) (λ initial. rw is.0
-      (calm-ended d frame.stream initial (frame_step frame) (pos standing) (pos after) (now initial) fits overrun ends
+      (quiet-ended d frame.stream initial (frame_step frame) (pos standing) (pos after) (now initial) fits overrun ends
       (some-left standing live))) is.1
     where
       mark-is : (last : Bool) → (window_of (mark last) ≡ None) × (has_ended (mark last) ≡ last)
@@ -103,10 +103,10 @@ opened-next frame old client server numbered used late zero c s =
       unopened = unopened;
       next = λ initial. record {
         said =
-            stream-unshown frame.stream initial (stream_of old) (frame_step frame) next.window unopened (calm initial)
-            (frame-unshown frame.stream (stream_of old) (frame_step frame) frame used late (rw zero refl));
+            stream-quiet frame.stream initial (stream_of old) (frame_step frame) next.window unopened (quiet initial)
+            (frame-quiet frame.stream (stream_of old) (frame_step frame) frame used late (rw zero refl));
         after = rw (
-          stream-moved frame.stream initial (stream_of old) (frame_step frame) next.window unopened (calm initial),
+          stream-moved frame.stream initial (stream_of old) (frame_step frame) next.window unopened (quiet initial),
           number,
           c.ended,
           s.ended,
@@ -114,22 +114,22 @@ opened-next frame old client server numbered used late zero c s =
       };
     }
   where
-    calm : (initial : Sides ℕ) (d : Side) → IsCalm d frame.stream initial (frame_step frame)
+    quiet : (initial : Sides ℕ) (d : Side) → IsQuietAt d frame.stream initial (frame_step frame)
         (side_of d (stream_of old).window)
         (side_of d (stream_of (record { opened = old.opened; client = client; server = server })).window)
-    calm initial Client = record { said = c.said initial; after = sym (c.window initial) }
-    calm initial Server = record { said = s.said initial; after = sym (s.window initial) }
+    quiet initial Client = record { said = c.said initial; after = sym (c.window initial) }
+    quiet initial Server = record { said = s.said initial; after = sym (s.window initial) }
 
 -- ---- a stream that a frame opens
 
 module _ (stream : ℕ) (initial : Sides ℕ) (frame : Frame) (opening : is_opening stream idle_life frame ≡ true) where
   opened-said : (d : Side) (last : Bool) (n : ℕ) → (last ≡ false → is_used_up (pos n) ≡ false)
-      → AreUnshown (say_of (opened_window_said d stream (frame_step frame)) (if last then None else Some (pos n)))
+      → AreQuiet (say_of (opened_window_said d stream (frame_step frame)) (if last then None else Some (pos n)))
   opened-said d true n h = tt
   opened-said d false n h = both _ _ (unsaid (is_used_up (pos n)) _ (h refl)) (refl, tt)
 
   side-said : (d : Side) → (is_last_of d stream frame ≡ false → is_used_up (pos (side_of d initial)) ≡ false)
-      → AreUnshown (stream_window_said d stream initial idle_stream (frame_step frame))
+      → AreQuiet (stream_window_said d stream initial idle_stream (frame_step frame))
   side-said d h = rw opening (opened-said d (is_last_of d stream frame) (side_of d initial) h)
 
   pub idle-opened : (client server : ℕ) → (frame.number ≡ 0 → ⊥) → is_not_opened stream idle_life frame ≡ false
@@ -140,7 +140,7 @@ module _ (stream : ℕ) (initial : Sides ℕ) (frame : Frame) (opening : is_open
       let number = some-number frame.number numbered in record {
         opening = opening;
         said = both _ _
-            (both _ _ (frame-unshown stream idle_stream (frame_step frame) frame used (simp and-false) (simp and-false))
+            (both _ _ (frame-quiet stream idle_stream (frame_step frame) frame used (simp and-false) (simp and-false))
             (side-said Client c.some)) (side-said Server s.some);
         after = rw (opening, number, c.ended, s.ended, c.window, s.window) refl;
       }

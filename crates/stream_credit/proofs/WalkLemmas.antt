@@ -9,7 +9,8 @@ use Rattle.stream_credit.proofs.Words.{false, option_map_or, filter-append, init
 use Rattle.stream_credit.proofs.Words.{if◌then◌else◌, AllByRecursion, stream_run_from, stream_after_all, IsAcknowledged}
 use Rattle.stream_credit.proofs.Words.{[], cases_Bool, StreamLife, change_step, window_after, place_number, stream_said}
 use Rattle.stream_credit.proofs.Words.{append_assoc, found_before, stream_after, IsStopped, opened_up_to, steps_between}
-use Rattle.stream_credit.proofs.Words.{life_after, numbers_of, IsNumbered, AreInOrder, IsCounted, HasRoomAt, HasStopped}
+use Rattle.stream_credit.proofs.Words.{life_after, numbers_of, IsNumbered}
+use Rattle.stream_credit.proofs.Words.{AreInOrder, HasCounted, HasRoomAt, HasStopped}
 use Rattle.audit_terms.proofs.FindingLists.{each-append, each-filter, each-in_order, each-weaker}
 use Rattle.audit_terms.proofs.SaidPlaces.{before-front, at-stream, numbered-at}
 use Rattle.audit_terms.proofs.Watching.{past-higher}
@@ -189,10 +190,10 @@ module _ {L : Type 0} {answers : L → List Finding → Option ℕ → L → Typ
           → old.found.items ≡ found_before step.number whole
           → Watches answers start before whole met (step.number ∷ left) old.watch
           → Watches answers start now whole (met ++ step.number ∷ []) left asked.watch)
-          → IsCounted asked step new
+          → HasCounted asked step new
           → IsAt answers run now (record new { met = to }) (step.number + 1) rest
       step-on {new} to goes counts =
-          let counted : IsCounted (record old { watch = asked.watch }) step new = rw kept at counts in
+          let counted : HasCounted (record old { watch = asked.watch }) step new = rw kept at counts in
           let said = said-numbered (λ n. n < step.number + 1) old.stream old.initial old.entry step h.streamed
           (omega arith) in
           let same : met_by new rest ≡ left = rw (counted.stream, counted.entry, counted.initial) refl in

@@ -12,7 +12,7 @@ pub use Rattle.audit_terms.specs.Stream.{opened_window_said, opens, step_amount,
 pub use Rattle.audit_terms.specs.Stream.{stream_window_said, window_after, window_step}
 pub use Rattle.audit_terms.specs.{Window.is_used_up, Window.overflows, Window.overruns, code.Room.HasRoom}
 pub use Rattle.audit_terms.specs.code.{Room.WindowHasRoom, Watch.IsStopped, Watch.NeverFallFrom, Watch.Watches}
-pub use Rattle.audit_terms.specs.code.Standing.{IsMovedBy, IsSilent, has_credit, has_ended, mark, moved, window_of}
+pub use Rattle.audit_terms.specs.code.Standing.{IsMovedBy, IsQuietMove, has_credit, has_ended, mark, moved, window_of}
 pub use Rattle.audit_terms.specs.code.runs.Changes.{AreAcknowledged, AreOrderly, AreOrderlyFrom}
 pub use Rattle.audit_terms.specs.code.runs.Look.{IsRun, found_before, is_past, steps_between, up_to}
 pub use Rattle.audit_terms.specs.code.runs.{Orderly.IsOrderly, Orderly.IsOrderlyFrom, Streams.IsAcknowledged}
@@ -46,12 +46,12 @@ pub use Rattle.stream_credit.specs.code.Changes.{AreFrom, ArePassed, IsBrought, 
 pub use Rattle.stream_credit.specs.code.Changes.{initial_at, met_after}
 pub use Rattle.stream_credit.specs.code.Looks.{is_live, is_met, met_from, opened_up_to, step_numbers}
 pub use Rattle.stream_credit.specs.code.Merged.{Acknowledge, AcknowledgesAt, frame_with, merged}
-pub use Rattle.stream_credit.specs.code.{Quiet.IsMove, Quiet.IsQuiet, Quiet.IsRaised, QuietStream.IsAhead}
-pub use Rattle.stream_credit.specs.code.QuietStream.{IsPassed, ShowsNothing, StartsAt}
-pub use Rattle.stream_credit.specs.code.Standings.{AreMovedBy, AreUnshown, IsBalanced, IsNext, IsNextOpened, IsOpenedBy}
-pub use Rattle.stream_credit.specs.code.Standings.{IsOpeningStanding, IsStandingAfter, IsUnshown, life_of, opened_of}
+pub use Rattle.stream_credit.specs.code.{Quiet.IsMove, Quiet.IsMovedQuietly, Quiet.IsRaised, QuietStream.IsAhead}
+pub use Rattle.stream_credit.specs.code.QuietStream.{IsPassed, IsQuietToEnd, StartsAt}
+pub use Rattle.stream_credit.specs.code.Standings.{AreMovedBy, AreQuiet, IsBalanced, IsNext, IsNextOpened, IsOpenedBy}
+pub use Rattle.stream_credit.specs.code.Standings.{IsOpeningStanding, IsStandingAfter, IsQuiet, life_of, opened_of}
 pub use Rattle.stream_credit.specs.code.{Standings.stream_of, StreamPart.frames_at, StreamPart.frames_met}
 pub use Rattle.stream_credit.specs.code.Walk.{AreInOrder, CanCount, HasEnded, HasRoomAt, HasStopped, IsAt, IsBegun}
-pub use Rattle.stream_credit.specs.code.Walk.{IsCounted, IsNumbered, IsSound, WholeRun, met_by, numbers_of}
+pub use Rattle.stream_credit.specs.code.Walk.{HasCounted, IsNumbered, IsSound, WholeRun, met_by, numbers_of}
 pub use Rattle.stream_credit.specs.declared.{quiet.Move.Move, quiet_streams.QuietStream.QuietStream, walks.Walk.Walk}
 pub use Rattle.stream_credit.specs.declared.{standings.Standings.Standings}

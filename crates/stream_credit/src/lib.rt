@@ -37,9 +37,9 @@
 mod changes;
 mod ends;
 mod quiet;
+mod quiet_changes;
 mod quiet_streams;
 mod runs;
-mod silent;
 mod standings;
 mod stream_parts;
 mod walks;

@@ -7,7 +7,7 @@ ghost use Rattle.audit_terms.specs.Side.{other};
 ghost use Rattle.audit_terms.specs.Frame.{sends_end};
 ghost use Rattle.audit_terms.specs.Life.{is_after_end};
 ghost use Rattle.audit_terms.specs.code.Room.{HasRoom, WindowHasRoom};
-ghost use Rattle.stream_credit.specs.code.Quiet.{sent, granted, IsMove, IsRaised, IsCredit, IsQuiet};
+ghost use Rattle.stream_credit.specs.code.Quiet.{sent, granted, IsMove, IsRaised, IsCredit, IsMovedQuietly};
 
 use audit_terms::{Body, Frame, LARGEST_WINDOW, Side, Sides, StreamLife};
 
@@ -71,7 +71,7 @@ pub(crate) fn moved_quietly(windows: &Sides<Option<i64>>, one: &Move) -> Option<
     requires amount { HasRoom (2 ^ 32) one.now.amount }
     requires client { WindowHasRoom (2 ^ 60) windows.now.client }
     requires server { WindowHasRoom (2 ^ 60) windows.now.server }
-    ensures { ForSome result (IsQuiet windows.now one.now) }
+    ensures { ForSome result (IsMovedQuietly windows.now one.now) }
 {
     match one.side {
         Side::Client => Some(Sides {

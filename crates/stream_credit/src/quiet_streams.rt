@@ -10,8 +10,8 @@ ghost use Rattle.audit_terms.specs.code.runs.Orderly.{IsOrderly};
 ghost use Rattle.audit_terms.specs.code.runs.Changes.{AreOrderly, AreAcknowledged};
 ghost use Rattle.stream_credit.specs.code.Changes.{AreFrom, initial_at};
 ghost use Rattle.stream_credit.specs.code.Standings.{IsNext};
-ghost use Rattle.stream_credit.specs.code.QuietStream.{CanMeet, HasMet, IsAhead, IsAheadIfQuiet};
-ghost use Rattle.stream_credit.specs.code.QuietStream.{IsPassed, ShowsNothing};
+ghost use Rattle.stream_credit.specs.code.QuietStream.{CanMeet, HasMetChanges, IsAhead, IsAheadIfQuiet};
+ghost use Rattle.stream_credit.specs.code.QuietStream.{IsPassed, IsQuietToEnd};
 
 use crate::changes::{Changes, windows_after};
 use crate::standings::Standings;
@@ -77,7 +77,7 @@ impl QuietStream {
     /// shown.
     fn meet_each(&mut self, changes: &Changes<'_>, number: u32) -> bool
         requires { CanMeet number changes.now self.old }
-        ensures { OnTrue result (HasMet number changes.now self.old self.new) }
+        ensures { OnTrue result (HasMetChanges number changes.now self.old self.new) }
     {
         while let Some(change) = changes.before(self.met.get(), number) {
             let initial = changes.initial_at(self.met.get());
@@ -92,7 +92,7 @@ impl QuietStream {
     /// window is passed over.
     fn meet_changes(&mut self, changes: &Changes<'_>, number: u32) -> bool
         requires { CanMeet number changes.now self.old }
-        ensures { OnTrue result (HasMet number changes.now self.old self.new) }
+        ensures { OnTrue result (HasMetChanges number changes.now self.old self.new) }
     {
         if self.standings.is_live() {
             return self.meet_each(changes, number);
@@ -160,7 +160,7 @@ impl QuietStream {
     pub fn finish(&mut self, stream: u32, changes: &Changes<'_>)
         requires { (all : List FrameTerm) × IsAheadIfQuiet stream changes.now all [] self.old }
         ensures { (all : List FrameTerm) → IsAheadIfQuiet stream changes.now all [] self.old
-            → OnTrue self.new.is_quiet (ShowsNothing stream changes.now all self.new.standings.opened) }
+            → OnTrue self.new.is_quiet (IsQuietToEnd stream changes.now all self.new.standings.opened) }
     {
         if self.is_quiet {
             self.is_quiet = self.meet_changes(changes, u32::MAX);

@@ -19,7 +19,7 @@ use audit_terms::{Frame, Look};
 use std::alloc::{AllocError, Global};
 
 /// How many frames of a stream are gathered at once.
-const NEAR: usize = 32;
+const NEAR_FRAMES: usize = 32;
 
 /// Makes of `near` the frames at some positions. They lie far from one another, and loads of which none waits for what
 /// another one brings are under way at once.
@@ -73,7 +73,7 @@ fn meet_all<L: Look>(
 {
     let mut rest = own.positions;
     while !rest.is_empty() {
-        let (some, later) = rest.split_at(rest.len().min(NEAR));
+        let (some, later) = rest.split_at(rest.len().min(NEAR_FRAMES));
         gather(near, own.frames, some)?;
         if !meet_frames(walk, look, changes, near.as_slice())? {
             return Ok(false);
@@ -110,7 +110,7 @@ pub fn stream_run<L: Look>(
     ensures numbered { IfOk result (λ run.
         All (λ (found : Finding). place_number found.place ≤ 2 ^ 28 - 2) run.findings.items) }
 {
-    let mut near = Vec::with_capacity(alloc, own.positions.len().min(NEAR))?;
+    let mut near = Vec::with_capacity(alloc, own.positions.len().min(NEAR_FRAMES))?;
     let mut walk = Walk::idle(alloc, own.stream, credits_shown, look);
     let is_whole = meet_all(&mut near, &mut walk, look, own, changes)?;
     Ok(run_of(walk, is_whole))

@@ -5,12 +5,12 @@ ghost use Rattle.audit_terms.specs.code.runs.Streams.{change_step};
 ghost use Rattle.audit_terms.specs.code.Watch.{GoesOn, HasMetBefore};
 ghost use Rattle.stream_credit.specs.code.Looks.{is_live};
 ghost use Rattle.stream_credit.specs.code.Merged.{frame_with};
-ghost use Rattle.stream_credit.specs.code.Walk.{CanCount, CanMeetBefore, HasStopped, IsBegun, IsCounted, IsSound};
+ghost use Rattle.stream_credit.specs.code.Walk.{CanCount, CanMeetBefore, HasStopped, IsBegun, HasCounted, IsSound};
 ghost use Rattle.stream_credit.specs.code.Walk.{MeetsBefore, WholeRun};
 
 use crate::changes::{Changes, FIRST_WINDOWS, met_after};
 use crate::quiet::{move_of, moved_quietly};
-use crate::silent::{is_silent, moved};
+use crate::quiet_changes::{is_quiet_move, moved};
 use audit_terms::{
     Change, Finding, Frame, Look, Sides, Step, Stream, Watch, initial_after, keep_shown,
     put_in_order,
@@ -67,23 +67,23 @@ impl Walk {
     /// Counts a change, and adds what it shows.
     fn count_change(&mut self, change: Change) -> Result<(), AllocError>
         requires { CanCount self.old (change_step change) }
-        ensures { OnOk result (IsCounted self.old (change_step change) self.new) }
+        ensures { OnOk result (HasCounted self.old (change_step change) self.new) }
     {
         let step = Step {
             number: change.number,
             frame: None,
             change: Some(change),
         };
-        if self.count_silent(&step) {
+        if self.count_quiet_change(&step) {
             return Ok(());
         }
         self.count_shown(&step)
     }
 
     /// Counts a change of which nothing is shown, if the step is one, and answers whether it is.
-    fn count_silent(&mut self, step: &Step) -> bool
+    fn count_quiet_change(&mut self, step: &Step) -> bool
         requires { CanCount self.old step.now }
-        ensures counted { OnTrue result (IsCounted self.old step.now self.new) }
+        ensures counted { OnTrue result (HasCounted self.old step.now self.new) }
         ensures otherwise { OnFalse result (self.new ≡ self.old) }
     {
         if self.credits_shown || step.frame.is_some() {
@@ -93,7 +93,7 @@ impl Walk {
         let Sides { client, server } = self.entry.window;
         let next_client = moved(&client, self.initial.client, initial.client);
         let next_server = moved(&server, self.initial.server, initial.server);
-        if !is_silent(&client, &next_client) || !is_silent(&server, &next_server) {
+        if !is_quiet_move(&client, &next_client) || !is_quiet_move(&server, &next_server) {
             return false;
         }
         self.entry.window = Sides {
@@ -107,7 +107,7 @@ impl Walk {
     /// Counts a step that may show something.
     fn count_shown(&mut self, step: &Step) -> Result<(), AllocError>
         requires { CanCount self.old step.now }
-        ensures { OnOk result (IsCounted self.old step.now self.new) }
+        ensures { OnOk result (HasCounted self.old step.now self.new) }
     {
         self.said.clear();
         say_stream(
@@ -213,9 +213,9 @@ impl Walk {
     /// Counts a frame and the change that it brings, if it brings one, and adds what they show.
     fn count_frame(&mut self, frame: &Frame, change: &Option<Change>) -> Result<(), AllocError>
         requires { CanCount self.old (frame_with frame.now change.now) }
-        ensures { OnOk result (IsCounted self.old (frame_with frame.now change.now) self.new) }
+        ensures { OnOk result (HasCounted self.old (frame_with frame.now change.now) self.new) }
     {
-        if self.count_quiet(frame, change) {
+        if self.count_quiet_frame(frame, change) {
             return Ok(());
         }
         self.count_shown(&Step {
@@ -226,9 +226,9 @@ impl Walk {
     }
 
     /// Counts a frame of which nothing is shown and that brings no change, if it is one, and answers whether it is.
-    fn count_quiet(&mut self, frame: &Frame, change: &Option<Change>) -> bool
+    fn count_quiet_frame(&mut self, frame: &Frame, change: &Option<Change>) -> bool
         requires { CanCount self.old (frame_with frame.now change.now) }
-        ensures counted { OnTrue result (IsCounted self.old (frame_with frame.now change.now) self.new) }
+        ensures counted { OnTrue result (HasCounted self.old (frame_with frame.now change.now) self.new) }
         ensures otherwise { OnFalse result (self.new ≡ self.old) }
     {
         if self.credits_shown || change.is_some() {

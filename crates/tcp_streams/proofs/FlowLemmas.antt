@@ -5,7 +5,8 @@ use Rattle.tcp_streams.proofs.Words.{PayloadsRise, Packet, Carried, Segment, is_
 use Rattle.tcp_streams.proofs.Words.{segment_of, payload_length, AreMembers, payload_sum, Connection, Bool, false, ◌++◌}
 use Rattle.tcp_streams.proofs.Words.{ap, map, if◌then◌else◌, option_to_list, nat_tests, append-nil, true, append_assoc}
 use Rattle.tcp_streams.proofs.Words.{map-append, AreNumberedFrom, is_opening, with_if, members, opening_at, openings}
-use Rattle.tcp_streams.proofs.Words.{Membership, membership, connection_of, connections_of, past_after, past_of, RecordsDescend}
+use Rattle.tcp_streams.proofs.Words.{Membership, membership, connection_of, connections_of, past_after, past_of}
+use Rattle.tcp_streams.proofs.Words.{RecordsDescend}
 use Rattle.tcp_streams.proofs.Lists.{by_option, slice_get-drop}
 use Rattle.tcp_streams.proofs.Numbered.{RecordsDescend-past_after, Known, Known-past_of, recs}
 use Rattle.tcp_streams.proofs.PieceLemmas.{PayloadsRise-end, found-at, rise-drop}

@@ -4,7 +4,8 @@ use Rattle.tcp_streams.proofs.Words.{◌++◌, length, drop, take, slice_get, ap
 use Rattle.tcp_streams.proofs.Words.{get_or-map, length-map, map-append, drop-drop, All-nil, All-weaker, All-head}
 use Rattle.tcp_streams.proofs.Words.{All-tail, All-push, none-some, AreNumberedFrom, Packet, Carried, Segment}
 use Rattle.tcp_streams.proofs.Words.{is_opening, segment_of, AreMembers, members, opening_at, openings, Membership}
-use Rattle.tcp_streams.proofs.Words.{membership, connection_of, connections_of, past_after, past_of, with_packet, RecordsDescend}
+use Rattle.tcp_streams.proofs.Words.{membership, connection_of, connections_of, past_after, past_of, with_packet}
+use Rattle.tcp_streams.proofs.Words.{RecordsDescend}
 use Rattle.tcp_streams.proofs.Words.{Connection, IfSome, get_or_from_slice_get, inl, inr, slice_get_within}
 use Rattle.tcp_streams.proofs.{Lists.by_Bool, Past.RecordsDescend-weaker}
 use Rattle.std.proofs.lemmas.List.{length-take, take_more, Elements.All-map}
@@ -45,17 +46,30 @@ numbered_at n (_ ∷ rest) zero s h at = absurd cc
 numbered_at n (Carried t ∷ rest) (suc i) s h at = omega (arith, numbered_at (n + 1) rest i s h.1 at)
 numbered_at n (_ ∷ rest) (suc i) s h at = omega (arith, numbered_at (n + 1) rest i s h at)
 
-pub RecordsDescend-past_after : (n : ℕ) (past : List Segment) (packets : List Packet) → AreNumberedFrom n packets → RecordsDescend n past
+pub RecordsDescend-past_after : (n : ℕ) (past : List Segment) (packets : List Packet) → AreNumberedFrom n packets
+    → RecordsDescend n past
     → RecordsDescend (n + length packets) (past_after past packets)
 RecordsDescend-past_after n past [] h f = RecordsDescend-weaker n (n + 0) past (omega arith) f
 RecordsDescend-past_after n past (Carried s ∷ rest) h f =
-    grind (arith, common_steps, RecordsDescend-past_after (n + 1) (s ∷ past) rest h.1 (omega (arith, h.0), rw h.0 f), h.1, h.0)
+    grind (
+      arith,
+      common_steps,
+      RecordsDescend-past_after (n + 1) (s ∷ past) rest h.1 (omega (arith, h.0), rw h.0 f),
+      h.1,
+      h.0,
+    )
 RecordsDescend-past_after n past (_ ∷ rest) h f =
-    grind (arith, common_steps, RecordsDescend-past_after (n + 1) past rest h (RecordsDescend-weaker n (n + 1) past (omega arith) f))
+    grind (
+      arith,
+      common_steps,
+      RecordsDescend-past_after (n + 1) past rest h (RecordsDescend-weaker n (n + 1) past (omega arith) f),
+    )
 
 -- the records fall along the past, from below the next segment's
-pub RecordsDescend-next : (n : ℕ) (past : List Segment) (packets : List Packet) (i : ℕ) (s : Segment) → AreNumberedFrom n packets
-    → RecordsDescend n past → slice_get packets i ≡ Some (Carried s) → RecordsDescend s.rec (past_after past (take i packets))
+pub RecordsDescend-next : (n : ℕ) (past : List Segment) (packets : List Packet) (i : ℕ) (s : Segment)
+    → AreNumberedFrom n packets
+    → RecordsDescend n past → slice_get packets i ≡ Some (Carried s)
+    → RecordsDescend s.rec (past_after past (take i packets))
 RecordsDescend-next n past [] i s h f at = absurd (none-some (Carried s) at)
 RecordsDescend-next n past (Carried t ∷ rest) zero s h f at = rw ((let same : s ≡ t = cc in same), h.0) f
 RecordsDescend-next n past (_ ∷ rest) zero s h f at = absurd cc
@@ -109,7 +123,8 @@ abbrev pub recs : List Segment → List ℕ
 recs segments = map (λ (s : Segment). s.rec) segments
 
 -- an opening's members rise and name segments
-members-are : (packets : List Packet) (o : Segment) (n : ℕ) (past : List Segment) → RecordsDescend n past → Known packets past
+members-are : (packets : List Packet) (o : Segment) (n : ℕ) (past : List Segment) → RecordsDescend n past
+    → Known packets past
     → AreMembers 0 packets (recs (members o past)) × All (λ k. k < n) (recs (members o past))
 members-are packets o n [] f k = (tt, All-nil (λ k. k < n))
 members-are packets o n (s ∷ past) f k =

@@ -57,7 +57,8 @@ members-to_come o (s ∷ past) f =
     (members-to_come o past (RecordsDescend-weaker s.rec o.rec past (omega (arith, f.0)) f.1))
 
 -- the openings are below what the past is below, and their records rise
-pub openings-below : (n : ℕ) (past : List Segment) → RecordsDescend n past → All (λ (o : Segment). o.rec < n) (openings past)
+pub openings-below : (n : ℕ) (past : List Segment) → RecordsDescend n past
+    → All (λ (o : Segment). o.rec < n) (openings past)
 openings-below n [] f = All-nil _
 openings-below n (s ∷ past) f = All-with_if (opens s past) (openings past) s (λ (o : Segment). o.rec < n)
     (All-weaker (λ (o : Segment). o.rec < s.rec) (λ (o : Segment). o.rec < n) (λ o h. omega (arith, f.0))

@@ -212,7 +212,13 @@ module _ (size : ℕ) (small : size < 2 ^ 31) (of : StartedSide) (rise : Payload
       let number : s.rec ≡ m = omega (arith, h.0, numbered_at 1 of.packets.now (m - 1) s numbered here) in
       let stands = stands-at size of.packets.now (m - 1) s rise here in
       let sound : IsSound size low s =
-      record { stands = stands; after = omega (arith, number, h.0); timely = timely-at of.packets.now (m - 1) s times here } in
+      record {
+        stands = stands;
+        after = omega (arith, number, h.0);
+        timely = timely-at of.packets.now (m - 1) s times
+            here;
+      }
+      in
       rw e (by_Bool (is_sent_by of.connection.now of.side s)
       (λ t. rw t (one_more of.initial_number size small low s _ sound _ (rw number later) (piece of.initial_number s)
       (piece-is of.initial_number size small s stands) (piece-same of.initial_number size small s stands)))

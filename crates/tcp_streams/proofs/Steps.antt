@@ -6,7 +6,8 @@ use Rattle.std.specs.Prelude.{find, option_map, ◌||◌}
 use Rattle.tcp_streams.proofs.Lists.{by_Bool, list_any-other, map-agree, map-pushed, slice_get-last, slice_get-with_if}
 use Rattle.tcp_streams.proofs.Past.{first_strays-apart, first_strays-other, last_opening-kept, last_opening-other}
 use Rattle.tcp_streams.proofs.Past.{last_opening-new, members-to_come, opening_at-kept, opening_at-opens, openings-rise}
-use Rattle.tcp_streams.proofs.Words.{All, RecordsDescend, Option, Stray, eq-eqb, filter, get_or, length, ne_eqb, pair_of, strays}
+use Rattle.tcp_streams.proofs.Words.{All, RecordsDescend, Option, Stray, eq-eqb, filter, get_or, length, ne_eqb}
+use Rattle.tcp_streams.proofs.Words.{pair_of, strays}
 use Rattle.tcp_streams.proofs.Words.{All-weaker, first_strays, if◌then◌else◌, last_opening, length-append, standing_of}
 use Rattle.tcp_streams.proofs.Words.{Bool, List, None, Pair, Some, Table, arith, false, is_of, opens, refl, true, ◌++◌}
 use Rattle.tcp_streams.proofs.Words.{Connection, IsUnopened, Membership, append-nil, get_or-map, is_opening, is_request}
@@ -120,7 +121,8 @@ module _ (past : List Segment) (s : Segment) where
         }
 
     -- the segment joins the connection at an index
-    pub shown-joins : (k : ℕ) (after : List Membership) (c : Membership) → opens s past ≡ false → RecordsDescend s.rec past
+    pub shown-joins : (k : ℕ) (after : List Membership) (c : Membership) → opens s past ≡ false
+        → RecordsDescend s.rec past
         → (o : IsOpened past (pair_of s) k)
         → connection_of past o.last ≡ c → after ≡ set opened k (joined c s) → IsShown (s ∷ past) standing after found
     shown-joins k after c e falls o here a =

@@ -39,13 +39,13 @@ abbrev pub moved : (before after : ℕ) → ℤ → ℤ
 moved before after credit = credit +ℤ (pos after -ℤ pos before)
 
 -- a window whose credit does not rise above the largest, and of which no stall begins or ends
-abbrev pub IsSilent : (before after : Option ℤ) → Type 0
-IsSilent before after =
+abbrev pub IsQuietMove : (before after : Option ℤ) → Type 0
+IsQuietMove before after =
     ForSome before (λ credit. ForSome after (λ next.
     (is_used_up credit ≡ is_used_up next) × (overflows credit next ≡ false)))
 
 -- how a side stands after the initial window in force goes from one value to another: nothing of that is shown
 pub record IsMovedBy (before after standing next : ℕ) : Type 0 where
   pub moved : window_of next ≡ option_map (moved before after) (window_of standing)
-  pub silent : IsSilent (window_of standing) (window_of next)
+  pub quiet : IsQuietMove (window_of standing) (window_of next)
   pub ended : has_ended next ≡ has_ended standing

@@ -78,7 +78,8 @@ pub record IsReadOn (old new : Unread) : Type 0 where
   pub weight : weight new ≤ weight old
 
 -- what is left of both sides, put in order
-pub record AreMerged (client server : Unread) (frames : List SideFrame) (client_tail server_tail : List ℕ) : Type 0 where
+pub record AreMerged (client server : Unread) (frames : List SideFrame) (client_tail server_tail : List ℕ)
+    : Type 0 where
   pub client_frames : List SideFrame
   pub server_frames : List SideFrame
   pub client_left : AreLeft client client_frames client_tail

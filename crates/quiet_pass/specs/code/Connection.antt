@@ -10,7 +10,7 @@ use Rattle.audit_terms.specs.Connection.{connection_said, connection_after, conn
 use Rattle.audit_terms.specs.Connection.{is_opened_by_headers, is_even_promise, opening_order_said}
 use Rattle.audit_terms.specs.Connection.{promise_order_said, push_said}
 use Rattle.quiet_pass.specs.declared.connections.KeptConnection.{KeptConnection}
-use Rattle.stream_credit.specs.code.Standings.{AreUnshown}
+use Rattle.stream_credit.specs.code.Standings.{AreQuiet}
 
 -- the connection that is kept so
 abbrev pub connection_of : KeptConnection → ConnectionState
@@ -29,7 +29,7 @@ item_of frame opens change = record { frame = frame; opens = opens; change = cha
 -- the connection after a frame: nothing of that is shown
 pub record IsConnectionAfter (frame : Frame) (opens : Bool) (change : Option Change)
     (old new : KeptConnection) : Type 0 where
-  pub said : AreUnshown (connection_said (connection_of old) (item_of frame opens change))
+  pub said : AreQuiet (connection_said (connection_of old) (item_of frame opens change))
   pub after : connection_of new ≡ connection_after (connection_of old) (item_of frame opens change)
 
 -- a credit after a frame, where some is left before and after it, and no more than the largest
@@ -42,10 +42,10 @@ pub record IsCountedCredit (d : Side) (frame : Frame) (before after : ℕ) : Typ
 -- a credit after a frame: nothing of that is shown
 pub record IsCreditAfter (d : Side) (frame : Frame) (before after : ℕ) : Type 0 where
   pub moved : pos after ≡ credit_after d (pos before) frame
-  pub said : AreUnshown (connection_window_said d (pos before) frame)
+  pub said : AreQuiet (connection_window_said d (pos before) frame)
 
 -- the frame moves no credit of side d
-pub record IsUnmoved (d : Side) (frame : Frame) : Type 0 where
+pub record LeavesCredit (d : Side) (frame : Frame) : Type 0 where
   pub grant : grant_to d 0 frame ≡ 0
   pub nothing : grants_nothing d 0 frame ≡ false
   pub content : content_by d frame ≡ 0

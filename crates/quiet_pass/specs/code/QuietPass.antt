@@ -12,7 +12,7 @@ use Rattle.audit_terms.specs.Pass.{PassState, pass_start, next, said, full_from}
 use Rattle.audit_terms.specs.code.runs.States.{state_after}
 use Rattle.audit_terms.specs.code.runs.Streams.{initial_after}
 use Rattle.quiet_pass.specs.declared.passes.QuietPass.{QuietPass}
-use Rattle.stream_credit.specs.code.Standings.{AreUnshown}
+use Rattle.stream_credit.specs.code.Standings.{AreQuiet}
 use Rattle.audit_terms.specs.code.LastFrame.{last_of}
 use Rattle.settings_pair.specs.code.Pending.{IsPending, IsBrought}
 use Rattle.quiet_pass.specs.code.Connection.{connection_of, IsConnectionAfter}
@@ -32,7 +32,7 @@ abbrev pub AreNamed : List ℕ → Type 0
 AreNamed streams = AllByRecursion (λ stream. 0 < stream) streams
 
 -- the frame is no SETTINGS and no acknowledgement
-pub record IsPlain (frame : Frame) : Type 0 where
+pub record BringsNothing (frame : Frame) : Type 0 where
   pub ack : is_ack frame.body ≡ false
   pub settings : settings_in frame.body ≡ []
 
@@ -60,10 +60,10 @@ pub record IsRestMet (frame : Frame) (old new : QuietPass) : Type 0 where
 
 -- a frame shows nothing, and the machine stands for the state after it
 pub record IsQuietStep (state : PassState) (frame : Frame) (machine : QuietPass) : Type 0 where
-  pub shown : (streams : List ℕ) → AreNamed streams → AreUnshown (said streams state frame)
+  pub shown : (streams : List ℕ) → AreNamed streams → AreQuiet (said streams state frame)
   pub stands : StandsFor machine (next state frame)
 
 -- the frames show nothing, whichever streams are looked at, and the machine stands for the state after them
 pub record IsQuietAfter (frames : List Frame) (machine : QuietPass) : Type 0 where
-  pub shown : (streams : List ℕ) → AreNamed streams → AreUnshown (full_from streams pass_start frames)
+  pub shown : (streams : List ℕ) → AreNamed streams → AreQuiet (full_from streams pass_start frames)
   pub stands : StandsFor machine (state_after frames)

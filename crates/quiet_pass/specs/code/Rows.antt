@@ -7,7 +7,7 @@ use Rattle.audit_terms.specs.declared.streams.Stream.{Stream}
 use Rattle.audit_terms.specs.Life.{is_opening}
 use Rattle.audit_terms.specs.Stream.{idle_stream, stream_said, stream_after}
 use Rattle.audit_terms.specs.code.runs.Streams.{frame_step}
-use Rattle.stream_credit.specs.code.Standings.{stream_of, AreUnshown, IsNextOpened, IsOpenedBy, AreMovedBy}
+use Rattle.stream_credit.specs.code.Standings.{stream_of, AreQuiet, IsNextOpened, IsOpenedBy, AreMovedBy}
 use Rattle.quiet_pass.specs.declared.rows.Row.{Row}
 
 -- a stream by its identifier: one without a row is not opened
@@ -46,9 +46,9 @@ pub record IsOpened (stream : ℕ) (initial : Sides ℕ) (frame : Frame) (row : 
 
 -- a stream meets a frame, which opens it or not, by the rows before it and after it: nothing of that is shown, and no
 -- other stream changes
-pub record HasMet (stream : ℕ) (initial : Sides ℕ) (frame : Frame) (opens : Bool) (old new : List Row) : Type 0 where
+pub record IsMetOn (stream : ℕ) (initial : Sides ℕ) (frame : Frame) (opens : Bool) (old new : List Row) : Type 0 where
   pub opening : is_opening stream (entry_in old stream).life frame ≡ opens
-  pub said : AreUnshown (stream_said stream initial (entry_in old stream) (frame_step frame))
+  pub said : AreQuiet (stream_said stream initial (entry_in old stream) (frame_step frame))
   pub after : entry_in new stream ≡ stream_after stream initial (entry_in old stream) (frame_step frame)
   pub others : (other : ℕ) → other ≢ stream → entry_in new other ≡ entry_in old other
   pub rising : AreRising new

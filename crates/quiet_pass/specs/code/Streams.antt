@@ -8,9 +8,9 @@ use Rattle.audit_terms.specs.declared.streams.Stream.{Stream}
 use Rattle.audit_terms.specs.Frame.{meets}
 use Rattle.audit_terms.specs.Life.{is_opening}
 use Rattle.audit_terms.specs.Stream.{stream_said, stream_after}
-use Rattle.audit_terms.specs.code.Standing.{moved, IsSilent}
+use Rattle.audit_terms.specs.code.Standing.{moved, IsQuietMove}
 use Rattle.quiet_pass.specs.declared.streams.Streams.{Streams}
-use Rattle.stream_credit.specs.code.Standings.{AreUnshown}
+use Rattle.stream_credit.specs.code.Standings.{AreQuiet}
 use Rattle.quiet_pass.specs.code.Rows.{entry_in, AreRising, AreMoved}
 
 -- the rows are those of the streams: of the odd ones, which the client opens, and of the even ones, which the server
@@ -31,14 +31,14 @@ step_at frame change stream = record {
 
 -- a stream before and after such a step: nothing of that is shown
 pub record IsStep (stream : ℕ) (initial : Sides ℕ) (step : Step) (entry next : Stream) : Type 0 where
-  pub said : AreUnshown (stream_said stream initial entry step)
+  pub said : AreQuiet (stream_said stream initial entry step)
   pub after : next ≡ stream_after stream initial entry step
 
 -- the streams after a frame that brings a change, or none: nothing of that is shown
 pub record AreMet (initial : Sides ℕ) (frame : Frame) (change : Option Change) (streams : ℕ → Stream)
     (kept : Streams) : Type 0 where
   pub said : (stream : ℕ) → 0 < stream
-      → AreUnshown (stream_said stream initial (streams stream) (step_at frame change stream))
+      → AreQuiet (stream_said stream initial (streams stream) (step_at frame change stream))
   pub after : AreStreams (λ stream. stream_after stream initial (streams stream) (step_at frame change stream)) kept
 
 -- the same of a frame on a stream, which opens it or not
@@ -57,5 +57,5 @@ pub record IsEntryMoved (before after : Sides ℕ) (entry next : Stream) : Type 
   pub life : next.life ≡ entry.life
   pub client : next.window.client ≡ option_map (moved before.client after.client) entry.window.client
   pub server : next.window.server ≡ option_map (moved before.server after.server) entry.window.server
-  pub client_silent : IsSilent entry.window.client next.window.client
-  pub server_silent : IsSilent entry.window.server next.window.server
+  pub client_quiet : IsQuietMove entry.window.client next.window.client
+  pub server_quiet : IsQuietMove entry.window.server next.window.server

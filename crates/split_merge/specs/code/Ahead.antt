@@ -8,7 +8,7 @@ use Rattle.audit_terms.specs.code.runs.Orderly.{IsOrderly}
 use Rattle.audit_terms.specs.code.runs.Streams.{frames_of}
 use Rattle.audit_terms.specs.code.runs.Changes.{AreOrderly, AreAcknowledged}
 use Rattle.stream_credit.specs.declared.quiet_streams.QuietStream.{QuietStream}
-use Rattle.stream_credit.specs.code.QuietStream.{IsAheadIfQuiet, ShowsNothing}
+use Rattle.stream_credit.specs.code.QuietStream.{IsAheadIfQuiet, IsQuietToEnd}
 use Rattle.split_merge.specs.declared.visits.Visits.{Visits}
 use Rattle.split_merge.specs.code.Visits.{IsIndex, NotAmong, streams_in, with_row}
 
@@ -66,18 +66,18 @@ pub record IsEnd (changes : List Change) (streams : List ℕ) (quiets : List Qui
   pub ahead : AreAhead changes all (λ _. []) streams quiets
 
 -- nothing is shown of a stream that is quiet, and no stream is quiet where credits are shown
-pub record IsUnshown (credits_shown : Bool) (changes : List Change) (stream : ℕ) (frames : List Frame)
+pub record IsQuietStream (credits_shown : Bool) (changes : List Change) (stream : ℕ) (frames : List Frame)
     (quiet : QuietStream) : Type 0 where
   pub hidden : credits_shown ≡ false
-  pub shows : ShowsNothing stream changes frames quiet.standings.opened
+  pub shows : IsQuietToEnd stream changes frames quiet.standings.opened
 
-abbrev pub IsHushed : (credits_shown : Bool) → List Change → (stream : ℕ) → List Frame → QuietStream → Type 0
-IsHushed credits_shown changes stream frames quiet =
-    quiet.is_quiet ≡ true → IsUnshown credits_shown changes stream frames quiet
+abbrev pub EndsQuiet : (credits_shown : Bool) → List Change → (stream : ℕ) → List Frame → QuietStream → Type 0
+EndsQuiet credits_shown changes stream frames quiet =
+    quiet.is_quiet ≡ true → IsQuietStream credits_shown changes stream frames quiet
 
 -- the same of each stream
-abbrev pub IsHushedOf : (credits_shown : Bool) → List Change → (all : List Frame) → (stream : ℕ) → QuietStream → Type 0
-IsHushedOf credits_shown changes all stream = IsHushed credits_shown changes stream (frames_of stream all)
+abbrev pub EndsQuietOf : (credits_shown : Bool) → List Change → (all : List Frame) → (stream : ℕ) → QuietStream → Type 0
+EndsQuietOf credits_shown changes all stream = EndsQuiet credits_shown changes stream (frames_of stream all)
 
-abbrev pub AreHushed : (credits_shown : Bool) → List Change → (all : List Frame) → List ℕ → List QuietStream → Type 0
-AreHushed credits_shown changes all = AllZip (IsHushedOf credits_shown changes all)
+abbrev pub EndQuiet : (credits_shown : Bool) → List Change → (all : List Frame) → List ℕ → List QuietStream → Type 0
+EndQuiet credits_shown changes all = AllZip (EndsQuietOf credits_shown changes all)

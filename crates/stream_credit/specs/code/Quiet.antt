@@ -49,7 +49,7 @@ pub record IsCredit (window : Option ℤ) (move : Move) (after : ℤ) : Type 0 w
   pub raised : IsRaised before move.amount after
 
 -- the windows after such a move
-pub record IsQuiet (windows : Sides (Option ℤ)) (move : Move) (next : Sides (Option ℤ)) : Type 0 where
+pub record IsMovedQuietly (windows : Sides (Option ℤ)) (move : Move) (next : Sides (Option ℤ)) : Type 0 where
   pub after : ℤ
   pub credit : IsCredit (side_of move.side windows) move after
   pub own : side_of move.side next ≡ Some after

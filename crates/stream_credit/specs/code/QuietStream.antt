@@ -46,7 +46,7 @@ pub record CanMeet (number : ℕ) (changes : List Change) (quiet : QuietStream) 
   pub ahead : IsAhead stream changes all rest quiet
 
 -- it has met the changes before the number: none of them is left, and it still stands before such a rest
-pub record HasMet (number : ℕ) (changes : List Change) (old new : QuietStream) : Type 0 where
+pub record HasMetChanges (number : ℕ) (changes : List Change) (old new : QuietStream) : Type 0 where
   pub passed : AreFrom number (drop new.met changes)
   pub ahead : (stream : ℕ) (all rest : List Frame) → StartsAt number rest → IsAhead stream changes all rest old
       → IsAhead stream changes all rest new
@@ -56,6 +56,6 @@ abbrev pub IsAheadIfQuiet : (stream : ℕ) → List Change → (all rest : List 
 IsAheadIfQuiet stream changes all rest quiet = quiet.is_quiet ≡ true → IsAhead stream changes all rest quiet
 
 -- nothing is shown of the whole stream, and that frame opens it
-pub record ShowsNothing (stream : ℕ) (changes : List Change) (all : List Frame) (opened : ℕ) : Type 0 where
+pub record IsQuietToEnd (stream : ℕ) (changes : List Change) (all : List Frame) (opened : ℕ) : Type 0 where
   pub shown : shown false (stream_run stream all changes) ≡ []
   pub end : (stream_at_end stream all changes).life.opened ≡ opened_of opened

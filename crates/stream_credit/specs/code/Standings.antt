@@ -18,11 +18,11 @@ use Rattle.audit_terms.specs.code.Standing.{has_ended, window_of, IsBalance, IsM
 use Rattle.stream_credit.specs.declared.standings.Standings.{Standings}
 
 -- findings that are not shown where credits are not
-abbrev pub IsUnshown : Finding → Type 0
-IsUnshown found = is_shown false found ≡ false
+abbrev pub IsQuiet : Finding → Type 0
+IsQuiet found = is_shown false found ≡ false
 
-abbrev pub AreUnshown : List Finding → Type 0
-AreUnshown found = AllByRecursion IsUnshown found
+abbrev pub AreQuiet : List Finding → Type 0
+AreQuiet found = AllByRecursion IsQuiet found
 
 -- ---- one side
 
@@ -38,7 +38,7 @@ IsBalanced d frame standing = IsBalance standing (grant_to d frame.stream frame)
 
 -- how side d stands after a frame on the stream, which is opened: nothing of that is shown
 pub record IsStandingAfter (d : Side) (frame : Frame) (standing next : ℕ) : Type 0 where
-  pub said : (initial : Sides ℕ) → AreUnshown (window_said d initial frame (window_of standing))
+  pub said : (initial : Sides ℕ) → AreQuiet (window_said d initial frame (window_of standing))
   pub window : (initial : Sides ℕ) → window_of next
       ≡ window_after d frame.stream initial (frame_step frame) (window_of standing)
   pub ended : has_ended next ≡ (has_ended standing || is_last_of d frame.stream frame)
@@ -71,7 +71,7 @@ stream_of standings = record {
 
 -- a stream after a frame that it meets: nothing of that is shown
 pub record IsNext (stream : ℕ) (initial : Sides ℕ) (frame : Frame) (old new : Standings) : Type 0 where
-  pub said : AreUnshown (stream_said stream initial (stream_of old) (frame_step frame))
+  pub said : AreQuiet (stream_said stream initial (stream_of old) (frame_step frame))
   pub after : stream_of new ≡ stream_after stream initial (stream_of old) (frame_step frame)
 
 -- the same of a stream that is opened, and a frame on it
@@ -82,7 +82,7 @@ pub record IsNextOpened (frame : Frame) (old new : Standings) : Type 0 where
 -- a stream that a frame opens: nothing of that is shown
 pub record IsOpenedBy (stream : ℕ) (initial : Sides ℕ) (frame : Frame) (new : Standings) : Type 0 where
   pub opening : is_opening stream idle_life frame ≡ true
-  pub said : AreUnshown (stream_said stream initial idle_stream (frame_step frame))
+  pub said : AreQuiet (stream_said stream initial idle_stream (frame_step frame))
   pub after : stream_of new ≡ stream_after stream initial idle_stream (frame_step frame)
 
 -- a stream after the initial windows in force go from some to others: nothing of that is shown

@@ -65,7 +65,7 @@ pub record CanCount (walk : Walk) (step : Step) : Type 0 where
   pub room : HasRoomAt step.number walk.entry
 
 -- one walk is another, with one more step
-pub record IsCounted (old : Walk) (step : Step) (new : Walk) : Type 0 where
+pub record HasCounted (old : Walk) (step : Step) (new : Walk) : Type 0 where
   pub stream : new.stream ≡ old.stream
   pub credits_shown : new.credits_shown ≡ old.credits_shown
   pub found : new.found.items

@@ -5,9 +5,9 @@ use Rattle.audit_terms.proofs.findings.cut_at_stop.Goals as goal
 pub returns-in-Some : goal.returns-in-Some
 returns-in-Some c =
     c.truncate.ensures.items ∙ upto_stop-found c.args.found.now.items c.in-Some.last
-    (ap (position stops) (sym c.deref.ensures.value) ∙ sym c.first_stop.ensures ∙ c.in-Some.is)
+    (ap (position stops) (sym c.deref.ensures.value) ∙ sym c.first_stop_index.ensures ∙ c.in-Some.is)
 
 pub returns-in_default : goal.returns-in_default
 returns-in_default c =
     upto_stop-none c.args.found.now.items
-    (ap (position stops) (sym c.deref.ensures.value) ∙ sym c.first_stop.ensures ∙ c.in_default.is)
+    (ap (position stops) (sym c.deref.ensures.value) ∙ sym c.first_stop_index.ensures ∙ c.in_default.is)

@@ -1,5 +1,5 @@
-use Rattle.split_merge.proofs.{LaidOut.split-is, Terms.AreHushed}
-use Rattle.split_merge.proofs.Terms.{Bool, Change, Frame, IsHushedOf, List, SplitFrames, length, streams_in, ◌∙◌, ◌≡◌}
+use Rattle.split_merge.proofs.{LaidOut.split-is, Terms.EndQuiet}
+use Rattle.split_merge.proofs.Terms.{Bool, Change, Frame, EndsQuietOf, List, SplitFrames, length, streams_in, ◌∙◌, ◌≡◌}
 use Rattle.split_merge.{proofs.Visited.length-streams_in, specs.declared.visits.Visits.Visits}
 use Rattle.std.proofs.lemmas.Slice.Zip.{AllZip-long}
 use Rattle.std.specs.Prelude.{Err, IfOk, Ok, Result}
@@ -12,10 +12,10 @@ if-more P Q (Err e) f h = tt
 
 -- each stream of a table has its row and what is known of it
 long : (credits_shown : Bool) (changes : List Change) (frames : List Frame) (table : Visits)
-    → AreHushed credits_shown changes frames (streams_in table.rows.items) table.quiets.items
+    → EndQuiet credits_shown changes frames (streams_in table.rows.items) table.quiets.items
     → length table.quiets.items ≡ length table.rows.items
-long credits_shown changes frames table hushed =
-    AllZip-long (IsHushedOf credits_shown changes frames) _ _ hushed ∙ length-streams_in table.rows.items
+long credits_shown changes frames table ends_quiet =
+    AllZip-long (EndsQuietOf credits_shown changes frames) _ _ ends_quiet ∙ length-streams_in table.rows.items
 
 pub ended-requires : goal.ended-requires
 ended-requires c = rw c.in_ok-changes.ensures record {
@@ -26,7 +26,7 @@ ended-requires c = rw c.in_ok-changes.ensures record {
 }
 
 pub laid-requires-clause-long : goal.laid-requires-clause-long
-laid-requires-clause-long c = long _ _ _ c.in_ok-table.table c.in_ok-table.ensures.hushed
+laid-requires-clause-long c = long _ _ _ c.in_ok-table.table c.in_ok-table.ensures.ends_quiet
 
 pub returns : goal.returns
 returns c =
@@ -34,5 +34,5 @@ returns c =
     let table = c.in_ok-table.ensures in
     rw (← c.in_ok-changes.ensures) (if-more _ _ c.laid.result
     (λ split is. split-is c.args.credits_shown c.in_ok-changes.changes frames _ c.in_ok-table.table.quiets.items split
-    table.visits.streams table.visits.table.index.distinct table.visits.table.index.above table.hushed is)
+    table.visits.streams table.visits.table.index.distinct table.visits.table.index.above table.ends_quiet is)
     c.laid.ensures)

@@ -10,7 +10,7 @@ none = record { stream = 0; count = 0 }
 pub loop-row-init : goal.loop-row-init
 loop-row-init c = λ all h. record {
   long = AllZip-long (IsAheadOf c.args.changes.now all (λ _. [])) _ _ h.ahead;
-  hushed = tt;
+  ends_quiet = tt;
   ahead = h.ahead;
 }
 

@@ -10,7 +10,14 @@ returns-clause-ready c =
     record {
       client = c.of-sent.ensures.ready;
       server = c.of-answered.ensures.ready;
-      few = omega (arith, c.of-sent.ensures.weight, c.of-answered.ensures.weight, answered, sent, c.requires.flows.together);
+      few = omega (
+        arith,
+        c.of-sent.ensures.weight,
+        c.of-answered.ensures.weight,
+        answered,
+        sent,
+        c.requires.flows.together,
+      );
     }
 
 pub returns-clause-whole : goal.returns-clause-whole

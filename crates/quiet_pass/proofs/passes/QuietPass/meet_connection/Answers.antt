@@ -5,6 +5,6 @@ use Rattle.quiet_pass.proofs.passes.QuietPass.meet_connection.Goals as goal
 pub returns : goal.returns
 returns c =
     let unpromised = sym c.is_server_promise.ensures ∙ c.if-is_server_promise.false in
-    OnTrue_from c.meet_plain.result _ (λ quiet.
+    OnTrue_from c.meet_lone.result _ (λ quiet.
     rest-stream c.requires.plain (λ streams h. unmet _ streams _ c.requires.streamed unpromised h)
-    (OnTrue_at quiet c.meet_plain.ensures) refl refl refl)
+    (OnTrue_at quiet c.meet_lone.ensures) refl refl refl)

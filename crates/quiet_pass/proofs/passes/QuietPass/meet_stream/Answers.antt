@@ -10,6 +10,6 @@ returns-then-opens c =
 
 pub returns : goal.returns
 returns c =
-    OnTrue_from c.meet_plain-is_quiet.result _ (λ quiet.
+    OnTrue_from c.meet_lone-is_quiet.result _ (λ quiet.
     rest-stream c.requires.plain (rw c.if-opens.false at (c.in_ok-opens.ensures c.in-Some.opens c.in-Some.is))
-    (OnTrue_at quiet c.meet_plain-is_quiet.ensures) refl refl refl)
+    (OnTrue_at quiet c.meet_lone-is_quiet.ensures) refl refl refl)

@@ -3,7 +3,7 @@
 ghost use Rattle.std.specs.Prelude.{◌≡◌, ℕ, ◌+◌, ◌^◌, option_map};
 ghost use Rattle.std.specs.Bool.{OnTrue};
 ghost use Rattle.audit_terms.specs.code.Room.{HasRoom, WindowHasRoom};
-ghost use Rattle.audit_terms.specs.code.Standing.{moved, IsSilent};
+ghost use Rattle.audit_terms.specs.code.Standing.{moved, IsQuietMove};
 
 use audit_terms::LARGEST_WINDOW;
 
@@ -29,8 +29,8 @@ fn moved_credit(credit: &i64, before: u32, after: u32) -> i64
 }
 
 /// Does the credit of a window, if it lives, neither rise above the largest nor begin or end a stall (6.9.1)?
-pub(crate) fn is_silent(before: &Option<i64>, after: &Option<i64>) -> bool
-    ensures { OnTrue result (IsSilent before.now after.now) }
+pub(crate) fn is_quiet_move(before: &Option<i64>, after: &Option<i64>) -> bool
+    ensures { OnTrue result (IsQuietMove before.now after.now) }
 {
     match (before, after) {
         (Some(before), Some(after)) => {

@@ -1,6 +1,6 @@
-use Rattle.stream_credit.proofs.{SilentLemmas.silent-counted, WalkLemmas.room-next, WalkLemmas.room-wide}
+use Rattle.stream_credit.proofs.{QuietSteps.change-counted, WalkLemmas.room-next, WalkLemmas.room-wide}
 use Rattle.stream_credit.proofs.Words.{Client, Server, sym, ◌∙◌}
-use Rattle.stream_credit.proofs.walks.Walk.count_silent.Goals as goal
+use Rattle.stream_credit.proofs.walks.Walk.count_quiet_change.Goals as goal
 
 pub moved-next_client-requires : goal.moved-next_client-requires
 moved-next_client-requires c =
@@ -13,10 +13,10 @@ moved-next_server-requires c =
 pub returns-clause-counted : goal.returns-clause-counted
 returns-clause-counted c =
     let step = c.args.step.now in
-    silent-counted c.args.self.now step.number step.frame step.change c.initial_after-initial.result _
+    change-counted c.args.self.now step.number step.frame step.change c.initial_after-initial.result _
     c.if-self.false (sym c.is_some.ensures ∙ c.if-is_some.false) c.initial_after-initial.ensures
-    c.moved-next_client.ensures.moved c.moved-next_server.ensures.moved c.if-not-is_silent.ensures
-    c.if-not-is_silent-2.ensures
+    c.moved-next_client.ensures.moved c.moved-next_server.ensures.moved c.if-not-is_quiet_move.ensures
+    c.if-not-is_quiet_move-2.ensures
     (room-next step.number
     (record {
       life = c.args.self.now.entry.life;

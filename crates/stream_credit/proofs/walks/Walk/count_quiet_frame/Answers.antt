@@ -1,6 +1,6 @@
 use Rattle.stream_credit.proofs.{QuietLemmas.quiet-counted, WalkLemmas.room-wide}
 use Rattle.stream_credit.proofs.Words.{Client, Server, refl, sym, ◌∙◌}
-use Rattle.stream_credit.proofs.walks.Walk.count_quiet.Goals as goal
+use Rattle.stream_credit.proofs.walks.Walk.count_quiet_frame.Goals as goal
 
 pub moved_quietly-requires-clause-client : goal.moved_quietly-requires-clause-client
 moved_quietly-requires-clause-client c =
