@@ -216,7 +216,7 @@ fn meet_at(
     Ok(())
 }
 
-/// The same, where any stream may meet the item.
+/// The same, where any stream may meet the item: by halves, since there may be as many streams as frames.
 fn meet_all(
     rows: &mut [StreamRow],
     found: &mut Vec<Finding>,
@@ -237,5 +237,7 @@ fn meet_all(
     };
     let step = item.step_at(row.stream);
     say_stream(found, &mut row.entry, row.stream, initial, &step)?;
-    meet_all(others, found, initial, item)
+    let (front, back) = others.split_at_mut(others.len() / 2);
+    meet_all(front, found, initial, item)?;
+    meet_all(back, found, initial, item)
 }
