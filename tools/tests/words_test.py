@@ -4,6 +4,7 @@ The options of h2audit and h2audit-split are those of their help texts, which te
 programs beside them are in their --help.
 """
 
+import functools
 import os
 import pathlib
 import pty
@@ -46,7 +47,10 @@ def options_of(name: str) -> list[str]:
     return sorted(set(OPTION.findall(text)))
 
 
-PROGRAMS = {name: options_of(name) for name in (*HELP_TEXTS, *(f"h2audit-{end}" for end in IN_PYTHON + IN_RUST))}
+@functools.cache
+def programs() -> dict[str, list[str]]:
+    """The long options of each program."""
+    return {name: options_of(name) for name in (*HELP_TEXTS, *(f"h2audit-{end}" for end in IN_PYTHON + IN_RUST))}
 
 
 class Version(unittest.TestCase):
@@ -57,7 +61,7 @@ class Version(unittest.TestCase):
             self.assertEqual(place.found(), [place.wanted], f"{place.file}: run make version")
 
     def test_printed(self) -> None:
-        for name in PROGRAMS.keys() - HELP_TEXTS.keys():
+        for name in programs().keys() - HELP_TEXTS.keys():
             for word in ("-V", "--version"):
                 self.assertEqual(output_of(path_of(name), word), f"{name} {VERSION}\n")
 
@@ -81,7 +85,7 @@ class Man(unittest.TestCase):
         self.assertEqual([line for line in run.stdout.splitlines() if not passed.search(line)], [])
 
     def test_options(self) -> None:
-        for name, options in PROGRAMS.items():
+        for name, options in programs().items():
             tags = re.findall(r"^\.It (Fl .*)", (MAN / f"{name}.1").read_text(), re.M)
             named = sorted("--" + word for tag in tags for word in re.findall(r"Fl \\-([a-z][a-z0-9-]*)", tag))
             self.assertEqual(named, options)
@@ -99,7 +103,7 @@ class Bash(unittest.TestCase):
         return output_of("bash", "-euc", script, "bash", COMPLETIONS / "h2audit.bash", *words).split("\n")[:-1]
 
     def test_options(self) -> None:
-        for name, options in PROGRAMS.items():
+        for name, options in programs().items():
             self.assertEqual(sorted(self.offered(name, "--")), options)
 
     def test_values(self) -> None:
@@ -132,7 +136,7 @@ class Fish(unittest.TestCase):
         return [word.split("\t")[0] for word in said.splitlines()]
 
     def test_options(self) -> None:
-        for name, options in PROGRAMS.items():
+        for name, options in programs().items():
             self.assertEqual(sorted(self.offered(f"{name} --")), options)
 
     def test_values(self) -> None:
@@ -201,7 +205,7 @@ class Zsh(unittest.TestCase):
 
     def test_options(self) -> None:
         """Each option is found from its beginning, and the whole list has no other."""
-        for name, options in PROGRAMS.items():
+        for name, options in programs().items():
             for option in options:
                 is_clear = sum(other.startswith(option[:-1]) for other in options) == 1
                 beginning = option[:-1] if is_clear else option
