@@ -1,9 +1,9 @@
 """Audits large captures, with one worker and with four: python3 -m tools.tests.sizes_test PROGRAM
 
-One has more connections, and so more jobs of each round, than any other capture of the tests; the other has more
-bytes, and more frames than the rounds take at once. Their reports are those that a rule gives, and a limit of the
-address space holds meanwhile. So does one of the memory that is allocated at once, and packets have to be made beside
-the reading up to its end.
+One has more connections, and so more jobs of each round, than any other capture of the tests; another has more
+bytes, and more frames than the rounds take at once; in a third one connection has more streams than any other. Their
+reports are those that a rule gives, and a limit of the address space holds meanwhile. So does one of the memory that is
+allocated at once, and packets have to be made beside the reading up to its end.
 """
 
 import pathlib
@@ -27,6 +27,8 @@ UNMATCHED = frame_of(["ACK"])
 CONNECTIONS = 210_000
 # Of each long connection so many records of requests: two of these have more frames than the rounds take at once.
 LONG, RECORDS, REQUESTS = 4, 320, 7000
+# Of one connection.
+STREAMS = 700_000
 # What one connection brings, in DATA frames of 16,384 bytes and in records of three.
 BULK = 1200
 
@@ -126,8 +128,32 @@ def report_of_long() -> Iterator[str]:
     yield lines_of(LONG + 1, LONG * each + 1, 3 * BULK + 5, 42 + 3 * BULK * (9 + 16384), 35, "")
 
 
+def streams() -> Iterator[bytes]:
+    """A connection of 700,000 streams, and acknowledgements that each of them meets."""
+    yield FILE_HEADER
+    sides = Sides(0)
+    yield sides.opened(b"", b"")
+    for number in range(STREAMS // REQUESTS):
+        yield sides.sent("C", requests_of(number))
+    yield sides.sent("C", frame_of(["ACK"]))
+    yield sides.sent("S", frame_of(["ACK"]))
+    yield sides.sent("C", UNMATCHED)
+
+
+def report_of_streams() -> Iterator[str]:
+    records = STREAMS // REQUESTS + 7
+    yield heading(records)
+    credits = "".join(
+        f"frame {3 + number} record {5 + number // REQUESTS} time 0 {side} stream-credit"
+        f" stream {2 * number + 1} value 65535\n"
+        for number in range(STREAMS)
+        for side in ("client", "server")
+    )
+    yield lines_of(1, 1, STREAMS + 5, 51 + 9 * STREAMS, 18, credits + unmatched(STREAMS + 5, records))
+
+
 class Sizes(unittest.TestCase):
-    def audit(self, capture: Iterator[bytes], report: Iterator[str], least: int, most_of_one: int) -> None:
+    def audit(self, capture: Iterator[bytes], report: Iterator[str], least: int, most_of_one: int, *words: str) -> None:
         """A capture of so many bytes at least, of which one worker allocates so many at most at once."""
         with tempfile.TemporaryDirectory() as folder:
             path, wanted = pathlib.Path(folder, "capture"), "".join(report).encode()
@@ -138,7 +164,7 @@ class Sizes(unittest.TestCase):
             counter = Counter(PROGRAM, folder, most_seconds=60)
             for workers, most in ((1, most_of_one), (4, most_of_one * 5 // 4)):
                 with self.subTest(workers=workers):
-                    ran = counter.run([f"--workers={workers}", str(path)], MOST_MEMORY=1536 * MIB, SETTLE=1)
+                    ran = counter.run([*words, f"--workers={workers}", str(path)], MOST_MEMORY=1536 * MIB, SETTLE=1)
                     self.assertEqual((1, b""), (ran.status, ran.said))
                     self.assertTrue(ran.text == wanted, "another report")
                     self.assertLess(ran.counts.peak, most)
@@ -153,6 +179,10 @@ class Sizes(unittest.TestCase):
     def test_many_bytes(self) -> None:
         # 929,627,576 bytes were counted.
         self.audit(long(), report_of_long(), 128 * MIB, 945_000_000)
+
+    def test_many_streams(self) -> None:
+        """A call for each stream that meets an acknowledgement would not have room on the stack."""
+        self.audit(streams(), report_of_streams(), 6 * MIB, 200_000_000, "--frames")
 
 
 if __name__ == "__main__":
