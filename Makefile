@@ -18,7 +18,7 @@ PYTHON_PACKAGES = h2audit $(addprefix h2audit/,fleet page page/assets plot repor
 BESIDE = $(RUST_PROGRAMS) $(PYTHON_PROGRAMS) h2audit-split
 FIRST = examples/negative_window_tomcat.pcap examples/stream_overrun_go.pcap
 # The parts of "make check", the longest first.
-CHECKS = tests split sources layout believed storeys
+CHECKS = tests split sources layout believed storeys rules
 RUST_SOURCES := h2audit/report/kinds.txt $(shell find companions -name target -prune -o -type f -print)
 SOURCES := crates.txt $(shell find crates -name out -prune -o -name '*.rt' -print -o -name '*.antt' -print)
 
@@ -100,7 +100,7 @@ check-tests:
 check-split:
 	@cd crates/h2audit_split && rt try -- $$(cat args) | diff stdout -
 
-check-sources check-believed check-storeys: check-%:
+check-sources check-believed check-storeys check-rules: check-%:
 	$(PYTHON) -m tools.tests.$*_test
 
 # The gate: proves the crates, tries the must-fail edits, runs the tests and the programs; and asks the programs, as

@@ -25,5 +25,5 @@ pub use Rattle.h2_frames.specs.{Body.body_of, CaptureOrder.numbered, Cut.IsCut, 
 pub use Rattle.std.proofs.lemmas.{Bool.cond_both, Bool.Decides.nat_tests, List.append-nil, List.take-append-drop}
 pub use Rattle.std.specs.Prelude.{Err, Ok, Result, nat_lt, ◌==◌}
 pub use Rattle.std.specs.{List.AllByRecursion, Option.ForSome}
-pub use Rattle.tcp_streams.specs.declared.streams.{Arrival.Arrival, Flow.Flow}
+pub use Rattle.tcp_streams.specs.declared.flows.{Arrival.Arrival, Flow.Flow}
 pub use Rattle.tcp_streams.specs.{Arrivals.Rises, Bytes.bytes_of, Bytes.joined, code.Orderly.IsOrderly}
