@@ -150,5 +150,27 @@ def lemmas(crate: str, path: list[str]) -> set[str]:
     return {name for _, name in LEMMA.findall(file.read_text(encoding="utf-8"))} if file.is_file() else set()
 
 
+class Depth(unittest.TestCase):
+    """No proof speaks of the stack: what calls itself halves its work, or a call for each frame overflows it."""
+
+    # The folder of the proof of calls that go round, and how deep they go.
+    BOUNDS = {
+        "audit_core/rows/+idle_rows": "as there are frames: one_pass, which tests alone call",
+        "audit_core/rows/+meet_all": "halves of the streams",
+        "audit_report/batches/+halving": "halves of the connections, by workers",
+        "audit_report/finding_shares/+dealing": "halves of the workers",
+        "audit_rounds/batch/+by_halves+fn-by_halves-join+arg2+fn-by_halves-join+arg3": "halves of the workers",
+        "audit_rounds/prepared/+fn-prepare_each-join+arg2+fn-prepare_each-join+arg3+prepare_each": "halves of the workers",
+        "split_merge/ranges/+fn-in_ranges-join+arg2+fn-in_ranges-join+arg3+in_ranges": "halves of the workers",
+        "stop_desk/crews/+fn-fork-join+arg2+fn-fork-join+arg3+fork": "halves of the workers",
+        "tcp_streams/overlay/+set_apart_halves": "halves of the segments",
+    }
+
+    def test_each_is_bounded(self) -> None:
+        folders = (folder for folder in CRATES.glob("*/proofs/**/+*") if folder.is_dir())
+        found = {str(folder.relative_to(CRATES)).replace("/proofs/", "/") for folder in folders}
+        self.assertEqual(found, set(self.BOUNDS), "say how deep it goes")
+
+
 if __name__ == "__main__":
     unittest.main()
