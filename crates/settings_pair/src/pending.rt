@@ -59,6 +59,8 @@ impl Pending {
     /// # Errors
     ///
     /// Without memory for settings.
+    // In line, since it is called for each frame: as a call it took up to a tenth of the instructions of an audit.
+    #[inline(always)]
     pub fn meet(&mut self, frame: &Frame) -> Result<Option<Change>, AllocError>
         ensures { IfOk result (λ change. (now : InForce) → IsPending now self.old
             → IsBrought now frame.now change self.new) }

@@ -96,7 +96,8 @@ impl Standings {
     }
 
     /// The stream after a frame on it, if it is opened and nothing of that is shown.
-    #[inline]
+    // In line, since it is called for each frame, as `Pending::meet` is.
+    #[inline(always)]
     pub fn after(&self, frame: &Frame) -> Option<Self>
         ensures { ForSome result (IsNextOpened frame.now self.now) }
     {
