@@ -160,7 +160,7 @@ class Depth(unittest.TestCase):
         "audit_report/batches/+halving": "halves of the connections, by workers",
         "audit_report/finding_shares/+dealing": "halves of the workers",
         "audit_rounds/batch/+by_halves+fn-by_halves-join+arg2+fn-by_halves-join+arg3": "halves of the workers",
-        "audit_rounds/prepared/+fn-prepare_each-join+arg2+fn-prepare_each-join+arg3+prepare_each": "halves of the workers",
+        "audit_rounds/prepared/+fn-prepare_each-join+arg2+fn-prepare_each-join+arg3+prepare_each": "halves of workers",
         "split_merge/ranges/+fn-in_ranges-join+arg2+fn-in_ranges-join+arg3+in_ranges": "halves of the workers",
         "stop_desk/crews/+fn-fork-join+arg2+fn-fork-join+arg3+fork": "halves of the workers",
         "tcp_streams/overlay/+set_apart_halves": "halves of the segments",
