@@ -47,10 +47,10 @@ def always_answers(program: str, capture: bytes, wanted: str, *words: str) -> bo
     return all(answer_of(program, [*words, *mix], capture) == wanted for mix in mixes)
 
 
-def lines_of(text: str, credits_shown: bool) -> str:
+def lines_of(text: str, frames_shown: bool) -> str:
     """The lines of a text that say something; those of credit only where they are shown."""
     lines = [line for line in text.splitlines() if line and not line.startswith("#")]
-    return "".join(f"{line}\n" for line in lines if credits_shown or "-credit stream " not in line)
+    return "".join(f"{line}\n" for line in lines if frames_shown or "-credit stream " not in line)
 
 
 def row(program: str, text: str) -> bool:

@@ -64,7 +64,7 @@ class Reader:
         if shown is not True:
             raise NotShown(", of ".join(self.definitions.failed) or f"{entry}: no equation gives some value")
 
-    def audit(self, capture: bytes, credits_shown: bool) -> Answer:
+    def audit(self, capture: bytes, frames_shown: bool) -> Answer:
         """The report that the definitions give for a capture, or their refusal of it."""
         octets, text, verdict = tuple(capture), Hole(0), Hole(0)
         self.definitions.kept.clear()
@@ -72,7 +72,7 @@ class Reader:
         if refusal.name == "Some":
             return self.answer(Made("Err", Made("Pcap", *refusal.parts)), b"")
         self.definitions.propose = Search(lambda *arguments: self.ask("packets_of", *arguments)).propose
-        self.show("IsReport", octets, credits_shown, text, verdict)
+        self.show("IsReport", octets, frames_shown, text, verdict)
         return self.answer(Made("Ok", verdict.value), bytes(text.value))
 
     def answer(self, ended: Value, text: bytes) -> Answer:

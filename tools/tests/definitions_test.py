@@ -90,14 +90,14 @@ Answered = TypeVar("Answered")
 class Job(NamedTuple):
     name: str
     capture: bytes
-    credits_shown: bool
+    frames_shown: bool
     wanted: str | None  # None for what the program answers
 
 
-def answer(reader: Reader, capture: bytes, credits_shown: bool) -> str:
+def answer(reader: Reader, capture: bytes, frames_shown: bool) -> str:
     """What the definitions say, line by line: exit status, what standard error says, and the report."""
     try:
-        status, line, text = reader.audit(capture, credits_shown)
+        status, line, text = reader.audit(capture, frames_shown)
     except (NotShown, Stuck) as error:
         return f"not shown: {error}"
     return f"status {status}\n{line.decode()}{text.decode()}"
@@ -107,21 +107,21 @@ def examples() -> Iterator[Job]:
     for file in sorted((TOP / "examples").glob("*.pcap")):
         if file.stat().st_size <= LARGE:
             status = f"status {int(file.stem in reports_test.FAULTY)}\n"
-            for ending, credits_shown in ((".report", False), (".frames.report", True)):
+            for ending, frames_shown in ((".report", False), (".frames.report", True)):
                 yield Job(
-                    file.stem + ending, file.read_bytes(), credits_shown, status + file.with_suffix(ending).read_text()
+                    file.stem + ending, file.read_bytes(), frames_shown, status + file.with_suffix(ending).read_text()
                 )
 
 
 def rows() -> Iterator[Job]:
     for name, row in reports_test.rows():
         script, _, wanted = row.partition("-- ")
-        credits_shown = not wanted.startswith("findings ")
+        frames_shown = not wanted.startswith("findings ")
         yield Job(
             name,
             capture_of(script),
-            credits_shown,
-            reports_test.lines_of(wanted.removeprefix("findings "), credits_shown),
+            frames_shown,
+            reports_test.lines_of(wanted.removeprefix("findings "), frames_shown),
         )
 
 
@@ -139,7 +139,7 @@ def done(jobs: list[Job], program: str | None) -> list[tuple[str, str]]:
     """Of each job what is wrong with it, or nothing, and what the definitions say."""
     reader, found = Reader(), []
     for job in jobs:
-        said = answer(reader, job.capture, job.credits_shown)
+        said = answer(reader, job.capture, job.frames_shown)
         wanted = job.wanted if program is None else reports_test.answer_of(program, ["--frames"], job.capture)
         found.append(
             ("" if said == wanted else f"{job.name}: the definitions say\n{said}and it should be\n{wanted}", said)
@@ -169,7 +169,7 @@ def compared(jobs: list[Job], program: str | None) -> tuple[int, str]:
 
 def sees(reader: Reader, jobs: list[Job]) -> bool:
     """Whether the reader gives another report of some capture, or shows none."""
-    return any(answer(reader, job.capture, job.credits_shown) != job.wanted for job in jobs)
+    return any(answer(reader, job.capture, job.frames_shown) != job.wanted for job in jobs)
 
 
 def changed(change: tuple[str, str, str], jobs: list[Job]) -> str:
@@ -192,7 +192,7 @@ def misled(number: int, jobs: list[Job]) -> str:
     setattr(search, name, lambda *arguments: spoil(plain(*arguments)))
     try:
         reader = Reader()
-        said = [answer(reader, job.capture, job.credits_shown) for job in jobs]
+        said = [answer(reader, job.capture, job.frames_shown) for job in jobs]
     finally:
         setattr(search, name, plain)
     wrong = [job.name for job, text in zip(jobs, said) if text != job.wanted and not text.startswith("not shown: ")]

@@ -26,12 +26,12 @@ unbrought now frame e = grind (arith, change-ack now frame)
 -- ---- what the code keeps
 
 -- what is shown of the findings so far, and room for what the next frame says
-pub record ShownAt (credits_shown : Bool) (all : List Frame) (changes : List Change) (left : List Frame)
+pub record ShownAt (frames_shown : Bool) (all : List Frame) (changes : List Change) (left : List Frame)
     (last : Sides (Option Frame)) (windows : Sides ℕ) (now : ConnectionState) (entries : List StreamRow)
     (kept room : List Finding) : Type 0 where
   pub front : List Finding
   pub at : PassAt all changes left last windows now entries front
-  pub found : kept ≡ shown credits_shown front
+  pub found : kept ≡ shown frames_shown front
   pub said : room ≡ []
 
 -- a frame that is no acknowledgement brings no change, so none of the changes is its own
@@ -47,27 +47,27 @@ brought {changes = changes} {frame = frame} h {change} e = by_ack _ refl where
       rw is at e
       ∙ sym (brings h {change = find (is_at frame.number) changes} refl ∙ unbrought h.state.in_force frame is)
 
-pub shown-more : (credits_shown : Bool) (front said kept : List Finding) → kept ≡ shown credits_shown front →
-    kept ++ shown credits_shown said ≡ shown credits_shown (front ++ said)
-shown-more credits_shown front said kept e = rw e (sym (filter-append (is_shown credits_shown) front said))
+pub shown-more : (frames_shown : Bool) (front said kept : List Finding) → kept ≡ shown frames_shown front →
+    kept ++ shown frames_shown said ≡ shown frames_shown (front ++ said)
+shown-more frames_shown front said kept e = rw e (sym (filter-append (is_shown frames_shown) front said))
 
 -- all frames are met
-pub shown-end : (credits_shown : Bool) (all front found : List Finding) → found ≡ shown credits_shown front →
-    front ++ [] ≡ all → upto_stop found ≡ shown credits_shown (upto_stop all)
-shown-end credits_shown all front found e whole =
-    rw e (upto_stop-shown credits_shown front
-    ∙ ap (λ l. shown credits_shown (upto_stop l)) (sym (append-nil front) ∙ whole))
+pub shown-end : (frames_shown : Bool) (all front found : List Finding) → found ≡ shown frames_shown front →
+    front ++ [] ≡ all → upto_stop found ≡ shown frames_shown (upto_stop all)
+shown-end frames_shown all front found e whole =
+    rw e (upto_stop-shown frames_shown front
+    ∙ ap (λ l. shown frames_shown (upto_stop l)) (sym (append-nil front) ∙ whole))
 
 -- a frame is met at which the audit stops
-pub shown-stop : (credits_shown : Bool) (all front said rest found : List Finding) →
-    found ≡ shown credits_shown front ++ shown credits_shown said →
-    list_any stops (shown credits_shown said) ≡ true → (front ++ said) ++ rest ≡ all →
-    upto_stop found ≡ shown credits_shown (upto_stop all)
-shown-stop credits_shown all front said rest found e one whole =
-    let parts : shown credits_shown ((front ++ said) ++ rest)
-    ≡ (shown credits_shown front ++ shown credits_shown said) ++ shown credits_shown rest =
-    rw (filter-append (is_shown credits_shown) (front ++ said) rest, filter-append (is_shown credits_shown) front said)
+pub shown-stop : (frames_shown : Bool) (all front said rest found : List Finding) →
+    found ≡ shown frames_shown front ++ shown frames_shown said →
+    list_any stops (shown frames_shown said) ≡ true → (front ++ said) ++ rest ≡ all →
+    upto_stop found ≡ shown frames_shown (upto_stop all)
+shown-stop frames_shown all front said rest found e one whole =
+    let parts : shown frames_shown ((front ++ said) ++ rest)
+    ≡ (shown frames_shown front ++ shown frames_shown said) ++ shown frames_shown rest =
+    rw (filter-append (is_shown frames_shown) (front ++ said) rest, filter-append (is_shown frames_shown) front said)
     refl in
-    rw e (sym (upto-past (shown credits_shown front) (shown credits_shown said) (shown credits_shown rest) one)
-    ∙ ap upto_stop (sym parts) ∙ upto_stop-shown credits_shown ((front ++ said) ++ rest)
-    ∙ ap (λ l. shown credits_shown (upto_stop l)) whole)
+    rw e (sym (upto-past (shown frames_shown front) (shown frames_shown said) (shown frames_shown rest) one)
+    ∙ ap upto_stop (sym parts) ∙ upto_stop-shown frames_shown ((front ++ said) ++ rest)
+    ∙ ap (λ l. shown frames_shown (upto_stop l)) whole)

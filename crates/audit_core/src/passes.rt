@@ -35,11 +35,11 @@ pub fn one_pass(alloc: Global, frames: &[Frame]) -> Result<Vec<Finding>, AllocEr
 /// first come in rising order, and few frames may be met by all of them. Else there is no answer.
 pub fn shown_in_one_pass(
     alloc: Global,
-    credits_shown: bool,
+    frames_shown: bool,
     frames: &[Frame],
 ) -> Result<Option<Vec<Finding>>, AllocError>
     requires { IsOrderly frames.now }
-    ensures { IfOk result (λ made. ForSome made (λ found. found.items ≡ shown credits_shown (pass frames.now))) }
+    ensures { IfOk result (λ made. ForSome made (λ found. found.items ≡ shown frames_shown (pass frames.now))) }
 {
     let by_all = met_by_all(frames);
     if !take_few_steps(by_all, by_all, frames.len()) {
@@ -52,7 +52,7 @@ pub fn shown_in_one_pass(
         return Ok(None);
     }
     let pairs = pair(alloc, frames)?;
-    let found = shown_with(alloc, credits_shown, frames, &pairs, rows)?;
+    let found = shown_with(alloc, frames_shown, frames, &pairs, rows)?;
     Ok(Some(found))
 }
 
@@ -80,7 +80,7 @@ fn take_few_steps(met: usize, steps: usize, frames: usize) -> bool {
 /// What is shown of the pass, where these are the changes and the rows of the streams.
 fn shown_with(
     alloc: Global,
-    credits_shown: bool,
+    frames_shown: bool,
     frames: &[Frame],
     pairs: &Pairs,
     streams: Vec<StreamRow>,
@@ -88,7 +88,7 @@ fn shown_with(
     requires frames { IsOrderly frames.now }
     requires changes { pairs.now.changes.items ≡ changes_of frames.now }
     requires rows { streams.items ≡ idle_rows (streams_of frames.now) }
-    ensures { IfOk result (λ found. found.items ≡ shown credits_shown (pass frames.now)) }
+    ensures { IfOk result (λ found. found.items ≡ shown frames_shown (pass frames.now)) }
 {
     let mut rows = streams;
     let mut found = Vec::new(alloc);
@@ -106,7 +106,7 @@ fn shown_with(
         };
         say_connection(&mut said, &mut connection, &item)?;
         meet(&mut rows, &mut said, &in_force, &item)?;
-        if add_shown(&mut found, &mut said, credits_shown)? {
+        if add_shown(&mut found, &mut said, frames_shown)? {
             return Ok(up_to_stop(found));
         }
         keep_last(&mut previous, frame);
@@ -140,15 +140,15 @@ fn change_of(pairs: &Pairs, frame: &Frame) -> Option<Change>
 fn add_shown(
     found: &mut Vec<Finding>,
     said: &mut Vec<Finding>,
-    credits_shown: bool,
+    frames_shown: bool,
 ) -> Result<bool, AllocError>
     ensures added { OnOk result (found.new.items
-        ≡ found.old.items ++ shown credits_shown (in_order said.old.items)) }
+        ≡ found.old.items ++ shown frames_shown (in_order said.old.items)) }
     ensures room { OnOk result (said.new.items ≡ []) }
-    ensures stops { IfOk result (λ ends. ends ≡ list_any stops (shown credits_shown (in_order said.old.items))) }
+    ensures stops { IfOk result (λ ends. ends ≡ list_any stops (shown frames_shown (in_order said.old.items))) }
 {
     put_in_order(said)?;
-    keep_shown(said, credits_shown);
+    keep_shown(said, frames_shown);
     let ends = said.iter().any(|one| one.stops());
     found.append(said)?;
     Ok(ends)

@@ -23,10 +23,10 @@ finding_line frames finding = let number = place_number finding.place in
     ++ codes " value " ++ signed_decimal finding.value)
 
 -- the line of a finding that is shown, nothing for another: credits are told only where the reader asks for them
-abbrev pub shown_line : (credits_shown : Bool) → List Frame → Finding → List ℕ
-shown_line credits_shown frames finding =
-    if credits_shown || not (is_credit finding.kind) then finding_line frames finding else []
+abbrev pub shown_line : (frames_shown : Bool) → List Frame → Finding → List ℕ
+shown_line frames_shown frames finding =
+    if frames_shown || not (is_credit finding.kind) then finding_line frames finding else []
 
 -- a line for each finding shown, in order
-abbrev pub finding_lines : (credits_shown : Bool) → List Frame → List Finding → List ℕ
-finding_lines credits_shown frames findings = flat_map (shown_line credits_shown frames) findings
+abbrev pub finding_lines : (frames_shown : Bool) → List Frame → List Finding → List ℕ
+finding_lines frames_shown frames findings = flat_map (shown_line frames_shown frames) findings

@@ -9,7 +9,7 @@ use Rattle.tcp_streams.specs.declared.members.Connection.{Connection}
 use Rattle.tcp_streams.specs.declared.members.Stray.{Stray}
 
 -- what the capture holds, and then its connections in order of opening, numbered from 1
-abbrev pub report_text : Records → List Packet → List Stray → List Connection → List Audited → (credits_shown : Bool)
+abbrev pub report_text : Records → List Packet → List Stray → List Connection → List Audited → (frames_shown : Bool)
     → List ℕ
-report_text records packets strays connections audited credits_shown =
-    capture_text records packets strays ++ sections_text credits_shown 1 connections audited
+report_text records packets strays connections audited frames_shown =
+    capture_text records packets strays ++ sections_text frames_shown 1 connections audited

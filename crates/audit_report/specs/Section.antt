@@ -23,16 +23,16 @@ connection_text k connection flows cut = connection_line k connection cut
 
 -- of an HTTP/2 connection, which alone is audited, the lines of the findings shown, of the stalls that the findings
 -- tell of, and of the audit's end
-abbrev pub findings_text : (credits_shown : Bool) → Cut → List Finding → List ℕ
-findings_text credits_shown (Http2 frames tails) findings = finding_lines credits_shown frames.items findings
+abbrev pub findings_text : (frames_shown : Bool) → Cut → List Finding → List ℕ
+findings_text frames_shown (Http2 frames tails) findings = finding_lines frames_shown frames.items findings
     ++ stall_lines (stalls frames.items findings)
     ++ end_line findings
-findings_text credits_shown _ findings = []
+findings_text frames_shown _ findings = []
 
 -- all that the report says of the k-th connection, and of those after it
-abbrev pub sections_text : (credits_shown : Bool) (k : ℕ) → List Connection → List Audited → List ℕ
-sections_text credits_shown k (connection ∷ connections) (audited ∷ rest) =
+abbrev pub sections_text : (frames_shown : Bool) (k : ℕ) → List Connection → List Audited → List ℕ
+sections_text frames_shown k (connection ∷ connections) (audited ∷ rest) =
     (connection_text k connection audited.extents audited.cut
-    ++ findings_text credits_shown audited.cut audited.findings.items)
-    ++ sections_text credits_shown (k + 1) connections rest
-sections_text credits_shown k _ _ = []
+    ++ findings_text frames_shown audited.cut audited.findings.items)
+    ++ sections_text frames_shown (k + 1) connections rest
+sections_text frames_shown k _ _ = []

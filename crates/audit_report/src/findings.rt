@@ -13,16 +13,16 @@ pub fn push_finding_lines(
     out: &mut Vec<u8>,
     findings: &[Finding],
     frames: &[Frame],
-    credits_shown: bool,
+    frames_shown: bool,
 ) -> Result<(), AllocError>
     requires { IsOrderly frames.now }
     ensures { OnOk result (out.new.items ≡ out.old.items
-        ++ finding_lines credits_shown frames.now findings.now) }
+        ++ finding_lines frames_shown frames.now findings.now) }
 {
     let mut line = [0; LONGEST];
     let mut moment = Moment::first();
     for finding in findings {
-        push_shown_line(out, &mut line, &mut moment, finding, frames, credits_shown)?;
+        push_shown_line(out, &mut line, &mut moment, finding, frames, frames_shown)?;
     }
     Ok(())
 }
@@ -34,15 +34,15 @@ fn push_shown_line(
     moment: &mut Moment,
     finding: &Finding,
     frames: &[Frame],
-    credits_shown: bool,
+    frames_shown: bool,
 ) -> Result<(), AllocError>
     requires frames { IsOrderly frames.now }
     requires moment { IsSpelled moment.old }
     ensures line { OnOk result (out.new.items ≡ out.old.items
-        ++ shown_line credits_shown frames.now finding.now) }
+        ++ shown_line frames_shown frames.now finding.now) }
     ensures moment { IsSpelled moment.new }
 {
-    if credits_shown || !finding.kind.is_credit() {
+    if frames_shown || !finding.kind.is_credit() {
         push_finding_line(out, line, moment, finding, frames)?;
     }
     Ok(())

@@ -90,11 +90,11 @@ fn push_freeing(
     out: &mut Vec<u8>,
     findings: Vec<Finding>,
     frames: Vec<Frame>,
-    credits_shown: bool,
+    frames_shown: bool,
 ) -> Result<(), AllocError>
     requires { IsOrderly frames.items }
     ensures { OnOk result (out.new.items ≡ out.old.items
-        ++ finding_lines credits_shown frames.items findings.items) }
+        ++ finding_lines frames_shown frames.items findings.items) }
 {
     let mut findings = findings;
     let mut frames = frames;
@@ -102,12 +102,12 @@ fn push_freeing(
     while rise && FEW < findings.len() {
         let half = findings.len() / 2;
         let next = number_at(findings.as_slice(), half);
-        push_finding_lines(out, &findings[..half], frames.as_slice(), credits_shown)?;
+        push_finding_lines(out, &findings[..half], frames.as_slice(), frames_shown)?;
         let below = count_below(frames.as_slice(), next);
         drop_front(&mut findings, half);
         drop_front(&mut frames, below);
     }
-    push_finding_lines(out, findings.as_slice(), frames.as_slice(), credits_shown)
+    push_finding_lines(out, findings.as_slice(), frames.as_slice(), frames_shown)
 }
 
 /// The number of the frame of one of the findings.

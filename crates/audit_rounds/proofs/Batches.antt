@@ -79,48 +79,48 @@ pending-batch all found batch = record {
 }
 
 -- what is found of them later, put back, is what is shown after what was found of all
-pub back-shown : (credits_shown : Bool) (all : List (Bor (List Frame))) (found later : List (Vec Finding Global))
+pub back-shown : (frames_shown : Bool) (all : List (Bor (List Frame))) (found later : List (Vec Finding Global))
     → map items_in later
-    ≡ map (λ (frames : Bor (List Frame)). shown credits_shown (pass frames.now)) (pending_of all found)
+    ≡ map (λ (frames : Bor (List Frame)). shown frames_shown (pass frames.now)) (pending_of all found)
     → put_back all found later
-    ≡ map (λ (one : Bor (List Frame) × Vec Finding Global). shown_after credits_shown one.0.now one.1.items)
+    ≡ map (λ (one : Bor (List Frame) × Vec Finding Global). shown_after frames_shown one.0.now one.1.items)
     (zip all found)
-back-shown credits_shown [] found later h = refl
-back-shown credits_shown (frames ∷ all) [] later h = refl
-back-shown credits_shown (frames ∷ all) (one ∷ found) [] h = grind (arith, back-shown credits_shown all found [])
-back-shown credits_shown (frames ∷ all) (one ∷ found) (list ∷ later) h =
-    grind (arith, back-shown credits_shown all found (list ∷ later), back-shown credits_shown all found later)
+back-shown frames_shown [] found later h = refl
+back-shown frames_shown (frames ∷ all) [] later h = refl
+back-shown frames_shown (frames ∷ all) (one ∷ found) [] h = grind (arith, back-shown frames_shown all found [])
+back-shown frames_shown (frames ∷ all) (one ∷ found) (list ∷ later) h =
+    grind (arith, back-shown frames_shown all found (list ∷ later), back-shown frames_shown all found later)
 
 -- ---- connections made ready
 
 -- one more
-pub made-more : (credits_shown : Bool) (all : List (Bor (List Frame))) (frames : Bor (List Frame)) (ready : Prepared)
+pub made-more : (frames_shown : Bool) (all : List (Bor (List Frame))) (frames : Bor (List Frame)) (ready : Prepared)
     (before after : MadeReady) → after.prepared.items ≡ before.prepared.items ++ ready ∷ []
     → map items_in after.found.items ≡ map items_in before.found.items ++ found_before ready ∷ []
-    → ready.frames.now ≡ frames.now → IsPrepared credits_shown ready → AreMadeReady credits_shown all before
-    → AreMadeReady credits_shown (all ++ frames ∷ []) after
-made-more credits_shown all frames ready before after e f is p h = record {
+    → ready.frames.now ≡ frames.now → IsPrepared frames_shown ready → AreMadeReady frames_shown all before
+    → AreMadeReady frames_shown (all ++ frames ∷ []) after
+made-more frames_shown all frames ready before after e f is p h = record {
   frames = rw e (simp (map-append, h.frames, is));
-  prepared = rw e (All-push (IsPrepared credits_shown) before.prepared.items ready h.prepared p);
+  prepared = rw e (All-push (IsPrepared frames_shown) before.prepared.items ready h.prepared p);
   before = rw (e, f) (simp (map-append, h.before));
 }
 
 -- those of one half, and then those of the other
-pub made-whole : (credits_shown : Bool) (front back : List (Bor (List Frame))) (one other both : MadeReady)
+pub made-whole : (frames_shown : Bool) (front back : List (Bor (List Frame))) (one other both : MadeReady)
     → both.prepared.items ≡ one.prepared.items ++ other.prepared.items
-    → both.found.items ≡ one.found.items ++ other.found.items → AreMadeReady credits_shown front one
-    → AreMadeReady credits_shown back other → AreMadeReady credits_shown (front ++ back) both
-made-whole credits_shown front back one other both e f h k = record {
+    → both.found.items ≡ one.found.items ++ other.found.items → AreMadeReady frames_shown front one
+    → AreMadeReady frames_shown back other → AreMadeReady frames_shown (front ++ back) both
+made-whole frames_shown front back one other both e f h k = record {
   frames = rw e (simp (map-append, h.frames, k.frames));
-  prepared = rw e (All-append (IsPrepared credits_shown) _ _ h.prepared k.prepared);
+  prepared = rw e (All-append (IsPrepared frames_shown) _ _ h.prepared k.prepared);
   before = rw (e, f) (simp (map-append, h.before, k.before));
 }
 
 -- connections of a batch
-pub batch-ready : (credits_shown : Bool) (connections : List (Bor (List Frame))) (made : MadeReady)
-    → IsBatch connections → AreMadeReady credits_shown connections made
-    → AreReady credits_shown made.prepared.items made.found.items
-batch-ready credits_shown connections made batch are =
+pub batch-ready : (frames_shown : Bool) (connections : List (Bor (List Frame))) (made : MadeReady)
+    → IsBatch connections → AreMadeReady frames_shown connections made
+    → AreReady frames_shown made.prepared.items made.found.items
+batch-ready frames_shown connections made batch are =
     let same = sums-alike (λ (one : Prepared). one.frames.now) frames_in length _ connections are.frames in
     let few = batch.few in
     record { prepared = are.prepared; few = omega arith; before = are.before }
@@ -172,9 +172,9 @@ length-streams_of (frame ∷ frames) =
     omega arith
 
 -- so its split has no more rows
-pub length-rows : (credits_shown : Bool) (changes : List Change) (frames : List Frame) (split : SplitFrames)
-    → IsSplit credits_shown changes frames split → length split.rows.items ≤ 2 * length frames
-length-rows credits_shown changes frames split is =
+pub length-rows : (frames_shown : Bool) (changes : List Change) (frames : List Frame) (split : SplitFrames)
+    → IsSplit frames_shown changes frames split → length split.rows.items ≤ 2 * length frames
+length-rows frames_shown changes frames split is =
     let number = length-map split.rows.items (λ (row : StreamRow). row.stream) in
     let same = ap length is.streams in
     let fewer = filter-shorter (λ stream. not (is.is_quiet stream)) (streams_of frames) in
@@ -182,25 +182,25 @@ length-rows credits_shown changes frames split is =
     omega arith
 
 -- nor have those of connections that are ready
-rows-few : (credits_shown : Bool) (connections : List Prepared) (streams : List Streams)
-    → All (IsPrepared credits_shown) connections → AllZip IsStreamsOf connections streams
+rows-few : (frames_shown : Bool) (connections : List Prepared) (streams : List Streams)
+    → All (IsPrepared frames_shown) connections → AllZip IsStreamsOf connections streams
     → sum_by rows-in streams ≤ 2 * sum_by (λ (one : Prepared). length one.frames.now) connections
-rows-few credits_shown connections [] p are = omega arith
-rows-few credits_shown [] (one ∷ streams) p are = absurd are
-rows-few credits_shown (connection ∷ connections) (one ∷ streams) p are =
+rows-few frames_shown connections [] p are = omega arith
+rows-few frames_shown [] (one ∷ streams) p are = absurd are
+rows-few frames_shown (connection ∷ connections) (one ∷ streams) p are =
     let same = ap (λ (split : SplitFrames). length split.rows.items) are.0.split in
-    let twice = length-rows credits_shown connection.changes.items connection.frames.now connection.split
-    (All-head (IsPrepared credits_shown) connection connections p).split in
-    let rest = rows-few credits_shown connections streams
-    (All-tail (IsPrepared credits_shown) connection connections p) are.1 in
+    let twice = length-rows frames_shown connection.changes.items connection.frames.now connection.split
+    (All-head (IsPrepared frames_shown) connection connections p).split in
+    let rest = rows-few frames_shown connections streams
+    (All-tail (IsPrepared frames_shown) connection connections p) are.1 in
     rw (sum_by-cons rows-in one streams, sum_by-cons (λ (one : Prepared). length one.frames.now) connection connections)
     (omega arith)
 
-pub few-rows : (credits_shown : Bool) (connections : List Prepared) (streams : List Streams)
-    → All (IsPrepared credits_shown) connections → AllZip IsStreamsOf connections streams
+pub few-rows : (frames_shown : Bool) (connections : List Prepared) (streams : List Streams)
+    → All (IsPrepared frames_shown) connections → AllZip IsStreamsOf connections streams
     → PreparedAreFew connections → RowsAreFew streams
-few-rows credits_shown connections streams p are h =
-    let fewer = rows-few credits_shown connections streams p are in omega arith
+few-rows frames_shown connections streams p are h =
+    let fewer = rows-few frames_shown connections streams p are in omega arith
 
 -- no more jobs than rows
 pub jobs-few : (count at : ℕ) (streams : List Streams) → length (plan_from count at streams) ≤ sum_by rows-in streams
@@ -235,14 +235,14 @@ fronts-batch connections fronts e batch =
       few = omega (arith, same, less, few);
     }
 
-module _ (credits_shown : Bool) where
+module _ (frames_shown : Bool) where
   abbrev passed : List Frame → List Finding
-  passed frames = shown credits_shown (pass frames)
+  passed frames = shown frames_shown (pass frames)
 
   -- where nothing was found, that is what is shown of none of the frames
   pub early-none : (connections : List (Bor (List Frame))) (none : List (Vec Finding Global))
       → length none ≡ length connections → All (λ list. list.items ≡ []) none
-      → AllZip (IsEarly credits_shown) connections none
+      → AllZip (IsEarly frames_shown) connections none
   early-none [] [] l h = tt
   early-none [] (list ∷ none) l h = absurd (omega arith)
   early-none (frames ∷ connections) [] l h = absurd (omega arith)
@@ -251,7 +251,7 @@ module _ (credits_shown : Bool) where
     early-none connections none (omega arith) (All-tail (λ list. list.items ≡ []) list none h),
   )
 
-  after-none : (frames : List Frame) → shown_after credits_shown frames [] ≡ passed frames
+  after-none : (frames : List Frame) → shown_after frames_shown frames [] ≡ passed frames
   after-none frames = by_test (length frames == 0) refl where
     by_test : (none : Bool) → (length frames == 0) ≡ none → (if not none && true then passed frames else [])
         ≡ passed frames
@@ -261,8 +261,8 @@ module _ (credits_shown : Bool) where
   -- what is shown of fronts
   pub early-fronts : (connections fronts : List (Bor (List Frame))) (none all : List (Vec Finding Global))
       → length none ≡ length connections → All (λ list. list.items ≡ []) none
-      → map frames_in fronts ≡ map front_in connections → AreShownAfter credits_shown fronts none all
-      → AllZip (IsEarly credits_shown) connections all
+      → map frames_in fronts ≡ map front_in connections → AreShownAfter frames_shown fronts none all
+      → AllZip (IsEarly frames_shown) connections all
   early-fronts [] [] none [] l h e s = tt
   early-fronts [] [] none (list ∷ all) l h e s = cc
   early-fronts [] (front ∷ fronts) none all l h e s = cc
@@ -272,7 +272,7 @@ module _ (credits_shown : Bool) where
   early-fronts (frames ∷ connections) (front ∷ fronts) (list ∷ none) (one ∷ all) l h e s =
       let same : front.now ≡ front_in frames = cc in
       let nothing = All-head (λ list. list.items ≡ []) list none h in
-      let said : one.items ≡ shown_after credits_shown front.now list.items = cc in (
+      let said : one.items ≡ shown_after frames_shown front.now list.items = cc in (
         (
           if nat_lt (length frames.now) 4096 then 0 else length frames.now / 32,
           (rw nothing at said) ∙ after-none front.now ∙ ap passed same,
@@ -283,12 +283,12 @@ module _ (credits_shown : Bool) where
 
   whole : (n : ℕ) (frames : List Frame) → list_any stops (passed (take n frames)) ≡ true →
       passed (take n frames) ≡ passed frames
-  whole n frames h = fronts_settle_lem credits_shown (take n frames) (drop n frames) h
+  whole n frames h = fronts_settle_lem frames_shown (take n frames) (drop n frames) h
       ∙ ap passed (take-append-drop n frames)
 
   -- after that of a front comes what is shown of all frames
   after-early : (frames : List Frame) (early : List Finding) (n : ℕ) → early ≡ passed (take n frames)
-      → shown_after credits_shown frames early ≡ passed frames
+      → shown_after frames_shown frames early ≡ passed frames
   after-early frames early n e = by_tests (length frames == 0) (list_any stops early) refl refl where
     by_tests : (none stopped : Bool) → (length frames == 0) ≡ none → list_any stops early ≡ stopped
         → (if not none && not stopped then passed frames else early) ≡ passed frames
@@ -299,16 +299,16 @@ module _ (credits_shown : Bool) where
     by_tests false false f h = refl
 
   pub early-shown : (connections : List (Bor (List Frame))) (early all : List (Vec Finding Global))
-      → AllZip (IsEarly credits_shown) connections early → AreShownAfter credits_shown connections early all
+      → AllZip (IsEarly frames_shown) connections early → AreShownAfter frames_shown connections early all
       → map items_in all ≡ map (λ (frames : Bor (List Frame)). passed frames.now) connections
   early-shown connections early all h s = s ∙ each connections early h where
     each : (connections : List (Bor (List Frame))) (early : List (Vec Finding Global))
-        → AllZip (IsEarly credits_shown) connections early
-        → map (λ (one : Bor (List Frame) × Vec Finding Global). shown_after credits_shown one.0.now one.1.items)
+        → AllZip (IsEarly frames_shown) connections early
+        → map (λ (one : Bor (List Frame) × Vec Finding Global). shown_after frames_shown one.0.now one.1.items)
         (zip connections early) ≡ map (λ (frames : Bor (List Frame)). passed frames.now) connections
     each [] early h = refl
     each (frames ∷ connections) [] h = absurd h
     each (frames ∷ connections) (one ∷ early) h =
-        ap (λ l. l ∷ map (λ (one : Bor (List Frame) × Vec Finding Global). shown_after credits_shown one.0.now
+        ap (λ l. l ∷ map (λ (one : Bor (List Frame) × Vec Finding Global). shown_after frames_shown one.0.now
         one.1.items) (zip connections early)) (after-early frames.now one.items h.0.0 h.0.1)
         ∙ ap (λ l. passed frames.now ∷ l) (each connections early h.1)

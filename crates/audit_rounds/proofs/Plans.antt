@@ -144,24 +144,24 @@ plan-as c connections f g plan h e =
 -- ---- one block after the other
 
 -- what is planned so far of blocks, of which these are left
-pub record ArePlanned (credits_shown : Bool) (blocks rest : List ConnectionBlock) (last : ℕ) (now : ConnectionState)
+pub record ArePlanned (frames_shown : Bool) (blocks rest : List ConnectionBlock) (last : ℕ) (now : ConnectionState)
     (plan : List ReadyBlock) : Type 0 where
   pub fits : AreFit last now rest
   pub ready : AreReady plan
   pub within : (bound : ℕ) → All (λ (one : ConnectionBlock). one.connection < bound) blocks
       → All (λ (one : ReadyBlock). one.connection < bound) plan
-  pub shows : (n : ℕ) → findings_of_jobs n (map (block_job credits_shown) plan) ++ shown_from credits_shown last now
+  pub shows : (n : ℕ) → findings_of_jobs n (map (block_job frames_shown) plan) ++ shown_from frames_shown last now
       rest n
-      ≡ shown_from credits_shown 0 connection_start blocks n
+      ≡ shown_from frames_shown 0 connection_start blocks n
   pub few : length plan + length rest ≤ length blocks
 
 -- the jobs of one block: one, or none where nothing is shown of it
-pub record AreJobs (credits_shown : Bool) (one : ConnectionBlock) (before : ConnectionState) (jobs : List ReadyBlock)
+pub record AreJobs (frames_shown : Bool) (one : ConnectionBlock) (before : ConnectionState) (jobs : List ReadyBlock)
     : Type 0 where
   pub ready : AreReady jobs
   pub within : (bound : ℕ) → one.connection < bound → All (λ (job : ReadyBlock). job.connection < bound) jobs
-  pub shows : (n : ℕ) → findings_of_jobs n (map (block_job credits_shown) jobs)
-      ≡ where_of one.connection n (shown credits_shown (block_run before (items_in one.block)))
+  pub shows : (n : ℕ) → findings_of_jobs n (map (block_job frames_shown) jobs)
+      ≡ where_of one.connection n (shown frames_shown (block_run before (items_in one.block)))
   pub few : length jobs ≤ 1
 
 pub no-job : (c : Bool) (one : ConnectionBlock) (before : ConnectionState)

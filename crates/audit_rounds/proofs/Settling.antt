@@ -201,9 +201,9 @@ start-fits frames items h e =
     let n : length items < 2 ^ 28 = omega arith in
     record { number = omega arith; client = start-room (length items) n; server = start-room (length items) n }
 
-module _ (credits_shown : Bool) (connection : Prepared) (stop : Option ℕ) (opened : List ℕ) (rest : Block)
-    (found : List Finding) (prepared : IsPrepared credits_shown connection) (is : IsRest connection stop opened rest)
-    (after : IsAfterStreams credits_shown connection.frames.now found stop opened) where
+module _ (frames_shown : Bool) (connection : Prepared) (stop : Option ℕ) (opened : List ℕ) (rest : Block)
+    (found : List Finding) (prepared : IsPrepared frames_shown connection) (is : IsRest connection stop opened rest)
+    (after : IsAfterStreams frames_shown connection.frames.now found stop opened) where
   within-orderly : IsOrderly rest.frames.now
   within-orderly = rw is.frames
       (orderly-filter (λ (frame : Frame). not (is_past stop frame.number)) 0 connection.frames.now prepared.orderly)
@@ -225,19 +225,19 @@ module _ (credits_shown : Bool) (connection : Prepared) (stop : Option ℕ) (ope
       ≡ items_with opened (changes_of connection.frames.now) (frames_within stop connection.frames.now)
   items-are = rw (is.opened, is.changes, prepared.changes, is.frames) refl
 
-  one-settles : upto_stop (in_order (found ++ shown credits_shown (block_run connection_start (items_in rest))))
-      ≡ shown credits_shown (pass connection.frames.now)
+  one-settles : upto_stop (in_order (found ++ shown frames_shown (block_run connection_start (items_in rest))))
+      ≡ shown frames_shown (pass connection.frames.now)
   one-settles =
-      rounds_settle_lem credits_shown connection.frames.now found
-      (found ++ shown credits_shown (block_run connection_start (items_in rest))) stop opened prepared.orderly after
-      (ap (λ items. upto_stop (in_order (found ++ shown credits_shown (block_run connection_start items)))) items-are)
+      rounds_settle_lem frames_shown connection.frames.now found
+      (found ++ shown frames_shown (block_run connection_start (items_in rest))) stop opened prepared.orderly after
+      (ap (λ items. upto_stop (in_order (found ++ shown frames_shown (block_run connection_start items)))) items-are)
 
 -- ---- all connections of a batch
 
-module _ (credits_shown : Bool) (connections : List Prepared) (found : List (Vec Finding Global))
+module _ (frames_shown : Bool) (connections : List Prepared) (found : List (Vec Finding Global))
     (stops : List (Option ℕ)) (opened : List (Vec ℕ Global)) (rests : List Block)
-    (prepared : All (IsPrepared credits_shown) connections)
-    (after : AreAfterStreams credits_shown connections found stops opened)
+    (prepared : All (IsPrepared frames_shown) connections)
+    (after : AreAfterStreams frames_shown connections found stops opened)
     (are : AreRests connections stops opened rests) where
   pub all-remain : AreRemaining rests stops found
   all-remain =
@@ -252,22 +252,22 @@ module _ (credits_shown : Bool) (connections : List Prepared) (found : List (Vec
             let inside : n < length connections = omega arith in
             let connection = some_of connections 0 (omega arith) in
             let numbers = some_of opened 0 (omega arith) in
-            one-remains credits_shown (get_or connections n connection) (get_or stops n stop)
+            one-remains frames_shown (get_or connections n connection) (get_or stops n stop)
             (get_or opened n numbers).items (get_or rests n rest) (get_or found n list).items
             (prepared n connection inside) (are.each n connection stop numbers rest inside)
             (after.each n connection list stop numbers inside) (after.places n stop (omega arith));
       }
 
-  pub all-settle : (last : List (Vec Finding Global)) → AreGoneThrough credits_shown rests found last
+  pub all-settle : (last : List (Vec Finding Global)) → AreGoneThrough frames_shown rests found last
       → map (λ (list : Vec Finding Global). list.items) last
-      ≡ map (λ (connection : Prepared). shown credits_shown (pass connection.frames.now)) connections
+      ≡ map (λ (connection : Prepared). shown frames_shown (pass connection.frames.now)) connections
   all-settle last gone =
       let number = are.number in
       let founds = after.founds in
       let opens = after.opens in
       let lasts = gone.number in
       let settled = λ (list : Vec Finding Global). list.items in
-      let passed = λ (connection : Prepared). shown credits_shown (pass connection.frames.now) in
+      let passed = λ (connection : Prepared). shown frames_shown (pass connection.frames.now) in
       let long = length-map last settled in
       let many = length-map connections passed in
       ext_get_or [] (map settled last) (map passed connections) (omega arith) (λ n l.
@@ -278,7 +278,7 @@ module _ (credits_shown : Bool) (connections : List Prepared) (found : List (Vec
       let numbers = some_of opened 0 (omega arith) in
       get_or-map settled last n list [] (omega arith)
       ∙ gone.each n rest list list (omega arith)
-      ∙ one-settles credits_shown (get_or connections n connection) (get_or stops n None)
+      ∙ one-settles frames_shown (get_or connections n connection) (get_or stops n None)
       (get_or opened n numbers).items (get_or rests n rest) (get_or found n list).items
       (prepared n connection inside) (are.each n connection None numbers rest inside)
       (after.each n connection list None numbers inside)

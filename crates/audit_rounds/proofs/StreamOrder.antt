@@ -40,9 +40,9 @@ module _ (stream : ℕ) (small : stream < 2 ^ 31) where
       h.1)
 
   -- what is shown of a stream stands in order
-  pub shown-ordered : (credits_shown : Bool) (frames : List Frame) (changes : List Change) → IsOrderly frames
-      → in_order (shown credits_shown (stream_run stream frames changes))
-      ≡ shown credits_shown (stream_run stream frames changes)
-  shown-ordered credits_shown frames changes h =
-      ordered-shown credits_shown (stream_run stream frames changes)
+  pub shown-ordered : (frames_shown : Bool) (frames : List Frame) (changes : List Change) → IsOrderly frames
+      → in_order (shown frames_shown (stream_run stream frames changes))
+      ≡ shown frames_shown (stream_run stream frames changes)
+  shown-ordered frames_shown frames changes h =
+      ordered-shown frames_shown (stream_run stream frames changes)
       (run-ordered initial_in_force.initial idle_stream 0 (steps_of frames changes) (steps-rise frames changes h)).1

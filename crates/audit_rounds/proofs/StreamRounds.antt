@@ -120,7 +120,7 @@ module _ {X : Type 0} (said : StreamJob → List X) (n count : ℕ) where
 -- the rows of a split, and at most two for each frame
 module _ (streams : Streams) (o : IsOrderly streams.frames.now)
     (a : AreAcknowledged streams.frames.now streams.changes)
-    (credits_shown : Bool) (s : IsSplit credits_shown streams.changes streams.frames.now streams.split.now) where
+    (frames_shown : Bool) (s : IsSplit frames_shown streams.changes streams.frames.now streams.split.now) where
   rows-are : All (IsRow streams) streams.split.now.rows.items
   rows-are k d l =
       let rows = streams.split.now.rows.items in
@@ -140,28 +140,28 @@ module _ (streams : Streams) (o : IsOrderly streams.frames.now)
 
   few-rows : length streams.split.now.rows.items < 2 ^ 32
   few-rows =
-      let rows = length-rows credits_shown streams.changes streams.frames.now streams.split.now s in
+      let rows = length-rows frames_shown streams.changes streams.frames.now streams.split.now s in
       let frames = length-orderly 0 streams.frames.now (omega arith) o in
       omega (arith, rows, frames)
 
-ready-one : (credits_shown : Bool) (connection : Prepared) (streams : Streams) → IsPrepared credits_shown connection
+ready-one : (frames_shown : Bool) (connection : Prepared) (streams : Streams) → IsPrepared frames_shown connection
     → IsStreamsOf connection streams → IsReady streams
-ready-one credits_shown connection streams p is =
+ready-one frames_shown connection streams p is =
     let orderly : IsOrderly streams.frames.now = rw is.frames p.orderly in
     let acknowledged : AreAcknowledged streams.frames.now streams.changes =
     rw (is.frames, is.changes) p.acknowledged in
-    let split : IsSplit credits_shown streams.changes streams.frames.now streams.split.now =
+    let split : IsSplit frames_shown streams.changes streams.frames.now streams.split.now =
     rw (is.frames, is.changes, is.split) p.split in
     record {
       changes = rw is.changes p.changes_orderly;
-      rows = rows-are streams orderly acknowledged credits_shown split;
-      counted = few-rows streams orderly acknowledged credits_shown split;
+      rows = rows-are streams orderly acknowledged frames_shown split;
+      counted = few-rows streams orderly acknowledged frames_shown split;
     }
 
-pub ready-each : (credits_shown : Bool) (connections : List Prepared) (streams : List Streams)
-    → All (IsPrepared credits_shown) connections → AllZip IsStreamsOf connections streams → All IsReady streams
-ready-each credits_shown connections streams p is =
-    zip-all (IsPrepared credits_shown) IsStreamsOf IsReady (ready-one credits_shown) connections streams p is
+pub ready-each : (frames_shown : Bool) (connections : List Prepared) (streams : List Streams)
+    → All (IsPrepared frames_shown) connections → AllZip IsStreamsOf connections streams → All IsReady streams
+ready-each frames_shown connections streams p is =
+    zip-all (IsPrepared frames_shown) IsStreamsOf IsReady (ready-one frames_shown) connections streams p is
 
 -- ---- the stops that connections begin with are places
 
@@ -173,9 +173,9 @@ at-below : (number : ℕ) (found : List Finding) → number < 2 ^ 28 - 1
 at-below number [] l h = tt
 at-below number (one ∷ found) l h = (omega arith, at-below number found l h.2)
 
-before-below : (credits_shown : Bool) (connection : Prepared) → IsPrepared credits_shown connection
+before-below : (frames_shown : Bool) (connection : Prepared) → IsPrepared frames_shown connection
     → All IsBelow (found_before connection)
-before-below credits_shown connection p =
+before-below frames_shown connection p =
     let frames = connection.frames.now in
     All-from_recursion IsBelow (found_before connection)
     (each-append IsBelow (local_run frames) (settings_run frames)
@@ -189,18 +189,18 @@ stop-place found None h is = tt
 stop-place found (Some place) h ((one, there, stopping, at), least) =
     rw at at (All-contains IsBelow found one h there)
 
-pub stops-are-places : (credits_shown : Bool) (connections : List Prepared) (found : List (Vec Finding Global))
-    (stops : List (Option ℕ)) → All (IsPrepared credits_shown) connections
+pub stops-are-places : (frames_shown : Bool) (connections : List Prepared) (found : List (Vec Finding Global))
+    (stops : List (Option ℕ)) → All (IsPrepared frames_shown) connections
     → map (λ (one : Vec Finding Global). one.items) found ≡ map found_before connections
     → AllZip (λ (one : Vec Finding Global) (stop : Option ℕ). IsFirstStop one.items stop) found stops
     → All IsStop stops
-stops-are-places credits_shown connections found stops p e is =
+stops-are-places frames_shown connections found stops p e is =
     zip-all (λ (one : Vec Finding Global). All IsBelow one.items)
     (λ (one : Vec Finding Global) (stop : Option ℕ). IsFirstStop one.items stop) IsStop
     (λ one stop h first. stop-place one.items stop h first) found stops
     (all-alike items_in found_before (All IsBelow) found connections e
-    (All-weaker (IsPrepared credits_shown) (λ connection. All IsBelow (found_before connection))
-    (before-below credits_shown) connections p)) is
+    (All-weaker (IsPrepared frames_shown) (λ connection. All IsBelow (found_before connection))
+    (before-below frames_shown) connections p)) is
 
 -- ---- joined lists
 
@@ -263,9 +263,9 @@ reaches (Some place) stop h = let (s, is, low) = h place refl in rw is low
 
 -- ---- a settled round over connections that are ready
 
-module _ (credits_shown : Bool) (count : ℕ) (some : 1 ≤ count) (connections : List Prepared)
-    (found : List (Vec Finding Global)) (ready : AreReady credits_shown connections found)
-    (settled : Settled (Vec ℕ Global)) (h : HaveSettledOver credits_shown count connections found settled) where
+module _ (frames_shown : Bool) (count : ℕ) (some : 1 ≤ count) (connections : List Prepared)
+    (found : List (Vec Finding Global)) (ready : AreReady frames_shown connections found)
+    (settled : Settled (Vec ℕ Global)) (h : HaveSettledOver frames_shown count connections found settled) where
   abbrev streams : List Streams
   streams = h.streams
 
@@ -273,7 +273,7 @@ module _ (credits_shown : Bool) (count : ℕ) (some : 1 ≤ count) (connections 
   plan = plan_from count 0 streams
 
   abbrev jobs : List Job
-  jobs = map (job_of credits_shown streams) plan
+  jobs = map (job_of frames_shown streams) plan
 
   abbrev parts : List (Part (Vec ℕ Global))
   parts = settled.parts.items
@@ -286,7 +286,7 @@ module _ (credits_shown : Bool) (count : ℕ) (some : 1 ≤ count) (connections 
   parts-inside =
       let as_many = AllZip-long IsStreamsOf connections streams h.of in
       parts-within jobs h.opening settled (length connections) h.done
-      (All-map (λ (job : Job). job.connection < length connections) (job_of credits_shown streams) plan
+      (All-map (λ (job : Job). job.connection < length connections) (job_of frames_shown streams) plan
       (λ n d l. let own = (planned count some streams n d l).connection in omega arith))
 
   part-tells : (n : ℕ) (part : Part (Vec ℕ Global)) (job : StreamJob) → slice_get parts n ≡ Some part
@@ -298,10 +298,10 @@ module _ (credits_shown : Bool) (count : ℕ) (some : 1 ≤ count) (connections 
       let number = length-map parts part_of in
       let (laid, got, is) = h.done.board.parts_of_jobs (part_of part)
       (n, omega arith, get_or-map part_of parts n part (part_of part) l ∙ ap part_of at) in
-      let job_is : laid ≡ job_of credits_shown streams job =
-      job-is (job_of credits_shown streams) plan part.job laid job got
-      ∙ ap (λ k. job_of credits_shown streams (get_or plan k job)) own.0
-      ∙ ap (job_of credits_shown streams) (get_or_from_slice_get plan n job job f) in
+      let job_is : laid ≡ job_of frames_shown streams job =
+      job-is (job_of frames_shown streams) plan part.job laid job got
+      ∙ ap (λ k. job_of frames_shown streams (get_or plan k job)) own.0
+      ∙ ap (job_of frames_shown streams) (get_or_from_slice_get plan n job job f) in
       record {
         connection = is.of_connection ∙ ap (λ (job : Job). job.connection) job_is;
         agree = agree-reached part.upto (stop_of stops part.connection) part.made.items
@@ -315,7 +315,7 @@ module _ (credits_shown : Bool) (count : ℕ) (some : 1 ≤ count) (connections 
     abbrev frames : List Frame
     frames = one.frames.now
 
-    is_prepared : IsPrepared credits_shown one
+    is_prepared : IsPrepared frames_shown one
     is_prepared = rw (get_or_from_slice_get connections n one one there)
         at (ready.prepared n one (slice_get_within connections n one there))
 
@@ -350,16 +350,16 @@ module _ (credits_shown : Bool) (count : ℕ) (some : 1 ≤ count) (connections 
         of-plan (of_rows each streams) n count 0 n streams own at (omega arith) ∙ joined ∙ streamed
 
     -- its jobs find what its streams show
-    shows : findings_of_jobs n jobs ≡ streams_shown credits_shown frames
+    shows : findings_of_jobs n jobs ≡ streams_shown frames_shown frames
     shows =
         let split = is_prepared.split in
-        flat_map-map (λ (job : Job). if job.connection == n then job.findings else []) (job_of credits_shown streams)
+        flat_map-map (λ (job : Job). if job.connection == n then job.findings else []) (job_of frames_shown streams)
         plan
-        ∙ of-streams (λ stream frames changes. shown credits_shown (stream_run stream frames changes))
-        ∙ ap (flat_map (shown_of credits_shown frames)) split.streams
-        ∙ flat_map-kept (shown_of credits_shown frames) split.is_quiet (streams_of frames)
+        ∙ of-streams (λ stream frames changes. shown frames_shown (stream_run stream frames changes))
+        ∙ ap (flat_map (shown_of frames_shown frames)) split.streams
+        ∙ flat_map-kept (shown_of frames_shown frames) split.is_quiet (streams_of frames)
         (subst (λ (changes : List Change). All (λ (stream : ℕ). split.is_quiet stream ≡ true
-        → shown credits_shown (stream_run stream (frames_of stream frames) changes) ≡ []) (streams_of frames))
+        → shown frames_shown (stream_run stream (frames_of stream frames) changes) ≡ []) (streams_of frames))
         is_prepared.changes split.quiet)
 
     -- the openings that its parts and its split tell are all, up to the stop
@@ -379,7 +379,7 @@ module _ (credits_shown : Bool) (count : ℕ) (some : 1 ≤ count) (connections 
         (filter split.is_quiet (streams_of frames))) is_prepared.changes in
         agree-append stop (numbers_told n parts) told quiet quiet
         (agree-parts stops (of_rows rows_opened streams) n parts plan
-        (h.done.count ∙ length-map plan (job_of credits_shown streams)) part-tells) (λ number e. refl) number e
+        (h.done.count ∙ length-map plan (job_of frames_shown streams)) part-tells) (λ number e. refl) number e
         ∙ ap (list_any (λ one. one == number)) (ap (λ l. l ++ quiet) loud
         ∙ ap (λ l. openings_of frames others ++ l) rest)
         ∙ agree-parted frames stop split.is_quiet (streams_of frames) number e
@@ -388,7 +388,7 @@ module _ (credits_shown : Bool) (count : ℕ) (some : 1 ≤ count) (connections 
     is-after : IsLeast (StopsAt (found_before one)) (stop_of h.opening n) → (last : List Finding) (opened : List ℕ)
         → last ≡ found_before one ++ findings_of_parts n (map part_of parts)
         → IsInOrder (numbers_told n parts ++ one.split.opened.items) opened
-        → IsAfterStreams credits_shown frames last (stop_of stops n) opened
+        → IsAfterStreams frames_shown frames last (stop_of stops n) opened
     is-after least last opened e order =
         let merges = board_merges_lem (record { jobs = jobs; opening_stops = h.opening })
         (board_with (map part_of parts) h.done.seen h.done.lowered stops) h.done.board n (found_before one) least in
@@ -420,7 +420,7 @@ module _ (credits_shown : Bool) (count : ℕ) (some : 1 ≤ count) (connections 
       → ((n : ℕ) (list : Vec ℕ Global) (connection : Prepared) → n < length connections
       → IsInOrder (numbers_told n parts ++ (get_or connections n connection).split.opened.items)
       (get_or opened n list).items)
-      → AreAfterStreams credits_shown connections last stops opened
+      → AreAfterStreams frames_shown connections last stops opened
   are-after last opened lasts kept opens orders =
       let a = as_many in
       let b = h.done.connections ∙ AllZip-long _ found h.opening h.first in

@@ -84,10 +84,10 @@ all-in_order P xs h k d l =
     let x = get_or (in_order xs) k d in
     All-contains P xs x h (in_order-contains xs x (All-contains_itself (in_order xs) k d l))
 
-module _ (credits_shown : Bool) (streams : Streams) (row : StreamRow) where
+module _ (frames_shown : Bool) (streams : Streams) (row : StreamRow) where
   looks-more : (rows : List StreamRow) (asked asked' : List Asked) (one other : Option ℕ)
-      → RowsLook credits_shown streams rows asked one → RowLooks credits_shown streams row asked' other
-      → RowsLook credits_shown streams (rows ++ row ∷ []) (asked ++ asked') (lesser one other)
+      → RowsLook frames_shown streams rows asked one → RowLooks frames_shown streams row asked' other
+      → RowsLook frames_shown streams (rows ++ row ∷ []) (asked ++ asked') (lesser one other)
   looks-more [] asked asked' one other (none, whole) k =
       rw (none, whole) (asked', [], other, None, sym (append-nil asked'), sym (lesser-none other), k, (refl, refl))
   looks-more (first ∷ rows) asked asked' one other (front, rest, a, b, is, least, h, later) k =
@@ -102,18 +102,18 @@ module _ (credits_shown : Bool) (streams : Streams) (row : StreamRow) where
         looks-more rows rest asked' b other later k,
       )
 
-module _ {L : Type 0} (answers : L → List Finding → Option ℕ → L → Type 0) (credits_shown : Bool) (streams : Streams)
+module _ {L : Type 0} (answers : L → List Finding → Option ℕ → L → Type 0) (frames_shown : Bool) (streams : Streams)
   where
     -- the work of some rows
     abbrev pub IsRowsWork : (rows : List StreamRow) → L → L → Option ℕ → List Finding → List ℕ → Type 0
     IsRowsWork rows before after upto kept opened =
-        IsWork answers (RowsLook credits_shown streams rows) before after (rows_shown credits_shown streams rows)
+        IsWork answers (RowsLook frames_shown streams rows) before after (rows_shown frames_shown streams rows)
         (rows_opened streams rows) upto kept opened
 
     -- that of one row
     abbrev pub IsRowWork : (row : StreamRow) → L → L → Option ℕ → List Finding → Option ℕ → Type 0
     IsRowWork row before after upto kept opened =
-        IsWork answers (RowLooks credits_shown streams row) before after (row_shown credits_shown streams row)
+        IsWork answers (RowLooks frames_shown streams row) before after (row_shown frames_shown streams row)
         (option_to_list (row_opened streams row)) upto kept (option_to_list opened)
 
     -- the work of no row
@@ -136,15 +136,15 @@ module _ {L : Type 0} (answers : L → List Finding → Option ℕ → L → Typ
         → IsRowsWork (rows ++ row ∷ []) a c (lesser one other) (in_order (kept ++ kept'))
         (opened ++ option_to_list opened')
     work-more rows row a b c kept kept' opened opened' one other h k =
-        let whole = rows_shown credits_shown streams rows in
+        let whole = rows_shown frames_shown streams rows in
         let openings = rows_opened streams rows in
-        let own = row_shown credits_shown streams row in
+        let own = row_shown frames_shown streams row in
         let opening = option_to_list (row_opened streams row) in
         let IsNumbered = λ (found : Finding). place_number found.place ≤ 2 ^ 28 - 2 in
         let first = reaches-one one other in
         let second = reaches-other one other in
         rw (
-          ← flat_map_more (row_shown credits_shown streams) [] rows row,
+          ← flat_map_more (row_shown frames_shown streams) [] rows row,
           ← flat_map_more (λ row. option_to_list (row_opened streams row)) [] rows row,
         ) (record {
           cut = cuts_join_lem whole own kept kept' (lesser one other) one other h.cut k.cut
@@ -156,7 +156,7 @@ module _ {L : Type 0} (answers : L → List Finding → Option ℕ → L → Typ
           looks = record {
             asked = h.looks.asked ++ k.looks.asked;
             looked = looked-join a b c h.looks.asked k.looks.asked h.looks.looked k.looks.looked;
-            in_time = looks-more credits_shown streams row rows h.looks.asked k.looks.asked one other h.looks.in_time
+            in_time = looks-more frames_shown streams row rows h.looks.asked k.looks.asked one other h.looks.in_time
                 k.looks.in_time;
             answered = λ place e. ⊎_elim
                 (λ is. let (asked, there, answer) = h.looks.answered place is in
@@ -173,7 +173,7 @@ module _ {L : Type 0} (answers : L → List Finding → Option ℕ → L → Typ
       frames = frames_at streams.frames.now positions
 
       abbrev whole : List Finding
-      whole = shown credits_shown (stream_run row.stream frames streams.changes)
+      whole = shown frames_shown (stream_run row.stream frames streams.changes)
 
       abbrev opening : Option ℕ
       opening = (stream_at_end row.stream frames streams.changes).life.opened
@@ -190,7 +190,7 @@ module _ {L : Type 0} (answers : L → List Finding → Option ℕ → L → Typ
           let orderly : IsOrderly frames = rw e is_row.orderly in
           rw e at (work-of_run answers before after (step_numbers row.stream frames streams.changes) whole
           run.findings.items run.upto run.last_look run.looks opening run.opened_at
-          (shown-ordered row.stream is_row.in_range credits_shown frames streams.changes orderly) h k n)
+          (shown-ordered row.stream is_row.in_range frames_shown frames streams.changes orderly) h k n)
 
 -- ---- a job
 
@@ -202,7 +202,7 @@ abbrev pub no_job : StreamJob
 no_job = record { connection = 0; from = 0; to = 0 }
 
 module _ (round : StreamsRound) (number : ℕ)
-    (inside : number < length (map (job_of round.credits_shown round.connections.now) round.plan.now)) where
+    (inside : number < length (map (job_of round.frames_shown round.connections.now) round.plan.now)) where
   abbrev connections : List Streams
   connections = round.connections.now
 
@@ -212,7 +212,7 @@ module _ (round : StreamsRound) (number : ℕ)
   -- the job is in the plan
   pub job-planned : IsJobOf connections job
   job-planned =
-      let long = length-map round.plan.now (job_of round.credits_shown connections) in
+      let long = length-map round.plan.now (job_of round.frames_shown connections) in
       round.planned number no_job (omega arith)
 
   module _ (streams : Streams) where
@@ -237,10 +237,10 @@ module _ (round : StreamsRound) (number : ℕ)
 
       -- what a run of the rows kept is a cut of the job
       pub job-cut : (one : Job) (upto : Option ℕ) (kept : List Finding)
-          → slice_get (map (job_of round.credits_shown connections) round.plan.now) number ≡ Some one
-          → IsCut (rows_shown round.credits_shown mine (rows_in job rows)) upto kept → IsCut one.findings upto kept
+          → slice_get (map (job_of round.frames_shown connections) round.plan.now) number ≡ Some one
+          → IsCut (rows_shown round.frames_shown mine (rows_in job rows)) upto kept → IsCut one.findings upto kept
       job-cut one upto kept is cut =
-          rw (job-is (job_of round.credits_shown connections) round.plan.now number one no_job is, there, ← same) cut
+          rw (job-is (job_of round.frames_shown connections) round.plan.now number one no_job is, there, ← same) cut
 
       -- the openings that it tells are the job's
       pub job-makes : (upto : Option ℕ) (made : List ℕ) → AreOpenedUpTo upto made (rows_opened mine (rows_in job rows))
@@ -250,8 +250,8 @@ module _ (round : StreamsRound) (number : ℕ)
 
       -- the looks of the rows are those of the job
       pub job-looks : (asked : List Asked) (upto : Option ℕ)
-          → RowsLook round.credits_shown mine (rows_in job rows) asked upto
-          → JobLooks round.credits_shown connections round.plan.now number asked upto
+          → RowsLook round.frames_shown mine (rows_in job rows) asked upto
+          → JobLooks round.frames_shown connections round.plan.now number asked upto
       job-looks asked upto looks own other is at =
           let same_job : job ≡ own = get_or_from_slice_get round.plan.now number own no_job is in
           let at_job : slice_get connections job.connection ≡ Some other = rw same_job at in

@@ -58,7 +58,7 @@ fn found_after<R: Threads + Sync, G: Gate>(
 ) -> Result<Vec<Vec<Finding>>, AllocError>
     requires batch { IsBatch connections.now }
     requires number { length found.items ≡ length connections.now }
-    ensures { IfOk result (λ all. AreShownAfter crew.now.credits_shown connections.now found.items all.items) }
+    ensures { IfOk result (λ all. AreShownAfter crew.now.frames_shown connections.now found.items all.items) }
 {
     let pending = pending_of(crew.alloc, connections, found.as_slice())?;
     let later = shown_of(crew, pending.as_slice())?;
@@ -78,11 +78,11 @@ fn shown_of<R: Threads + Sync, G: Gate>(
     connections: &[&[Frame]],
 ) -> Result<Vec<Vec<Finding>>, AllocError>
     requires { IsBatch connections.now }
-    ensures { IfOk result (λ found. AreShown crew.now.credits_shown connections.now found.items) }
+    ensures { IfOk result (λ found. AreShown crew.now.frames_shown connections.now found.items) }
 {
-    if crew.credits_shown && connections.len() == 1 && is_undivided(crew, connections[0]) {
+    if crew.frames_shown && connections.len() == 1 && is_undivided(crew, connections[0]) {
         let frames = connections[0];
-        if let Some(found) = shown_in_one_pass(crew.alloc, crew.credits_shown, frames)? {
+        if let Some(found) = shown_in_one_pass(crew.alloc, crew.frames_shown, frames)? {
             let all = vec![in crew.alloc; found]?;
             return Ok(all);
         }
@@ -96,7 +96,7 @@ fn shown_in_rounds<R: Threads + Sync, G: Gate>(
     connections: &[&[Frame]],
 ) -> Result<Vec<Vec<Finding>>, AllocError>
     requires { IsBatch connections.now }
-    ensures { IfOk result (λ found. AreShown crew.now.credits_shown connections.now found.items) }
+    ensures { IfOk result (λ found. AreShown crew.now.frames_shown connections.now found.items) }
 {
     let made = prepare_each(crew, connections)?;
     let MadeReady {
@@ -113,7 +113,7 @@ fn found_early<R: Threads + Sync, G: Gate>(
     connections: &[&[Frame]],
 ) -> Result<Vec<Vec<Finding>>, AllocError>
     requires { IsBatch connections.now }
-    ensures { IfOk result (λ early. AllZip (IsEarly crew.now.credits_shown) connections.now early.items) }
+    ensures { IfOk result (λ early. AllZip (IsEarly crew.now.frames_shown) connections.now early.items) }
 {
     let none = none_of_each(crew.alloc, connections.len())?;
     if connections.iter().all(|frames| frames.len() < LONG) {
@@ -136,7 +136,7 @@ fn are_short(workers: u32, connections: &[&[Frame]]) -> bool
 
 /// Where credits are shown and nothing is to divide of any connection, one thread goes over one after the other.
 fn take_turns<R: Threads + Sync, G: Gate>(crew: &Crew<'_, R, G>, connections: &[&[Frame]]) -> bool {
-    crew.credits_shown && connections.iter().all(|frames| is_undivided(crew, *frames))
+    crew.frames_shown && connections.iter().all(|frames| is_undivided(crew, *frames))
 }
 
 /// Is it worth while to go over halves of these connections side by side?
@@ -159,7 +159,7 @@ fn fronts_first<R: Threads + Sync, G: Gate>(
     connections: &[&[Frame]],
 ) -> Result<Vec<Vec<Finding>>, AllocError>
     requires { IsBatch connections.now }
-    ensures { IfOk result (λ found. AreShown crew.now.credits_shown connections.now found.items) }
+    ensures { IfOk result (λ found. AreShown crew.now.frames_shown connections.now found.items) }
 {
     let early = found_early(crew, connections)?;
     found_after(crew, connections, early)
@@ -171,7 +171,7 @@ fn in_turn<R: Threads + Sync, G: Gate>(
     connections: &[&[Frame]],
 ) -> Result<Vec<Vec<Finding>>, AllocError>
     requires { IsBatch connections.now }
-    ensures { IfOk result (λ found. AreShown crew.now.credits_shown connections.now found.items) }
+    ensures { IfOk result (λ found. AreShown crew.now.frames_shown connections.now found.items) }
 {
     let mut all = Vec::with_capacity(crew.alloc, connections.len())?;
     let mut done = 0;
@@ -204,7 +204,7 @@ pub(crate) fn by_halves<R: Threads + Sync, G: Gate>(
     connections: &[&[Frame]],
 ) -> Result<Vec<Vec<Finding>>, AllocError>
     requires { IsBatch connections.now }
-    ensures { IfOk result (λ found. AreShown crew.now.credits_shown connections.now found.items) }
+    ensures { IfOk result (λ found. AreShown crew.now.frames_shown connections.now found.items) }
 {
     if !are_halved(crew, connections) {
         return if take_turns(crew, connections) {
@@ -215,7 +215,7 @@ pub(crate) fn by_halves<R: Threads + Sync, G: Gate>(
     }
     let workers = crew.division.workers;
     let (front, back) = in_halves(connections);
-    let (rt, gate, alloc, credits_shown) = (crew.rt, crew.gate, crew.alloc, crew.credits_shown);
+    let (rt, gate, alloc, frames_shown) = (crew.rt, crew.gate, crew.alloc, crew.frames_shown);
     let several = crew.is_of_several;
     let few = crew.division.with_workers(workers / 2);
     let others = crew.division.with_workers(workers - workers / 2);
@@ -223,19 +223,19 @@ pub(crate) fn by_halves<R: Threads + Sync, G: Gate>(
         rt,
         || -> Result<Vec<Vec<Finding>>, AllocError>
             requires { IsSync R.row × IsSync G.row × IsBatch front.now }
-            ensures { IfOk result (λ found. AreShown credits_shown front.entry.now found.items) }
+            ensures { IfOk result (λ found. AreShown frames_shown front.entry.now found.items) }
         {
             by_halves(
-                &Crew::of(rt, gate, alloc, few, credits_shown, several),
+                &Crew::of(rt, gate, alloc, few, frames_shown, several),
                 front,
             )
         },
         || -> Result<Vec<Vec<Finding>>, AllocError>
             requires { IsSync R.row × IsSync G.row × IsBatch back.now }
-            ensures { IfOk result (λ found. AreShown credits_shown back.entry.now found.items) }
+            ensures { IfOk result (λ found. AreShown frames_shown back.entry.now found.items) }
         {
             by_halves(
-                &Crew::of(rt, gate, alloc, others, credits_shown, several),
+                &Crew::of(rt, gate, alloc, others, frames_shown, several),
                 back,
             )
         },

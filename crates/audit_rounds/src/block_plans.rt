@@ -26,11 +26,11 @@ pub(crate) struct ReadyBlock<'a> {
 }
 
 /// May anything be shown of a block, by what its summary tells? Of a clear block only credits are.
-fn may_show(credits_shown: bool, before: &ConnectionState, sum: &ConnSum) -> bool
+fn may_show(frames_shown: bool, before: &ConnectionState, sum: &ConnSum) -> bool
     ensures { OnFalse result ((items : List ItemTerm) → sum.now ≡ conn_sum_of items
-        → shown credits_shown (block_run before.now items) ≡ []) }
+        → shown frames_shown (block_run before.now items) ≡ []) }
 {
-    credits_shown || !clear(before, sum)
+    frames_shown || !clear(before, sum)
 }
 
 /// The connection before a block: as the last block leaves it, where that is of the same connection.
@@ -47,7 +47,7 @@ fn before_of(last: usize, now: &ConnectionState, one: &ConnectionBlock<'_>) -> C
 /// The blocks of all connections of which anything may be shown.
 pub(crate) fn plan_of<'a>(
     alloc: Global,
-    credits_shown: bool,
+    frames_shown: bool,
     blocks: &[ConnectionBlock<'a>],
     sums: &[ConnSum],
 ) -> Result<Vec<ReadyBlock<'a>>, AllocError>
@@ -56,7 +56,7 @@ pub(crate) fn plan_of<'a>(
     requires fits { AreFit 0 connection_start blocks.now }
     ensures plan { IfOk result (λ plan. (connections : ℕ)
         → All (λ (one : BlockTerm). one.connection < connections) blocks.now
-        → IsPlan credits_shown connections (shown_from credits_shown 0 connection_start blocks.now) plan.items) }
+        → IsPlan frames_shown connections (shown_from frames_shown 0 connection_start blocks.now) plan.items) }
     ensures few { IfOk result (λ plan. length plan.items ≤ length blocks.now) }
 {
     let mut plan = Vec::new(alloc);
@@ -65,7 +65,7 @@ pub(crate) fn plan_of<'a>(
     for at in 0..blocks.len() {
         let one = blocks[at];
         let before = before_of(last, &now, &one);
-        if may_show(credits_shown, &before, &sums[at]) {
+        if may_show(frames_shown, &before, &sums[at]) {
             plan.push(ReadyBlock {
                 connection: one.connection,
                 block: one.block,

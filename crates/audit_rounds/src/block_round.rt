@@ -61,7 +61,7 @@ impl Round for SumRound<'_> {
 #[derive(Drop)]
 pub(crate) struct BlockRound<'a> {
     pub(crate) plan: &'a [ReadyBlock<'a>],
-    pub(crate) credits_shown: bool,
+    pub(crate) frames_shown: bool,
     ghost few: { length plan.now < 2 ^ 32 },
     ghost ready: { AreReady plan.now } by { Prim.hlevel (props, frames-prop, changes-prop, numbers-prop) },
 }
@@ -69,11 +69,11 @@ pub(crate) struct BlockRound<'a> {
 impl Round for BlockRound<'_> {
     type Made = ();
 
-    ghost jobs = { λ round. map (block_job round.credits_shown) round.plan.now };
+    ghost jobs = { λ round. map (block_job round.frames_shown) round.plan.now };
 
     ghost makes = { λ round job upto made. ⊤ };
 
-    ghost looks = { λ round job. BlockLooks round.credits_shown round.plan.now job };
+    ghost looks = { λ round job. BlockLooks round.frames_shown round.plan.now job };
 
     fn count(&self) -> u32 {
         self.plan.len() as u32
@@ -85,7 +85,7 @@ impl Round for BlockRound<'_> {
 
     fn work<L: Look>(&self, alloc: Global, job: u32, look: &mut L) -> Result<Work<()>, AllocError> {
         let ready = &self.plan[job as usize];
-        let run = block_findings(alloc, &ready.before, &ready.block, self.credits_shown, look)?;
+        let run = block_findings(alloc, &ready.before, &ready.block, self.frames_shown, look)?;
         Ok(Work {
             findings: run.findings,
             upto: run.upto,

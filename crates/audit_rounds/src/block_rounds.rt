@@ -62,14 +62,14 @@ fn planned<'a, R: Threads + Sync, G: Gate>(
     requires whole { All IsBlock connections.now }
     requires fits { All (BlockFits connection_start) (wholes connections.now) }
     requires few { RestsAreFew connections.now }
-    ensures plan { IfOk result (λ plan. IsPlan crew.now.credits_shown (length connections.now)
-        (shown_at crew.now.credits_shown 0 (wholes connections.now)) plan.items) }
+    ensures plan { IfOk result (λ plan. IsPlan crew.now.frames_shown (length connections.now)
+        (shown_at crew.now.frames_shown 0 (wholes connections.now)) plan.items) }
     ensures few { IfOk result (λ plan. length plan.items < 2 ^ 32) }
 {
     let blocks = in_blocks(crew.alloc, crew.division.block as usize, connections)?;
     let blocks = blocks.as_slice();
     let sums = sums_of(crew, stops, blocks)?;
-    plan_of(crew.alloc, crew.credits_shown, blocks, sums.as_slice())
+    plan_of(crew.alloc, crew.frames_shown, blocks, sums.as_slice())
 }
 
 /// What was found of each connection, and what its blocks show, up to where it is known to stop.
@@ -81,12 +81,12 @@ pub(crate) fn rounds_over_blocks<R: Threads + Sync, G: Gate>(
 ) -> Result<Vec<Vec<Finding>>, AllocError>
     requires few { RestsAreFew connections.now }
     requires remaining { AreRemaining connections.now stops.now found.items }
-    ensures { IfOk result (λ last. AreGoneThrough crew.now.credits_shown connections.now found.items last.items) }
+    ensures { IfOk result (λ last. AreGoneThrough crew.now.frames_shown connections.now found.items last.items) }
 {
     let plan = planned(crew, stops, connections)?;
     let round = BlockRound {
         plan: plan.as_slice(),
-        credits_shown: crew.credits_shown,
+        frames_shown: crew.frames_shown,
     };
     let settled = settle(&crew.team(), AuditRound::Blocks, stops, &round)?;
     let none = none_of_each(crew.alloc, connections.len())?;

@@ -24,9 +24,9 @@ pub(crate) fn findings_of_prepared<R: Threads + Sync, G: Gate>(
     connections: &[Prepared<'_>],
     found: Vec<Vec<Finding>>,
 ) -> Result<Vec<Vec<Finding>>, AllocError>
-    requires { AreReady crew.now.credits_shown connections.now found.items }
+    requires { AreReady crew.now.frames_shown connections.now found.items }
     ensures { IfOk result (λ found. map (λ one. one.items) found.items
-        ≡ map (λ one. shown crew.now.credits_shown (pass one.frames.now)) connections.now) }
+        ≡ map (λ one. shown crew.now.frames_shown (pass one.frames.now)) connections.now) }
 {
     let after = round_over_streams(crew, connections, found)?;
     let AfterStreams {

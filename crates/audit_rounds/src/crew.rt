@@ -18,7 +18,7 @@ pub(crate) struct Crew<'a, R: Threads + Sync, G: Gate> {
     pub(crate) gate: &'a G,
     pub(crate) alloc: Global,
     pub(crate) division: Division,
-    pub(crate) credits_shown: bool,
+    pub(crate) frames_shown: bool,
     /// Do several work side by side on all connections, of whom this may be one?
     pub(crate) is_of_several: bool,
 }
@@ -31,18 +31,18 @@ impl<'a, R: Threads + Sync, G: Gate> Crew<'a, R, G> {
         gate: &'a G,
         alloc: Global,
         division: Division,
-        credits_shown: bool,
+        frames_shown: bool,
         is_of_several: bool,
     ) -> Crew<'a, R, G>
         ensures division { result.division ≡ division }
-        ensures credits_shown { result.credits_shown ≡ credits_shown }
+        ensures frames_shown { result.frames_shown ≡ frames_shown }
     {
         Crew {
             rt,
             gate,
             alloc,
             division,
-            credits_shown,
+            frames_shown,
             is_of_several,
         }
     }

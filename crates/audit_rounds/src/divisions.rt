@@ -73,15 +73,15 @@ pub fn findings_of_each<R: Threads + Sync, G: Gate>(
     alloc: Global,
     division: &Division,
     gate: &G,
-    credits_shown: bool,
+    frames_shown: bool,
     connections: &[&[Frame]],
 ) -> Result<Vec<Vec<Finding>>, AllocError>
     requires { All (λ frames. IsOrderly frames.now) connections.now }
     ensures { IfOk result (λ found. map (λ one. one.items) found.items
-        ≡ map (λ frames. shown credits_shown (pass frames.now)) connections.now) }
+        ≡ map (λ frames. shown frames_shown (pass frames.now)) connections.now) }
 {
     let several = 1 < division.workers;
-    let crew = Crew::of(rt, gate, alloc, *division, credits_shown, several);
+    let crew = Crew::of(rt, gate, alloc, *division, frames_shown, several);
     let mut all = Vec::with_capacity(alloc, connections.len())?;
     let mut done = 0;
     while done < connections.len() {

@@ -40,7 +40,7 @@ pub(crate) struct MadeReady<'a> {
 impl<'a> MadeReady<'a> {
     /// None so far, with room for so many.
     fn with_capacity(alloc: Global, connections: usize) -> Result<MadeReady<'a>, AllocError>
-        ensures { IfOk result (λ made. (credits_shown : Bool) → AreMadeReady credits_shown [] made) }
+        ensures { IfOk result (λ made. (frames_shown : Bool) → AreMadeReady frames_shown [] made) }
     {
         let prepared = Vec::with_capacity(alloc, connections)?;
         let found = Vec::with_capacity(alloc, connections)?;
@@ -59,18 +59,18 @@ fn faults_and_split<R: Threads + Sync, G: Gate>(
 )
     requires frames { AreForSplit frames.now changes.now }
     ensures faults { IfOk result.0 (λ found. found.items ≡ local_run frames.now) }
-    ensures split { IfOk result.1 (IsSplit crew.now.credits_shown changes.now frames.now) }
+    ensures split { IfOk result.1 (IsSplit crew.now.frames_shown changes.now frames.now) }
 {
-    let (rt, alloc, hash, credits_shown) = (
+    let (rt, alloc, hash, frames_shown) = (
         crew.rt,
         crew.alloc,
         crew.division.hash,
-        crew.credits_shown,
+        crew.frames_shown,
     );
     if crew.division.workers == 1 || frames.len() < LONG {
         return (
             local_faults(rt, alloc, 1, frames),
-            split(alloc, hash, credits_shown, changes, frames),
+            split(alloc, hash, frames_shown, changes, frames),
         );
     }
     let others = crew.division.workers as usize - 1;
@@ -82,8 +82,8 @@ fn faults_and_split<R: Threads + Sync, G: Gate>(
         { local_faults(rt, alloc, others, frames) },
         || -> Result<SplitFrames, AllocError>
             requires { AreForSplit frames.now changes.now }
-            ensures { IfOk result (IsSplit credits_shown changes.entry.now frames.entry.now) }
-        { split(alloc, hash, credits_shown, changes, frames) },
+            ensures { IfOk result (IsSplit frames_shown changes.entry.now frames.entry.now) }
+        { split(alloc, hash, frames_shown, changes, frames) },
     )
 }
 
@@ -117,7 +117,7 @@ fn prepare<'a, R: Threads + Sync, G: Gate>(
     frames: &'a [Frame],
 ) -> Result<(), AllocError>
     requires { IsOrderly frames.now }
-    ensures { OnOk result (AddsReady crew.now.credits_shown frames.entry made.old made.new) }
+    ensures { OnOk result (AddsReady crew.now.frames_shown frames.entry made.old made.new) }
 {
     let pairs = pair(crew.alloc, frames)?;
     let (found, split) = faults_and_split(crew, pairs.changes.as_slice(), frames);
@@ -146,7 +146,7 @@ fn prepare_in_turn<'a, R: Threads + Sync, G: Gate>(
     connections: &[&'a [Frame]],
 ) -> Result<MadeReady<'a>, AllocError>
     requires { IsBatch connections.now }
-    ensures { IfOk result (AreMadeReady crew.now.credits_shown connections.now) }
+    ensures { IfOk result (AreMadeReady crew.now.frames_shown connections.now) }
 {
     let mut made = MadeReady::with_capacity(crew.alloc, connections.len())?;
     for frames in connections {
@@ -162,14 +162,14 @@ pub(crate) fn prepare_each<'a, R: Threads + Sync, G: Gate>(
     connections: &[&'a [Frame]],
 ) -> Result<MadeReady<'a>, AllocError>
     requires { IsBatch connections.now }
-    ensures { IfOk result (AreMadeReady crew.now.credits_shown connections.now) }
+    ensures { IfOk result (AreMadeReady crew.now.frames_shown connections.now) }
 {
     let workers = crew.division.workers;
     if workers == 1 || connections.len() < 2 {
         return prepare_in_turn(crew, connections);
     }
     let (front, back) = in_halves(connections);
-    let (rt, gate, alloc, credits_shown) = (crew.rt, crew.gate, crew.alloc, crew.credits_shown);
+    let (rt, gate, alloc, frames_shown) = (crew.rt, crew.gate, crew.alloc, crew.frames_shown);
     let several = crew.is_of_several;
     let few = crew.division.with_workers(workers / 2);
     let others = crew.division.with_workers(workers - workers / 2);
@@ -177,19 +177,19 @@ pub(crate) fn prepare_each<'a, R: Threads + Sync, G: Gate>(
         rt,
         || -> Result<MadeReady<'_>, AllocError>
             requires { IsSync R.row × IsSync G.row × IsBatch front.now }
-            ensures { IfOk result (AreMadeReady credits_shown front.entry.now) }
+            ensures { IfOk result (AreMadeReady frames_shown front.entry.now) }
         {
             prepare_each(
-                &Crew::of(rt, gate, alloc, few, credits_shown, several),
+                &Crew::of(rt, gate, alloc, few, frames_shown, several),
                 front,
             )
         },
         || -> Result<MadeReady<'_>, AllocError>
             requires { IsSync R.row × IsSync G.row × IsBatch back.now }
-            ensures { IfOk result (AreMadeReady credits_shown back.entry.now) }
+            ensures { IfOk result (AreMadeReady frames_shown back.entry.now) }
         {
             prepare_each(
-                &Crew::of(rt, gate, alloc, others, credits_shown, several),
+                &Crew::of(rt, gate, alloc, others, frames_shown, several),
                 back,
             )
         },

@@ -69,7 +69,7 @@ pub(crate) fn stream_plan(
 pub(crate) struct StreamsRound<'a> {
     pub(crate) connections: &'a [Streams<'a>],
     pub(crate) plan: &'a [StreamJob],
-    pub(crate) credits_shown: bool,
+    pub(crate) frames_shown: bool,
     ghost ready: { All IsReady connections.now } by { Prim.hlevel (props, frames-prop, changes-prop) },
     ghost planned: { All (IsJobOf connections.now) plan.now },
     ghost counted: { length plan.now < 2 ^ 32 },
@@ -79,11 +79,11 @@ impl Round for StreamsRound<'_> {
     /// The numbers of the frames that open the streams.
     type Made = Vec<u32>;
 
-    ghost jobs = { λ round. map (job_of round.credits_shown round.connections.now) round.plan.now };
+    ghost jobs = { λ round. map (job_of round.frames_shown round.connections.now) round.plan.now };
 
     ghost makes = { λ round job upto made. Makes round.connections.now round.plan.now job upto made.items };
 
-    ghost looks = { λ round job. JobLooks round.credits_shown round.connections.now round.plan.now job };
+    ghost looks = { λ round job. JobLooks round.frames_shown round.connections.now round.plan.now job };
 
     fn count(&self) -> u32 {
         self.plan.len() as u32
@@ -102,6 +102,6 @@ impl Round for StreamsRound<'_> {
         let job = &self.plan[job as usize];
         let streams = &self.connections[job.connection];
         let rows = &streams.split.rows[job.from..job.to];
-        run_of_rows(alloc, streams, rows, self.credits_shown, look)
+        run_of_rows(alloc, streams, rows, self.frames_shown, look)
     }
 }

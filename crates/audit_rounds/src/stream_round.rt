@@ -39,13 +39,13 @@ fn settled_streams<R: Threads + Sync, G: Gate>(
     requires few { RowsAreFew streams.now }
     requires number { length stops.now ≡ length streams.now }
     requires places { All IsStop stops.now }
-    ensures { IfOk result (HaveSettled crew.now.credits_shown crew.now.division.groups streams.now stops.now) }
+    ensures { IfOk result (HaveSettled crew.now.frames_shown crew.now.division.groups streams.now stops.now) }
 {
     let plan = stream_plan(crew.alloc, crew.division.groups as usize, streams)?;
     let round = StreamsRound {
         connections: streams,
         plan: plan.as_slice(),
-        credits_shown: crew.credits_shown,
+        frames_shown: crew.frames_shown,
     };
     settle(&crew.team(), AuditRound::Streams, stops, &round)
 }
@@ -56,8 +56,8 @@ fn settled_over<R: Threads + Sync, G: Gate>(
     connections: &[Prepared<'_>],
     found: &[Vec<Finding>],
 ) -> Result<Settled<Vec<u32>>, AllocError>
-    requires { AreReady crew.now.credits_shown connections.now found.now }
-    ensures { IfOk result (λ settled. HaveSettledOver crew.now.credits_shown crew.now.division.groups connections.now
+    requires { AreReady crew.now.frames_shown connections.now found.now }
+    ensures { IfOk result (λ settled. HaveSettledOver crew.now.frames_shown crew.now.division.groups connections.now
         found.now settled) }
 {
     let stops = opening_stops(crew.alloc, found)?;
@@ -71,8 +71,8 @@ pub(crate) fn round_over_streams<R: Threads + Sync, G: Gate>(
     connections: &[Prepared<'_>],
     found: Vec<Vec<Finding>>,
 ) -> Result<AfterStreams, AllocError>
-    requires { AreReady crew.now.credits_shown connections.now found.items }
-    ensures { IfOk result (λ after. AreAfterStreams crew.now.credits_shown connections.now after.found.items
+    requires { AreReady crew.now.frames_shown connections.now found.items }
+    ensures { IfOk result (λ after. AreAfterStreams crew.now.frames_shown connections.now after.found.items
         after.stops.items after.opened.items) }
 {
     let settled = settled_over(crew, connections, found.as_slice())?;

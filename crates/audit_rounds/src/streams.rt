@@ -25,13 +25,13 @@ fn run_of_row<L: Look>(
     alloc: Global,
     streams: &Streams<'_>,
     row: &StreamRow,
-    credits_shown: bool,
+    frames_shown: bool,
     look: &mut L,
 ) -> Result<StreamRun, AllocError>
     requires changes { AreOrderly streams.now.changes }
     requires row { IsRow streams.now row.now }
-    ensures { IfOk result (λ run. IsWork L.answers (RowLooks credits_shown streams.now row.now) look.old look.new
-        (row_shown credits_shown streams.now row.now) (option_to_list (row_opened streams.now row.now)) run.upto
+    ensures { IfOk result (λ run. IsWork L.answers (RowLooks frames_shown streams.now row.now) look.old look.new
+        (row_shown frames_shown streams.now row.now) (option_to_list (row_opened streams.now row.now)) run.upto
         run.findings.items (option_to_list run.opened_at)) }
 {
     let own = StreamPart {
@@ -39,7 +39,7 @@ fn run_of_row<L: Look>(
         frames: streams.frames,
         positions: streams.split.positions_of(row),
     };
-    stream_run(alloc, &own, &streams.changes, credits_shown, look)
+    stream_run(alloc, &own, &streams.changes, frames_shown, look)
 }
 
 /// The lesser of two places up to which runs went.
@@ -72,13 +72,13 @@ pub fn run_of_rows<L: Look>(
     alloc: Global,
     streams: &Streams<'_>,
     rows: &[StreamRow],
-    credits_shown: bool,
+    frames_shown: bool,
     look: &mut L,
 ) -> Result<Work<Vec<u32>>, AllocError>
     requires changes { AreOrderly streams.now.changes }
     requires rows { All (IsRow streams.now) rows.now }
-    ensures { IfOk result (λ work. IsWork L.answers (RowsLook credits_shown streams.now rows.now) look.old look.new
-        (rows_shown credits_shown streams.now rows.now) (rows_opened streams.now rows.now) work.upto
+    ensures { IfOk result (λ work. IsWork L.answers (RowsLook frames_shown streams.now rows.now) look.old look.new
+        (rows_shown frames_shown streams.now rows.now) (rows_opened streams.now rows.now) work.upto
         work.findings.items work.made.items) }
 {
     let mut work = Work {
@@ -87,7 +87,7 @@ pub fn run_of_rows<L: Look>(
         made: Vec::new(alloc),
     };
     for row in rows {
-        let run = run_of_row(alloc, streams, row, credits_shown, look)?;
+        let run = run_of_row(alloc, streams, row, frames_shown, look)?;
         add(&mut work, run)?;
     }
     put_in_order(&mut work.findings)?;

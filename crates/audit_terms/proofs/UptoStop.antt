@@ -31,12 +31,12 @@ error-no-credit ConnectionCredit e = cc
 error-no-credit StreamCredit e = cc
 error-no-credit _ e = refl
 
-stopping-shown : (credits_shown : Bool) (x : Finding) → stops x ≡ true → is_shown credits_shown x ≡ true
+stopping-shown : (frames_shown : Bool) (x : Finding) → stops x ≡ true → is_shown frames_shown x ≡ true
 stopping-shown true x e = refl
 stopping-shown false x e = ap not (error-no-credit x.kind e)
 
 -- the front of what is shown is what is shown of the front
-pub upto_stop-shown : (credits_shown : Bool) (xs : List Finding) →
-    upto_stop (shown credits_shown xs) ≡ shown credits_shown (upto_stop xs)
-upto_stop-shown credits_shown [] = refl
-upto_stop-shown credits_shown (x ∷ xs) = grind (arith, upto_stop-shown credits_shown xs, stopping-shown)
+pub upto_stop-shown : (frames_shown : Bool) (xs : List Finding) →
+    upto_stop (shown frames_shown xs) ≡ shown frames_shown (upto_stop xs)
+upto_stop-shown frames_shown [] = refl
+upto_stop-shown frames_shown (x ∷ xs) = grind (arith, upto_stop-shown frames_shown xs, stopping-shown)

@@ -54,9 +54,9 @@ upto_stop [] = []
 upto_stop (x ∷ xs) = if stops x then x ∷ [] else x ∷ upto_stop xs
 
 -- is it shown, where credits are shown or are not?
-abbrev pub is_shown : (credits_shown : Bool) → Finding → Bool
-is_shown credits_shown found = credits_shown || not (is_credit found.kind)
+abbrev pub is_shown : (frames_shown : Bool) → Finding → Bool
+is_shown frames_shown found = frames_shown || not (is_credit found.kind)
 
 -- the findings that are shown
-abbrev pub shown : (credits_shown : Bool) → List Finding → List Finding
-shown credits_shown found = filter (is_shown credits_shown) found
+abbrev pub shown : (frames_shown : Bool) → List Finding → List Finding
+shown frames_shown found = filter (is_shown frames_shown) found

@@ -45,10 +45,10 @@ impl Finding {
     }
 
     /// Is it shown, where credits are shown or are not?
-    pub(crate) fn is_shown(&self, credits_shown: bool) -> bool
-        ensures { result ≡ is_shown credits_shown self.now }
+    pub(crate) fn is_shown(&self, frames_shown: bool) -> bool
+        ensures { result ≡ is_shown frames_shown self.now }
     {
-        credits_shown || !self.kind.is_credit()
+        frames_shown || !self.kind.is_credit()
     }
 
     /// The order of findings: by place, then the client before the server, then by kind and value.
@@ -117,13 +117,13 @@ pub fn cut_at_stop(found: &mut Vec<Finding>)
 }
 
 /// Drops the credits, unless they are shown.
-pub fn keep_shown(found: &mut Vec<Finding>, credits_shown: bool)
-    ensures { found.new.items ≡ shown credits_shown found.old.items }
+pub fn keep_shown(found: &mut Vec<Finding>, frames_shown: bool)
+    ensures { found.new.items ≡ shown frames_shown found.old.items }
 {
     found.retain(
         |one| -> bool
-            ensures { result ≡ is_shown credits_shown one.now }
-        { one.is_shown(credits_shown) },
+            ensures { result ≡ is_shown frames_shown one.now }
+        { one.is_shown(frames_shown) },
     );
 }
 

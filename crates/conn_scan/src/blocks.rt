@@ -39,14 +39,14 @@ pub fn block_findings<L: Look>(
     alloc: Global,
     before: &ConnectionState,
     block: &Block,
-    credits_shown: bool,
+    frames_shown: bool,
     look: &mut L,
 ) -> Result<BlockRun, AllocError>
     requires block { IsBlock block.now }
     requires fits { BlockFits before.now (items_in block.now) }
     ensures run { IfOk result (λ run. IsRun L.answers look.old look.new
         (map (λ (frame : FrameTerm). frame.number) block.now.frames.now)
-        (shown credits_shown (block_run before.now (items_in block.now)))
+        (shown frames_shown (block_run before.now (items_in block.now)))
         run.findings.items run.upto run.last_look run.looks) }
     ensures numbered { IfOk result (λ run.
         All (λ (found : FindingTerm). place_number found.place ≤ 2 ^ 28 - 2) run.findings.items) }
@@ -65,7 +65,7 @@ pub fn block_findings<L: Look>(
                 looks: watch.looks,
             });
         }
-        add_item(&mut findings, &mut said, &mut state, &item, credits_shown)?;
+        add_item(&mut findings, &mut said, &mut state, &item, frames_shown)?;
     }
     Ok(BlockRun {
         findings,
@@ -90,18 +90,18 @@ fn add_item(
     said: &mut Vec<Finding>,
     state: &mut ConnectionState,
     item: &Item,
-    credits_shown: bool,
+    frames_shown: bool,
 ) -> Result<(), AllocError>
     requires frame { IsInRange item.now.frame }
     requires room { HaveRoom (2 ^ 60) state.old.credit }
     ensures found { OnOk result (found.new.items
-        ≡ found.old.items ++ shown credits_shown (in_order (connection_said state.old item.now))) }
+        ≡ found.old.items ++ shown frames_shown (in_order (connection_said state.old item.now))) }
     ensures after { OnOk result (state.new ≡ connection_after state.old item.now) }
     ensures little { HaveMovedLittle state.old.credit state.new.credit }
 {
     said.clear();
     say_connection(said, state, item)?;
     put_in_order(said)?;
-    keep_shown(said, credits_shown);
+    keep_shown(said, frames_shown);
     found.extend_from_slice(said.as_slice())
 }

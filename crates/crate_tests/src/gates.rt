@@ -33,17 +33,17 @@ fn has_jobs(
 fn have_jobs(
     rt: &(impl Sync + Threads + RandomSource),
     alloc: Global,
-    (groups, block, credits_shown): (u32, u32, bool),
+    (groups, block, frames_shown): (u32, u32, bool),
     capture: &Capture,
     want: [u32; 4],
 ) -> bool {
-    let alone = if credits_shown {
+    let alone = if frames_shown {
         [want[0], 0, 0, 0]
     } else {
         want
     };
     for (workers, want) in [(1, alone), (2, want), (64, want)] {
-        let options = Options::of(workers, groups, block, credits_shown);
+        let options = Options::of(workers, groups, block, frames_shown);
         if !has_jobs(rt, alloc, options, 0, capture, want) {
             return false;
         }

@@ -114,11 +114,11 @@ fn shows_the_pass(rt: &(impl Sync + Threads), alloc: Global, frames: &[Frame]) -
         return Ok(false);
     }
     let mut want = one_pass(alloc, frames)?;
-    for credits_shown in [true, false] {
-        keep_shown(&mut want, credits_shown);
+    for frames_shown in [true, false] {
+        keep_shown(&mut want, frames_shown);
         for division in [divided(1, 1, 4096), divided(2, 2, 1), divided(4, 3, 7)] {
             let gate = TestGate::holding(0);
-            let found = findings_of_each(rt, alloc, &division, &gate, credits_shown, &[frames])?;
+            let found = findings_of_each(rt, alloc, &division, &gate, frames_shown, &[frames])?;
             if found.len() != 1 || found[0].as_slice() != want.as_slice() {
                 return Ok(false);
             }

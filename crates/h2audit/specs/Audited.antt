@@ -38,23 +38,23 @@ IsFlowOf capture packets connection side flow =
 
 -- what is found in the frames of an HTTP/2 connection: what one pass over them says, up to the first connection error,
 -- without the credits where they are not shown
-abbrev pub findings_of : (credits_shown : Bool) → Cut → List Finding
-findings_of credits_shown (Http2 frames tails) = shown credits_shown (pass frames.items)
-findings_of credits_shown _ = []
+abbrev pub findings_of : (frames_shown : Bool) → Cut → List Finding
+findings_of frames_shown (Http2 frames tails) = shown frames_shown (pass frames.items)
+findings_of frames_shown _ = []
 
 -- the audit of a connection: the extents of its two flows, what these hold, and what is found in the frames
-pub record IsAudited (credits_shown : Bool) (capture : List ℕ) (packets : List Packet) (connection : Connection)
+pub record IsAudited (frames_shown : Bool) (capture : List ℕ) (packets : List Packet) (connection : Connection)
     (audited : Audited) : Type 0 where
   pub flows : Sides Flow
   pub client : IsFlowOf capture packets connection Client flows.client
   pub server : IsFlowOf capture packets connection Server flows.server
   pub extents : audited.extents ≡ extents_of flows.client flows.server
   pub cut : IsCut flows.client flows.server audited.cut
-  pub findings : audited.findings.items ≡ findings_of credits_shown audited.cut
+  pub findings : audited.findings.items ≡ findings_of frames_shown audited.cut
 
 -- each connection's audit, in order
-abbrev pub AreAudited : (credits_shown : Bool) → List ℕ → List Packet → List Connection → List Audited → Type 0
-AreAudited credits_shown capture packets = AllZip (IsAudited credits_shown capture packets)
+abbrev pub AreAudited : (frames_shown : Bool) → List ℕ → List Packet → List Connection → List Audited → Type 0
+AreAudited frames_shown capture packets = AllZip (IsAudited frames_shown capture packets)
 
 -- some finding is a breach of a rule
 abbrev pub has_fault : Audited → Bool

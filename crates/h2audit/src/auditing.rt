@@ -104,12 +104,12 @@ fn audit_records<R: Threads + Sync, G: Gate>(
     ensures { IfOk result (λ r. IsReport capture.now options.now.frames_shown r.0.items r.1) }
 {
     // `--frames` asks for credit lines. From here on the word is what they are.
-    let credits_shown = options.frames_shown();
+    let frames_shown = options.frames_shown();
     let Connections { opened, strays } = connections;
     // From here on there are no packets and strays, whose memory frames may take.
     let (lines, parts) = lines_and_flows(
         team,
-        credits_shown,
+        frames_shown,
         capture,
         found,
         strays,
@@ -125,7 +125,7 @@ fn audit_records<R: Threads + Sync, G: Gate>(
     };
     report_parts(
         team,
-        credits_shown,
+        frames_shown,
         &division,
         lines,
         headings.as_slice(),
@@ -137,7 +137,7 @@ fn audit_records<R: Threads + Sync, G: Gate>(
 /// hold.
 fn report_parts<R: Threads + Sync, G: Gate>(
     team: &Team<'_, R, G>,
-    credits_shown: bool,
+    frames_shown: bool,
     division: &Division,
     lines: Vec<u8>,
     headings: &[Heading],
@@ -145,19 +145,19 @@ fn report_parts<R: Threads + Sync, G: Gate>(
 ) -> Result<(Vec<u8>, Verdict), AllocError>
     requires each { length parts.items ≡ length headings.now }
     requires orderly { All (λ (part : PartTerm ToldTerm). HasOrderlyOutcome part.made.outcome) parts.items }
-    ensures { IfOk result (λ r. AreTold credits_shown lines.items headings.now parts.items r.0.items r.1) }
+    ensures { IfOk result (λ r. AreTold frames_shown lines.items headings.now parts.items r.0.items r.1) }
 {
-    if credits_shown && team.workers == 1 {
-        return report_in_turn(team, credits_shown, division, lines, headings, parts);
+    if frames_shown && team.workers == 1 {
+        return report_in_turn(team, frames_shown, division, lines, headings, parts);
     }
-    let told = audit_each(team, credits_shown, division, parts)?;
-    report_told(team, credits_shown, lines, headings, told.as_slice())
+    let told = audit_each(team, frames_shown, division, parts)?;
+    report_told(team, frames_shown, lines, headings, told.as_slice())
 }
 
 /// The lines of a capture, and what the flows of its connections hold. Packets and strays are gone when it answers.
 fn lines_and_flows<R: Threads + Sync, G: Gate>(
     team: &Team<'_, R, G>,
-    credits_shown: bool,
+    frames_shown: bool,
     capture: &Capture<'_>,
     found: CapturePackets,
     strays: Vec<Stray>,
@@ -166,13 +166,13 @@ fn lines_and_flows<R: Threads + Sync, G: Gate>(
     requires few { length opened.now < 2 ^ 32 }
     requires sources { All (AreSources capture.now (packets_in found)) opened.now }
     ensures lines { IfOk result (λ r. AreLinesOf (packets_in found) found.cut strays.items r.0.items) }
-    ensures flows { IfOk result (λ r. AreToldFlows credits_shown capture.now (packets_in found) opened.now r.1.items) }
+    ensures flows { IfOk result (λ r. AreToldFlows frames_shown capture.now (packets_in found) opened.now r.1.items) }
 {
     let packets = Packets::of(team.alloc, &found.packets)?;
     let lines = capture_lines(team.alloc, found.cut, &packets, strays)?;
     with_flows(
         lines,
-        flows_each(team, credits_shown, capture, &packets, opened),
+        flows_each(team, frames_shown, capture, &packets, opened),
     )
 }
 
@@ -192,19 +192,19 @@ fn with_flows(
 /// The report of connections of which this is told, behind the lines of the capture, and its verdict.
 fn report_told<R: Threads + Sync, G: Gate>(
     team: &Team<'_, R, G>,
-    credits_shown: bool,
+    frames_shown: bool,
     lines: Vec<u8>,
     headings: &[Heading],
     told: &[Told],
 ) -> Result<(Vec<u8>, Verdict), AllocError>
     requires each { length told.now ≡ length headings.now }
     requires orderly { All (λ (one : ToldTerm). HasOrderlyOutcome one.outcome) told.now }
-    ensures { IfOk result (λ r. IsToldBehind credits_shown lines.items headings.now told.now r.0.items r.1) }
+    ensures { IfOk result (λ r. IsToldBehind frames_shown lines.items headings.now told.now r.0.items r.1) }
 {
     let telling = Telling {
         alloc: team.alloc,
         workers: team.workers,
-        frames_shown: credits_shown,
+        frames_shown,
     };
     let text = report(team.rt, telling, lines, headings, told)?;
     Ok((text, verdict_on(told)))

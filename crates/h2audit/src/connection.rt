@@ -34,21 +34,21 @@ const WORTH_SHARING: usize = 4;
 /// What the flows of each connection hold, in order.
 pub(crate) fn flows_each<R: Threads + Sync, G: Gate>(
     team: &Team<'_, R, G>,
-    credits_shown: bool,
+    frames_shown: bool,
     capture: &Capture<'_>,
     packets: &Packets<'_>,
     opened: &[Connection],
 ) -> Result<Vec<Part<Told>>, AllocError>
     requires few { length opened.now < 2 ^ 32 }
     requires sources { All (AreSources capture.now packets.now) opened.now }
-    ensures { IfOk result (λ parts. AreToldFlows credits_shown capture.now packets.now opened.now parts.items) }
+    ensures { IfOk result (λ parts. AreToldFlows frames_shown capture.now packets.now opened.now parts.items) }
 {
     let mut stops: Vec<Option<Place>> = Vec::new(team.alloc);
     stops.resize(opened.len(), None)?;
     let round = FlowRound {
         rt: team.rt,
         threads: team.workers as usize / opened.len().max(1),
-        credits_shown,
+        frames_shown,
         capture,
         packets,
         opened,
@@ -75,12 +75,12 @@ fn sharers(workers: u32, packets: usize, opened: usize) -> u32
 /// What is told of each connection, in order: what its flows hold, with what is found in the frames that are kept.
 pub(crate) fn audit_each<R: Threads + Sync, G: Gate>(
     team: &Team<'_, R, G>,
-    credits_shown: bool,
+    frames_shown: bool,
     division: &Division,
     parts: Vec<Part<Told>>,
 ) -> Result<Vec<Told>, AllocError>
     requires { All (λ (part : Part Told). HasOrderlyOutcome part.made.outcome) parts.items }
-    ensures { IfOk result (λ told. AreFound credits_shown parts.items told.items) }
+    ensures { IfOk result (λ told. AreFound frames_shown parts.items told.items) }
 {
     let found = {
         let kept = kept_in(team.alloc, parts.as_slice())?;
@@ -89,7 +89,7 @@ pub(crate) fn audit_each<R: Threads + Sync, G: Gate>(
             team.alloc,
             division,
             team.gate,
-            credits_shown,
+            frames_shown,
             kept.as_slice(),
         )?
     };

@@ -92,7 +92,7 @@ pub(crate) struct FlowRound<'a, R: Threads + Sync> {
     /// How many threads there are for each connection: two make its flows.
     pub(crate) threads: usize,
     /// Are credits shown? Then all frames are kept.
-    pub(crate) credits_shown: bool,
+    pub(crate) frames_shown: bool,
     pub(crate) capture: &'a Capture<'a>,
     pub(crate) packets: &'a Packets<'a>,
     pub(crate) opened: &'a [Connection],
@@ -104,14 +104,14 @@ impl<'a, R: Threads + Sync> Model for FlowRound<'a, R> {
     ghost Value = { FlowView };
 
     ghost view = { λ r. record {
-      credits_shown = r.credits_shown;
+      frames_shown = r.frames_shown;
       capture = r.capture.now;
       packets = r.packets.now;
       opened = r.opened.now;
     } };
 
     ghost invariant = { λ r. IsFlowView (record {
-      credits_shown = r.credits_shown;
+      frames_shown = r.frames_shown;
       capture = r.capture.now;
       packets = r.packets.now;
       opened = r.opened.now;
@@ -128,7 +128,7 @@ impl<R: Threads + Sync> Round for FlowRound<'_, R> {
     ghost jobs = { λ s. flow_jobs s.opened };
 
     ghost makes = { λ s job upto made. (connection : Connection) → slice_get s.opened job ≡ Some connection
-        → IsToldFlows s.credits_shown s.capture s.packets connection made };
+        → IsToldFlows s.frames_shown s.capture s.packets connection made };
 
     ghost looks = { λ s job asked upto. asked ≡ [] };
 
@@ -152,7 +152,7 @@ impl<R: Threads + Sync> Round for FlowRound<'_, R> {
             packets: self.packets,
             connection: &self.opened[job as usize],
         };
-        let made = told_from(self.rt, self.threads, self.credits_shown, &sources)?;
+        let made = told_from(self.rt, self.threads, self.frames_shown, &sources)?;
         Ok(Work {
             findings: Vec::new(alloc),
             upto: None,
@@ -165,11 +165,11 @@ impl<R: Threads + Sync> Round for FlowRound<'_, R> {
 fn told_from<R: Threads>(
     rt: &R,
     threads: usize,
-    credits_shown: bool,
+    frames_shown: bool,
     sources: &Sources<'_, '_>,
 ) -> Result<Told, AllocError>
     requires { AreSources sources.now.capture.now sources.now.packets.now sources.now.connection.now }
-    ensures { IfOk result (IsToldFlows credits_shown sources.now.capture.now sources.now.packets.now
+    ensures { IfOk result (IsToldFlows frames_shown sources.now.capture.now sources.now.packets.now
         sources.now.connection.now) }
 {
     let (client, server) = both(rt, threads, sources);
@@ -177,7 +177,7 @@ fn told_from<R: Threads>(
     let server = server?;
     // Of the flows the report needs their reach alone.
     let reach = Reach::of_both(&client, &server);
-    match outcome_of(rt, sources.alloc, threads, credits_shown, &client, &server) {
+    match outcome_of(rt, sources.alloc, threads, frames_shown, &client, &server) {
         Ok(outcome) => Ok(Told { reach, outcome }),
         Err(error) => Err(error),
     }
@@ -188,14 +188,14 @@ fn outcome_of<R: Threads>(
     rt: &R,
     alloc: Global,
     threads: usize,
-    credits_shown: bool,
+    frames_shown: bool,
     client: &Flow,
     server: &Flow,
 ) -> Result<Outcome, AllocError>
     requires { AreFlowsOfOne client.now server.now }
-    ensures { IfOk result (IsHeldBy credits_shown client.now server.now) }
+    ensures { IfOk result (IsHeldBy frames_shown client.now server.now) }
 {
-    if !credits_shown {
+    if !frames_shown {
         if let Some(quiet) = quiet_connection(rt, alloc, threads, client, server)? {
             return Ok(Outcome::Quiet(quiet));
         }

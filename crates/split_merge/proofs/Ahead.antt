@@ -149,15 +149,15 @@ module _ {changes : List Change} {all : List Frame} where
 -- ---- after the last frame
 
 -- so many streams have met the changes behind their last frames
-pub record IsPartEnded (credits_shown : Bool) (changes : List Change) (all : List Frame) (streams : List ℕ)
+pub record IsPartEnded (frames_shown : Bool) (changes : List Change) (all : List Frame) (streams : List ℕ)
     (quiets : List QuietStream) (many : ℕ) : Type 0 where
   pub long : length quiets ≡ length streams
-  pub ends_quiet : AllZip (EndsQuietOf credits_shown changes all) (take many streams) (take many quiets)
+  pub ends_quiet : AllZip (EndsQuietOf frames_shown changes all) (take many streams) (take many quiets)
   pub ahead : AllZip (IsAheadOf changes all (λ _. [])) (drop many streams) (drop many quiets)
 
-module _ {credits_shown : Bool} {changes : List Change} {all : List Frame} {streams : List ℕ}
+module _ {frames_shown : Bool} {changes : List Change} {all : List Frame} {streams : List ℕ}
     {quiets : List QuietStream} {many : ℕ} (s : ℕ) (at : slice_get streams many ≡ Some s)
-    (h : IsPartEnded credits_shown changes all streams quiets many) (d : QuietStream) where
+    (h : IsPartEnded frames_shown changes all streams quiets many) (d : QuietStream) where
   within : many < length streams
   within = slice_get_within streams many s at
 
@@ -172,14 +172,14 @@ module _ {credits_shown : Bool} {changes : List Change} {all : List Frame} {stre
   pub ended-next : IsAheadOf changes all (λ _. []) s (get_or quiets many d)
   ended-next = both.0
 
-  pub ended-more : (quiet : QuietStream) → EndsQuietOf credits_shown changes all s quiet
-      → IsPartEnded credits_shown changes all streams (set quiets many quiet) (many + 1)
+  pub ended-more : (quiet : QuietStream) → EndsQuietOf frames_shown changes all s quiet
+      → IsPartEnded frames_shown changes all streams (set quiets many quiet) (many + 1)
   ended-more quiet done = record {
     long = length-set quiets many quiet ∙ h.long;
     ends_quiet = rw (
       take_more streams many s within,
       get_or_from_slice_get streams many s s at,
       take_more_set quiets many quiet (omega (arith, within, h.long)),
-    ) (all_zipped_more (EndsQuietOf credits_shown changes all) _ _ s quiet h.ends_quiet done);
+    ) (all_zipped_more (EndsQuietOf frames_shown changes all) _ _ s quiet h.ends_quiet done);
     ahead = rw (drop-set-lt (many + 1) quiets many quiet (omega arith)) both.1;
   }

@@ -223,28 +223,28 @@ split-rows split frames from (stream ∷ streams) (row ∷ rows) above within h 
       ),
     )
 
-module _ (credits_shown : Bool) (changes : List Change) (frames : List Frame) (streams : List ℕ)
+module _ (frames_shown : Bool) (changes : List Change) (frames : List Frame) (streams : List ℕ)
     (quiets : List QuietStream) (split : SplitFrames) (all : streams ≡ streams_of frames)
     (distinct : AreDistinct streams) (above : NotAmong 0 streams)
-    (ends_quiet : EndQuiet credits_shown changes frames streams quiets)
+    (ends_quiet : EndQuiet frames_shown changes frames streams quiets)
     (laid : IsLaid (loud_of streams quiets) (opened_in quiets) (notes_from 0 frames) split) where
-  pub split-is : IsSplit credits_shown changes frames split
+  pub split-is : IsSplit frames_shown changes frames split
   split-is =
       let named = filled-streams 0 (loud_of streams quiets) _ _ split.rows.items _ laid.filled in
       let rows = split-rows split frames 0 (loud_of streams quiets) split.rows.items
       (loud-not_among 0 streams quiets above) (omega arith) laid.filled in
-      let nothing : ℕ → Type 0 = λ s. shown credits_shown (stream_run s (frames_of s frames) changes) ≡ [] in
-      let silent = zip-apart (EndsQuietOf credits_shown changes frames) (λ s quiet. quiet.is_quiet ≡ true → nothing s) 0
+      let nothing : ℕ → Type 0 = λ s. shown frames_shown (stream_run s (frames_of s frames) changes) ≡ [] in
+      let silent = zip-apart (EndsQuietOf frames_shown changes frames) (λ s quiet. quiet.is_quiet ≡ true → nothing s) 0
       streams quiets above
       (λ s quiet n hush e. rw (hush e).hidden (hush e).shows.shown) ends_quiet in
-      let told = zip-apart (EndsQuietOf credits_shown changes frames)
+      let told = zip-apart (EndsQuietOf frames_shown changes frames)
       (λ s quiet. quiet.is_quiet ≡ true
       → opening_of frames changes s ≡ option_to_list (opened_of quiet.standings.opened)) 0
       streams quiets above (λ s quiet n hush e. ap option_to_list (hush e).shows.end) ends_quiet in
       record {
         is_quiet = λ s. quiet_in s streams quiets;
         streams = named ∙ rw (← all) (loud-filter streams quiets distinct
-            (AllZip-long (EndsQuietOf credits_shown changes frames) streams quiets ends_quiet));
+            (AllZip-long (EndsQuietOf frames_shown changes frames) streams quiets ends_quiet));
         ranges = All-from_recursion (IsRange split) _ rows.0;
         each = All-from_recursion (λ (row : StreamRow). ArePositionsOf frames row.stream (row_positions split row)) _
             rows.1;

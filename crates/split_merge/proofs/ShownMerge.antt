@@ -8,15 +8,15 @@ use Rattle.split_merge.proofs.Terms.{comes_after, filter-append, flat_map, if◌
 
 -- ---- of lists joined
 
-pub shown-append : (credits_shown : Bool) (xs ys : List Finding) →
-    shown credits_shown (xs ++ ys) ≡ shown credits_shown xs ++ shown credits_shown ys
-shown-append credits_shown xs ys = filter-append (is_shown credits_shown) xs ys
+pub shown-append : (frames_shown : Bool) (xs ys : List Finding) →
+    shown frames_shown (xs ++ ys) ≡ shown frames_shown xs ++ shown frames_shown ys
+shown-append frames_shown xs ys = filter-append (is_shown frames_shown) xs ys
 
-pub shown-flat_map : {X : Type 0} (credits_shown : Bool) (f : X → List Finding) (xs : List X) →
-    shown credits_shown (flat_map f xs) ≡ flat_map (λ x. shown credits_shown (f x)) xs
-shown-flat_map credits_shown f [] = refl
-shown-flat_map credits_shown f (x ∷ xs) =
-    grind (arith, shown-append credits_shown (f x) (flat_map f xs), shown-flat_map credits_shown f xs)
+pub shown-flat_map : {X : Type 0} (frames_shown : Bool) (f : X → List Finding) (xs : List X) →
+    shown frames_shown (flat_map f xs) ≡ flat_map (λ x. shown frames_shown (f x)) xs
+shown-flat_map frames_shown f [] = refl
+shown-flat_map frames_shown f (x ∷ xs) =
+    grind (arith, shown-append frames_shown (f x) (flat_map f xs), shown-flat_map frames_shown f xs)
 
 -- ---- of findings in order
 
@@ -44,13 +44,13 @@ module _ {X : Type 0} (after : X → X → Bool) (o : IsAfter after) (is_kept : 
       grind (arith, put-kept x (ordered_by after xs) (in_order-ordered after o xs), kept-ordered xs)
 
 -- what is shown of findings in order is in order
-pub in_order-shown : (credits_shown : Bool) (xs : List Finding) →
-    in_order (shown credits_shown xs) ≡ shown credits_shown (in_order xs)
-in_order-shown credits_shown xs = kept-ordered comes_after comes_after_is (is_shown credits_shown) xs
+pub in_order-shown : (frames_shown : Bool) (xs : List Finding) →
+    in_order (shown frames_shown xs) ≡ shown frames_shown (in_order xs)
+in_order-shown frames_shown xs = kept-ordered comes_after comes_after_is (is_shown frames_shown) xs
 
 -- ---- up to where they stop
 
 -- both together: a merge of what is shown is what is shown of the merge
-pub merge-shown : (credits_shown : Bool) (xs : List Finding) →
-    upto_stop (in_order (shown credits_shown xs)) ≡ shown credits_shown (upto_stop (in_order xs))
-merge-shown credits_shown xs = grind (arith, in_order-shown, upto_stop-shown)
+pub merge-shown : (frames_shown : Bool) (xs : List Finding) →
+    upto_stop (in_order (shown frames_shown xs)) ≡ shown frames_shown (upto_stop (in_order xs))
+merge-shown frames_shown xs = grind (arith, in_order-shown, upto_stop-shown)

@@ -47,7 +47,7 @@ impl SplitFrames {
 pub fn split(
     alloc: Global,
     hash: TableHash,
-    credits_shown: bool,
+    frames_shown: bool,
     changes: &[Change],
     frames: &[Frame],
 ) -> Result<SplitFrames, AllocError>
@@ -55,10 +55,10 @@ pub fn split(
     requires frames { IsOrderly frames.now }
     requires changes { AreOrderly changes.now }
     requires acknowledged { AreAcknowledged frames.now changes.now }
-    ensures { IfOk result (IsSplit credits_shown changes.now frames.now) }
+    ensures { IfOk result (IsSplit frames_shown changes.now frames.now) }
 {
     let changes = Changes::of(alloc, changes)?;
-    let mut table = Visits::ended(alloc, hash, credits_shown, &changes, frames)?;
+    let mut table = Visits::ended(alloc, hash, frames_shown, &changes, frames)?;
     laid(alloc, &mut table, frames)
 }
 

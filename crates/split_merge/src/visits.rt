@@ -69,21 +69,21 @@ impl Visits {
     pub fn ended(
         alloc: Global,
         hash: TableHash,
-        credits_shown: bool,
+        frames_shown: bool,
         changes: &Changes<'_>,
         frames: &[Frame],
     ) -> Result<Visits, AllocError>
         requires { CanVisit changes.now frames.now }
         ensures visits { IfOk result (AreVisits frames.now) }
         ensures ends_quiet { IfOk result (λ table.
-            EndQuiet credits_shown changes.now frames.now (streams_in table.rows.items) table.quiets.items) }
+            EndQuiet frames_shown changes.now frames.now (streams_in table.rows.items) table.quiets.items) }
     {
         let mut table = Self::none_yet(alloc, hash, frames.len())?;
-        table.note_all(credits_shown, changes, frames)?;
+        table.note_all(frames_shown, changes, frames)?;
         finish(
             table.rows.as_slice(),
             &mut table.quiets,
-            credits_shown,
+            frames_shown,
             changes,
         );
         Ok(table)
@@ -92,7 +92,7 @@ impl Visits {
     /// Notes the streams of some frames, the first of the connection. Where credits are shown, none is quiet.
     fn note_all(
         &mut self,
-        credits_shown: bool,
+        frames_shown: bool,
         changes: &Changes<'_>,
         frames: &[Frame],
     ) -> Result<(), AllocError>
@@ -103,8 +103,8 @@ impl Visits {
             self.new.quiets.items) }
     {
         for frame in frames {
-            self.note(credits_shown, frame.stream, changes, frame)?;
-            self.note(credits_shown, frame.promised_by(), changes, frame)?;
+            self.note(frames_shown, frame.stream, changes, frame)?;
+            self.note(frames_shown, frame.promised_by(), changes, frame)?;
         }
         Ok(())
     }
@@ -113,7 +113,7 @@ impl Visits {
     #[tactic(auto, using(crate::proofs::Visited::row_inside))]
     fn note(
         &mut self,
-        credits_shown: bool,
+        frames_shown: bool,
         stream: u32,
         changes: &Changes<'_>,
         frame: &Frame,
@@ -133,7 +133,7 @@ impl Visits {
         if stream == 0 {
             return Ok(());
         }
-        let row = self.row_of(credits_shown, stream)?;
+        let row = self.row_of(frames_shown, stream)?;
         self.last = row;
         count(&mut self.rows[row as usize]);
         self.quiets[row as usize].meet(stream, changes, frame);
@@ -141,7 +141,7 @@ impl Visits {
     }
 
     /// The index of a stream's row, which is made where there is none yet.
-    fn row_of(&mut self, credits_shown: bool, stream: u32) -> Result<u32, AllocError>
+    fn row_of(&mut self, frames_shown: bool, stream: u32) -> Result<u32, AllocError>
         requires { CanHaveRow stream self.old }
         ensures { IfOk result (λ row. HasRow stream row self.old self.new) }
     {
@@ -154,7 +154,7 @@ impl Visits {
             return Ok(row);
         }
         self.rows.push(Visited { stream, count: 0 })?;
-        self.quiets.push(unmet(credits_shown))?;
+        self.quiets.push(unmet(frames_shown))?;
         Ok(row)
     }
 
@@ -190,12 +190,12 @@ impl Visits {
 }
 
 /// A stream that no frame has met, and that is not quiet where credits are shown.
-fn unmet(credits_shown: bool) -> QuietStream
+fn unmet(frames_shown: bool) -> QuietStream
     ensures { (stream : ℕ) (changes : List ChangeTerm) (all : List FrameTerm) → stream < 2 ^ 31 → IsOrderly all
         → AreOrderly changes → AreAcknowledged all changes → IsAheadIfQuiet stream changes all all result }
 {
     let mut quiet = QuietStream::idle();
-    if credits_shown {
+    if frames_shown {
         quiet.is_quiet = false;
     }
     quiet
@@ -205,26 +205,26 @@ fn unmet(credits_shown: bool) -> QuietStream
 fn finish(
     rows: &[Visited],
     quiets: &mut Vec<QuietStream>,
-    credits_shown: bool,
+    frames_shown: bool,
     changes: &Changes<'_>,
 )
     requires { IsEnd changes.now (streams_in rows.now) quiets.old.items }
     ensures { (all : List FrameTerm) → AreAhead changes.now all (λ _. []) (streams_in rows.now) quiets.old.items
-        → EndQuiet credits_shown changes.now all (streams_in rows.now) quiets.new.items }
+        → EndQuiet frames_shown changes.now all (streams_in rows.now) quiets.new.items }
 {
     for row in 0..rows.len() {
-        end(&mut quiets[row], rows[row].stream, credits_shown, changes);
+        end(&mut quiets[row], rows[row].stream, frames_shown, changes);
     }
 }
 
 /// The stream after the changes behind its last frame; where credits are shown, it is not quiet.
-fn end(quiet: &mut QuietStream, stream: u32, credits_shown: bool, changes: &Changes<'_>)
+fn end(quiet: &mut QuietStream, stream: u32, frames_shown: bool, changes: &Changes<'_>)
     requires { (all : List FrameTerm) × IsAheadIfQuiet stream changes.now all [] quiet.old }
     ensures { (all : List FrameTerm) → IsAheadIfQuiet stream changes.now all [] quiet.old
-        → EndsQuiet credits_shown changes.now stream all quiet.new }
+        → EndsQuiet frames_shown changes.now stream all quiet.new }
 {
     quiet.finish(stream, changes);
-    if credits_shown {
+    if frames_shown {
         quiet.is_quiet = false;
     }
 }

@@ -58,13 +58,13 @@ quiet-room entry number one next small q room =
     (λ x e. let was = room (other one.side) x (sym q.rest ∙ e) in omega (arith, ints, was))
 
 pub quiet-counted : (old : Walk) (frame : Frame) (change : Option Change) (one : Move) (next : Sides (Option ℤ))
-    → old.credits_shown ≡ false → is_some change ≡ false → HasRoomAt frame.number old.entry
+    → old.frames_shown ≡ false → is_some change ≡ false → HasRoomAt frame.number old.entry
     → IsMove old.stream old.entry.life frame one → IsMovedQuietly old.entry.window one next
     → HasCounted old (frame_with frame change) (record old { entry = record { life = old.entry.life; window = next } })
 quiet-counted old frame (Some change) one next hidden none room m q = cc
 quiet-counted old frame None one next hidden none room m q = record {
   stream = refl;
-  credits_shown = refl;
+  frames_shown = refl;
   found = rw (hidden, move-quiet old.stream old.initial old.entry frame one next m q)
       (sym (append-nil old.found.items));
   entry = sym (quiet-after old.stream old.initial old.entry frame one next m q);

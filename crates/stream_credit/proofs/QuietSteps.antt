@@ -159,7 +159,7 @@ quiet-changes stream initial number change after window next a c s p q Server =
 
 -- the walk that moves its windows has counted the change
 pub change-counted : (old : Walk) (number : ℕ) (frame : Option Frame) (change : Option Change) (after : Sides ℕ)
-    (next : Sides (Option ℤ)) → old.credits_shown ≡ false → is_some frame ≡ false
+    (next : Sides (Option ℤ)) → old.frames_shown ≡ false → is_some frame ≡ false
     → after ≡ initial_after change old.initial
     → next.client ≡ option_map (moved old.initial.client after.client) old.entry.window.client
     → next.server ≡ option_map (moved old.initial.server after.server) old.entry.window.server
@@ -172,7 +172,7 @@ change-counted old number None change after next hidden none a c s p q room =
     let quiet = quiet-changes old.stream old.initial number change after old.entry.window next a c s p q in
     record {
       stream = refl;
-      credits_shown = refl;
+      frames_shown = refl;
       found = rw (hidden, stream-shown old.stream old.initial old.entry (change_alone number change) next refl quiet tt)
           (sym (append-nil old.found.items));
       entry = sym (stream-moved old.stream old.initial old.entry (change_alone number change) next refl quiet);

@@ -92,19 +92,19 @@ room-idle : HasRoomAt 0 idle_stream
 room-idle Client = λ x e. cc
 room-idle Server = λ x e. cc
 
-abbrev pub whole_run : {L : Type 0} → L → (stream : ℕ) → (credits_shown : Bool) → List Frame → List Change → WholeRun L
-whole_run start stream credits_shown frames changes = record {
+abbrev pub whole_run : {L : Type 0} → L → (stream : ℕ) → (frames_shown : Bool) → List Frame → List Change → WholeRun L
+whole_run start stream frames_shown frames changes = record {
   start = start;
-  found = shown credits_shown (stream_run stream frames changes);
+  found = shown frames_shown (stream_run stream frames changes);
   numbers = step_numbers stream frames changes;
   entry = stream_at_end stream frames changes;
 }
 
 pub run-starts : {L : Type 0} {answers : L → List Finding → Option ℕ → L → Type 0} {start now : L} {stream : ℕ}
-    {credits_shown : Bool} {frames : List Frame} {changes : List Change} {walk : Walk} → stream < 2 ^ 31
+    {frames_shown : Bool} {frames : List Frame} {changes : List Change} {walk : Walk} → stream < 2 ^ 31
     → IsOrderly frames → AreOrderly changes → AreAcknowledged frames changes
-    → IsBegun answers start now stream credits_shown walk
-    → IsSound answers (whole_run start stream credits_shown frames changes) now walk changes frames
+    → IsBegun answers start now stream frames_shown walk
+    → IsSound answers (whole_run start stream frames_shown frames changes) now walk changes frames
 run-starts {frames = frames} {changes = changes} {walk = walk} range orderly rise acknowledged begun =
     let order = order-steps 0 frames changes orderly rise in
     record {
@@ -150,12 +150,12 @@ run-ends {answers = answers} {now = now} run walk false at is kept = (
 )
 
 -- what is kept of the whole stands at frames in range
-pub kept-numbered : (stream : ℕ) (credits_shown : Bool) (frames : List Frame) (changes : List Change) → stream < 2 ^ 31
+pub kept-numbered : (stream : ℕ) (frames_shown : Bool) (frames : List Frame) (changes : List Change) → stream < 2 ^ 31
     → IsOrderly frames → AreOrderly changes → (upto : Option ℕ) (kept : List Finding)
-    → kept ≡ up_to upto (shown credits_shown (stream_run stream frames changes))
+    → kept ≡ up_to upto (shown frames_shown (stream_run stream frames changes))
     → All (λ (found : Finding). place_number found.place ≤ 2 ^ 28 - 2) kept
-kept-numbered stream credits_shown frames changes range h k upto kept e =
+kept-numbered stream frames_shown frames changes range h k upto kept e =
     rw e (All-from_recursion (HasNumber (λ n. n ≤ 2 ^ 28 - 2)) _ (upto-numbered (λ n. n ≤ 2 ^ 28 - 2) upto _
-    (run-numbered (λ n. n ≤ 2 ^ 28 - 2) credits_shown stream initial_in_force.initial idle_stream
+    (run-numbered (λ n. n ≤ 2 ^ 28 - 2) frames_shown stream initial_in_force.initial idle_stream
     (steps_of frames changes) range
     (order-all _ 0 (steps_of frames changes) (λ n least most. most) (order-steps 0 frames changes h k)))))

@@ -127,11 +127,11 @@ said-numbered P stream initial entry step h p =
     (each-weaker (HasNumber (λ n. n ≡ step.number)) (HasNumber P) (λ one e. subst P (sym e) p) said
     (numbered-at step.number said (at-stream stream initial entry step h)))
 
-pub run-numbered : (P : ℕ → Type 0) (credits_shown : Bool) (stream : ℕ) (initial : Sides ℕ) (entry : Stream)
+pub run-numbered : (P : ℕ → Type 0) (frames_shown : Bool) (stream : ℕ) (initial : Sides ℕ) (entry : Stream)
     (steps : List Step) → stream < 2 ^ 31 → AllByRecursion P (numbers_of steps)
-    → AreNumbered P (shown credits_shown (stream_run_from stream initial entry steps))
-run-numbered P credits_shown stream initial entry steps h all =
-    each-filter (HasNumber P) (is_shown credits_shown) _ (each initial entry steps all)
+    → AreNumbered P (shown frames_shown (stream_run_from stream initial entry steps))
+run-numbered P frames_shown stream initial entry steps h all =
+    each-filter (HasNumber P) (is_shown frames_shown) _ (each initial entry steps all)
   where
     each : (initial : Sides ℕ) (entry : Stream) (steps : List Step) → AllByRecursion P (numbers_of steps)
         → AreNumbered P (stream_run_from stream initial entry steps)
@@ -166,7 +166,7 @@ module _ {L : Type 0} {answers : L → List Finding → Option ℕ → L → Typ
   at-step =
       sym (before-front step.number step.number old.found.items _ (omega arith)
       (below-more low step.number old.found.items h.order.0 h.below)
-      (run-numbered (λ n. step.number ≤ n) old.credits_shown old.stream old.initial old.entry (step ∷ rest) h.streamed (
+      (run-numbered (λ n. step.number ≤ n) old.frames_shown old.stream old.initial old.entry (step ∷ rest) h.streamed (
         omega arith,
         order-all (λ n. step.number ≤ n) (step.number + 1) rest (λ n least most. omega (arith, least))
             h.order.3,
@@ -205,12 +205,12 @@ module _ {L : Type 0} {answers : L → List Finding → Option ℕ → L → Typ
                 (each-filter _ _ _ said));
             found = rw (
               counted.stream,
-              counted.credits_shown,
+              counted.frames_shown,
               counted.found,
               counted.entry,
               counted.initial,
               append_assoc old.found.items,
-            ) (rw (filter-append (is_shown old.credits_shown)) at h.found);
+            ) (rw (filter-append (is_shown old.frames_shown)) at h.found);
             entry = rw (counted.stream, counted.entry, counted.initial) h.entry;
             met = h.met ++ step.number ∷ [];
             count = rw length-append (omega (arith, h.count, h.order.0));

@@ -95,7 +95,7 @@ pub fn stream_run<L: Look>(
     alloc: Global,
     own: &StreamPart<'_>,
     changes: &Changes<'_>,
-    credits_shown: bool,
+    frames_shown: bool,
     look: &mut L,
 ) -> Result<StreamRun, AllocError>
     requires own { IsStreamPart own.now }
@@ -103,7 +103,7 @@ pub fn stream_run<L: Look>(
     requires acknowledged { AreAcknowledged (frames_met own.now) changes.now }
     ensures run { IfOk result (λ run. IsRun L.answers look.old look.new
         (step_numbers own.now.stream (frames_met own.now) changes.now)
-        (shown credits_shown (stream_run own.now.stream (frames_met own.now) changes.now))
+        (shown frames_shown (stream_run own.now.stream (frames_met own.now) changes.now))
         run.findings.items run.upto run.last_look run.looks) }
     ensures opened { IfOk result (λ run. run.opened_at ≡ opened_up_to run.upto
         (stream_at_end own.now.stream (frames_met own.now) changes.now).life.opened) }
@@ -111,7 +111,7 @@ pub fn stream_run<L: Look>(
         All (λ (found : Finding). place_number found.place ≤ 2 ^ 28 - 2) run.findings.items) }
 {
     let mut near = Vec::with_capacity(alloc, own.positions.len().min(NEAR_FRAMES))?;
-    let mut walk = Walk::idle(alloc, own.stream, credits_shown, look);
+    let mut walk = Walk::idle(alloc, own.stream, frames_shown, look);
     let is_whole = meet_all(&mut near, &mut walk, look, own, changes)?;
     Ok(run_of(walk, is_whole))
 }

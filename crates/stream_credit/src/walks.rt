@@ -22,7 +22,7 @@ use std::alloc::{AllocError, Global};
 #[derive(Drop)]
 pub(crate) struct Walk {
     stream: u32,
-    credits_shown: bool,
+    frames_shown: bool,
     pub(crate) watch: Watch,
     pub(crate) entry: Stream,
     /// The initial windows in force.
@@ -39,15 +39,15 @@ impl Walk {
     pub(crate) fn idle<L: Look>(
         alloc: Global,
         stream: u32,
-        credits_shown: bool,
+        frames_shown: bool,
         look: &mut L,
     ) -> Self
-        ensures { IsBegun L.answers look.old look.new stream credits_shown result }
+        ensures { IsBegun L.answers look.old look.new stream frames_shown result }
     {
         let watch = Watch::begin(look);
         Walk {
             stream,
-            credits_shown,
+            frames_shown,
             watch,
             entry: Stream::idle(),
             initial: FIRST_WINDOWS,
@@ -86,7 +86,7 @@ impl Walk {
         ensures counted { OnTrue result (HasCounted self.old step.now self.new) }
         ensures otherwise { OnFalse result (self.new ≡ self.old) }
     {
-        if self.credits_shown || step.frame.is_some() {
+        if self.frames_shown || step.frame.is_some() {
             return false;
         }
         let initial = initial_after(&step.change, &self.initial);
@@ -118,7 +118,7 @@ impl Walk {
             step,
         )?;
         put_in_order(&mut self.said)?;
-        keep_shown(&mut self.said, self.credits_shown);
+        keep_shown(&mut self.said, self.frames_shown);
         self.found.extend_from_slice(self.said.as_slice())?;
         self.initial = initial_after(&step.change, &self.initial);
         Ok(())
@@ -231,7 +231,7 @@ impl Walk {
         ensures counted { OnTrue result (HasCounted self.old (frame_with frame.now change.now) self.new) }
         ensures otherwise { OnFalse result (self.new ≡ self.old) }
     {
-        if self.credits_shown || change.is_some() {
+        if self.frames_shown || change.is_some() {
             return false;
         }
         let Some(one) = move_of(self.stream, &self.entry.life, frame) else {

@@ -65,18 +65,18 @@ pub record AreHeaded (before : ℕ) (headings : List Heading) (told : List Told)
   pub numbers : before + length headings < 2 ^ 64
 
 -- the lines of the findings shown, of stalls, and of the audit's end
-abbrev pub outcome_text : (credits_shown : Bool) → Outcome → List ℕ
-outcome_text credits_shown (outcome.Quiet quiet) = end_line []
-outcome_text credits_shown (outcome.Audited audited) =
-    finding_lines credits_shown audited.value.frames.items audited.value.findings.items
+abbrev pub outcome_text : (frames_shown : Bool) → Outcome → List ℕ
+outcome_text frames_shown (outcome.Quiet quiet) = end_line []
+outcome_text frames_shown (outcome.Audited audited) =
+    finding_lines frames_shown audited.value.frames.items audited.value.findings.items
     ++ stall_lines (stalls audited.value.frames.items audited.value.findings.items)
     ++ end_line audited.value.findings.items
-outcome_text credits_shown _ = []
+outcome_text frames_shown _ = []
 
 -- all that the report says of the k-th connection, and of those after it
-abbrev pub told_text : (credits_shown : Bool) (k : ℕ) → List Heading → List Told → List ℕ
-told_text credits_shown k (heading ∷ headings) (told ∷ rest) =
+abbrev pub told_text : (frames_shown : Bool) (k : ℕ) → List Heading → List Told → List ℕ
+told_text frames_shown k (heading ∷ headings) (told ∷ rest) =
     (opening_text k heading (extents_in told.reach) (contents_in told.outcome)
-    ++ outcome_text credits_shown told.outcome)
-    ++ told_text credits_shown (k + 1) headings rest
-told_text credits_shown k _ _ = []
+    ++ outcome_text frames_shown told.outcome)
+    ++ told_text frames_shown (k + 1) headings rest
+told_text frames_shown k _ _ = []

@@ -10,9 +10,9 @@ abbrev pub IsHeaded : Share → Type 0
 IsHeaded share = AreHeaded share.before share.headings.now share.told.now
 
 -- all that the report says of its connections
-abbrev pub share_text : (credits_shown : Bool) → Share → List ℕ
-share_text credits_shown share = told_text credits_shown (share.before + 1) share.headings.now share.told.now
+abbrev pub share_text : (frames_shown : Bool) → Share → List ℕ
+share_text frames_shown share = told_text frames_shown (share.before + 1) share.headings.now share.told.now
 
 -- a line for each finding shown, in order
-abbrev pub lines_text : (credits_shown : Bool) → Lines → List ℕ
-lines_text credits_shown lines = finding_lines credits_shown lines.frames.now lines.findings.now
+abbrev pub lines_text : (frames_shown : Bool) → Lines → List ℕ
+lines_text frames_shown lines = finding_lines frames_shown lines.frames.now lines.findings.now

@@ -13,30 +13,30 @@ use Rattle.audit_rounds.specs.code.StreamRound.{IsFirstStop, IsStreamsOf}
 use Rattle.audit_rounds.specs.code.StreamJobs.{Makes, job_of, plan_from}
 
 -- what was found of each connection, with its stop and its openings
-pub record AreAfterStreams (credits_shown : Bool) (connections : List Prepared) (found : List (Vec Finding Global))
+pub record AreAfterStreams (frames_shown : Bool) (connections : List Prepared) (found : List (Vec Finding Global))
     (stops : List (Option ℕ)) (opened : List (Vec ℕ Global)) : Type 0 where
   pub founds : length found ≡ length connections
   pub number : length stops ≡ length connections
   pub opens : length opened ≡ length connections
   pub each : (n : ℕ) (connection : Prepared) (list : Vec Finding Global) (stop : Option ℕ) (numbers : Vec ℕ Global) →
       n < length connections →
-      IsAfterStreams credits_shown (slice_index_or connections n connection).frames.now
+      IsAfterStreams frames_shown (slice_index_or connections n connection).frames.now
       (slice_index_or found n list).items (slice_index_or stops n stop) (slice_index_or opened n numbers).items
   pub places : All IsStop stops
 
 -- the round over the streams of connections, in so many groups of each at most, is settled
-abbrev pub HaveSettled : (credits_shown : Bool) → (groups : ℕ) → List Streams → (opening : List (Option ℕ)) →
+abbrev pub HaveSettled : (frames_shown : Bool) → (groups : ℕ) → List Streams → (opening : List (Option ℕ)) →
     Settled (Vec ℕ Global) → Type 0
-HaveSettled credits_shown groups connections opening settled =
+HaveSettled frames_shown groups connections opening settled =
     let plan = plan_from groups 0 connections in
     HasSettled (λ (job : ℕ) (upto : Option ℕ) (made : Vec ℕ Global). Makes connections plan job upto made.items)
-    (map (job_of credits_shown connections) plan) opening settled
+    (map (job_of frames_shown connections) plan) opening settled
 
 -- the round over the streams of connections that are ready, of each of which this was found before, is settled
-pub record HaveSettledOver (credits_shown : Bool) (groups : ℕ) (connections : List Prepared)
+pub record HaveSettledOver (frames_shown : Bool) (groups : ℕ) (connections : List Prepared)
     (found : List (Vec Finding Global)) (settled : Settled (Vec ℕ Global)) : Type 0 where
   pub streams : List Streams
   pub opening : List (Option ℕ)
   pub of : AllZip IsStreamsOf connections streams
   pub first : AllZip (λ (one : Vec Finding Global) (stop : Option ℕ). IsFirstStop one.items stop) found opening
-  pub done : HaveSettled credits_shown groups streams opening settled
+  pub done : HaveSettled frames_shown groups streams opening settled

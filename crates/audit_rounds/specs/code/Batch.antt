@@ -19,32 +19,32 @@ pub record IsBatch (connections : List (Bor (List Frame))) : Type 0 where
   pub few : AreFew connections
 
 -- the same, made ready, with what was found of each before the rounds
-pub record AreReady (credits_shown : Bool) (connections : List Prepared) (found : List (Vec Finding Global)) : Type 0
+pub record AreReady (frames_shown : Bool) (connections : List Prepared) (found : List (Vec Finding Global)) : Type 0
   where
-    pub prepared : All (IsPrepared credits_shown) connections
+    pub prepared : All (IsPrepared frames_shown) connections
     pub few : PreparedAreFew connections
     pub before : map (λ (one : Vec Finding Global). one.items) found ≡ map found_before connections
 
 -- what is shown of each connection
-abbrev pub AreShown : (credits_shown : Bool) → List (Bor (List Frame)) → List (Vec Finding Global) → Type 0
-AreShown credits_shown connections found = map (λ (one : Vec Finding Global). one.items) found
-    ≡ map (λ (frames : Bor (List Frame)). shown credits_shown (pass frames.now)) connections
+abbrev pub AreShown : (frames_shown : Bool) → List (Bor (List Frame)) → List (Vec Finding Global) → Type 0
+AreShown frames_shown connections found = map (λ (one : Vec Finding Global). one.items) found
+    ≡ map (λ (frames : Bor (List Frame)). shown frames_shown (pass frames.now)) connections
 
 -- where something is made of either half of some connections, it is made of all
 abbrev pub AreJoined : {Made E : Type 0} → (are : Bool → List (Bor (List Frame)) → Made → Type 0) →
     (one other both : Result Made E) → Type 0
-AreJoined are one other both = (credits_shown : Bool) (front back : List (Bor (List Frame))) →
-    IfOk one (are credits_shown front) → IfOk other (are credits_shown back) →
-    IfOk both (are credits_shown (front ++ back))
+AreJoined are one other both = (frames_shown : Bool) (front back : List (Bor (List Frame))) →
+    IfOk one (are frames_shown front) → IfOk other (are frames_shown back) →
+    IfOk both (are frames_shown (front ++ back))
 
 -- what is shown of a connection of which this was found: all of it, where it is still to be gone through
-abbrev pub shown_after : (credits_shown : Bool) → List Frame → (found : List Finding) → List Finding
-shown_after credits_shown frames found =
-    if is_pending frames found then shown credits_shown (pass frames) else found
+abbrev pub shown_after : (frames_shown : Bool) → List Frame → (found : List Finding) → List Finding
+shown_after frames_shown frames found =
+    if is_pending frames found then shown frames_shown (pass frames) else found
 
 -- that of each connection
-abbrev pub AreShownAfter : (credits_shown : Bool) → List (Bor (List Frame)) → (found all : List (Vec Finding Global)) →
+abbrev pub AreShownAfter : (frames_shown : Bool) → List (Bor (List Frame)) → (found all : List (Vec Finding Global)) →
     Type 0
-AreShownAfter credits_shown connections found all = map (λ (one : Vec Finding Global). one.items) all
-    ≡ map (λ (one : Bor (List Frame) × Vec Finding Global). shown_after credits_shown one.0.now one.1.items)
+AreShownAfter frames_shown connections found all = map (λ (one : Vec Finding Global). one.items) all
+    ≡ map (λ (one : Bor (List Frame) × Vec Finding Global). shown_after frames_shown one.0.now one.1.items)
     (zip connections found)

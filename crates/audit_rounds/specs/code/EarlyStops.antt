@@ -12,5 +12,5 @@ abbrev pub front_of : List Frame → List Frame
 front_of frames = take (if nat_lt (length frames) 4096 then 0 else length frames / 32) frames
 
 -- what is shown of a front of a connection
-abbrev pub IsEarly : (credits_shown : Bool) → Bor (List Frame) → Vec Finding Global → Type 0
-IsEarly credits_shown frames early = (n : ℕ) × (early.items ≡ shown credits_shown (pass (take n frames.now)))
+abbrev pub IsEarly : (frames_shown : Bool) → Bor (List Frame) → Vec Finding Global → Type 0
+IsEarly frames_shown frames early = (n : ℕ) × (early.items ≡ shown frames_shown (pass (take n frames.now)))

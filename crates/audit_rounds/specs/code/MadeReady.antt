@@ -9,13 +9,13 @@ use Rattle.audit_rounds.specs.declared.prepared.Prepared.{Prepared}
 use Rattle.audit_rounds.specs.code.Prepared.{IsPrepared, found_before}
 
 -- connections made ready, with what is found of each before the rounds
-pub record AreMadeReady (credits_shown : Bool) (connections : List (Bor (List Frame))) (made : MadeReady) : Type 0 where
+pub record AreMadeReady (frames_shown : Bool) (connections : List (Bor (List Frame))) (made : MadeReady) : Type 0 where
   pub frames : map (λ (one : Prepared). one.frames.now) made.prepared.items
       ≡ map (λ (frames : Bor (List Frame)). frames.now) connections
-  pub prepared : All (IsPrepared credits_shown) made.prepared.items
+  pub prepared : All (IsPrepared frames_shown) made.prepared.items
   pub before : map (λ (one : Vec Finding Global). one.items) made.found.items ≡ map found_before made.prepared.items
 
 -- one connection more is made ready
-abbrev pub AddsReady : (credits_shown : Bool) → Bor (List Frame) → (before after : MadeReady) → Type 0
-AddsReady credits_shown frames before after = (connections : List (Bor (List Frame))) →
-    AreMadeReady credits_shown connections before → AreMadeReady credits_shown (connections ++ frames ∷ []) after
+abbrev pub AddsReady : (frames_shown : Bool) → Bor (List Frame) → (before after : MadeReady) → Type 0
+AddsReady frames_shown frames before after = (connections : List (Bor (List Frame))) →
+    AreMadeReady frames_shown connections before → AreMadeReady frames_shown (connections ++ frames ∷ []) after

@@ -21,47 +21,47 @@ abbrev pub sum_job : ConnectionBlock → Job
 sum_job one = record { connection = one.connection; findings = [] }
 
 -- to go through a block finds what it shows
-abbrev pub block_job : (credits_shown : Bool) → ReadyBlock → Job
-block_job credits_shown one = record {
+abbrev pub block_job : (frames_shown : Bool) → ReadyBlock → Job
+block_job frames_shown one = record {
   connection = one.connection;
-  findings = shown credits_shown (block_run one.before (items_in one.block));
+  findings = shown frames_shown (block_run one.before (items_in one.block));
 }
 
 -- the looks that are due of a block's job are those of its run, a step for each frame
-abbrev pub BlockLooks : (credits_shown : Bool) → List ReadyBlock → (job : ℕ) → List Asked → (upto : Option ℕ) → Type 0
-BlockLooks credits_shown plan job asked upto = (one : ReadyBlock) → slice_get plan job ≡ Some one →
+abbrev pub BlockLooks : (frames_shown : Bool) → List ReadyBlock → (job : ℕ) → List Asked → (upto : Option ℕ) → Type 0
+BlockLooks frames_shown plan job asked upto = (one : ReadyBlock) → slice_get plan job ≡ Some one →
     RunLooks (map (λ (frame : Frame). frame.number) one.block.frames.now)
-    (block_job credits_shown one).findings asked upto
+    (block_job frames_shown one).findings asked upto
 
 -- all blocks may be gone through
 abbrev pub AreReady : List ReadyBlock → Type 0
 AreReady plan = All (λ (one : ReadyBlock). IsReady one.before one.block) plan
 
 -- what is shown of a connection's items
-abbrev pub whole_shown : (credits_shown : Bool) → List Item → List Finding
-whole_shown credits_shown items = shown credits_shown (block_run connection_start items)
+abbrev pub whole_shown : (frames_shown : Bool) → List Item → List Finding
+whole_shown frames_shown items = shown frames_shown (block_run connection_start items)
 
 -- the findings, where they are of this connection
 abbrev pub where_of : (connection n : ℕ) → List Finding → List Finding
 where_of connection n findings = if connection == n then findings else []
 
 -- what is shown of connection n among consecutive ones, the first of this number
-abbrev pub shown_at : (credits_shown : Bool) → (connection : ℕ) → List (List Item) → (n : ℕ) → List Finding
-shown_at credits_shown connection [] n = []
-shown_at credits_shown connection (items ∷ later) n =
-    where_of connection n (whole_shown credits_shown items) ++ shown_at credits_shown (connection + 1) later n
+abbrev pub shown_at : (frames_shown : Bool) → (connection : ℕ) → List (List Item) → (n : ℕ) → List Finding
+shown_at frames_shown connection [] n = []
+shown_at frames_shown connection (items ∷ later) n =
+    where_of connection n (whole_shown frames_shown items) ++ shown_at frames_shown (connection + 1) later n
 
 -- what is shown of connection n in blocks, from the connection that the last block before them left
-abbrev pub shown_from : (credits_shown : Bool) → (last : ℕ) → ConnectionState → List ConnectionBlock → (n : ℕ)
+abbrev pub shown_from : (frames_shown : Bool) → (last : ℕ) → ConnectionState → List ConnectionBlock → (n : ℕ)
     → List Finding
-shown_from credits_shown last now [] n = []
-shown_from credits_shown last now (one ∷ rest) n =
-    where_of one.connection n (shown credits_shown (block_run (before_of last now one) (items_in one.block)))
-    ++ shown_from credits_shown one.connection (after_of last now one) rest n
+shown_from frames_shown last now [] n = []
+shown_from frames_shown last now (one ∷ rest) n =
+    where_of one.connection n (shown frames_shown (block_run (before_of last now one) (items_in one.block)))
+    ++ shown_from frames_shown one.connection (after_of last now one) rest n
 
 -- a plan for so many connections, whose jobs find `finds n` of connection n
-pub record IsPlan (credits_shown : Bool) (connections : ℕ) (finds : ℕ → List Finding) (plan : List ReadyBlock)
+pub record IsPlan (frames_shown : Bool) (connections : ℕ) (finds : ℕ → List Finding) (plan : List ReadyBlock)
     : Type 0 where
   pub ready : AreReady plan
   pub within : All (λ (one : ReadyBlock). one.connection < connections) plan
-  pub of_each : (n : ℕ) → findings_of_jobs n (map (block_job credits_shown) plan) ≡ finds n
+  pub of_each : (n : ℕ) → findings_of_jobs n (map (block_job frames_shown) plan) ≡ finds n

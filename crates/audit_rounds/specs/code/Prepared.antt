@@ -17,12 +17,12 @@ pub record AreForSplit (frames : List Frame) (changes : List Change) : Type 0 wh
   pub acknowledged : AreAcknowledged frames changes
 
 -- the frames of a connection, the changes that they bring, and their split
-pub record IsPrepared (credits_shown : Bool) (prepared : Prepared) : Type 0 where
+pub record IsPrepared (frames_shown : Bool) (prepared : Prepared) : Type 0 where
   pub orderly : IsOrderly prepared.frames.now
   pub changes : prepared.changes.items ≡ changes_of prepared.frames.now
   pub changes_orderly : AreOrderly prepared.changes.items
   pub acknowledged : AreAcknowledged prepared.frames.now prepared.changes.items
-  pub split : IsSplit credits_shown prepared.changes.items prepared.frames.now prepared.split
+  pub split : IsSplit frames_shown prepared.changes.items prepared.frames.now prepared.split
 
 -- what is found of a connection before the rounds: its local faults, then its unmatched acknowledgements
 abbrev pub found_before : Prepared → List Finding

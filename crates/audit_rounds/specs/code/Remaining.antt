@@ -28,10 +28,10 @@ pub record AreRemaining (connections : List Block) (stops : List (Option ℕ)) (
       (slice_index_or found n list).items
 
 -- up to the first error, what was found of each connection with what its blocks show
-pub record AreGoneThrough (credits_shown : Bool) (connections : List Block) (found last : List (Vec Finding Global))
+pub record AreGoneThrough (frames_shown : Bool) (connections : List Block) (found last : List (Vec Finding Global))
     : Type 0 where
   pub number : length last ≡ length found
   pub each : (n : ℕ) (whole : Block) (list list' : Vec Finding Global) → n < length connections
       → (slice_index_or last n list).items
-      ≡ upto_stop (in_order ((slice_index_or found n list').items ++ shown credits_shown (block_run connection_start
+      ≡ upto_stop (in_order ((slice_index_or found n list').items ++ shown frames_shown (block_run connection_start
       (items_in (slice_index_or connections n whole)))))

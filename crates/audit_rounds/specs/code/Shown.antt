@@ -11,8 +11,8 @@ use Rattle.audit_terms.specs.code.runs.Blocks.{block_runs}
 use Rattle.audit_rounds.specs.code.Streams.{shown_of}
 
 -- what is shown of the streams, and what is shown of the blocks
-abbrev pub streams_shown : (credits_shown : Bool) → List Frame → List Finding
-streams_shown credits_shown frames = flat_map (shown_of credits_shown frames) (streams_of frames)
+abbrev pub streams_shown : (frames_shown : Bool) → List Frame → List Finding
+streams_shown frames_shown frames = flat_map (shown_of frames_shown frames) (streams_of frames)
 
-abbrev pub blocks_shown : (credits_shown : Bool) → List (List Item) → List Finding
-blocks_shown credits_shown blocks = shown credits_shown (block_runs connection_start blocks)
+abbrev pub blocks_shown : (frames_shown : Bool) → List (List Item) → List Finding
+blocks_shown frames_shown blocks = shown frames_shown (block_runs connection_start blocks)

@@ -32,10 +32,10 @@ of_rows said connections job =
     (slice_get connections job.connection) []
 
 -- the job, with what its streams show
-abbrev pub job_of : (credits_shown : Bool) → List Streams → StreamJob → Job
-job_of credits_shown connections job = record {
+abbrev pub job_of : (frames_shown : Bool) → List Streams → StreamJob → Job
+job_of frames_shown connections job = record {
   connection = job.connection;
-  findings = of_rows (rows_shown credits_shown) connections job;
+  findings = of_rows (rows_shown frames_shown) connections job;
 }
 
 -- the numbers of the frames that open the streams of a job are made, those up to a place at least
@@ -44,11 +44,11 @@ Makes connections plan number upto made = (job : StreamJob) → slice_get plan n
     AreOpenedUpTo upto made (of_rows rows_opened connections job)
 
 -- the looks that are due of a job are those of the runs of its rows
-abbrev pub JobLooks : (credits_shown : Bool) → List Streams → List StreamJob → (job : ℕ) → List Asked →
+abbrev pub JobLooks : (frames_shown : Bool) → List Streams → List StreamJob → (job : ℕ) → List Asked →
     (upto : Option ℕ) → Type 0
-JobLooks credits_shown connections plan number asked upto = (job : StreamJob) (streams : Streams) →
+JobLooks frames_shown connections plan number asked upto = (job : StreamJob) (streams : Streams) →
     slice_get plan number ≡ Some job → slice_get connections job.connection ≡ Some streams →
-    RowsLook credits_shown streams (between job.from job.to streams.split.now.rows.items) asked upto
+    RowsLook frames_shown streams (between job.from job.to streams.split.now.rows.items) asked upto
 
 -- a job of this connection
 abbrev pub job_at : (connection : ℕ) → ℕ × ℕ → StreamJob

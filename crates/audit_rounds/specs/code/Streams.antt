@@ -19,18 +19,18 @@ use Rattle.stream_credit.specs.code.Looks.{step_numbers}
 use Rattle.audit_rounds.specs.declared.streams.Streams.{Streams}
 
 -- what is shown of one stream
-abbrev pub shown_of : (credits_shown : Bool) → List Frame → (stream : ℕ) → List Finding
-shown_of credits_shown frames stream =
-    shown credits_shown (stream_run stream (frames_of stream frames) (changes_of frames))
+abbrev pub shown_of : (frames_shown : Bool) → List Frame → (stream : ℕ) → List Finding
+shown_of frames_shown frames stream =
+    shown frames_shown (stream_run stream (frames_of stream frames) (changes_of frames))
 
 -- the frames of a row
 abbrev pub row_frames : Streams → StreamRow → List Frame
 row_frames streams row = frames_at streams.frames.now (row_positions streams.split.now row)
 
 -- what is shown of the stream of a row
-abbrev pub row_shown : (credits_shown : Bool) → Streams → StreamRow → List Finding
-row_shown credits_shown streams row =
-    shown credits_shown (stream_run row.stream (row_frames streams row) streams.changes)
+abbrev pub row_shown : (frames_shown : Bool) → Streams → StreamRow → List Finding
+row_shown frames_shown streams row =
+    shown frames_shown (stream_run row.stream (row_frames streams row) streams.changes)
 
 -- the number of the frame that opens the stream of a row
 abbrev pub row_opened : Streams → StreamRow → Option ℕ
@@ -38,8 +38,8 @@ row_opened streams row =
     (stream_at_end row.stream (row_frames streams row) streams.changes).life.opened
 
 -- the same of several rows
-abbrev pub rows_shown : (credits_shown : Bool) → Streams → List StreamRow → List Finding
-rows_shown credits_shown streams rows = flat_map (row_shown credits_shown streams) rows
+abbrev pub rows_shown : (frames_shown : Bool) → Streams → List StreamRow → List Finding
+rows_shown frames_shown streams rows = flat_map (row_shown frames_shown streams) rows
 
 abbrev pub rows_opened : Streams → List StreamRow → List ℕ
 rows_opened streams rows = flat_map (λ (row : StreamRow). option_to_list (row_opened streams row)) rows
@@ -64,18 +64,18 @@ AreOpenedUpTo upto opened all = (number : ℕ) → is_past upto number ≡ false
     list_any (λ one. one == number) opened ≡ list_any (λ one. one == number) all
 
 -- the looks of the run of one stream, and the place up to which it goes
-abbrev pub RowLooks : (credits_shown : Bool) → Streams → StreamRow → List Asked → (upto : Option ℕ) → Type 0
-RowLooks credits_shown streams row =
+abbrev pub RowLooks : (frames_shown : Bool) → Streams → StreamRow → List Asked → (upto : Option ℕ) → Type 0
+RowLooks frames_shown streams row =
     RunLooks (step_numbers row.stream (row_frames streams row) streams.changes)
-    (row_shown credits_shown streams row)
+    (row_shown frames_shown streams row)
 
 -- those of the runs of several, one run after the other, and the lesser of the places
-abbrev pub RowsLook : (credits_shown : Bool) → Streams → List StreamRow → List Asked → (upto : Option ℕ) → Type 0
-RowsLook credits_shown streams [] asked upto = (asked ≡ []) × (upto ≡ None)
-RowsLook credits_shown streams (row ∷ rows) asked upto =
+abbrev pub RowsLook : (frames_shown : Bool) → Streams → List StreamRow → List Asked → (upto : Option ℕ) → Type 0
+RowsLook frames_shown streams [] asked upto = (asked ≡ []) × (upto ≡ None)
+RowsLook frames_shown streams (row ∷ rows) asked upto =
     (first : List Asked) × (rest : List Asked) × (one : Option ℕ) × (other : Option ℕ)
     × (asked ≡ first ++ rest) × (upto ≡ lesser one other)
-    × RowLooks credits_shown streams row first one × RowsLook credits_shown streams rows rest other
+    × RowLooks frames_shown streams row first one × RowsLook frames_shown streams rows rest other
 
 -- what was made of some streams, which show `whole` and open at `openings`, with the looks that are due
 pub record IsWork {L : Type 0} (answers : L → List Finding → Option ℕ → L → Type 0)

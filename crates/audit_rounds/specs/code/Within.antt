@@ -20,14 +20,14 @@ AgreeWithin stop numbers others = (number : ℕ) → is_past stop number ≡ fal
 
 -- what the round over streams leaves of a connection: what was found so far, where the connection is known to stop, and
 -- the numbers of the frames that open streams
-pub record IsAfterStreams (credits_shown : Bool) (frames : List Frame) (found : List Finding) (stop : Option ℕ)
+pub record IsAfterStreams (frames_shown : Bool) (frames : List Frame) (found : List Finding) (stop : Option ℕ)
     (opened : List ℕ) : Type 0 where
   -- up to the first error, that is what whole streams would show
   pub cut : upto_stop (in_order found)
-      ≡ upto_stop (in_order ((local_run frames ++ settings_run frames) ++ streams_shown credits_shown frames))
+      ≡ upto_stop (in_order ((local_run frames ++ settings_run frames) ++ streams_shown frames_shown frames))
   -- the stop is the first error of that, and was found
   pub least :
-      IsLeast (StopsAt ((local_run frames ++ settings_run frames) ++ streams_shown credits_shown frames)) stop
+      IsLeast (StopsAt ((local_run frames ++ settings_run frames) ++ streams_shown frames_shown frames)) stop
   pub kept : IsLeast (StopsAt found) stop
   -- the openings up to the stop's frame are known
   pub opened_within : AgreeWithin stop opened (openings_of frames (streams_of frames))

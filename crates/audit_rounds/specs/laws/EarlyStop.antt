@@ -7,6 +7,6 @@ use Rattle.audit_terms.specs.Pass.{pass}
 
 -- where the pass over a front of the frames shows an error of the connection, the pass over all shows the same
 abbrev pub FrontsSettle : Type 0
-FrontsSettle = (credits_shown : Bool) (front rest : List Frame) →
-    list_any stops (shown credits_shown (pass front)) ≡ true →
-    shown credits_shown (pass front) ≡ shown credits_shown (pass (front ++ rest))
+FrontsSettle = (frames_shown : Bool) (front rest : List Frame) →
+    list_any stops (shown frames_shown (pass front)) ≡ true →
+    shown frames_shown (pass front) ≡ shown frames_shown (pass (front ++ rest))

@@ -14,8 +14,8 @@ use Rattle.audit_rounds.specs.code.Shown.{streams_shown, blocks_shown}
 -- the local faults, the unmatched acknowledgements, what is shown of the streams and what is shown of the blocks, put
 -- in order and cut at the first that stops, are what is shown of the pass, however the frames are divided
 abbrev pub RoundsMakePass : Type 0
-RoundsMakePass = (credits_shown : Bool) (frames : List Frame) (blocks : List (List Item)) → IsOrderly frames →
+RoundsMakePass = (frames_shown : Bool) (frames : List Frame) (blocks : List (List Item)) → IsOrderly frames →
     joined blocks ≡ items_of frames →
-    upto_stop (in_order (((local_run frames ++ settings_run frames) ++ streams_shown credits_shown frames)
-    ++ blocks_shown credits_shown blocks))
-    ≡ shown credits_shown (pass frames)
+    upto_stop (in_order (((local_run frames ++ settings_run frames) ++ streams_shown frames_shown frames)
+    ++ blocks_shown frames_shown blocks))
+    ≡ shown frames_shown (pass frames)

@@ -19,19 +19,19 @@ use Rattle.audit_rounds.specs.code.Openings.{openings_of}
 use Rattle.audit_rounds.specs.code.Within.{AgreeWithin, IsAfterStreams, frames_within}
 
 -- what is shown of these frames as blocks, from the connection's start on
-abbrev pub blocks_within : (credits_shown : Bool) → List Frame → (stop : Option ℕ) → (opened : List ℕ) → List Finding
-blocks_within credits_shown frames stop opened =
-    shown credits_shown
+abbrev pub blocks_within : (frames_shown : Bool) → List Frame → (stop : Option ℕ) → (opened : List ℕ) → List Finding
+blocks_within frames_shown frames stop opened =
+    shown frames_shown
     (block_run connection_start (items_with opened (changes_of frames) (frames_within stop frames)))
 
 -- whatever is, up to the first error, what was found so far and what those blocks show, is what is shown of the pass
 abbrev pub RoundsSettle : Type 0
-RoundsSettle = (credits_shown : Bool) (frames : List Frame) (found last : List Finding) (stop : Option ℕ)
+RoundsSettle = (frames_shown : Bool) (frames : List Frame) (found last : List Finding) (stop : Option ℕ)
     (opened : List ℕ) →
-    IsOrderly frames → IsAfterStreams credits_shown frames found stop opened →
+    IsOrderly frames → IsAfterStreams frames_shown frames found stop opened →
     upto_stop (in_order last)
-    ≡ upto_stop (in_order (found ++ blocks_within credits_shown frames stop opened)) →
-    upto_stop (in_order last) ≡ shown credits_shown (pass frames)
+    ≡ upto_stop (in_order (found ++ blocks_within frames_shown frames stop opened)) →
+    upto_stop (in_order last) ≡ shown frames_shown (pass frames)
 
 -- the run of a stream, which went up to a place or was whole
 pub record RunUpto : Type 0 where

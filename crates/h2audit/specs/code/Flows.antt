@@ -51,28 +51,28 @@ KeepsCut outcome.NoHandshake NoHandshake = Unit {0}
 KeepsCut _ _ = ⊥
 
 -- what an outcome keeps of two flows, before anything is found in frames
-abbrev pub IsHeldBy : (credits_shown : Bool) → (client server : Flow) → Outcome → Type 0
-IsHeldBy credits_shown client server (outcome.Quiet quiet) = (credits_shown ≡ false) × IsQuietOf client server quiet
-IsHeldBy credits_shown client server (outcome.Audited audited) =
+abbrev pub IsHeldBy : (frames_shown : Bool) → (client server : Flow) → Outcome → Type 0
+IsHeldBy frames_shown client server (outcome.Quiet quiet) = (frames_shown ≡ false) × IsQuietOf client server quiet
+IsHeldBy frames_shown client server (outcome.Audited audited) =
     IsTrue server.started × IsHttp2 client server audited.value.frames.items audited.value.tails
     × runs.IsOrderly audited.value.frames.items
-IsHeldBy credits_shown client server outcome.NotHttp2 = IsCut client server NotHttp2
-IsHeldBy credits_shown client server outcome.NoPreface = IsCut client server NoPreface
-IsHeldBy credits_shown client server outcome.NoHandshake = IsCut client server NoHandshake
+IsHeldBy frames_shown client server outcome.NotHttp2 = IsCut client server NotHttp2
+IsHeldBy frames_shown client server outcome.NoPreface = IsCut client server NoPreface
+IsHeldBy frames_shown client server outcome.NoHandshake = IsCut client server NoHandshake
 
 -- the same, and how far the flows reach
-pub record IsToldOfFlows (credits_shown : Bool) (client server : Flow) (told : Told) : Type 0 where
+pub record IsToldOfFlows (frames_shown : Bool) (client server : Flow) (told : Told) : Type 0 where
   pub extents : extents_in told.reach ≡ extents_of client server
-  pub held : IsHeldBy credits_shown client server told.outcome
+  pub held : IsHeldBy frames_shown client server told.outcome
 
 -- what is told of a connection, before anything is found in frames
 pub record IsToldFlows
-    (credits_shown : Bool) (capture : List ℕ) (packets : List Packet) (connection : Connection) (made : Told)
+    (frames_shown : Bool) (capture : List ℕ) (packets : List Packet) (connection : Connection) (made : Told)
     : Type 0 where
   pub flows : Sides Flow
   pub client : IsFlowOf capture packets connection Client flows.client
   pub server : IsFlowOf capture packets connection Server flows.server
-  pub told : IsToldOfFlows credits_shown flows.client flows.server made
+  pub told : IsToldOfFlows frames_shown flows.client flows.server made
 
 -- a job for each connection, which finds nothing
 abbrev pub flow_job : ℕ → Job
@@ -82,23 +82,23 @@ abbrev pub flow_jobs : List Connection → List Job
 flow_jobs opened = map flow_job (range_with_len 0 (length opened))
 
 -- each part tells of its connection
-abbrev pub AreToldFlows : (credits_shown : Bool) → List ℕ → List Packet → List Connection → List (Part Told) → Type 0
-AreToldFlows credits_shown capture packets =
+abbrev pub AreToldFlows : (frames_shown : Bool) → List ℕ → List Packet → List Connection → List (Part Told) → Type 0
+AreToldFlows frames_shown capture packets =
     AllZip (λ (connection : Connection) (part : Part Told).
-    IsToldFlows credits_shown capture packets connection part.made)
+    IsToldFlows frames_shown capture packets connection part.made)
 
 -- audits of the connections, for which this stands
 pub record AreToldAudits
-    (credits_shown : Bool) (capture : List ℕ) (packets : List Packet) (opened : List Connection) (told : List Told)
+    (frames_shown : Bool) (capture : List ℕ) (packets : List Packet) (opened : List Connection) (told : List Told)
     : Type 0 where
   pub audited : List Audited
-  pub audits : AreAudited credits_shown capture packets opened audited
+  pub audits : AreAudited frames_shown capture packets opened audited
   pub stands : AreToldOf told audited
   pub orderly : All (λ (one : Told). HasOrderlyOutcome one.outcome) told
 
 -- what a round over the flows of connections has
 pub record FlowView : Type 0 where
-  pub credits_shown : Bool
+  pub frames_shown : Bool
   pub capture : List ℕ
   pub packets : List Packet
   pub opened : List Connection

@@ -22,8 +22,8 @@ abbrev pub kept_in : List (Part Told) → List (List Frame)
 kept_in parts = flat_map (λ (part : Part Told). frames_of part.made.outcome) parts
 
 -- what is shown of them
-abbrev pub found_in : (credits_shown : Bool) → List (Part Told) → List (List Finding)
-found_in credits_shown parts = map (λ frames. shown credits_shown (pass frames)) (kept_in parts)
+abbrev pub found_in : (frames_shown : Bool) → List (Part Told) → List (List Finding)
+found_in frames_shown parts = map (λ frames. shown frames_shown (pass frames)) (kept_in parts)
 
 -- the outcome with the first of these findings, where it has frames
 abbrev pub put_in : Outcome → List (Vec Finding Global) → Outcome
@@ -49,9 +49,9 @@ all_with (part ∷ parts) found =
     with_next part.made found ∷ all_with parts (left_after part.made.outcome found)
 
 -- what is told of all, from what their flows hold and what is shown of the frames that are kept
-pub record AreFound (credits_shown : Bool) (parts : List (Part Told)) (told : List Told) : Type 0 where
+pub record AreFound (frames_shown : Bool) (parts : List (Part Told)) (told : List Told) : Type 0 where
   pub found : List (Vec Finding Global)
-  pub are : map (λ (one : Vec Finding Global). one.items) found ≡ found_in credits_shown parts
+  pub are : map (λ (one : Vec Finding Global). one.items) found ≡ found_in frames_shown parts
   pub put : told ≡ all_with parts found
 
 -- some finding is a breach of a rule

@@ -18,15 +18,15 @@ use Rattle.h2audit.specs.declared.verdict.Verdict.{Verdict}
 use Rattle.h2audit.specs.declared.verdict.Verdict.TheVariants.{Faults}
 
 -- what is told of a connection, from what its flows hold and what is shown of the frames that are kept
-pub record IsFoundIn (credits_shown : Bool) (made told : Told) : Type 0 where
+pub record IsFoundIn (frames_shown : Bool) (made told : Told) : Type 0 where
   pub found : List (Vec Finding Global)
   pub are : map (λ (one : Vec Finding Global). one.items) found
-      ≡ map (λ frames. shown credits_shown (pass frames)) (frames_of made.outcome)
+      ≡ map (λ frames. shown frames_shown (pass frames)) (frames_of made.outcome)
   pub put : told ≡ with_next made found
 
 -- each for each, in order
-abbrev pub AreFoundIn : (credits_shown : Bool) → List (Part Told) → List Told → Type 0
-AreFoundIn credits_shown = AllZip (λ (part : Part Told) (told : Told). IsFoundIn credits_shown part.made told)
+abbrev pub AreFoundIn : (frames_shown : Bool) → List (Part Told) → List Told → Type 0
+AreFoundIn frames_shown = AllZip (λ (part : Part Told) (told : Told). IsFoundIn frames_shown part.made told)
 
 -- the verdict on connections, with one more
 abbrev pub worse : Verdict → Outcome → Verdict
@@ -34,10 +34,10 @@ worse verdict outcome = if has_fault_in outcome then Faults else verdict
 
 -- behind these lines the text has what is told of connections under these headings, of which the parts have what their
 -- flows hold, and this is the verdict on them
-pub record AreTold (credits_shown : Bool) (lines : List ℕ) (headings : List Heading) (parts : List (Part Told))
+pub record AreTold (frames_shown : Bool) (lines : List ℕ) (headings : List Heading) (parts : List (Part Told))
     (text : List ℕ) (verdict : Verdict) : Type 0 where
   pub told : List Told
   pub audits : (capture : List ℕ) (packets : List Packet) (opened : List Connection)
-      → AreToldFlows credits_shown capture packets opened parts
-      → AreToldAudits credits_shown capture packets opened told
-  pub behind : IsToldBehind credits_shown lines headings told text verdict
+      → AreToldFlows frames_shown capture packets opened parts
+      → AreToldAudits frames_shown capture packets opened told
+  pub behind : IsToldBehind frames_shown lines headings told text verdict

@@ -31,9 +31,9 @@ AreLinesOf packets cut strays lines =
     (records : Records) → AreRecordsOf packets cut records → lines ≡ capture_text records packets strays
 
 -- behind these lines the text has what is told of connections under these headings, and this is the verdict on them
-abbrev pub IsToldBehind : (credits_shown : Bool) → (lines : List ℕ) → List Heading → List Told → (text : List ℕ)
+abbrev pub IsToldBehind : (frames_shown : Bool) → (lines : List ℕ) → List Heading → List Told → (text : List ℕ)
     → Verdict → Type 0
-IsToldBehind credits_shown lines headings told text verdict =
+IsToldBehind frames_shown lines headings told text verdict =
     (connections : List Connection) → (audited : List Audited) → headings ≡ map heading_of connections
     → AreToldOf told audited
-    → (text ≡ lines ++ sections_text credits_shown 1 connections audited) × (verdict ≡ verdict_of audited)
+    → (text ≡ lines ++ sections_text frames_shown 1 connections audited) × (verdict ≡ verdict_of audited)

@@ -66,18 +66,18 @@ pub record IsEnd (changes : List Change) (streams : List ℕ) (quiets : List Qui
   pub ahead : AreAhead changes all (λ _. []) streams quiets
 
 -- nothing is shown of a stream that is quiet, and no stream is quiet where credits are shown
-pub record IsQuietStream (credits_shown : Bool) (changes : List Change) (stream : ℕ) (frames : List Frame)
+pub record IsQuietStream (frames_shown : Bool) (changes : List Change) (stream : ℕ) (frames : List Frame)
     (quiet : QuietStream) : Type 0 where
-  pub hidden : credits_shown ≡ false
+  pub hidden : frames_shown ≡ false
   pub shows : IsQuietToEnd stream changes frames quiet.standings.opened
 
-abbrev pub EndsQuiet : (credits_shown : Bool) → List Change → (stream : ℕ) → List Frame → QuietStream → Type 0
-EndsQuiet credits_shown changes stream frames quiet =
-    quiet.is_quiet ≡ true → IsQuietStream credits_shown changes stream frames quiet
+abbrev pub EndsQuiet : (frames_shown : Bool) → List Change → (stream : ℕ) → List Frame → QuietStream → Type 0
+EndsQuiet frames_shown changes stream frames quiet =
+    quiet.is_quiet ≡ true → IsQuietStream frames_shown changes stream frames quiet
 
 -- the same of each stream
-abbrev pub EndsQuietOf : (credits_shown : Bool) → List Change → (all : List Frame) → (stream : ℕ) → QuietStream → Type 0
-EndsQuietOf credits_shown changes all stream = EndsQuiet credits_shown changes stream (frames_of stream all)
+abbrev pub EndsQuietOf : (frames_shown : Bool) → List Change → (all : List Frame) → (stream : ℕ) → QuietStream → Type 0
+EndsQuietOf frames_shown changes all stream = EndsQuiet frames_shown changes stream (frames_of stream all)
 
-abbrev pub EndQuiet : (credits_shown : Bool) → List Change → (all : List Frame) → List ℕ → List QuietStream → Type 0
-EndQuiet credits_shown changes all = AllZip (EndsQuietOf credits_shown changes all)
+abbrev pub EndQuiet : (frames_shown : Bool) → List Change → (all : List Frame) → List ℕ → List QuietStream → Type 0
+EndQuiet frames_shown changes all = AllZip (EndsQuietOf frames_shown changes all)

@@ -49,7 +49,7 @@ opening_of frames changes stream =
 
 -- some streams that meet a frame are quiet: nothing is shown of them, and the frames that open them are told. Each
 -- other one has a row with the positions of its frames, in order of first frames
-pub record IsSplit (credits_shown : Bool) (changes : List Change) (frames : List Frame)
+pub record IsSplit (frames_shown : Bool) (changes : List Change) (frames : List Frame)
     (split : SplitFrames) : Type 0 where
   pub is_quiet : ℕ → Bool
   pub streams : map (λ (row : StreamRow). row.stream) split.rows.items
@@ -57,5 +57,5 @@ pub record IsSplit (credits_shown : Bool) (changes : List Change) (frames : List
   pub ranges : All (IsRange split) split.rows.items
   pub each : All (λ (row : StreamRow). ArePositionsOf frames row.stream (row_positions split row)) split.rows.items
   pub quiet : All (λ (stream : ℕ). is_quiet stream ≡ true →
-      shown credits_shown (stream_run stream (frames_of stream frames) changes) ≡ []) (streams_of frames)
+      shown frames_shown (stream_run stream (frames_of stream frames) changes) ≡ []) (streams_of frames)
   pub opened : split.opened.items ≡ flat_map (opening_of frames changes) (filter is_quiet (streams_of frames))

@@ -28,7 +28,7 @@ use Rattle.stream_credit.specs.code.QuietStream.{StartsAt}
 -- what was found, with what some steps from here on show
 abbrev pub found_with : Walk → List Step → List Finding
 found_with walk steps =
-    walk.found.items ++ shown walk.credits_shown (stream_run_from walk.stream walk.initial walk.entry steps)
+    walk.found.items ++ shown walk.frames_shown (stream_run_from walk.stream walk.initial walk.entry steps)
 
 -- the stream after some steps from here on
 abbrev pub entry_after : Walk → List Step → Stream
@@ -67,9 +67,9 @@ pub record CanCount (walk : Walk) (step : Step) : Type 0 where
 -- one walk is another, with one more step
 pub record HasCounted (old : Walk) (step : Step) (new : Walk) : Type 0 where
   pub stream : new.stream ≡ old.stream
-  pub credits_shown : new.credits_shown ≡ old.credits_shown
+  pub frames_shown : new.frames_shown ≡ old.frames_shown
   pub found : new.found.items
-      ≡ old.found.items ++ shown old.credits_shown (in_order (stream_said old.stream old.initial old.entry step))
+      ≡ old.found.items ++ shown old.frames_shown (in_order (stream_said old.stream old.initial old.entry step))
   pub entry : new.entry ≡ stream_after old.stream old.initial old.entry step
   pub initial : new.initial ≡ initial_after step.change old.initial
   pub met : new.met ≡ old.met
@@ -138,9 +138,9 @@ MeetsBefore {L} answers before now old new changes number goes_on =
 
 -- a walk that has met no step, after the first look
 pub record IsBegun {L : Type 0} (answers : L → List Finding → Option ℕ → L → Type 0) (before now : L) (stream : ℕ)
-    (credits_shown : Bool) (walk : Walk) : Type 0 where
+    (frames_shown : Bool) (walk : Walk) : Type 0 where
   pub own : walk.stream ≡ stream
-  pub shows : walk.credits_shown ≡ credits_shown
+  pub shows : walk.frames_shown ≡ frames_shown
   pub watch : (whole : List Finding) (numbers : List ℕ) → NeverFallFrom 0 numbers
       → Watches answers before now whole [] numbers walk.watch
   pub entry : walk.entry ≡ idle_stream

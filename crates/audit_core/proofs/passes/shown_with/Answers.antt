@@ -66,7 +66,7 @@ loop-frame-preserved c =
           c.in_ok-say_connection.ensures.after (rw rows at c.in_ok-meet.ensures.after)
           c.say_connection.ensures.little.0 c.say_connection.ensures.little.1 (rw rows at c.in_ok-meet.ensures.fits));
       found = c.in_ok-add_shown.ensures.added
-          ∙ shown-more c.args.credits_shown now.front (in_order four) _ now.found;
+          ∙ shown-more c.args.frames_shown now.front (in_order four) _ now.found;
       said = c.in_ok-add_shown.ensures.room;
     }
 
@@ -87,12 +87,12 @@ returns-then-branch c =
     c.in_ok-say_connection.ensures.after (rw rows at c.in_ok-meet.ensures.after) c.say_connection.ensures.little.0
     c.say_connection.ensures.little.1 (rw rows at c.in_ok-meet.ensures.fits) in
     c.up_to_stop.ensures
-    ∙ shown-stop c.args.credits_shown _ now.front (in_order four) _ _
+    ∙ shown-stop c.args.frames_shown _ now.front (in_order four) _ _
     (c.in_ok-add_shown.ensures.added ∙ rw now.found refl) (sym c.in_ok-add_shown.ensures.stops ∙ c.if-branch.true)
     next.found
 
 pub returns : goal.returns
 returns c =
     c.up_to_stop-2.ensures
-    ∙ shown-end c.args.credits_shown _ c.loop-frame.invariant.front _ c.loop-frame.invariant.found
+    ∙ shown-end c.args.frames_shown _ c.loop-frame.invariant.front _ c.loop-frame.invariant.found
     (rw (drop_all c.loop-frame.frame-index c.args.frames.now (omega arith)) at c.loop-frame.invariant.at).found

@@ -4,5 +4,5 @@ use Rattle.audit_core.proofs.passes.shown_with.Given as goal
 
 abbrev pub invariant-loop-frame : goal.invariant-loop-frame
 invariant-loop-frame l =
-    ShownAt l.credits_shown l.frames l.pairs.changes.items (drop l.frame-index l.frames) l.previous l.in_force
+    ShownAt l.frames_shown l.frames l.pairs.changes.items (drop l.frame-index l.frames) l.previous l.in_force
     l.connection l.rows.items l.found.items l.said.items

@@ -7,6 +7,6 @@ use Rattle.audit_report.proofs.findings.push_finding_lines.Given as goal
 abbrev pub invariant-loop-finding : goal.invariant-loop-finding
 invariant-loop-finding l = record {
   spelled : IsSpelled l.moment;
-  written : l.out.items ++ finding_lines l.credits_shown l.frames (drop l.finding-index l.findings)
-      ≡ l.initial.out.items ++ finding_lines l.credits_shown l.frames l.findings;
+  written : l.out.items ++ finding_lines l.frames_shown l.frames (drop l.finding-index l.findings)
+      ≡ l.initial.out.items ++ finding_lines l.frames_shown l.frames l.findings;
 }

@@ -14,7 +14,7 @@ loop-findings-preserved c =
     let count = c.count_below-below.result in
     let rise = now.rising c.loop-findings-test.true in
     let within : half < length findings = omega (arith, c.len-half.ensures, c.len.ensures, c.if-len-gt-FEW.true) in
-    let shown = c.args.credits_shown in
+    let shown = c.args.frames_shown in
     let lines = lines-freed shown half count c.number_at-next.result frames findings rise within
     (rw c.as_slice-in-loop-findings.ensures.value at c.number_at-next.ensures)
     (rw c.as_slice-in-loop-findings-3.ensures.value at c.count_below-below.ensures.below) in

@@ -9,8 +9,8 @@ abbrev pub invariant-loop-findings : goal.invariant-loop-findings
 invariant-loop-findings l = record {
   orderly : IsOrderly l.frames.items;
   rising : l.rise ≡ true → Rise 0 l.findings.items;
-  written : l.out.items ++ finding_lines l.credits_shown l.frames.items l.findings.items
-      ≡ l.initial.out.items ++ finding_lines l.credits_shown l.fn.frames.items l.fn.findings.items;
+  written : l.out.items ++ finding_lines l.frames_shown l.frames.items l.findings.items
+      ≡ l.initial.out.items ++ finding_lines l.frames_shown l.fn.frames.items l.fn.findings.items;
 }
 
 abbrev pub decreases-loop-findings : goal.decreases-loop-findings

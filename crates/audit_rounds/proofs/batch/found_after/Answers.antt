@@ -9,5 +9,5 @@ shown_of-requires-after_bounds g c κs within =
 pub returns : goal.returns
 returns g c =
     c.put_back.ensures
-    ∙ back-shown c.args.crew.now.credits_shown c.args.connections.now c.args.found.items c.in_ok-later.later.items
+    ∙ back-shown c.args.crew.now.frames_shown c.args.connections.now c.args.found.items c.in_ok-later.later.items
     (rw (c.as_slice-2.ensures.value, c.in_ok-pending.ensures, c.as_slice.ensures.value) at c.in_ok-later.ensures)

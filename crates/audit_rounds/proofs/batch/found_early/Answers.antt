@@ -3,7 +3,7 @@ use Rattle.audit_rounds.proofs.Batches.{early-none, early-fronts, fronts-batch}
 use Rattle.audit_rounds.proofs.batch.found_early.Goals as goal
 
 pub returns-then-all : goal.returns-then-all
-returns-then-all g c = early-none c.args.crew.now.credits_shown c.args.connections.now c.in_ok-none.none.items
+returns-then-all g c = early-none c.args.crew.now.frames_shown c.args.connections.now c.in_ok-none.none.items
     c.in_ok-none.ensures.number c.in_ok-none.ensures.each
 
 pub found_after-requires-clause-batch : goal.found_after-requires-clause-batch
@@ -14,7 +14,7 @@ found_after-requires-clause-batch g c κs within =
 pub returns : goal.returns
 returns g c =
     IfOk-weaker c.found_after.result _ _ (λ all is.
-    early-fronts c.args.crew.now.credits_shown c.args.connections.now c.in_ok-fronts.fronts.items
+    early-fronts c.args.crew.now.frames_shown c.args.connections.now c.in_ok-fronts.fronts.items
     c.in_ok-none.none.items all.items c.in_ok-none.ensures.number c.in_ok-none.ensures.each c.in_ok-fronts.ensures
     (rw c.as_slice.ensures.value at is)) c.found_after.ensures
 

@@ -7,5 +7,5 @@ found_after-requires-clause-number g c κs within = AllZip-long _ _ _ c.in_ok-ea
 
 pub returns : goal.returns
 returns g c = IfOk-weaker c.found_after.result _ _ (λ all is.
-    early-shown c.args.crew.now.credits_shown c.args.connections.now c.in_ok-early.early.items all.items
+    early-shown c.args.crew.now.frames_shown c.args.connections.now c.in_ok-early.early.items all.items
     c.in_ok-early.ensures is) c.found_after.ensures

@@ -16,7 +16,7 @@ loop-done-preserved g c =
     record {
       within = omega (arith, c.loop-done-test.true);
       shown = rw one.ensures.front_len at
-          (batch-more items_in (λ (frames : Bor (List Frame)). shown c.args.crew.now.credits_shown (pass frames.now))
+          (batch-more items_in (λ (frames : Bor (List Frame)). shown c.args.crew.now.frames_shown (pass frames.now))
           at.all.items c.in_ok-found.found.items c.append.new.self.items c.args.connections.now one.result.0.now
           rest.result.1.now at.done 1 one.ensures.front_len one.ensures.front rest.ensures.back
           c.in_ok-append.ensures.items

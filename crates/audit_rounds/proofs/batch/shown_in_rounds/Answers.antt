@@ -5,12 +5,12 @@ use Rattle.audit_rounds.proofs.batch.shown_in_rounds.Goals as goal
 
 pub findings_of_prepared-requires-after_bounds : goal.findings_of_prepared-requires-after_bounds
 findings_of_prepared-requires-after_bounds g c κs within =
-    rw c.as_slice.ensures.value (batch-ready c.args.crew.now.credits_shown c.args.connections.now
+    rw c.as_slice.ensures.value (batch-ready c.args.crew.now.frames_shown c.args.connections.now
     c.in_ok-made.made c.requires c.in_ok-made.ensures)
 
 pub returns : goal.returns
 returns g c =
-    let shows = c.args.crew.now.credits_shown in
+    let shows = c.args.crew.now.frames_shown in
     let passed = λ (frames : List Frame). shown shows (pass frames) in
     let one_frames = λ (one : Prepared). one.frames.now in
     c.in_ok-found.ensures

@@ -22,7 +22,7 @@ pub loop-at-preserved : goal.loop-at-preserved
 loop-at-preserved c =
     let at = c.loop-at in
     let one = c.index-blocks-at in
-    let shows = c.args.credits_shown in
+    let shows = c.args.frames_shown in
     let blocks = c.args.blocks.now in
     let l = c.loop-at-test.true in
     let before = c.before_of-before in

@@ -4,4 +4,4 @@ use Rattle.audit_rounds.proofs.block_plans.plan_of.Given as goal
 
 -- the blocks so far are planned
 abbrev pub invariant-loop-at : goal.invariant-loop-at
-invariant-loop-at l = ArePlanned l.credits_shown l.blocks (drop l.at l.blocks) l.last l.now l.plan.items
+invariant-loop-at l = ArePlanned l.frames_shown l.blocks (drop l.at l.blocks) l.last l.now l.plan.items

@@ -5,7 +5,7 @@ use Rattle.audit_rounds.proofs.connections.findings_of_prepared.Goals as goal
 
 pub rounds_over_blocks-requires-clause-remaining : goal.rounds_over_blocks-requires-clause-remaining
 rounds_over_blocks-requires-clause-remaining g c κs within =
-    rw c.as_slice-2.ensures.value (all-remain c.args.crew.now.credits_shown c.args.connections.now _ _ _ _
+    rw c.as_slice-2.ensures.value (all-remain c.args.crew.now.frames_shown c.args.connections.now _ _ _ _
     c.requires.prepared (rw (c.as_slice-stops.ensures.value, c.as_slice.ensures.value) c.in_ok-after.ensures)
     c.in_ok-rests.ensures)
 
@@ -17,6 +17,6 @@ rounds_over_blocks-requires-clause-few g c κs within =
 pub returns : goal.returns
 returns g c =
     IfOk-weaker c.rounds_over_blocks.result _ _ (λ last gone.
-    all-settle c.args.crew.now.credits_shown c.args.connections.now _ _ _ _ c.requires.prepared
+    all-settle c.args.crew.now.frames_shown c.args.connections.now _ _ _ _ c.requires.prepared
     (rw (c.as_slice-stops.ensures.value, c.as_slice.ensures.value) c.in_ok-after.ensures) c.in_ok-rests.ensures
     last.items (rw c.as_slice-2.ensures.value at gone)) c.rounds_over_blocks.ensures

@@ -12,10 +12,10 @@ loop-done-preserved g c =
     let within = at.invariant.within in
     record {
       within = omega (arith, left, few, within);
-      shown = batch-more items_in (λ (frames : Bor (List Frame)). shown c.args.credits_shown (pass frames.now))
+      shown = batch-more items_in (λ (frames : Bor (List Frame)). shown c.args.frames_shown (pass frames.now))
           at.all.items c.in_ok-found.found.items c.append.new.self.items c.args.connections.now batch.result.now
           rest.result.1.now at.done _ refl batch.ensures.front rest.ensures.back c.in_ok-append.ensures.items
-          at.invariant.shown (rw c.of-crew.ensures.credits_shown at c.in_ok-found.ensures);
+          at.invariant.shown (rw c.of-crew.ensures.frames_shown at c.in_ok-found.ensures);
     }
 
 pub by_halves-requires : goal.by_halves-requires

@@ -6,7 +6,7 @@ abbrev pub invariant-loop-done : goal.invariant-loop-done
 invariant-loop-done g l = record {
   within : l.done ≤ length l.connections;
   shown : map (λ one. one.items) l.all.items
-      ≡ map (λ frames. shown l.credits_shown (pass frames.now)) (take l.done l.connections);
+      ≡ map (λ frames. shown l.frames_shown (pass frames.now)) (take l.done l.connections);
 }
 
 abbrev pub decreases-loop-done : goal.decreases-loop-done

@@ -16,7 +16,7 @@ faults_and_split-found-requires-clause-frames g c κs within =
 
 pub returns : goal.returns
 returns g c =
-    let shows = c.args.crew.now.credits_shown in
+    let shows = c.args.crew.now.frames_shown in
     let frames = c.args.frames.now in
     let pairs = c.in_ok-pairs.ensures in
     let said = c.faults_and_split-found.ensures in

@@ -2,7 +2,7 @@ use Rattle.audit_rounds.proofs.Words.{take_more, take_all, arith}
 use Rattle.audit_rounds.proofs.prepared.prepare_in_turn.Goals as goal
 
 pub loop-frames-init : goal.loop-frames-init
-loop-frames-init g c = c.in_ok-made.ensures c.args.crew.now.credits_shown
+loop-frames-init g c = c.in_ok-made.ensures c.args.crew.now.frames_shown
 
 pub loop-frames-preserved : goal.loop-frames-preserved
 loop-frames-preserved g c =

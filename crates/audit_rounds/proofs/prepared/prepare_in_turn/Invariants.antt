@@ -5,4 +5,4 @@ use Rattle.audit_rounds.proofs.prepared.prepare_in_turn.Given as goal
 -- the connections so far are ready
 abbrev pub invariant-loop-frames : goal.invariant-loop-frames
 invariant-loop-frames g l =
-    AreMadeReady l.crew.credits_shown (take l.frames-index l.connections) l.made
+    AreMadeReady l.crew.frames_shown (take l.frames-index l.connections) l.made

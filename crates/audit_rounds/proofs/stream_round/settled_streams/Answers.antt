@@ -22,12 +22,12 @@ settle-requires-clause-connections g c κs within =
     let own = (planned division.groups division.some_groups streams n d l).connection in omega arith))
 
 -- its jobs are those of the plan
-settled-as : (credits_shown : Bool) (groups : ℕ) (streams : List Streams) (plan : List StreamJob)
+settled-as : (frames_shown : Bool) (groups : ℕ) (streams : List Streams) (plan : List StreamJob)
     (opening : List (Option ℕ)) (settled : Settled (Vec ℕ Global)) → plan ≡ plan_from groups 0 streams
     → HasSettled (λ (job : ℕ) (upto : Option ℕ) (made : Vec ℕ Global). Makes streams plan job upto made.items)
-    (map (job_of credits_shown streams) plan) opening settled
-    → HaveSettled credits_shown groups streams opening settled
-settled-as credits_shown groups streams plan opening settled e h = rw e at h
+    (map (job_of frames_shown streams) plan) opening settled
+    → HaveSettled frames_shown groups streams opening settled
+settled-as frames_shown groups streams plan opening settled e h = rw e at h
 
 pub returns : goal.returns
 returns g c = IfOk-weaker c.settle.result _ _ (λ settled done.

@@ -6,7 +6,7 @@ use Rattle.audit_rounds.proofs.streams.run_of_rows.Goals as goal
 pub loop-row-init : goal.loop-row-init
 loop-row-init g c =
     rw (c.new.ensures.items, c.new-2.ensures.items)
-    (work-none g.L.Look.answers c.args.credits_shown c.args.streams.now c.args.look.now)
+    (work-none g.L.Look.answers c.args.frames_shown c.args.streams.now c.args.look.now)
 
 pub loop-row-preserved : goal.loop-row-preserved
 loop-row-preserved g c =
@@ -23,7 +23,7 @@ loop-row-preserved g c =
       added.opened,
       ← in_order-append_left found run.findings.items,
     )
-    (work-more g.L.Look.answers c.args.credits_shown c.args.streams.now (take at rows) (get_or rows at d)
+    (work-more g.L.Look.answers c.args.frames_shown c.args.streams.now (take at rows) (get_or rows at d)
     c.args.look.now c.loop-row.look c.run_of_row.new.look (in_order found) run.findings.items
     c.loop-row.work.made.items run.opened_at c.loop-row.work.upto run.upto c.loop-row.invariant c.in_ok-run.ensures)
 

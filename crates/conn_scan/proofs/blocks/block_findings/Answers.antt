@@ -11,7 +11,7 @@ loop-item-init g c =
     (block_walked c.args.block.now c.requires.block) in
     rw (all, c.new-findings.ensures.items) (record {
       fits = c.requires.fits;
-      halfway = begins g.L.Look.answers c.args.look.now c.args.credits_shown c.args.block.now c.begin-watch.new.look
+      halfway = begins g.L.Look.answers c.args.look.now c.args.frames_shown c.args.block.now c.begin-watch.new.look
           c.args.before.now c.begin-watch.result c.requires.block c.begin-watch.ensures;
     })
 

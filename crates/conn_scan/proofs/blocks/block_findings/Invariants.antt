@@ -8,6 +8,6 @@ invariant-loop-item g l =
     let rest = walked l.item-iterator.opened.now l.item-iterator.changes.now l.item-iterator.frames.now in
     record {
       fits : BlockFits l.state rest;
-      halfway : Halfway g.L.Look.answers l.fn.look l.look l.credits_shown (numbers_of l.block.frames.now)
-          (shown l.credits_shown (block_run l.before (items_in l.block))) l.findings.items l.state rest l.watch;
+      halfway : Halfway g.L.Look.answers l.fn.look l.look l.frames_shown (numbers_of l.block.frames.now)
+          (shown l.frames_shown (block_run l.before (items_in l.block))) l.findings.items l.state rest l.watch;
     }

@@ -48,7 +48,7 @@ lines_and_flows-requires-clause-sources g c κs within = λ k d low. record {
 
 pub report_parts-requires-clause-each : goal.report_parts-requires-clause-each
 report_parts-requires-clause-each g c κs within =
-    let credits = c.frames_shown-credits_shown.result in
+    let credits = c.frames_shown-frames_shown.result in
     let capture = c.args.capture.now in
     let packets = packets_in c.args.found in
     let lent = c.as_slice.result.now in
@@ -61,12 +61,12 @@ report_parts-requires-clause-each g c κs within =
 
 pub report_parts-requires-clause-orderly : goal.report_parts-requires-clause-orderly
 report_parts-requires-clause-orderly g c κs within =
-    told-orderly c.frames_shown-credits_shown.result c.args.capture.now (packets_in c.args.found)
+    told-orderly c.frames_shown-frames_shown.result c.args.capture.now (packets_in c.args.found)
     c.as_slice.result.now c.in_ok-lines.parts.items c.in_ok-lines.ensures.flows
 
 pub returns : goal.returns
 returns g c =
-    let credits = c.frames_shown-credits_shown.result in
+    let credits = c.frames_shown-frames_shown.result in
     let capture = c.args.capture.now in
     let found = c.requires.packets.records in
     let packets = packets_of capture found in
@@ -77,7 +77,7 @@ returns g c =
       count = sym (ap length given ∙ decisions-length found.link found.rows.items capture);
       cut_is = c.requires.packets.cut;
     } in
-    IfOk-weaker c.report_parts.result _ _ (λ r is. rw (← c.frames_shown-credits_shown.ensures) (
+    IfOk-weaker c.report_parts.result _ _ (λ r is. rw (← c.frames_shown-frames_shown.ensures) (
     let audits : AreToldAudits credits capture packets opened is.told =
     subst (λ (p : List Packet). AreToldAudits credits capture p opened is.told) given
     (subst (λ (cs : List Connection). AreToldAudits credits capture (packets_in c.args.found) cs is.told)

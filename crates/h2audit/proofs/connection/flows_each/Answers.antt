@@ -9,6 +9,6 @@ settle-requires-clause-connections g c κs within =
 pub returns : goal.returns
 returns g c =
     let settled = c.in_ok-settled.ensures.settled in
-    are-told c.args.credits_shown c.args.capture.now c.args.packets.now c.args.opened.now
+    are-told c.args.frames_shown c.args.capture.now c.args.packets.now c.args.opened.now
     c.in_ok-settled.settled.parts.items (settled.count ∙ flow_jobs-length c.args.opened.now)
     (λ n part connection is there. (settled.in_order n part is).1 connection there)

@@ -11,11 +11,11 @@ if-more P Q (Ok x) f h = f x h
 if-more P Q (Err e) f h = tt
 
 -- each stream of a table has its row and what is known of it
-long : (credits_shown : Bool) (changes : List Change) (frames : List Frame) (table : Visits)
-    → EndQuiet credits_shown changes frames (streams_in table.rows.items) table.quiets.items
+long : (frames_shown : Bool) (changes : List Change) (frames : List Frame) (table : Visits)
+    → EndQuiet frames_shown changes frames (streams_in table.rows.items) table.quiets.items
     → length table.quiets.items ≡ length table.rows.items
-long credits_shown changes frames table ends_quiet =
-    AllZip-long (EndsQuietOf credits_shown changes frames) _ _ ends_quiet ∙ length-streams_in table.rows.items
+long frames_shown changes frames table ends_quiet =
+    AllZip-long (EndsQuietOf frames_shown changes frames) _ _ ends_quiet ∙ length-streams_in table.rows.items
 
 pub ended-requires : goal.ended-requires
 ended-requires c = rw c.in_ok-changes.ensures record {
@@ -33,6 +33,6 @@ returns c =
     let frames = c.args.frames.now in
     let table = c.in_ok-table.ensures in
     rw (← c.in_ok-changes.ensures) (if-more _ _ c.laid.result
-    (λ split is. split-is c.args.credits_shown c.in_ok-changes.changes frames _ c.in_ok-table.table.quiets.items split
+    (λ split is. split-is c.args.frames_shown c.in_ok-changes.changes frames _ c.in_ok-table.table.quiets.items split
     table.visits.streams table.visits.table.index.distinct table.visits.table.index.above table.ends_quiet is)
     c.laid.ensures)

@@ -4,4 +4,4 @@ use Rattle.split_merge.proofs.visits.finish.Given as goal
 abbrev pub invariant-loop-row : goal.invariant-loop-row
 invariant-loop-row l =
     (all : List Frame) → AreAhead l.changes all (λ _. []) (streams_in l.rows) l.fn.quiets.items →
-    IsPartEnded l.credits_shown l.changes all (streams_in l.rows) l.quiets.items l.row
+    IsPartEnded l.frames_shown l.changes all (streams_in l.rows) l.quiets.items l.row

@@ -23,8 +23,8 @@ pub returns-clause-made : goal.returns-clause-made
 returns-clause-made g c = λ connection is.
     let view = c.self.view_is in
     let there = ap (λ (v : FlowView). slice_get v.opened c.args.job) view ∙ is in
-    subst (λ (v : FlowView). IsToldFlows v.credits_shown v.capture v.packets connection c.in_ok-made.made) view
-    (subst (λ one. IsToldFlows c.self.inside.credits_shown c.self.inside.capture.now c.self.inside.packets.now one
+    subst (λ (v : FlowView). IsToldFlows v.frames_shown v.capture v.packets connection c.in_ok-made.made) view
+    (subst (λ one. IsToldFlows c.self.inside.frames_shown c.self.inside.capture.now c.self.inside.packets.now one
     c.in_ok-made.made)
     (get_or_from_slice_get c.self.inside.opened.now c.args.job connection c.index-self-job.result there)
     c.in_ok-made.ensures)

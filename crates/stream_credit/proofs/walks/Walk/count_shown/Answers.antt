@@ -14,7 +14,7 @@ returns c =
     let said = c.in_ok-say_stream.ensures in
     record {
       stream = refl;
-      credits_shown = refl;
+      frames_shown = refl;
       found = rw (
         c.in_ok-extend_from_slice.ensures.items,
         c.as_slice.ensures.value,
