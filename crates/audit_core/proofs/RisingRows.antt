@@ -14,6 +14,7 @@ use Rattle.audit_core.proofs.Words.{AllByRecursion, Change, EachPair, Finding, F
 use Rattle.audit_core.proofs.Words.{Stream, StreamRow, each-append, eq-eqb, ne_eqb, or-true}
 use Rattle.audit_core.proofs.Words.{each-weaker, first_of, flat_map, idle_rows, idle_stream, is_opening, list_any}
 use Rattle.audit_core.proofs.Words.{meets}
+use Rattle.audit_terms.specs.Frame.{is_headers}
 use Rattle.audit_core.proofs.Words.{nat_tests, promised_by, room-wider, row_after, row_opens, row_said, rows_in}
 use Rattle.audit_core.proofs.Words.{step_at, stream_after, stream_said, streams_of}
 use Rattle.audit_core.specs.code.StreamRows.{AreDistinct, AreRowsBefore, AreRowsOf, IsAlone, IsRowOf, is_among}
@@ -154,6 +155,12 @@ pub opens-zero : (frame : Frame) (rows : List StreamRow) → frame.stream ≡ 0 
     list_any (row_opens frame) rows ≡ false
 opens-zero frame [] e h = refl
 opens-zero frame (row ∷ rows) e h = grind (arith, nat_tests, opens-zero frame rows e h.2)
+
+-- a frame that is no HEADERS does not open its own stream
+pub opens-unheaded : (frame : Frame) (rows : List StreamRow) → is_headers frame.body ≡ false →
+    list_any (row_opens frame) rows ≡ false
+opens-unheaded frame [] e = refl
+opens-unheaded frame (row ∷ rows) e = grind (arith, nat_tests, opens-unheaded frame rows e)
 
 pub opens-at : (frame : Frame) (rows : List StreamRow) (at : ℕ) (row : StreamRow) → slice_get rows at ≡ Some row →
     row.stream ≡ frame.stream → AreDistinct rows →

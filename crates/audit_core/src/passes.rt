@@ -41,40 +41,25 @@ pub fn shown_in_one_pass(
     requires { IsOrderly frames.now }
     ensures { IfOk result (λ made. ForSome made (λ found. found.items ≡ shown frames_shown (pass frames.now))) }
 {
-    let by_all = met_by_all(frames);
-    if !take_few_steps(by_all, by_all, frames.len()) {
-        return Ok(None);
-    }
-    let Some(rows) = rising_rows(alloc, frames)? else {
+    let Some(idle) = rising_rows(alloc, frames)? else {
         return Ok(None);
     };
-    if !take_few_steps(by_all, rows.len(), frames.len()) {
+    if !are_few_steps(idle.met_by_all, idle.rows.len(), frames.len()) {
         return Ok(None);
     }
     let pairs = pair(alloc, frames)?;
-    let found = shown_with(alloc, frames_shown, frames, &pairs, rows)?;
+    let found = shown_with(alloc, frames_shown, frames, &pairs, idle.rows)?;
     Ok(Some(found))
 }
 
-/// How many frames all streams may meet: an acknowledgement may change each window, and a stream that is promised is
-/// looked for among all. The change of an acknowledgement is looked for among those of all acknowledgements too: before
-/// this was bounded, 3 MB of settings took 8.8 s in place of 0.05.
-fn met_by_all(frames: &[Frame]) -> usize {
-    let mut count = 0usize;
-    for frame in frames {
-        if frame.body.is_ack() || frame.promised_by() != 0 {
-            count = count.saturating_add(1);
-        }
-    }
-    count
-}
-
 /// So many steps for each frame, on average, are few.
-const STEPS: usize = 8;
+const FEW_STEPS: usize = 8;
 
-/// Are so many frames met in few steps, where each takes so many?
-fn take_few_steps(met: usize, steps: usize, frames: usize) -> bool {
-    met.saturating_mul(steps) <= frames.saturating_mul(STEPS)
+/// Is each of so many frames met in few steps, where so many of them may meet all of so many streams? The change of an
+/// acknowledgement is also looked for among those of all acknowledgements: before this was bounded, 3 MB of settings
+/// took 8.8 s in place of 0.05.
+fn are_few_steps(met_by_all: usize, streams: usize, frames: usize) -> bool {
+    met_by_all.saturating_mul(streams.max(met_by_all)) <= frames.saturating_mul(FEW_STEPS)
 }
 
 /// What is shown of the pass, where these are the changes and the rows of the streams.

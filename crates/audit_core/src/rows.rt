@@ -45,20 +45,40 @@ fn put_first(rows: &mut Vec<StreamRow>, stream: u32) -> Result<(), AllocError>
     Ok(())
 }
 
-/// The same, where streams first come in rising order, as they have to be opened (RFC 9113, 5.1.1); else no rows.
-pub fn rising_rows(alloc: Global, frames: &[Frame]) -> Result<Option<Vec<StreamRow>>, AllocError>
-    ensures { IfOk result (λ made. ForSome made (λ rows. rows.items ≡ idle_rows (streams_of frames.now))) }
+/// The rows of [`idle_rows`], where streams first come in rising order, as they have to be opened (RFC 9113, 5.1.1);
+/// else none.
+pub fn rising_rows(alloc: Global, frames: &[Frame]) -> Result<Option<IdleRows>, AllocError>
+    ensures { IfOk result (λ made. ForSome made (λ idle. idle.rows.items ≡ idle_rows (streams_of frames.now))) }
 {
     let mut made = RisingRows {
         rows: Vec::new(alloc),
         last: 0,
     };
+    let mut met_by_all = 0usize;
     for frame in frames {
         if !made.put_of(frame)? {
             return Ok(None);
         }
+        met_by_all = met_by_all.saturating_add(usize::from(may_meet_all(frame)));
     }
-    Ok(Some(made.rows))
+    Ok(Some(IdleRows {
+        rows: made.rows,
+        met_by_all,
+    }))
+}
+
+/// May a frame meet all streams? An acknowledgement may change each window, and a stream that is promised is looked for
+/// among all.
+fn may_meet_all(frame: &Frame) -> bool {
+    frame.body.is_ack() || frame.promised_by() != 0
+}
+
+/// A row for each stream that meets one of some frames.
+#[derive(Drop)]
+pub struct IdleRows {
+    pub rows: Vec<StreamRow>,
+    /// How many of the frames all streams may meet.
+    pub met_by_all: usize,
 }
 
 /// Rows of streams in rising order, up to the last.
@@ -143,6 +163,10 @@ pub fn opens(rows: &[StreamRow], frame: &Frame) -> bool
     requires { AreDistinct rows.now }
     ensures { result ≡ list_any (row_opens frame.now) rows.now }
 {
+    // Most frames are no HEADERS, and for these no row is looked for.
+    if !frame.body.is_headers() {
+        return false;
+    }
     if frame.stream == 0 {
         return false;
     }

@@ -16,14 +16,23 @@ pub fn frame_at(frames: &[Frame], number: u32) -> Option<Frame>
     }
 }
 
-/// The frame of this number. Frames numbered from 1 without a gap have it at its own place: that is where it is looked
-/// for first.
+/// The frame of this number. Frames numbered without a gap have it as far behind the first one as their numbers differ:
+/// there it is looked for first.
 pub fn frame_of(frames: &[Frame], number: u32) -> Option<Frame>
     requires { IsOrderly frames.now }
     ensures { result ≡ frame_numbered frames.now number }
 {
-    match frames.get((number as usize).saturating_sub(1)) {
+    match frames.get(offset_of(frames, number)) {
         Some(frame) if frame.number == number => Some(*frame),
         _ => frame_at(frames, number),
+    }
+}
+
+/// How far behind the first frame the one of this number stands, where frames are numbered without a gap.
+#[inline]
+fn offset_of(frames: &[Frame], number: u32) -> usize {
+    match frames.first() {
+        Some(first) => number.wrapping_sub(first.number) as usize,
+        None => 0,
     }
 }

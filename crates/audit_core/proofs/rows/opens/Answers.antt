@@ -1,6 +1,13 @@
-use Rattle.std.proofs.{Common.arith, Common.sym, Common.◌∙◌, lemmas.Option.slice_get_within}
-use Rattle.audit_core.proofs.RisingRows.{opens-at, opens-zero, read}
+use Rattle.std.proofs.{Common.arith, Common.false, Common.sym, Common.◌∙◌, Common.◌≡◌, lemmas.Option.slice_get_within}
+use Rattle.audit_terms.specs.Frame.{is_headers}
+use Rattle.audit_core.proofs.RisingRows.{opens-at, opens-zero, opens-unheaded, read}
 use Rattle.audit_core.proofs.rows.opens.Goals as goal
+
+pub returns-then-not-is_headers : goal.returns-then-not-is_headers
+returns-then-not-is_headers c =
+    let unheaded : is_headers c.args.frame.now.body ≡ false =
+    grind (arith, c.is_headers.ensures, c.if-not-is_headers.true) in
+    sym (opens-unheaded c.args.frame.now c.args.rows.now unheaded)
 
 pub returns-then-frame-eq0 : goal.returns-then-frame-eq0
 returns-then-frame-eq0 c = sym (opens-zero c.args.frame.now c.args.rows.now c.if-frame-eq0.true c.requires)

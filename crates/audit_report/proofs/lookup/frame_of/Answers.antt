@@ -14,5 +14,5 @@ found_at frames n i f orderly within here same =
 pub returns-in-Some : goal.returns-in-Some
 returns-in-Some c =
     let there = c.in-Some.ensures.lookup in
-    found_at c.args.frames.now c.args.number c.saturating_sub.result c.in-Some.frame.now c.requires there.3.0 there.1
+    found_at c.args.frames.now c.args.number c.offset_of.result c.in-Some.frame.now c.requires there.3.0 there.1
     c.if-frame-number.true
