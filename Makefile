@@ -39,7 +39,7 @@ deps:
 	tools/deps.sh
 
 # Proves all that the programs stand on, builds them, and leaves them as PROGRAM and SPLIT; and builds those in Rust.
-# "make test" proves none of it again.
+# "make test" leaves the same programs, and after it nothing is proved here.
 build: $(PROGRAM) $(SPLIT) companions
 
 # Builds the programs in Rust, with no network: their crates are Debian's (librust-*-dev).
@@ -104,8 +104,7 @@ check-sources check-believed check-storeys check-rules: check-%:
 	$(PYTHON) -m tools.tests.$*_test
 
 # The gate: proves the crates, tries the must-fail edits, runs the tests and the programs; and asks the programs, as
-# both compilers built them, for whole reports and for parts. The first "rt ci" on a machine proves and tries all, a
-# later one what changed and what stands above it; "rt ci --anew" does all again.
+# both compilers built them, for whole reports and for parts. "rt ci" proves and tries all, each time.
 test: companions
 	RT_JOBS=$(RT_JOBS) rt ci
 	$(PYTHON) -m tests.command_test $(PROGRAM) $(PROGRAM).by-rattle

@@ -2,9 +2,7 @@
 # Proves the programs with all that they stand on, builds them, and leaves them where "make test" does: tools/build.sh
 #
 # It runs the toolchain's gate over a copy of the crates without must-fail edits and without the tests of calls: there a
-# crate reads the statements of those below it and not their proofs, as it would after "rt lib". What is proved is kept
-# on this machine by the sums of all that was read. So "make test" and later builds, in any checkout, prove it no more,
-# and what these proved is not proved here.
+# crate reads the statements of those below it and not their proofs, as it would after "rt lib".
 set -euo pipefail
 cd "$(dirname "$0")/.."
 
