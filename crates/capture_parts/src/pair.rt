@@ -19,7 +19,7 @@ pub struct Endpoints {
     pub to: Endpoint,
 }
 
-/// The length of the two ports.
+/// The length of the two ports in bytes.
 pub(crate) const PORTS: usize = 4;
 
 /// Where the datagram begins in a packet of which so much is there.

@@ -12,7 +12,7 @@ pub fn printable(alloc: Global, text: &str) -> Result<String, AllocError> {
     Ok(shown)
 }
 
-/// The same of a text of several lines.
+/// The text with what a terminal would act on escaped, but for its line feeds.
 pub fn printable_lines(alloc: Global, text: &str) -> Result<String, AllocError> {
     let mut shown = String::new(alloc);
     for letter in text.chars() {

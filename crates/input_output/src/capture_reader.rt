@@ -71,7 +71,7 @@ impl<R> CaptureReader<R> {
         self.bytes.capture(alloc)
     }
 
-    /// The same, where there is room for less than a chunk of a capture.
+    /// The bytes of [`CaptureReader::capture`] in one slice, while there is room for less than a chunk.
     pub fn in_one_slice(&self) -> &[u8]
         requires { self.now.bytes.room < 1048576 }
         ensures { result.now ≡ kept self.now }

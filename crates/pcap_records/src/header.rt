@@ -69,7 +69,7 @@ pub(crate) fn header(capture: &[u8]) -> &[u8]
     &capture[..capture.len().min(FILE_HEADER)]
 }
 
-/// The same of a capture in chunks, the first of which has room for it.
+/// The header at the front of a capture in chunks, or what there is of it: the first chunk has room for it.
 pub(crate) fn header_in_chunks<'a>(capture: &Capture<'a>) -> &'a [u8]
     ensures bytes { result.now ≡ header_of capture.now }
     ensures length { length result.now ≡ min 24 (length capture.now) }

@@ -20,7 +20,7 @@ pub fn refusal(capture: &[u8]) -> Option<PcapFault>
     format_or_refusal(header(capture), capture.len()).err()
 }
 
-/// The same of a capture in chunks.
+/// Why a capture in chunks is refused, if it is: by its header and its length alone.
 pub fn refusal_in_chunks(capture: &Capture<'_>) -> Option<PcapFault>
     ensures is { result ≡ refusal capture.now }
     ensures short { IfNone result (length capture.now < 2 ^ 31) }
