@@ -2,5 +2,4 @@ mod Joins
 mod Pairs
 mod FrameNumbers
 mod Sweep
-mod Standing
-mod Freeing
+mod FreedLines

@@ -4,7 +4,7 @@ use Rattle.audit_report.specs.{code.Ends.end_in, declared.ends.Ends.Ends, declar
 use Rattle.audit_terms.specs.{Kind.begins_stall, Place.place_stream}
 use Rattle.audit_terms.specs.declared.{findings.Finding.Finding, frames.Frame.Frame, sides.Side.Side}
 use Rattle.std.proofs.Common.{Bool, List, Option, Some, [], ap, arith, drop, false, get_or, if◌then◌else◌, length}
-use Rattle.std.proofs.Common.{reverse, subst, sym, true, ℕ, ◌++◌, ◌+◌, ◌-◌, ◌<◌, ◌∙◌, ◌∷◌, ◌≡◌, ◌≤◌}
+use Rattle.std.proofs.Common.{reverse, subst, sym, true, ℕ, ◌++◌, ◌-◌, ◌<◌, ◌∙◌, ◌∷◌, ◌≡◌, ◌≤◌}
 use Rattle.std.proofs.lemmas.List.{drop_more, reverse-append}
 
 -- the table has the first end of each window among the findings

@@ -1,9 +1,9 @@
+pub mod Audits
 pub mod Contents
 pub mod Ends
 pub mod Findings
 pub mod Heading
 pub mod Packets
-pub mod Reported
 pub mod Roles
 pub mod Shares
 pub mod Tally

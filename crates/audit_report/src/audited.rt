@@ -2,8 +2,7 @@ use crate::extents::Extent;
 use audit_terms::{Finding, Sides};
 use h2_frames::Cut;
 
-/// What the audit of one connection gives. The definition of a report is over lists of these. No code makes one: what
-/// is kept of a connection, a [`crate::Told`], stands for it.
+/// What the audit of one connection gives: the record that the definition of a report speaks of. No code makes one.
 #[derive(Drop)]
 pub struct Audited {
     /// How much of each side's bytes the capture has.

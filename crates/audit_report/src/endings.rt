@@ -9,7 +9,7 @@ use audit_terms::Finding;
 use std::alloc::AllocError;
 
 /// Adds a line for each stall, in order.
-pub fn push_stall_lines(out: &mut Vec<u8>, stalls: &[Stall]) -> Result<(), AllocError>
+pub(crate) fn push_stall_lines(out: &mut Vec<u8>, stalls: &[Stall]) -> Result<(), AllocError>
     ensures { OnOk result (out.new.items ≡ out.old.items ++ stall_lines stalls.now) }
 {
     for stall in stalls {
@@ -48,8 +48,11 @@ pub fn push_end_line(out: &mut Vec<u8>, findings: &[Finding]) -> Result<(), Allo
     push_end_line_after(out, findings.last().copied())
 }
 
-/// The same, by the last finding.
-pub fn push_end_line_after(out: &mut Vec<u8>, last: Option<Finding>) -> Result<(), AllocError>
+/// Adds the line that says how far the audit went, by the last finding.
+pub(crate) fn push_end_line_after(
+    out: &mut Vec<u8>,
+    last: Option<Finding>,
+) -> Result<(), AllocError>
     ensures { OnOk result (out.new.items ≡ out.old.items ++ end_line_after last) }
 {
     match last {

@@ -18,7 +18,7 @@ fn push_address(out: &mut Vec<u8>, address: u32) -> Result<(), AllocError>
 
 /// Adds `address:port`.
 #[tactic(auto, using(crate::proofs::Joins::joins))]
-pub fn push_endpoint(out: &mut Vec<u8>, endpoint: Endpoint) -> Result<(), AllocError>
+pub(crate) fn push_endpoint(out: &mut Vec<u8>, endpoint: Endpoint) -> Result<(), AllocError>
     ensures { OnOk result (out.new.items ≡ out.old.items ++ endpoint_text endpoint) }
 {
     push_address(out, endpoint.address)?;

@@ -10,14 +10,14 @@ use std::collections::BTreeMap;
 /// An end of a stall for each window, by the side that sends through it and the stream, 0 being the connection. Ordered
 /// maps, in which no streams collide.
 #[derive(Drop)]
-pub struct Ends {
-    pub by_side: Sides<BTreeMap<u32, Finding>>,
+pub(crate) struct Ends {
+    pub(crate) by_side: Sides<BTreeMap<u32, Finding>>,
 }
 
 impl Ends {
     ghost use Rattle.audit_report.specs.code.Ends.{end_in};
 
-    pub fn new(alloc: Global) -> Ends
+    pub(crate) fn new(alloc: Global) -> Ends
         ensures { (side : Side) (stream : ℕ) → end_in result side stream ≡ None }
     {
         Ends {
@@ -29,7 +29,7 @@ impl Ends {
     }
 
     /// The end that stands for this window.
-    pub fn of(&self, side: Side, stream: u32) -> Option<Finding>
+    pub(crate) fn of(&self, side: Side, stream: u32) -> Option<Finding>
         ensures { result ≡ end_in self.now side stream }
     {
         match side {
@@ -39,7 +39,7 @@ impl Ends {
     }
 
     /// Keeps this end for its window, instead of the one that was kept.
-    pub fn put(&mut self, end: Finding) -> Result<(), AllocError>
+    pub(crate) fn put(&mut self, end: Finding) -> Result<(), AllocError>
         ensures { OnOk result ((side : Side) (stream : ℕ) → end_in self.new side stream
             ≡ (if is_side side end.side && (place_stream end.place == stream)
             then Some end

@@ -9,7 +9,7 @@ use audit_terms::{Finding, Frame};
 use std::alloc::AllocError;
 
 /// Adds a line for each finding that is shown, in order.
-pub fn push_finding_lines(
+pub(crate) fn push_finding_lines(
     out: &mut Vec<u8>,
     findings: &[Finding],
     frames: &[Frame],
@@ -27,7 +27,7 @@ pub fn push_finding_lines(
     Ok(())
 }
 
-/// The same of one finding. `line` is room for its line.
+/// Adds the line of a finding, if it is shown. `line` is room for it.
 fn push_shown_line(
     out: &mut Vec<u8>,
     line: &mut [u8; LONGEST],

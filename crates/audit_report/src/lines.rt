@@ -11,11 +11,11 @@ ghost use Rattle.audit_report.specs.Line.{field};
 use itoa::{Buffer, write_digits};
 
 /// No line of a finding is longer.
-pub const LONGEST: usize = 192;
+pub(crate) const LONGEST: usize = 192;
 
 /// Puts a text before what stands from `end` on, and answers where it begins.
 #[inline]
-pub fn put_text(line: &mut [u8; LONGEST], end: usize, text: &[u8]) -> usize
+pub(crate) fn put_text(line: &mut [u8; LONGEST], end: usize, text: &[u8]) -> usize
     requires { (length text.now ≤ end) × (end ≤ 192) }
     ensures begins { result + length text.now ≡ end }
     ensures put { drop result line.new ≡ text.now ++ drop end line.old }
@@ -25,9 +25,9 @@ pub fn put_text(line: &mut [u8; LONGEST], end: usize, text: &[u8]) -> usize
     begin
 }
 
-/// The same of a word.
+/// Puts a word before what stands from `end` on, and answers where it begins.
 #[inline]
-pub fn put_word(line: &mut [u8; LONGEST], end: usize, word: &str) -> usize
+pub(crate) fn put_word(line: &mut [u8; LONGEST], end: usize, word: &str) -> usize
     requires { (length word.now ≤ end) × (end ≤ 192) }
     ensures begins { result + length word.now ≡ end }
     ensures put { drop result line.new ≡ word.now ++ drop end line.old }
@@ -35,9 +35,9 @@ pub fn put_word(line: &mut [u8; LONGEST], end: usize, word: &str) -> usize
     put_text(line, end, word.as_bytes())
 }
 
-/// The same of two words.
+/// Puts two words before what stands from `end` on, and answers where the first begins.
 #[inline]
-pub fn put_words(line: &mut [u8; LONGEST], end: usize, first: &str, second: &str) -> usize
+pub(crate) fn put_words(line: &mut [u8; LONGEST], end: usize, first: &str, second: &str) -> usize
     requires { (length first.now + length second.now ≤ end) × (end ≤ 192) }
     ensures begins { result + (length first.now + length second.now) ≡ end }
     ensures put { drop result line.new ≡ (first.now ++ second.now) ++ drop end line.old }
@@ -46,8 +46,9 @@ pub fn put_words(line: &mut [u8; LONGEST], end: usize, first: &str, second: &str
     put_word(line, begin, first)
 }
 
-/// The same of a number in decimal, with `-` before it where it is below zero.
-pub fn put_signed(line: &mut [u8; LONGEST], end: usize, n: i64) -> usize
+/// Puts a number in decimal before what stands from `end` on, with `-` before it where it is below zero, and answers
+/// where it begins.
+pub(crate) fn put_signed(line: &mut [u8; LONGEST], end: usize, n: i64) -> usize
     requires { (20 ≤ end) × (end ≤ 192) }
     ensures begins { (result ≤ end) × (end ≤ result + 20) }
     ensures put { drop result line.new ≡ signed_decimal n ++ drop end line.old }
@@ -56,9 +57,9 @@ pub fn put_signed(line: &mut [u8; LONGEST], end: usize, n: i64) -> usize
     put_word(line, end, digits.format(n))
 }
 
-/// The same of a name and the number that it names.
+/// Puts a name and the number that it names before what stands from `end` on, and answers where the name begins.
 #[inline]
-pub fn put_field(line: &mut [u8; LONGEST], end: usize, name: &str, n: u64) -> usize
+pub(crate) fn put_field(line: &mut [u8; LONGEST], end: usize, name: &str, n: u64) -> usize
     requires { (length name.now + 20 ≤ end) × (end ≤ 192) }
     ensures begins { (result ≤ end) × (end ≤ result + length name.now + 20) }
     ensures put { drop result line.new ≡ field name.now n ++ drop end line.old }

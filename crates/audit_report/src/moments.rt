@@ -13,17 +13,17 @@ use audit_terms::Frame;
 
 /// A record and a time, and both as a line has them.
 #[derive(Drop)]
-pub struct Moment {
-    pub rec: u32,
-    pub nanos: u64,
+pub(crate) struct Moment {
+    pub(crate) rec: u32,
+    pub(crate) nanos: u64,
     /// What stands here from `begin` on.
-    pub spelled: [u8; LONGEST],
-    pub begin: usize,
+    pub(crate) spelled: [u8; LONGEST],
+    pub(crate) begin: usize,
 }
 
 impl Moment {
     /// Record 0 and time 0.
-    pub fn first() -> Moment
+    pub(crate) fn first() -> Moment
         ensures { IsSpelled result }
     {
         let mut spelled = [0; LONGEST];
@@ -37,7 +37,7 @@ impl Moment {
     }
 
     /// Goes to the frame of this number. For one that is not there both are 0.
-    pub fn go_to(&mut self, number: u32, frames: &[Frame])
+    pub(crate) fn go_to(&mut self, number: u32, frames: &[Frame])
         requires frames { IsOrderly frames.now }
         requires spelled { IsSpelled self.old }
         ensures spelled { IsSpelled self.new }
@@ -56,7 +56,7 @@ impl Moment {
     }
 
     /// Both, as a line has them.
-    pub fn text(&self) -> &[u8]
+    pub(crate) fn text(&self) -> &[u8]
         requires { IsSpelled self.now }
         ensures text { result.now ≡ moment_text self.now.rec self.now.nanos }
         ensures short { length result.now ≤ 54 }

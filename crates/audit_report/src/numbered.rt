@@ -7,7 +7,7 @@ use packet_heads::{Packet, Packets, Refusal, Skip};
 use std::alloc::AllocError;
 
 /// Adds a line for each fragment and each refused packet, under the number of its record.
-pub fn push_record_lines(out: &mut Vec<u8>, packets: &Packets<'_>) -> Result<(), AllocError>
+pub(crate) fn push_record_lines(out: &mut Vec<u8>, packets: &Packets<'_>) -> Result<(), AllocError>
     ensures { OnOk result (out.new.items ≡ out.old.items ++ record_lines_from 1 packets.now) }
 {
     for index in 0..packets.len() {

@@ -13,23 +13,23 @@ use std::alloc::{AllocError, Global};
 
 /// A time during which a window had no credit.
 #[derive(Clone, Copy)]
-pub struct Stall {
+pub(crate) struct Stall {
     /// The side that sends through the window.
-    pub side: Side,
+    pub(crate) side: Side,
     /// The window's stream; 0 is the connection.
-    pub stream: u32,
+    pub(crate) stream: u32,
     /// The number of the frame that used the credit up.
-    pub from: u32,
+    pub(crate) from: u32,
     /// The number of the frame from which there is credit again.
-    pub to: Option<u32>,
+    pub(crate) to: Option<u32>,
     /// The time between the two frames in nanoseconds, below zero where the capture's clock went back; 0 without an
     /// end.
-    pub nanos: i64,
+    pub(crate) nanos: i64,
 }
 
 /// The stalls that these findings of one connection tell of, in the order in which they begin. Each ends with the first
 /// end of its window that stands after it. `frames` has the times; a frame that is not there counts as time 0.
-pub fn stall_pairs(
+pub(crate) fn stall_pairs(
     alloc: Global,
     findings: &[Finding],
     frames: &[Frame],

@@ -6,13 +6,13 @@ use packet_heads::{Packet, Packets, Skip};
 
 /// How many packets there are of each kind.
 #[derive(Clone, Copy)]
-pub struct Tally {
-    pub segments: u64,
-    pub snapped: u64,
-    pub not_ipv4: u64,
-    pub fragments: u64,
-    pub not_tcp: u64,
-    pub refused: u64,
+pub(crate) struct Tally {
+    pub(crate) segments: u64,
+    pub(crate) snapped: u64,
+    pub(crate) not_ipv4: u64,
+    pub(crate) fragments: u64,
+    pub(crate) not_tcp: u64,
+    pub(crate) refused: u64,
 }
 
 impl Tally {
@@ -28,7 +28,7 @@ impl Tally {
     };
 
     /// Counts all packets.
-    pub fn of(packets: &Packets<'_>) -> Tally
+    pub(crate) fn of(packets: &Packets<'_>) -> Tally
         ensures { IsTallyOf packets.now result }
     {
         let mut tally = Tally::NONE;

@@ -18,7 +18,7 @@ fn push_unopened_line(out: &mut Vec<u8>, stray: Stray) -> Result<(), AllocError>
     push_word(out, "\n")
 }
 
-pub fn push_unopened_lines(out: &mut Vec<u8>, strays: &[Stray]) -> Result<(), AllocError>
+pub(crate) fn push_unopened_lines(out: &mut Vec<u8>, strays: &[Stray]) -> Result<(), AllocError>
     ensures { OnOk result (out.new.items ≡ out.old.items ++ unopened_lines strays.now) }
 {
     for stray in strays {

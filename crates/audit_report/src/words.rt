@@ -6,14 +6,14 @@ use itoa::Buffer;
 use std::alloc::AllocError;
 
 /// Adds a word to the text.
-pub fn push_word(out: &mut Vec<u8>, word: &str) -> Result<(), AllocError>
+pub(crate) fn push_word(out: &mut Vec<u8>, word: &str) -> Result<(), AllocError>
     ensures { OnOk result (out.new.items ≡ out.old.items ++ word.now) }
 {
     out.extend_from_slice(word.as_bytes())
 }
 
 /// Adds two words.
-pub fn push_words(out: &mut Vec<u8>, first: &str, second: &str) -> Result<(), AllocError>
+pub(crate) fn push_words(out: &mut Vec<u8>, first: &str, second: &str) -> Result<(), AllocError>
     ensures { OnOk result (out.new.items ≡ out.old.items ++ (first.now ++ second.now)) }
 {
     push_word(out, first)?;
@@ -21,7 +21,7 @@ pub fn push_words(out: &mut Vec<u8>, first: &str, second: &str) -> Result<(), Al
 }
 
 /// Adds a number in decimal.
-pub fn push_number(out: &mut Vec<u8>, n: u64) -> Result<(), AllocError>
+pub(crate) fn push_number(out: &mut Vec<u8>, n: u64) -> Result<(), AllocError>
     ensures { OnOk result (out.new.items ≡ out.old.items ++ decimal n) }
 {
     let mut buffer = Buffer::new();
@@ -29,7 +29,7 @@ pub fn push_number(out: &mut Vec<u8>, n: u64) -> Result<(), AllocError>
 }
 
 /// Adds a number in decimal, with `-` before it where it is below zero.
-pub fn push_signed(out: &mut Vec<u8>, n: i64) -> Result<(), AllocError>
+pub(crate) fn push_signed(out: &mut Vec<u8>, n: i64) -> Result<(), AllocError>
     ensures { OnOk result (out.new.items ≡ out.old.items ++ signed_decimal n) }
 {
     let mut digits = Buffer::new();
@@ -37,7 +37,7 @@ pub fn push_signed(out: &mut Vec<u8>, n: i64) -> Result<(), AllocError>
 }
 
 /// Adds a name and the number that it names.
-pub fn push_field(out: &mut Vec<u8>, name: &str, n: u64) -> Result<(), AllocError>
+pub(crate) fn push_field(out: &mut Vec<u8>, name: &str, n: u64) -> Result<(), AllocError>
     ensures { OnOk result (out.new.items ≡ out.old.items ++ field name.now n) }
 {
     push_word(out, name)?;

@@ -6,10 +6,11 @@ use Rattle.std.proofs.lemmas.List.{get_or-map, length-map}
 use Rattle.std.proofs.lemmas.List.FromFn.{get_or-map-range_with_len, length-map-range_with_len}
 use Rattle.std.proofs.lemmas.Option.{get_or_from_slice_get, slice_get_within}
 use Rattle.std.proofs.lemmas.List.Elements.{All-cons, All-head, All-nil, All-tail}
-use Rattle.audit_report.specs.code.Reported.{HasGapAtEnd, HasOrderlyOutcome}
-use Rattle.audit_report.specs.declared.told.Outcome.{Outcome}
-use Rattle.audit_report.specs.declared.told.Outcome.TheVariants as outcome
-use Rattle.audit_report.specs.declared.told.Told.{Told}
+use Rattle.h2audit.specs.code.Reach.{HasGapAtEnd}
+use Rattle.h2audit.specs.code.Told.{HasOrderlyOutcome}
+use Rattle.h2audit.specs.declared.told.Outcome.{Outcome}
+use Rattle.h2audit.specs.declared.told.Outcome.TheVariants as outcome
+use Rattle.h2audit.specs.declared.told.Told.{Told}
 use Rattle.audit_terms.specs.code.runs.Orderly as runs
 use Rattle.audit_terms.specs.declared.frames.Frame.{Frame}
 use Rattle.audit_terms.specs.declared.sides.Sides.{Sides}
@@ -19,7 +20,7 @@ use Rattle.h2_frames.specs.declared.cuts.Cut.{Cut}
 use Rattle.h2_frames.specs.declared.cuts.Cut.TheVariants.{Http2, NotHttp2, NoPreface, NoHandshake}
 use Rattle.h2audit.specs.Audited.{IsFlowFrom}
 use Rattle.h2audit.specs.code.Flows.{AreToldFlows, FlowView, IsHeldBy, IsToldFlows, KeepsCut, flow_job, flow_jobs}
-use Rattle.h2audit.specs.code.Found.{frames_of, kept_in}
+use Rattle.h2audit.specs.code.KeptFrames.{frames_of, kept_frames}
 use Rattle.stop_desk.specs.code.Board.{Job, IsCut}
 use Rattle.stop_desk.specs.declared.parts.Part.{Part}
 use Rattle.packet_heads.specs.declared.packets.Packet.{Packet}
@@ -127,11 +128,11 @@ kept-first (outcome.Audited audited) rest orderly all =
 kept-first _ rest orderly all = all
 
 pub kept-orderly : (parts : List (Part Told)) → All (λ (part : Part Told). HasOrderlyOutcome part.made.outcome) parts
-    → All runs.IsOrderly (kept_in parts)
+    → All runs.IsOrderly (kept_frames parts)
 kept-orderly [] all = All-nil runs.IsOrderly
 kept-orderly (p ∷ parts) all =
     let whole = λ (part : Part Told). HasOrderlyOutcome part.made.outcome in
-    kept-first p.made.outcome (kept_in parts) (All-head whole p parts all)
+    kept-first p.made.outcome (kept_frames parts) (All-head whole p parts all)
     (kept-orderly parts (All-tail whole p parts all))
 
 -- a fact of what each of some references stands for

@@ -5,16 +5,17 @@ use Rattle.std.proofs.lemmas.List.{length-take-le, take_more}
 use Rattle.std.proofs.Common.{◌<◌, get_or, take, All, append-nil, append_assoc, if◌then◌else◌}
 use Rattle.std.proofs.lemmas.List.Elements.{All-cons, All-head, All-nil, All-tail}
 use Rattle.std.specs.List.{list_any}
-use Rattle.audit_report.specs.code.Contents.{contents_in, opening_text}
-use Rattle.audit_report.specs.code.Reported.{HasOrderlyOutcome, extents_in, outcome_text, told_text}
-use Rattle.audit_report.specs.declared.headings.Heading.{Heading}
-use Rattle.audit_report.specs.declared.told.Told.{Told}
+use Rattle.audit_report.specs.declared.headings.SectionHeading.{SectionHeading}
 use Rattle.audit_terms.specs.{Finding.shown, Pass.pass}
 use Rattle.h2audit.specs.code.Flows.{AreToldAudits, AreToldFlows}
-use Rattle.h2audit.specs.code.Found.{frames_of, has_fault_in, with_next}
-use Rattle.h2audit.specs.code.InTurn.{AreFoundIn, IsFoundIn, worse}
+use Rattle.h2audit.specs.code.KeptFrames.{frames_of, with_next_findings}
+use Rattle.h2audit.specs.code.InTurn.{AreFoundIn, IsFoundIn}
+use Rattle.h2audit.specs.code.Sections.{section_text, told_text}
+use Rattle.h2audit.specs.code.Told.{HasOrderlyOutcome}
+use Rattle.h2audit.specs.code.Verdict.{has_fault_in, worse}
+use Rattle.h2audit.specs.declared.told.Told.{Told}
 use Rattle.h2audit.specs.declared.verdict.Verdict.TheVariants.{Clean, Faults}
-use Rattle.h2audit.proofs.Found.{put-orderly, step-of}
+use Rattle.h2audit.proofs.ToldAudits.{put-orderly, step-of}
 use Rattle.packet_heads.specs.declared.packets.Packet.{Packet}
 use Rattle.stop_desk.specs.declared.parts.Part.{Part}
 use Rattle.tcp_streams.specs.declared.members.Connection.{Connection}
@@ -45,7 +46,7 @@ module _ (credits : Bool) (capture : List ℕ) (packets : List Packet) where
         audited = step.audited ∷ rest.audited;
         audits = (step.audits, rest.audits);
         stands = (step.stands, rest.stands);
-        orderly = All-cons (λ (one : Told). HasOrderlyOutcome one.outcome) (with_next made found.0.found) told
+        orderly = All-cons (λ (one : Told). HasOrderlyOutcome one.outcome) (with_next_findings made found.0.found) told
             step.orderly rest.orderly;
       })
 
@@ -59,25 +60,22 @@ found-more credits (p ∷ parts) [] part one found more = absurd found
 found-more credits (p ∷ parts) (t ∷ told) part one found more =
     (found.0, found-more credits parts told part one found.1 more)
 
--- the section of the k-th connection
-abbrev pub section : (shown : Bool) (k : ℕ) → Heading → Told → List ℕ
-section shown k heading one =
-    opening_text k heading (extents_in one.reach) (contents_in one.outcome) ++ outcome_text shown one.outcome
-
-pub text-more : (shown : Bool) (k : ℕ) (headings : List Heading) (told : List Told) (heading : Heading) (one : Told)
+pub text-more : (shown : Bool) (k : ℕ) (headings : List SectionHeading) (told : List Told) (heading : SectionHeading)
+    (one : Told)
     → length headings ≡ length told
     → told_text shown k (headings ++ heading ∷ []) (told ++ one ∷ [])
-    ≡ told_text shown k headings told ++ section shown (k + length headings) heading one
+    ≡ told_text shown k headings told ++ section_text shown (k + length headings) heading one
 text-more shown k [] [] heading one same =
-    let none : k + 0 ≡ k = omega arith in rw none (append-nil (section shown k heading one))
+    let none : k + 0 ≡ k = omega arith in rw none (append-nil (section_text shown k heading one))
 text-more shown k [] (t ∷ told) heading one same = absurd (omega arith)
 text-more shown k (h ∷ headings) [] heading one same = absurd (omega arith)
 text-more shown k (h ∷ headings) (t ∷ told) heading one same =
     let next : (k + 1) + length headings ≡ k + suc (length headings) = omega arith in
-    ap (λ l. section shown k h t ++ l) (text-more shown (k + 1) headings told heading one (omega arith))
-    ∙ ap (λ n. section shown k h t ++ (told_text shown (k + 1) headings told ++ section shown n heading one)) next
-    ∙ sym (append_assoc (section shown k h t) (told_text shown (k + 1) headings told)
-    (section shown (k + suc (length headings)) heading one))
+    ap (λ l. section_text shown k h t ++ l) (text-more shown (k + 1) headings told heading one (omega arith))
+    ∙ ap (λ n. section_text shown k h t
+    ++ (told_text shown (k + 1) headings told ++ section_text shown n heading one)) next
+    ∙ sym (append_assoc (section_text shown k h t) (told_text shown (k + 1) headings told)
+    (section_text shown (k + suc (length headings)) heading one))
 
 pub worse-more : (told : List Told) (one : Told)
     → worse (if list_any (λ (one : Told). has_fault_in one.outcome) told then Faults else Clean) one.outcome
@@ -90,21 +88,21 @@ worse-more [] one = search_none _ refl where
 worse-more (t ∷ told) one = grind (arith, worse-more told one)
 
 -- the text with the section of one more connection
-pub step-text : (shown : Bool) (headings : List Heading) (told : List Told) (at : ℕ) (heading : Heading) (one : Told)
-    (lines old new : List ℕ) → at < length headings → heading ≡ get_or headings at heading → length told ≡ at
+pub step-text : (shown : Bool) (headings : List SectionHeading) (told : List Told) (at : ℕ)
+    (heading : SectionHeading) (one : Told) (lines old new : List ℕ) → at < length headings → heading ≡ get_or headings at heading → length told ≡ at
     → old ≡ lines ++ told_text shown 1 (take at headings) told
-    → new ≡ old ++ section shown (at + 1) heading one
+    → new ≡ old ++ section_text shown (at + 1) heading one
     → new ≡ lines ++ told_text shown 1 (take (at + 1) headings) (told ++ one ∷ [])
 step-text shown headings told at heading one lines old new within is count before pushed =
-    let front : List Heading = take at headings in
+    let front : List SectionHeading = take at headings in
     let size : length front ≡ at = length-take-le at headings (omega arith) in
     let next : at + 1 ≡ 1 + length front = omega arith in
     let all : take (at + 1) headings ≡ front ++ heading ∷ [] =
     take_more headings at heading within ∙ ap (λ h. front ++ h ∷ []) (sym is) in
     pushed
-    ∙ ap (λ l. l ++ section shown (at + 1) heading one) before
-    ∙ append_assoc lines (told_text shown 1 front told) (section shown (at + 1) heading one)
-    ∙ ap (λ n. lines ++ (told_text shown 1 front told ++ section shown n heading one)) next
+    ∙ ap (λ l. l ++ section_text shown (at + 1) heading one) before
+    ∙ append_assoc lines (told_text shown 1 front told) (section_text shown (at + 1) heading one)
+    ∙ ap (λ n. lines ++ (told_text shown 1 front told ++ section_text shown n heading one)) next
     ∙ ap (λ l. lines ++ l) (sym (text-more shown 1 front told heading one (omega arith)))
     ∙ ap (λ hs. lines ++ told_text shown 1 hs (told ++ one ∷ [])) (sym all)
 

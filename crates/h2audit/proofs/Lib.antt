@@ -2,9 +2,10 @@ mod Kept
 mod Leaving
 mod OneReport
 mod Flows
-mod Found
+mod ToldAudits
+mod Standing
+mod SectionTexts
 mod Opened
-mod Walked
 mod OptionReads
 mod Added
 mod InTurn

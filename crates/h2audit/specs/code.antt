@@ -1,8 +1,11 @@
 pub mod Reading
 pub mod Writing
 pub mod Flows
-pub mod Found
-pub mod Quiet
+pub mod KeptFrames
+pub mod Reach
+pub mod Sections
+pub mod Told
+pub mod Verdict
 pub mod Options
 pub mod Choices
 pub mod Arguments

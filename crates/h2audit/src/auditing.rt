@@ -1,6 +1,4 @@
 ghost use Rattle.std.specs.Prelude.{◌≡◌, ◌<◌, ◌^◌, All, IfOk, IfErr, None, Ok, length};
-ghost use Rattle.audit_report.specs.code.Reported.{HasOrderlyOutcome};
-ghost use Rattle.audit_report.specs.declared.told.Told.{Told as ToldTerm};
 ghost use Rattle.pcap_records.specs.Refusal.{refusal};
 ghost use Rattle.packet_heads.specs.code.Walk.{AreInOrder, ArePacketsOf, packets_in};
 ghost use Rattle.tcp_streams.specs.Membership.{AreConnections, strays_of};
@@ -9,15 +7,20 @@ ghost use Rattle.tcp_streams.specs.code.Walk.{IsConnectionWalkIn};
 ghost use Rattle.h2audit.specs.Report.{IsNoReport, IsReport};
 ghost use Rattle.h2audit.specs.code.Flows.{AreSources, AreToldFlows};
 ghost use Rattle.h2audit.specs.code.InTurn.{AreTold};
+ghost use Rattle.h2audit.specs.code.Told.{HasOrderlyOutcome};
 ghost use Rattle.h2audit.specs.code.Writing.{AreLinesOf, IsToldBehind};
+ghost use Rattle.h2audit.specs.declared.told.Told.{Told as ToldTerm};
 ghost use Rattle.stop_desk.specs.declared.parts.Part.{Part as PartTerm};
 
 use crate::command_line::Options;
-use crate::connection::{audit_each, flows_each, verdict_on};
+use crate::each_connection::{audit_each, flows_each};
 use crate::fault::AuditFault;
+use crate::headings::headings_of;
 use crate::in_turn::report_in_turn;
-use crate::verdict::Verdict;
-use audit_report::{Heading, Telling, Told, capture_lines, headings_of, report};
+use crate::section_shares::push_all_sections;
+use crate::told::Told;
+use crate::verdict::{Verdict, verdict_on};
+use audit_report::{SectionHeading, capture_lines};
 use audit_rounds::Division;
 use input_output::{Capture, TableHash};
 use packet_heads::{CapturePackets, Packets};
@@ -45,18 +48,25 @@ pub fn audit(
     // A refusal takes no memory, so it comes before the chunks.
     match ConnectionWalk::begin(alloc, TableHash::drawn(rt), capture) {
         Ok(walk) => match Capture::of_slice(alloc, capture) {
-            Ok(chunks) => {
-                let team = Team {
-                    rt,
-                    alloc,
-                    workers: options.workers(),
-                    gate,
-                };
-                audit_chunks(&team, options, walk, &chunks)
-            }
+            Ok(chunks) => audit_chunks(&team_of(rt, alloc, options, gate), options, walk, &chunks),
             Err(_) => Err(AuditFault::OutOfMemory),
         },
         Err(refusal) => Err(AuditFault::Pcap(refusal)),
+    }
+}
+
+/// Who works on an audit with these options.
+pub(crate) fn team_of<'a, R: Threads + Sync, G: Gate>(
+    rt: &'a R,
+    alloc: Global,
+    options: &Options,
+    gate: &'a G,
+) -> Team<'a, R, G> {
+    Team {
+        rt,
+        alloc,
+        workers: options.workers(),
+        gate,
     }
 }
 
@@ -140,7 +150,7 @@ fn report_parts<R: Threads + Sync, G: Gate>(
     frames_shown: bool,
     division: &Division,
     lines: Vec<u8>,
-    headings: &[Heading],
+    headings: &[SectionHeading],
     parts: Vec<Part<Told>>,
 ) -> Result<(Vec<u8>, Verdict), AllocError>
     requires each { length parts.items ≡ length headings.now }
@@ -194,18 +204,21 @@ fn report_told<R: Threads + Sync, G: Gate>(
     team: &Team<'_, R, G>,
     frames_shown: bool,
     lines: Vec<u8>,
-    headings: &[Heading],
+    headings: &[SectionHeading],
     told: &[Told],
 ) -> Result<(Vec<u8>, Verdict), AllocError>
     requires each { length told.now ≡ length headings.now }
     requires orderly { All (λ (one : ToldTerm). HasOrderlyOutcome one.outcome) told.now }
     ensures { IfOk result (λ r. IsToldBehind frames_shown lines.items headings.now told.now r.0.items r.1) }
 {
-    let telling = Telling {
-        alloc: team.alloc,
-        workers: team.workers,
+    let mut text = lines;
+    push_all_sections(
+        team.rt,
+        team.workers,
         frames_shown,
-    };
-    let text = report(team.rt, telling, lines, headings, told)?;
+        &mut text,
+        headings,
+        told,
+    )?;
     Ok((text, verdict_on(told)))
 }

@@ -6,12 +6,13 @@ ghost use Rattle.audit_terms.specs.declared.sides.Side.TheVariants.{Client, Serv
 ghost use Rattle.h2audit.specs.code.Flows.{AreSources, IsHeldBy, IsToldFlows, KeepsCut};
 ghost use Rattle.tcp_streams.specs.code.Orderly.{AreFlowsOfOne};
 
-use crate::quiet::quiet_connection;
-use audit_report::{AuditedFrames, Outcome, Reach, Told};
+use crate::reach::Reach;
+use crate::told::{AuditedFrames, Outcome, Told};
 use audit_terms::{Look, Side};
 use h2_frames::{Cut, cut};
 use input_output::Capture;
 use packet_heads::Packets;
+use quiet_pass::quiet_connection;
 use std::alloc::{AllocError, Global};
 use std::marker::Model;
 use std::thread::{Threads, join};

@@ -1,19 +1,22 @@
 //! Connections that one worker goes through one after the other, where credits are shown: what is found of one is told
 //! and freed before the next.
 
-ghost use Rattle.std.specs.Prelude.{◌≡◌, ◌<◌, All, IfOk, length, map, slice_index_or};
-ghost use Rattle.audit_report.specs.code.Reported.{HasOrderlyOutcome};
-ghost use Rattle.audit_report.specs.declared.headings.Heading.{Heading as HeadingTerm};
-ghost use Rattle.audit_report.specs.declared.told.Told.{Told as ToldTerm};
+ghost use Rattle.std.specs.Prelude.{◌≡◌, ◌<◌, ◌++◌, All, IfOk, OnOk, length, map, slice_index_or};
+ghost use Rattle.audit_report.specs.declared.headings.SectionHeading.{SectionHeading as HeadingTerm};
 ghost use Rattle.stop_desk.specs.declared.parts.Part.{Part as PartTerm};
 ghost use Rattle.audit_terms.specs.Finding.{shown};
 ghost use Rattle.audit_terms.specs.Pass.{pass};
-ghost use Rattle.h2audit.specs.code.Found.{frames_of};
-ghost use Rattle.h2audit.specs.code.InTurn.{AreTold, IsFoundIn, worse};
+ghost use Rattle.h2audit.specs.code.KeptFrames.{frames_of};
+ghost use Rattle.h2audit.specs.code.InTurn.{AreTold, IsFoundIn};
+ghost use Rattle.h2audit.specs.code.Sections.{outcome_text, section_text};
+ghost use Rattle.h2audit.specs.code.Told.{HasOrderlyOutcome};
+ghost use Rattle.h2audit.specs.declared.told.Told.{Told as ToldTerm};
 
-use crate::connection::{has_fault_in, with_next};
-use crate::verdict::Verdict;
-use audit_report::{Heading, Outcome, Telling, Told, push_told, texts_are_sections};
+use crate::each_connection::with_next_findings;
+use crate::reach::Reach;
+use crate::told::{AuditedFrames, Outcome, Told, contents_in};
+use crate::verdict::{Verdict, worse};
+use audit_report::{SectionHeading, push_audit_freeing, push_end_line, push_opening};
 use audit_rounds::{Division, findings_of_each};
 use audit_terms::Finding;
 use std::alloc::AllocError;
@@ -27,27 +30,21 @@ pub(crate) fn report_in_turn<R: Threads + Sync, G: Gate>(
     frames_shown: bool,
     division: &Division,
     lines: Vec<u8>,
-    headings: &[Heading],
+    headings: &[SectionHeading],
     parts: Vec<Part<Told>>,
 ) -> Result<(Vec<u8>, Verdict), AllocError>
     requires each { length parts.items ≡ length headings.now }
     requires orderly { All (λ (part : PartTerm ToldTerm). HasOrderlyOutcome part.made.outcome) parts.items }
     ensures { IfOk result (λ r. AreTold frames_shown lines.items headings.now parts.items r.0.items r.1) }
 {
-    texts_are_sections();
-    let telling = Telling {
-        alloc: team.alloc,
-        workers: team.workers,
-        frames_shown,
-    };
     let mut text = lines;
     let mut verdict = Verdict::Clean;
     let mut at = 0;
     for part in parts {
-        let told = found_in(team, frames_shown, division, part.made)?;
+        let told = with_findings(team, frames_shown, division, part.made)?;
         verdict = worse(verdict, &told.outcome);
         push_told(
-            telling,
+            frames_shown,
             &mut text,
             at as u64 + 1,
             &heading_at(headings, at),
@@ -59,7 +56,7 @@ pub(crate) fn report_in_turn<R: Threads + Sync, G: Gate>(
 }
 
 /// The heading of a connection.
-fn heading_at(headings: &[Heading], at: usize) -> Heading
+fn heading_at(headings: &[SectionHeading], at: usize) -> SectionHeading
     requires { at < length headings.now }
     ensures { (d : HeadingTerm) → result ≡ slice_index_or headings.now at d }
 {
@@ -67,7 +64,7 @@ fn heading_at(headings: &[Heading], at: usize) -> Heading
 }
 
 /// What is told of a connection, with what is found in the frames that are kept of it.
-fn found_in<R: Threads + Sync, G: Gate>(
+fn with_findings<R: Threads + Sync, G: Gate>(
     team: &Team<'_, R, G>,
     frames_shown: bool,
     division: &Division,
@@ -77,7 +74,7 @@ fn found_in<R: Threads + Sync, G: Gate>(
     ensures { IfOk result (IsFoundIn frames_shown told) }
 {
     let mut found = shown_in(team, frames_shown, division, &told.outcome)?.into_iter();
-    Ok(with_next(told, &mut found))
+    Ok(with_next_findings(told, &mut found))
 }
 
 /// What is shown of the frames of a connection, where they are kept.
@@ -104,13 +101,40 @@ fn shown_in<R: Threads + Sync, G: Gate>(
     }
 }
 
-/// The verdict on connections, with one more.
-fn worse(verdict: Verdict, outcome: &Outcome) -> Verdict
-    ensures { result ≡ worse verdict outcome.now }
+/// Adds the section of the `k`-th connection, counted from 1, and frees what is told there as it is written.
+#[tactic(auto, using(crate::proofs::SectionTexts::joins))]
+fn push_told(
+    frames_shown: bool,
+    out: &mut Vec<u8>,
+    k: u64,
+    heading: &SectionHeading,
+    told: Told,
+) -> Result<(), AllocError>
+    requires { HasOrderlyOutcome told.outcome }
+    ensures { OnOk result (out.new.items ≡ out.old.items ++ section_text frames_shown k heading.now told) }
 {
-    if has_fault_in(outcome) {
-        Verdict::Faults
-    } else {
-        verdict
+    let Told { reach, outcome } = told;
+    let extents = Reach::extents(&reach);
+    let contents = contents_in(&outcome);
+    push_opening(out, k, *heading, &extents, contents)?;
+    push_held(frames_shown, out, outcome)
+}
+
+/// Adds the lines on what the flows of a connection hold.
+fn push_held(frames_shown: bool, out: &mut Vec<u8>, outcome: Outcome) -> Result<(), AllocError>
+    requires { HasOrderlyOutcome outcome }
+    ensures { OnOk result (out.new.items ≡ out.old.items ++ outcome_text frames_shown outcome) }
+{
+    match outcome {
+        Outcome::Audited(audited) => {
+            let AuditedFrames {
+                frames,
+                findings,
+                ..
+            } = Box::into_inner(audited);
+            push_audit_freeing(frames_shown, out, frames, findings)
+        },
+        Outcome::Quiet(_) => push_end_line(out, &[]),
+        _ => Ok(()),
     }
 }

@@ -22,23 +22,31 @@
 //! - 2^31 bytes, at which reading stops, are refused as the whole is. Where the file header refuses a capture, it alone
 //!   is kept (`brief`), since what follows changes no answer (`pcap_records::laws::header_refuses`).
 //! - docs/ARCHITECTURE.md follows the data all the way through the crates, and says how workers divide the work.
-//! - Refused by the prover: an empty report, a verdict by errors alone, standard input read beside FILE, FILE left out.
+//! - What is kept of a connection from its flows on is small: how far these reach, and the number of frames where
+//!   nothing is shown of them, else the frames and what was found in them. It has all that the text tells of an audit
+//!   (`AreToldOf` of `specs/code/Told.antt`). Several workers write halves of a batch of connections side by side.
+//! - Refused by the prover: an empty report, a verdict by errors alone, standard input read beside FILE, FILE left out,
+//!   the ends of a connection exchanged, a half whose connections are numbered afresh.
 //! - Tested, in `crate_tests`: the texts of faults; in `tests/` at the root: what the program answers to words, the
 //!   texts of help and of refused words, whole reports, long captures.
 #![tactic(auto)]
 
 mod auditing;
 mod command_line;
-mod connection;
+mod each_connection;
 mod fault;
 mod flow_round;
+mod headings;
 mod in_turn;
 pub mod laws;
 mod program;
-mod quiet;
+mod reach;
 mod reading;
 mod running;
+mod section_shares;
+mod sections;
 mod status;
+mod told;
 mod verdict;
 pub mod worked_examples;
 

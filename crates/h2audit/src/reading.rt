@@ -48,7 +48,7 @@ pub(crate) fn read_capture<R: Read>(
     }
 }
 
-/// The same, into chunks that are made ahead.
+/// Reads a capture into chunks that are made ahead, and answers what its file header gives.
 fn read_in_chunks<T: Threads, R: Read>(
     alloc: Global,
     hash: TableHash,

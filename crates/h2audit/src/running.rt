@@ -6,7 +6,7 @@ ghost use Rattle.h2audit.specs.Report.{IsReport};
 ghost use Rattle.h2audit.specs.code.Reading.{IsAuditingFault, IsHeaderOf};
 ghost use Rattle.h2audit.specs.code.Writing.{IsWritten};
 
-use crate::auditing::audit_chunks;
+use crate::auditing::{audit_chunks, team_of};
 use crate::command_line::Options;
 use crate::fault::AuditFault;
 use crate::reading::{FileHeader, read_capture};
@@ -43,12 +43,7 @@ pub fn run<R: Read, W: Write>(
     ensures taken { Appends (W.contents writer.old.writer) (W.contents writer.new.writer) (written writer.new) }
 {
     let header = read_capture(rt, alloc, options.workers(), reader)?;
-    let team = Team {
-        rt,
-        alloc,
-        workers: options.workers(),
-        gate,
-    };
+    let team = team_of(rt, alloc, options, gate);
     let (text, verdict) = audit_kept(&team, options, reader, header)?;
     write_out(text, verdict, writer)
 }

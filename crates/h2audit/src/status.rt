@@ -26,7 +26,7 @@ pub fn ending(answer: &Result<Verdict, AuditFault>) -> (u8, &'static str)
 
 const OUT_OF_MEMORY: &str = "h2audit: out of memory";
 
-/// The same, for a capture that is refused.
+/// The exit status and the line for a capture that is refused.
 fn refused(refusal: PcapFault) -> (u8, &'static str)
     ensures status { result.0 ≡ (ending_of (Err (AuditFault.Pcap refusal))).0 }
     ensures line { result.1.now ≡ (ending_of (Err (AuditFault.Pcap refusal))).1 }

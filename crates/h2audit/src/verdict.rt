@@ -1,3 +1,15 @@
+ghost use Rattle.std.specs.Prelude.{◌≡◌, List};
+ghost use Rattle.std.specs.List.{list_any};
+ghost use Rattle.audit_report.specs.declared.audited.Audited.{Audited};
+ghost use Rattle.audit_terms.specs.Kind.{is_fault};
+ghost use Rattle.audit_terms.specs.declared.findings.Finding.{Finding};
+ghost use Rattle.h2audit.specs.Audited.{verdict_of};
+ghost use Rattle.h2audit.specs.code.Told.{AreToldOf};
+ghost use Rattle.h2audit.specs.code.Verdict.{has_fault_in, worse};
+
+use crate::told::{Outcome, Told};
+use audit_terms::Finding;
+
 /// What the audit of a whole capture comes to.
 #[derive(Clone, Copy, Debug, PartialEq, Eq)]
 pub enum Verdict {
@@ -5,4 +17,42 @@ pub enum Verdict {
     Clean,
     /// Some connection has a fault: a breach of the protocol, as opposed to a stall or a change of credit.
     Faults,
+}
+
+/// Faults where some connection has a finding that is a fault.
+pub(crate) fn verdict_on(told: &[Told]) -> Verdict
+    ensures { (audited : List Audited) → AreToldOf told.now audited → result ≡ verdict_of audited }
+{
+    if told.iter().any(|one| has_fault_in(&one.outcome)) {
+        Verdict::Faults
+    } else {
+        Verdict::Clean
+    }
+}
+
+/// Is one of the findings that are told of a connection a fault?
+fn has_fault_in(outcome: &Outcome) -> bool
+    ensures { result ≡ has_fault_in outcome.now }
+{
+    match outcome {
+        Outcome::Audited(audited) => has_fault(audited.findings.as_slice()),
+        _ => false,
+    }
+}
+
+fn has_fault(findings: &[Finding]) -> bool
+    ensures { result ≡ list_any (λ (finding : Finding). is_fault finding.kind) findings.now }
+{
+    findings.iter().any(|finding| finding.kind.is_fault())
+}
+
+/// The verdict on connections, with one more.
+pub(crate) fn worse(verdict: Verdict, outcome: &Outcome) -> Verdict
+    ensures { result ≡ worse verdict outcome.now }
+{
+    if has_fault_in(outcome) {
+        Verdict::Faults
+    } else {
+        verdict
+    }
 }

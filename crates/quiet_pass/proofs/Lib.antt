@@ -3,3 +3,4 @@ mod RowLists
 mod ConnectionLemmas
 mod StreamLemmas
 mod PassLemmas
+mod Walked

@@ -2,3 +2,4 @@ pub mod Rows
 pub mod Connection
 pub mod Streams
 pub mod QuietPass
+pub mod QuietConnections

@@ -1,5 +1,6 @@
 //! Connections of which nothing is shown, where credits are not shown: most are of this kind. A [`QuietPass`] meets
-//! their frames one by one, in the order of the capture, and keeps none of them.
+//! their frames one by one, in the order of the capture, and keeps none of them. [`quiet_connection`] takes them out of
+//! both flows as it goes, and answers how many they are, and how many bytes are left over ([`QuietConnection`]).
 //!
 //! - It goes along the pass of `audit_terms`, which steps from state to state. For as long as it is quiet, nothing but
 //!   credits is said at any frame so far, and it stands for the state after them (`IsQuietAfter`). By
@@ -27,7 +28,9 @@ mod connections;
 mod last_frames;
 pub mod laws;
 mod passes;
+mod quiet_connections;
 mod rows;
 mod streams;
 
 pub use passes::QuietPass;
+pub use quiet_connections::{QuietConnection, quiet_connection};

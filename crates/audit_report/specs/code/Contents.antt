@@ -1,35 +1,16 @@
 -- What the lines of a connection and of its flows say that these hold, by the number of frames alone.
-use Rattle.std.specs.Prelude.{ℕ, List, ◌++◌, length, codes}
+use Rattle.std.specs.Prelude.{ℕ, List, ◌++◌, codes}
 use Rattle.audit_report.specs.FlowLine.{flow_line}
 use Rattle.audit_report.specs.Line.{line, field}
 use Rattle.audit_report.specs.code.Heading.{headed_text}
 use Rattle.audit_report.specs.declared.contents.Contents.{Contents}
 use Rattle.audit_report.specs.declared.contents.Contents.TheVariants as contents
 use Rattle.audit_report.specs.declared.extents.Extent.{Extent}
-use Rattle.audit_report.specs.declared.headings.Heading.{Heading}
-use Rattle.audit_report.specs.declared.told.Outcome.{Outcome}
-use Rattle.audit_report.specs.declared.told.Outcome.TheVariants as outcome
+use Rattle.audit_report.specs.declared.headings.SectionHeading.{SectionHeading}
 use Rattle.audit_terms.specs.Sides.{side_of}
 use Rattle.audit_terms.specs.declared.sides.Side.{Side}
 use Rattle.audit_terms.specs.declared.sides.Side.TheVariants.{Client, Server}
 use Rattle.audit_terms.specs.declared.sides.Sides.{Sides}
-use Rattle.h2_frames.specs.declared.cuts.Cut.{Cut}
-use Rattle.h2_frames.specs.declared.cuts.Cut.TheVariants.{Http2, NotHttp2, NoPreface, NoHandshake}
-
--- the contents of a cut
-abbrev pub contents_of : Cut → Contents
-contents_of (Http2 frames tails) = contents.Http2 (length frames.items) tails
-contents_of NotHttp2 = contents.NotHttp2
-contents_of NoPreface = contents.NoPreface
-contents_of NoHandshake = contents.NoHandshake
-
--- the contents of an outcome
-abbrev pub contents_in : Outcome → Contents
-contents_in (outcome.Quiet quiet) = contents.Http2 quiet.frames quiet.tails
-contents_in (outcome.Audited audited) = contents.Http2 (length audited.value.frames.items) audited.value.tails
-contents_in outcome.NotHttp2 = contents.NotHttp2
-contents_in outcome.NoPreface = contents.NoPreface
-contents_in outcome.NoHandshake = contents.NoHandshake
 
 -- how many bytes of a side are left over after its last frame
 abbrev pub tail_in : Side → Contents → ℕ
@@ -44,11 +25,11 @@ contents_words contents.NoPreface = codes "no-preface"
 contents_words contents.NoHandshake = codes "no-handshake"
 
 -- the line of the connection
-abbrev pub opening_line : (k : ℕ) → Heading → Contents → List ℕ
+abbrev pub opening_line : (k : ℕ) → SectionHeading → Contents → List ℕ
 opening_line k heading held = line (headed_text k heading ++ codes " " ++ contents_words held)
 
 -- the lines of the connection and of its two flows
-abbrev pub opening_text : (k : ℕ) → Heading → (flows : Sides Extent) → Contents → List ℕ
+abbrev pub opening_text : (k : ℕ) → SectionHeading → (flows : Sides Extent) → Contents → List ℕ
 opening_text k heading flows held = opening_line k heading held
     ++ flow_line Client flows.client (tail_in Client held)
     ++ flow_line Server flows.server (tail_in Server held)

@@ -2,13 +2,9 @@
 use Rattle.std.specs.Prelude.{ℕ, List, ◌++◌, codes}
 use Rattle.audit_report.specs.Line.{field}
 use Rattle.audit_report.specs.code.Roles.{roles_text}
-use Rattle.audit_report.specs.declared.headings.Heading.{Heading}
-use Rattle.tcp_streams.specs.declared.members.Connection.{Connection}
-
-abbrev pub heading_of : Connection → Heading
-heading_of connection = record { client = connection.client; server = connection.server; rec = connection.rec }
+use Rattle.audit_report.specs.declared.headings.SectionHeading.{SectionHeading}
 
 -- `connection K client ENDPOINT server ENDPOINT record N`
-abbrev pub headed_text : (k : ℕ) → Heading → List ℕ
+abbrev pub headed_text : (k : ℕ) → SectionHeading → List ℕ
 headed_text k heading = field (codes "connection ") k ++ roles_text heading.client heading.server
     ++ field (codes " record ") heading.rec

@@ -1,12 +1,8 @@
 -- The jobs of the round over connections: one for each, which finds nothing.
 use Rattle.std.specs.List.{AllZip, range_with_len}
-use Rattle.std.specs.Prelude.{◌≡◌, ℕ, ◌+◌, ◌^◌, ◌<◌, ◌≤◌, Bool, false, List, [], length, map, All, IsTrue}
+use Rattle.std.specs.Prelude.{◌≡◌, ℕ, ◌^◌, ◌<◌, ◌≤◌, Bool, false, List, [], length, map, All, IsTrue}
 use Rattle.audit_report.specs.FlowLine.{extents_of}
-use Rattle.audit_report.specs.code.Reported.{AreToldOf, HasOrderlyOutcome, extents_in}
 use Rattle.audit_report.specs.declared.audited.Audited.{Audited}
-use Rattle.audit_report.specs.declared.told.Outcome.{Outcome}
-use Rattle.audit_report.specs.declared.told.Outcome.TheVariants as outcome
-use Rattle.audit_report.specs.declared.told.Told.{Told}
 use Rattle.audit_terms.specs.code.runs.Orderly as runs
 use Rattle.audit_terms.specs.declared.sides.Side.{Side}
 use Rattle.audit_terms.specs.declared.sides.Side.TheVariants.{Client, Server}
@@ -15,7 +11,12 @@ use Rattle.h2_frames.specs.Cut.{IsCut, IsHttp2}
 use Rattle.h2_frames.specs.declared.cuts.Cut.{Cut}
 use Rattle.h2_frames.specs.declared.cuts.Cut.TheVariants.{Http2, NotHttp2, NoPreface, NoHandshake}
 use Rattle.h2audit.specs.Audited.{AreAudited, IsFlowOf}
-use Rattle.h2audit.specs.code.Quiet.{IsQuietOf}
+use Rattle.h2audit.specs.code.Reach.{extents_in}
+use Rattle.h2audit.specs.code.Told.{AreToldOf, HasOrderlyOutcome}
+use Rattle.h2audit.specs.declared.told.Outcome.{Outcome}
+use Rattle.h2audit.specs.declared.told.Outcome.TheVariants as outcome
+use Rattle.h2audit.specs.declared.told.Told.{Told}
+use Rattle.quiet_pass.specs.code.QuietConnections.{IsQuietOf}
 use Rattle.stop_desk.specs.code.Board.{Job}
 use Rattle.stop_desk.specs.declared.parts.Part.{Part}
 use Rattle.packet_heads.specs.code.Order.{AreNumberedFrom, PayloadsRise, TimesFit}

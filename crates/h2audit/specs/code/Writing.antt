@@ -2,17 +2,17 @@
 use Rattle.std.specs.Prelude.{◌≡◌, ℕ, Bool, List, ◌++◌, map, take, Option, Result, Ok, Err}
 use Rattle.audit_report.specs.CaptureLines.{capture_text}
 use Rattle.audit_report.specs.Section.{sections_text}
-use Rattle.audit_report.specs.code.Heading.{heading_of}
 use Rattle.audit_report.specs.code.Packets.{AreRecordsOf}
-use Rattle.audit_report.specs.code.Reported.{AreToldOf}
 use Rattle.audit_report.specs.declared.audited.Audited.{Audited}
-use Rattle.audit_report.specs.declared.headings.Heading.{Heading}
-use Rattle.audit_report.specs.declared.told.Told.{Told}
+use Rattle.audit_report.specs.declared.headings.SectionHeading.{SectionHeading}
 use Rattle.packet_heads.specs.declared.packets.Packet.{Packet}
 use Rattle.pcap_records.specs.declared.pcap_record.Records.{Records}
 use Rattle.tcp_streams.specs.declared.members.Connection.{Connection}
 use Rattle.tcp_streams.specs.declared.members.Stray.{Stray}
 use Rattle.h2audit.specs.Audited.{verdict_of}
+use Rattle.h2audit.specs.code.Sections.{heading_of}
+use Rattle.h2audit.specs.code.Told.{AreToldOf}
+use Rattle.h2audit.specs.declared.told.Told.{Told}
 use Rattle.input_output.specs.Account.{HasWriteFailed, IsFlushed, written}
 use Rattle.input_output.specs.declared.report_writer.ReportWriter.{ReportWriter}
 use Rattle.h2audit.specs.declared.fault.AuditFault.{AuditFault}
@@ -31,7 +31,7 @@ AreLinesOf packets cut strays lines =
     (records : Records) → AreRecordsOf packets cut records → lines ≡ capture_text records packets strays
 
 -- behind these lines the text has what is told of connections under these headings, and this is the verdict on them
-abbrev pub IsToldBehind : (frames_shown : Bool) → (lines : List ℕ) → List Heading → List Told → (text : List ℕ)
+abbrev pub IsToldBehind : (frames_shown : Bool) → (lines : List ℕ) → List SectionHeading → List Told → (text : List ℕ)
     → Verdict → Type 0
 IsToldBehind frames_shown lines headings told text verdict =
     (connections : List Connection) → (audited : List Audited) → headings ≡ map heading_of connections

@@ -4,11 +4,11 @@ use Rattle.audit_report.proofs.finding_shares.+dealing.Goals as goal
 
 -- the text of both parts is that of all
 pub push_dealt-returns : goal.push_dealt-returns
-push_dealt-returns g t c = rw (c.split_at.ensures.text c.args.telling.frames_shown) c.push_both.ensures
+push_dealt-returns g t c = rw (c.split_at.ensures.text c.args.frames_shown) c.push_both.ensures
 
 pub push_both-returns : goal.push_both-returns
 push_both-returns g t c =
-    let shown = c.args.telling.frames_shown in
+    let shown = c.args.frames_shown in
     let both = c.join_mut-later in
     let front = both.new.g.3.now.items in
     let back = both.new.f.3.now.items in

@@ -8,7 +8,7 @@ abbrev pub decreases-push_both-push_front : goal.decreases-push_both-push_front
 decreases-push_both-push_front g l = 3 * l.others + 2
 
 abbrev pub decreases-push_both : goal.decreases-push_both
-decreases-push_both g l = 3 * l.telling.workers
+decreases-push_both g l = 3 * l.workers
 
 abbrev pub decreases-push_dealt : goal.decreases-push_dealt
-decreases-push_dealt g l = 3 * l.telling.workers + 1
+decreases-push_dealt g l = 3 * l.workers + 1

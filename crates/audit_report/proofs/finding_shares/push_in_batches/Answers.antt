@@ -9,5 +9,5 @@ loop-left-preserved g c = record {
       (lines_more c.loop-left.out.items c.push_and_make.new.out.items c.loop-left.made.items
       c.push_and_make.new.next.items c.clear.new.self.items _ _ _ _
       (rw c.as_slice.ensures.value at c.in_ok-push_and_make.ensures.pushed) c.in_ok-push_and_make.ensures.next
-      c.clear.ensures.items (c.split_at.ensures.text c.args.telling.frames_shown) c.loop-left.invariant.written);
+      c.clear.ensures.items (c.split_at.ensures.text c.args.frames_shown) c.loop-left.invariant.written);
 }

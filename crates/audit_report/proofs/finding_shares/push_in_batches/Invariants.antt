@@ -7,8 +7,8 @@ use Rattle.audit_report.proofs.finding_shares.push_in_batches.Given as goal
 abbrev pub invariant-loop-left : goal.invariant-loop-left
 invariant-loop-left g l = record {
   orderly : IsOrderly l.left.frames.now;
-  written : (l.out.items ++ l.made.items) ++ lines_text l.telling.frames_shown l.left
-      ≡ l.fn.out.items ++ lines_text l.telling.frames_shown l.fn.lines;
+  written : (l.out.items ++ l.made.items) ++ lines_text l.frames_shown l.left
+      ≡ l.fn.out.items ++ lines_text l.frames_shown l.fn.lines;
 }
 
 abbrev pub decreases-loop-left : goal.decreases-loop-left

@@ -6,9 +6,9 @@ use Rattle.std.proofs.lemmas.Slice.Zip.{AllZip-long}
 use Rattle.std.proofs.lemmas.List.FromFn.{length-enumerate_from}
 use Rattle.audit_report.specs.CaptureLines.{capture_text}
 use Rattle.audit_report.specs.Section.{sections_text}
-use Rattle.audit_report.specs.code.Heading.{heading_of}
+use Rattle.h2audit.specs.code.Sections.{heading_of}
 use Rattle.audit_report.specs.code.Packets.{AreRecordsOf}
-use Rattle.audit_report.specs.declared.told.Told.{Told}
+use Rattle.h2audit.specs.declared.told.Told.{Told}
 use Rattle.packet_heads.specs.Decision.{packet_decision, packet_decisions}
 use Rattle.packet_heads.specs.code.Walk.{packets_in}
 use Rattle.packet_heads.specs.declared.packets.Packet.{Packet}

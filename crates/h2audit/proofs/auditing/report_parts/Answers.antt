@@ -1,8 +1,8 @@
 use Rattle.std.proofs.Common.{All, List, length, ap, subst, sym, ◌∙◌}
 use Rattle.std.proofs.lemmas.Result.{IfOk-weaker}
-use Rattle.audit_report.specs.code.Reported.{AreToldOf, HasOrderlyOutcome}
-use Rattle.audit_report.specs.declared.told.Told.{Told}
-use Rattle.h2audit.proofs.Found.{all-fit, found-audits}
+use Rattle.h2audit.specs.code.Told.{AreToldOf, HasOrderlyOutcome}
+use Rattle.h2audit.specs.declared.told.Told.{Told}
+use Rattle.h2audit.proofs.ToldAudits.{all-fit, found-audits}
 use Rattle.h2audit.proofs.auditing.report_parts.Goals as goal
 
 pub report_told-requires-clause-each : goal.report_told-requires-clause-each

@@ -2,12 +2,14 @@ use Rattle.std.proofs.Common.{arith, append_assoc, ap, if◌then◌else◌, leng
 use Rattle.std.proofs.Common.{Bool, List, [], ◌++◌, ◌<◌, ◌∙◌, ◌∷◌, ◌≡◌}
 use Rattle.std.proofs.lemmas.List.{append-nil, nil_from_length, take_all}
 use Rattle.std.specs.Vec.Iter.{into_iter_items}
-use Rattle.audit_report.specs.code.Reported.{told_text}
-use Rattle.audit_report.specs.declared.told.Told.{Told}
+use Rattle.h2audit.specs.declared.told.Told.{Told}
 use Rattle.stop_desk.specs.declared.parts.Part.{Part}
-use Rattle.h2audit.specs.code.InTurn.{AreFoundIn, worse}
+use Rattle.h2audit.specs.code.InTurn.{AreFoundIn}
+use Rattle.h2audit.specs.code.Sections.{told_text}
+use Rattle.h2audit.specs.code.Verdict.{worse}
 use Rattle.h2audit.specs.declared.verdict.Verdict.TheVariants.{Clean, Faults}
-use Rattle.h2audit.proofs.Found.{faults-same}
+use Rattle.h2audit.proofs.ToldAudits.{faults-same}
+use Rattle.h2audit.proofs.Standing.{told-same}
 use Rattle.h2audit.proofs.InTurn.{as-many, each-audits, found-more, step-text, worse-more}
 use Rattle.h2audit.proofs.in_turn.report_in_turn.Goals as goal
 
@@ -57,7 +59,7 @@ returns g c =
         now.text
             ∙ ap (λ hs. c.args.lines.items ++ told_text credits 1 hs now.told) (whole ∙ headed)
             ∙ ap (λ l. c.args.lines.items ++ l)
-            (c.texts_are_sections.ensures credits 1 connections now.told audited stand),
+            (told-same credits 1 connections now.told audited stand),
         now.verdict ∙ ap (λ (b : Bool). if b then Faults else Clean) (faults-same now.told audited stand),
       );
     }

@@ -1,11 +1,11 @@
 use Rattle.std.proofs.Common.{List, ◌≡◌, ◌++◌, if◌then◌else◌, length, take}
 use Rattle.std.specs.List.{list_any}
 use Rattle.std.specs.Vec.Iter.{into_iter_items}
-use Rattle.audit_report.specs.code.Reported.{told_text}
-use Rattle.audit_report.specs.declared.told.Told.{Told}
+use Rattle.h2audit.specs.declared.told.Told.{Told}
 use Rattle.stop_desk.specs.declared.parts.Part.{Part}
-use Rattle.h2audit.specs.code.Found.{has_fault_in}
 use Rattle.h2audit.specs.code.InTurn.{AreFoundIn}
+use Rattle.h2audit.specs.code.Sections.{told_text}
+use Rattle.h2audit.specs.code.Verdict.{has_fault_in}
 use Rattle.h2audit.specs.declared.verdict.Verdict.TheVariants.{Clean, Faults}
 use Rattle.h2audit.proofs.in_turn.report_in_turn.Given as goal
 

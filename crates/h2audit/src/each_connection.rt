@@ -1,0 +1,138 @@
+//! The audits of all connections of a capture: their flows, what these hold, and what is found in the frames.
+
+ghost use Rattle.std.specs.Prelude.{◌≡◌, ◌<◌, ◌^◌, All, IfOk, length, map};
+ghost use Rattle.std.specs.Vec.Iter.{into_iter_items};
+ghost use Rattle.stop_desk.specs.declared.parts.Part.{Part};
+ghost use Rattle.h2audit.specs.code.Flows.{AreSources, AreToldFlows};
+ghost use Rattle.h2audit.specs.code.KeptFrames.{AreFound, all_with_findings, kept_frames, left_after, with_next_findings};
+ghost use Rattle.h2audit.specs.code.Told.{HasOrderlyOutcome};
+ghost use Rattle.h2audit.specs.declared.told.Told.{Told};
+
+use crate::flow_round::FlowRound;
+use crate::told::{Outcome, Told};
+use audit_rounds::{Division, findings_of_each};
+use audit_terms::{Finding, Frame, Place};
+use input_output::Capture;
+use packet_heads::Packets;
+use std::alloc::{AllocError, Global};
+use std::thread::Threads;
+use std::vec::IntoIter;
+use stop_desk::{AuditRound, Gate, Part, Team, settle};
+use tcp_streams::Connection;
+
+/// How many packets a connection has on average, at least, where workers share the connections out. Of mere openings
+/// it takes longer to share such jobs out, and to put in order what they made, than to do them: measured, several
+/// workers took a fifth longer than one.
+const SHARED_PACKETS_PER_CONNECTION: usize = 4;
+
+/// What the flows of each connection hold, in order.
+pub(crate) fn flows_each<R: Threads + Sync, G: Gate>(
+    team: &Team<'_, R, G>,
+    frames_shown: bool,
+    capture: &Capture<'_>,
+    packets: &Packets<'_>,
+    opened: &[Connection],
+) -> Result<Vec<Part<Told>>, AllocError>
+    requires few { length opened.now < 2 ^ 32 }
+    requires sources { All (AreSources capture.now packets.now) opened.now }
+    ensures { IfOk result (λ parts. AreToldFlows frames_shown capture.now packets.now opened.now parts.items) }
+{
+    let mut stops: Vec<Option<Place>> = Vec::new(team.alloc);
+    stops.resize(opened.len(), None)?;
+    let round = FlowRound {
+        rt: team.rt,
+        threads: team.workers as usize / opened.len().max(1),
+        frames_shown,
+        capture,
+        packets,
+        opened,
+    };
+    let team = Team {
+        rt: team.rt,
+        alloc: team.alloc,
+        workers: sharers(team.workers, packets.len(), opened.len()),
+        gate: team.gate,
+    };
+    let settled = settle(&team, AuditRound::Flows, stops.as_slice(), &round)?;
+    Ok(settled.parts)
+}
+
+/// How many of the workers share out so many connections, which have so many packets.
+fn sharers(workers: u32, packets: usize, opened: usize) -> u32
+    requires { 0 < workers }
+    ensures { 0 < result }
+{
+    let is_worth = opened <= packets / SHARED_PACKETS_PER_CONNECTION;
+    if is_worth { workers } else { 1 }
+}
+
+/// What is told of each connection, in order: what its flows hold, with what is found in the frames that are kept.
+pub(crate) fn audit_each<R: Threads + Sync, G: Gate>(
+    team: &Team<'_, R, G>,
+    frames_shown: bool,
+    division: &Division,
+    parts: Vec<Part<Told>>,
+) -> Result<Vec<Told>, AllocError>
+    requires { All (λ (part : Part Told). HasOrderlyOutcome part.made.outcome) parts.items }
+    ensures { IfOk result (λ told. AreFound frames_shown parts.items told.items) }
+{
+    let found = {
+        let kept = kept_frames(team.alloc, parts.as_slice())?;
+        findings_of_each(
+            team.rt,
+            team.alloc,
+            division,
+            team.gate,
+            frames_shown,
+            kept.as_slice(),
+        )?
+    };
+    all_with_findings(team.alloc, parts, found)
+}
+
+/// The frames that are kept, of each connection that has some.
+fn kept_frames<'a>(alloc: Global, parts: &'a [Part<Told>]) -> Result<Vec<&'a [Frame]>, AllocError>
+    ensures { IfOk result (λ kept. map (λ frames. frames.now) kept.items ≡ kept_frames parts.now) }
+{
+    let mut kept = Vec::new(alloc);
+    for part in parts {
+        if let Outcome::Audited(audited) = &part.made.outcome {
+            kept.push(audited.frames.as_slice())?;
+        }
+    }
+    Ok(kept)
+}
+
+/// What is told of each connection: what its flows hold, with what was found in the frames that are kept.
+fn all_with_findings(
+    alloc: Global,
+    parts: Vec<Part<Told>>,
+    found: Vec<Vec<Finding>>,
+) -> Result<Vec<Told>, AllocError>
+    ensures { IfOk result (λ told. told.items ≡ all_with_findings parts.items found.items) }
+{
+    let mut all = Vec::with_capacity(alloc, parts.len())?;
+    let mut rest = found.into_iter();
+    for part in parts {
+        all.push(with_next_findings(part.made, &mut rest))?;
+    }
+    Ok(all)
+}
+
+/// What is told of a connection, with the next findings where its frames are kept.
+pub(crate) fn with_next_findings(told: Told, found: &mut IntoIter<Vec<Finding>>) -> Told
+    ensures with { result ≡ with_next_findings told (into_iter_items found.old) }
+    ensures left { into_iter_items found.new ≡ left_after told.outcome (into_iter_items found.old) }
+{
+    let Told { reach, outcome } = told;
+    match outcome {
+        Outcome::Audited(mut audited) => {
+            if let Some(findings) = found.next() {
+                audited.findings = findings;
+            }
+            let outcome = Outcome::Audited(audited);
+            Told { reach, outcome }
+        }
+        outcome => Told { reach, outcome },
+    }
+}

@@ -1,0 +1,25 @@
+use Rattle.std.proofs.Common.{[], ◌∷◌, ◌++◌}
+use Rattle.quiet_pass.proofs.Walked.{whole-at_end}
+use Rattle.quiet_pass.proofs.quiet_connections.quiet_frame_by_frame.Goals as goal
+
+pub loop-pass-preserved : goal.loop-pass-preserved
+loop-pass-preserved c = record {
+  ready = c.in_ok-frame.ensures.ready;
+  met = λ client server before.
+      let next = rw c.in-Some.is at c.in_ok-frame.ensures.next in
+      let met = c.loop-pass.invariant.met client server before in
+      record {
+        frames = met.frames ++ c.in-Some.frame ∷ [];
+        taken = next client server met.frames met.taken;
+        quiet = (rw c.if-not-branch.false at c.in_ok-meet.ensures) met.frames met.quiet;
+      };
+}
+
+pub returns : goal.returns
+returns c = λ client server fresh.
+    let met = c.loop-pass.invariant.met client server fresh.whole in
+    let same = rw c.in_default.is at c.in_ok-frame.ensures.same in
+    let over = rw c.in_default.is at c.in_ok-frame.ensures.over in
+    c.quiet_after.ensures client server met.frames _ fresh.started
+    (whole-at_end _ _ client server met.frames met.taken same (over client server met.frames met.taken))
+    met.quiet
