@@ -15,8 +15,8 @@ use crate::stalls::stall_pairs;
 use audit_terms::{Finding, Frame};
 use std::alloc::AllocError;
 
-/// Adds the lines of the findings shown in these frames, of the stalls that they tell of, and of the audit's end. Frames
-/// and findings are freed as their lines are written.
+/// Adds the lines of the findings shown in these frames, of the stalls that they tell of, and of the audit's end.
+/// Frames and findings are freed as their lines are written.
 #[tactic(auto, using(crate::proofs::Joins::joins))]
 pub fn push_audit_freeing(
     frames_shown: bool,

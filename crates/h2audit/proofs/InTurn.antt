@@ -89,7 +89,8 @@ worse-more (t ∷ told) one = grind (arith, worse-more told one)
 
 -- the text with the section of one more connection
 pub step-text : (shown : Bool) (headings : List SectionHeading) (told : List Told) (at : ℕ)
-    (heading : SectionHeading) (one : Told) (lines old new : List ℕ) → at < length headings → heading ≡ get_or headings at heading → length told ≡ at
+    (heading : SectionHeading) (one : Told) (lines old new : List ℕ)
+    → at < length headings → heading ≡ get_or headings at heading → length told ≡ at
     → old ≡ lines ++ told_text shown 1 (take at headings) told
     → new ≡ old ++ section_text shown (at + 1) heading one
     → new ≡ lines ++ told_text shown 1 (take (at + 1) headings) (told ++ one ∷ [])

@@ -4,7 +4,8 @@ ghost use Rattle.std.specs.Prelude.{◌≡◌, ◌<◌, ◌^◌, All, IfOk, leng
 ghost use Rattle.std.specs.Vec.Iter.{into_iter_items};
 ghost use Rattle.stop_desk.specs.declared.parts.Part.{Part};
 ghost use Rattle.h2audit.specs.code.Flows.{AreSources, AreToldFlows};
-ghost use Rattle.h2audit.specs.code.KeptFrames.{AreFound, all_with_findings, kept_frames, left_after, with_next_findings};
+ghost use Rattle.h2audit.specs.code.KeptFrames.{AreFound, all_with_findings, kept_frames, left_after};
+ghost use Rattle.h2audit.specs.code.KeptFrames.{with_next_findings};
 ghost use Rattle.h2audit.specs.code.Told.{HasOrderlyOutcome};
 ghost use Rattle.h2audit.specs.declared.told.Told.{Told};
 
