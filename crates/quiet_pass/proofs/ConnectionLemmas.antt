@@ -2,7 +2,7 @@
 use Rattle.stream_credit.proofs.Words.{◌≡◌, ℕ, nat_lt, Bool, false, Option, refl, Client, Server, Sides, Frame}
 use Rattle.stream_credit.proofs.Words.{Change, side_of, new_limit, new_push}
 use Rattle.stream_credit.proofs.QuietSteps.{both, unsaid}
-use Rattle.quiet_pass.specs.declared.connections.KeptConnection.{KeptConnection}
+use Rattle.quiet_pass.specs.declared.kept_connection.KeptConnection.{KeptConnection}
 use Rattle.quiet_pass.specs.code.Connection.{IsConnectionAfter, IsCreditAfter, IsOpenedAfter, IsPromisedAfter}
 
 pub connection-met : (frame : Frame) (opens : Bool) (change : Option Change) (old : KeptConnection)

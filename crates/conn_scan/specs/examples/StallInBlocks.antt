@@ -63,8 +63,8 @@ by_two (x ∷ []) = (x ∷ []) ∷ []
 by_two (x ∷ y ∷ items) = (x ∷ y ∷ []) ∷ by_two items
 
 -- what blocks show of the connection, without the credits
-abbrev pub shown_of : List (List Item) → List Finding
-shown_of blocks = shown false (block_runs connection_start blocks)
+abbrev pub shown_by_blocks : List (List Item) → List Finding
+shown_by_blocks blocks = shown false (block_runs connection_start blocks)
 
 abbrev pub stall_findings : List Finding
 stall_findings =
@@ -72,13 +72,13 @@ stall_findings =
     ∷ finding_at ConnectionStallBegin 11 0 Client (pos 0) ∷ []
 
 abbrev pub StallByOne : Type 0
-StallByOne = shown_of (by_one stall_items) ≡ stall_findings
+StallByOne = shown_by_blocks (by_one stall_items) ≡ stall_findings
 
 abbrev pub StallByTwo : Type 0
-StallByTwo = shown_of (by_two stall_items) ≡ stall_findings
+StallByTwo = shown_by_blocks (by_two stall_items) ≡ stall_findings
 
 abbrev pub StallAtOnce : Type 0
-StallAtOnce = shown_of (stall_items ∷ []) ≡ stall_findings
+StallAtOnce = shown_by_blocks (stall_items ∷ []) ≡ stall_findings
 
 -- is the item alone, at a place of the script, a clear block?
 abbrev pub is_clear_at : (place : ℕ) → Bool

@@ -6,7 +6,7 @@ use Rattle.audit_terms.specs.declared.sides.Sides.{Sides}
 use Rattle.audit_terms.specs.declared.kinds.Kind.TheVariants.{NotOpened, AfterEnd}
 use Rattle.audit_terms.specs.declared.frames.Body.TheVariants.{Ping, WindowUpdate}
 use Rattle.audit_terms.specs.declared.frames.Frame.{Frame}
-use Rattle.audit_terms.specs.declared.streams.Stream.{Stream}
+use Rattle.audit_terms.specs.declared.stream_state.Stream.{Stream}
 use Rattle.audit_terms.specs.declared.findings.Finding.{Finding}
 use Rattle.audit_terms.specs.FrameType.{data_type, headers_type, rst_stream_type, push_promise_type, ping_type}
 use Rattle.audit_terms.specs.FrameType.{window_update_type}
