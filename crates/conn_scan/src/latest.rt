@@ -63,18 +63,9 @@ impl Latest {
         ensures { result ≡ no_item }
     {
         Latest {
-            limit: Sides {
-                client: None,
-                server: None,
-            },
-            least: Sides {
-                client: None,
-                server: None,
-            },
-            longest: Sides {
-                client: 0,
-                server: 0,
-            },
+            limit: Sides::both(None),
+            least: Sides::both(None),
+            longest: Sides::both(0),
             push: None,
             zero_grant: false,
             odd_promise: false,
@@ -105,16 +96,12 @@ impl Latest {
     fn change(&mut self, change: &Change)
         ensures { self.new ≡ latest_changed self.old (Some change.now) }
     {
-        match change.side {
-            Side::Client => {
-                self.limit.client = newer(self.limit.client, change.max_frame);
-                self.least.client = lesser_limit(self.least.client, change.max_frame);
-            }
-            Side::Server => {
-                self.limit.server = newer(self.limit.server, change.max_frame);
-                self.least.server = lesser_limit(self.least.server, change.max_frame);
-                self.push = newer(self.push, change.push);
-            }
+        let limit = self.limit.of_mut(change.side);
+        *limit = newer(*limit, change.max_frame);
+        let least = self.least.of_mut(change.side);
+        *least = lesser_limit(*least, change.max_frame);
+        if change.side == Side::Server {
+            self.push = newer(self.push, change.push);
         }
     }
 

@@ -124,10 +124,7 @@ impl Summary for ConnSum {
 
     fn empty() -> Self {
         ConnSum {
-            credit: Sides {
-                client: Credit::empty(),
-                server: Credit::empty(),
-            },
+            credit: Sides::both(Credit::empty()),
             opened: Rising::empty(),
             promised: Rising::empty(),
             latest: Latest::empty(),

@@ -35,17 +35,11 @@ impl KeptConnection {
         ensures { connection_of result ≡ connection_start }
     {
         KeptConnection {
-            credit: Sides {
-                client: FIRST_WINDOW,
-                server: FIRST_WINDOW,
-            },
+            credit: Sides::both(FIRST_WINDOW),
             opened: 0,
             promised: 0,
             push: 1,
-            limit: Sides {
-                client: FIRST_LIMIT,
-                server: FIRST_LIMIT,
-            },
+            limit: Sides::both(FIRST_LIMIT),
         }
     }
 
@@ -78,8 +72,8 @@ impl KeptConnection {
         true
     }
 
-    /// Meets a frame that opens no stream, promises none and brings no change, as most do, and answers whether nothing of
-    /// that may be shown.
+    /// Meets a frame that opens no stream, promises none and brings no change, as most do, and answers whether nothing
+    /// of that may be shown.
     #[inline]
     pub(crate) fn meet_lone(&mut self, frame: &Frame) -> bool
         requires { is_server_promise frame.now ≡ false }
@@ -88,23 +82,14 @@ impl KeptConnection {
         if self.limit.of(frame.side) < frame.length.get() {
             return false;
         }
-        match moved_side(frame) {
-            Some(Side::Client) => match credit_after(self.credit.client, Side::Client, frame) {
-                Some(credit) => {
-                    self.credit.client = credit;
-                    true
-                }
-                None => false,
-            },
-            Some(Side::Server) => match credit_after(self.credit.server, Side::Server, frame) {
-                Some(credit) => {
-                    self.credit.server = credit;
-                    true
-                }
-                None => false,
-            },
-            None => true,
-        }
+        let Some(side) = moved_side(frame) else {
+            return true;
+        };
+        let Some(credit) = credit_after(self.credit.of(side), side, frame) else {
+            return false;
+        };
+        *self.credit.of_mut(side) = credit;
+        true
     }
 
     /// Meets a SETTINGS, or an acknowledgement with the change that it brings, and answers whether nothing of that may

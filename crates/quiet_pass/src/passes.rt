@@ -11,8 +11,8 @@ ghost use Rattle.quiet_pass.specs.code.QuietPass.{StandsFor, IsQuietStep, IsQuie
 ghost use Rattle.quiet_pass.specs.code.QuietPass.{IsBroughtInto};
 
 use crate::kept_connection::KeptConnection;
-use crate::quiet_frames::is_followed;
 use crate::kept_streams::Streams;
+use crate::quiet_frames::is_followed;
 use audit_terms::{Body, Change, FIRST_WINDOW, Frame, LastFrame, Side, Sides, initial_after};
 use settings_pair::Pending;
 use std::alloc::{AllocError, Global};
@@ -42,15 +42,9 @@ impl QuietPass {
         ensures { IsQuietAfter [] result }
     {
         QuietPass {
-            last: Sides {
-                client: LastFrame::Missing,
-                server: LastFrame::Missing,
-            },
+            last: Sides::both(LastFrame::Missing),
             pending: Pending::new(alloc),
-            initial: Sides {
-                client: FIRST_WINDOW,
-                server: FIRST_WINDOW,
-            },
+            initial: Sides::both(FIRST_WINDOW),
             connection: KeptConnection::start(),
             streams: Streams::new(alloc),
             moves_left: MOST_MOVING_CHANGES,
@@ -81,7 +75,7 @@ impl QuietPass {
             return Ok(false);
         }
         let is_quiet = self.meet_rest(frame)?;
-        self.last = last_after(&self.last, frame);
+        keep_last(&mut self.last, frame);
         Ok(is_quiet)
     }
 
@@ -174,21 +168,12 @@ fn is_unmatched(frame: &Frame, change: &Option<Change>) -> bool
     frame.body.is_ack() && change.is_none()
 }
 
-/// What is kept of the last frame of each side after a frame.
-fn last_after(last: &Sides<LastFrame>, frame: &Frame) -> Sides<LastFrame>
-    ensures client { result.client ≡ (if is_side Side.Client frame.now.side then last_of (Option.Some frame.now)
-        else last.now.client) }
-    ensures server { result.server ≡ (if is_side Side.Server frame.now.side then last_of (Option.Some frame.now)
-        else last.now.server) }
+/// Keeps what the next frame of its side asks of a frame.
+fn keep_last(last: &mut Sides<LastFrame>, frame: &Frame)
+    ensures client { last.new.client ≡ (if is_side Side.Client frame.now.side then last_of (Option.Some frame.now)
+        else last.old.client) }
+    ensures server { last.new.server ≡ (if is_side Side.Server frame.now.side then last_of (Option.Some frame.now)
+        else last.old.server) }
 {
-    match frame.side {
-        Side::Client => Sides {
-            client: LastFrame::of(frame),
-            server: last.server,
-        },
-        Side::Server => Sides {
-            client: last.client,
-            server: LastFrame::of(frame),
-        },
-    }
+    *last.of_mut(frame.side) = LastFrame::of(frame);
 }

@@ -32,10 +32,7 @@ impl Pending {
         Pending {
             client: Vec::new(alloc),
             server: Vec::new(alloc),
-            taken: Sides {
-                client: 0,
-                server: 0,
-            },
+            taken: Sides::both(0),
         }
     }
 

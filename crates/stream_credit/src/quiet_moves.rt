@@ -2,6 +2,7 @@
 //! an open stream, and no more. Most frames are of this kind, so a run meets them without a step.
 
 ghost use Rattle.std.specs.Prelude.{◌≡◌, ℕ, ◌^◌, ◌<◌, false};
+ghost use Rattle.std.specs.Bool.{OnTrue, OnFalse};
 ghost use Rattle.std.specs.Option.{ForSome};
 ghost use Rattle.audit_terms.specs.Side.{other};
 ghost use Rattle.audit_terms.specs.Frame.{sends_end};
@@ -66,23 +67,20 @@ fn granted(stream: u32, frame: &Frame, increment: u32) -> Option<Move>
     })
 }
 
-/// The windows after a move, if there is credit before and after it, and no more than the largest window (6.9.1).
-pub(crate) fn moved_quietly(windows: &Sides<Option<i64>>, one: &Move) -> Option<Sides<Option<i64>>>
+/// Moves a window, if there is credit before and after the move, and no more than the largest window (6.9.1); and
+/// answers whether it did.
+pub(crate) fn move_quietly(windows: &mut Sides<Option<i64>>, one: &Move) -> bool
     requires amount { HasRoom (2 ^ 32) one.now.amount }
-    requires client { WindowHasRoom (2 ^ 60) windows.now.client }
-    requires server { WindowHasRoom (2 ^ 60) windows.now.server }
-    ensures { ForSome result (IsMovedQuietly windows.now one.now) }
+    requires client { WindowHasRoom (2 ^ 60) windows.old.client }
+    requires server { WindowHasRoom (2 ^ 60) windows.old.server }
+    ensures moved { OnTrue result (IsMovedQuietly windows.old one.now windows.new) }
+    ensures otherwise { OnFalse result (windows.new ≡ windows.old) }
 {
-    match one.side {
-        Side::Client => Some(Sides {
-            client: Some(credit_after_move(&windows.client, one)?),
-            server: windows.server,
-        }),
-        Side::Server => Some(Sides {
-            client: windows.client,
-            server: Some(credit_after_move(&windows.server, one)?),
-        }),
-    }
+    let Some(after) = credit_after_move(&windows.of(one.side), one) else {
+        return false;
+    };
+    *windows.of_mut(one.side) = Some(after);
+    true
 }
 
 /// The credit of one window after a move, if there is credit before and after it, and no more than the largest window.

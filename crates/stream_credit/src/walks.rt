@@ -9,8 +9,8 @@ ghost use Rattle.stream_credit.specs.code.Walk.{CanCount, CanMeetBefore, HasStop
 ghost use Rattle.stream_credit.specs.code.Walk.{MeetsBefore, WholeRun};
 
 use crate::changes::{Changes, FIRST_WINDOWS, met_after};
-use crate::quiet_moves::{move_of, moved_quietly};
 use crate::quiet_changes::{is_quiet_move, window_after_change};
+use crate::quiet_moves::{move_of, move_quietly};
 use audit_terms::{
     Change, Finding, Frame, Look, Sides, Step, Stream, Watch, initial_after, keep_shown,
     put_in_order,
@@ -237,10 +237,6 @@ impl Walk {
         let Some(one) = move_of(self.stream, &self.entry.life, frame) else {
             return false;
         };
-        let Some(windows) = moved_quietly(&self.entry.window, &one) else {
-            return false;
-        };
-        self.entry.window = windows;
-        true
+        move_quietly(&mut self.entry.window, &one)
     }
 }
