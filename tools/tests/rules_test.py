@@ -354,11 +354,14 @@ class Refused(unittest.TestCase):
     def test_functions(self) -> None:
         for entry, why in (
             ("`fault_rules/window.rt` `say_live`: `window_step`", "fault_rules/window.rt has no function say_live"),
-            ("`fault_rules/windows.rt` `say_life`: `window_step`", "fault_rules/windows.rt has no function say_life"),
-            ("`fault_rules/windows.rt` `say_live`: `stream_said`", "say_live: stream_said is not named there"),
-            ("`fault_rules/windows.rt` `say_live`: `WindowHasRoom`", "WindowHasRoom does not rest on window_step"),
-            ("`fault_rules/windows.rt` `is_used_up` in `moved_side`", "not tied: is_used_up"),
-            ("`fault_rules/windows.rt` `at_opening` in `LiveStep::of`", "LiveStep::of does not call at_opening"),
+            (
+                "`fault_rules/window_rules.rt` `say_life`: `window_step`",
+                "fault_rules/window_rules.rt has no function say_life",
+            ),
+            ("`fault_rules/window_rules.rt` `say_live`: `stream_said`", "say_live: stream_said is not named there"),
+            ("`fault_rules/window_rules.rt` `say_live`: `WindowHasRoom`", "WindowHasRoom does not rest on window_step"),
+            ("`fault_rules/window_rules.rt` `is_used_up` in `moved_side`", "not tied: is_used_up"),
+            ("`fault_rules/window_rules.rt` `at_opening` in `LiveStep::of`", "LiveStep::of does not call at_opening"),
             ("`conn_scan/cleared.rt` `clear` by `items_are_the_pass`", "clear and items_are_the_pass speak of nothing"),
             ("say_live", "cannot be read: say_live"),
         ):
@@ -366,8 +369,8 @@ class Refused(unittest.TestCase):
             self.assertIn(why, said)
 
     def test_left_out(self) -> None:
-        few = self.row._replace(functions=["`quiet_pass/rows.rt` `Row::moved` in `step`"])
-        self.assertIn("fault_rules/windows.rt say_live", left_out(few, ["crates/audit_terms/specs"]))
+        few = self.row._replace(functions=["`quiet_pass/opened_rows.rt` `Row::after_change` in `step`"])
+        self.assertIn("fault_rules/window_rules.rt say_live", left_out(few, ["crates/audit_terms/specs"]))
 
 
 if __name__ == "__main__":

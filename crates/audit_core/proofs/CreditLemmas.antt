@@ -4,7 +4,7 @@ use Rattle.std.proofs.Common.{sym, true, ℕ, ℤ, ⊎_elim, ◌+ℤ◌, ◌+◌
 use Rattle.std.proofs.lemmas.List.Sums.{sum_by-cons}
 use Rattle.audit_core.proofs.Meetings.{step-content, step-grant, step-opened, step-opening}
 use Rattle.audit_core.proofs.Words.{Client, ConnectionCreditIsSum, Frame, IsOrderlyFrom, PassState, Server, Side, Step}
-use Rattle.audit_core.proofs.Words.{StreamCreditIsSum, cases_Bool, change_of, content_by, content_on, counted}
+use Rattle.audit_core.proofs.Words.{StreamCreditIsSum, cases_Bool, change_of, content_by, content_on, credit_after_step}
 use Rattle.audit_core.proofs.Words.{credit_after, grant_to, ints, lt-leb, nat_tests, new_initial, next, opens}
 use Rattle.audit_core.proofs.Words.{pass_start, side_of, since, state_from, step_of, stream_credit_sum, window_after}
 
@@ -54,7 +54,7 @@ module _ (d : Side) (stream : ℕ) (state : PassState) (frame : Frame) where
 
   -- a window that lives on was live, and counts what the step moves
   window-was : (window : Option ℤ) (after : ℤ) → window_after d stream state.in_force.initial step window ≡ Some after
-      → (before : ℤ) × (window ≡ Some before) × (after ≡ counted d stream state.in_force.initial step before)
+      → (before : ℤ) × (window ≡ Some before) × (after ≡ credit_after_step d stream state.in_force.initial step before)
   window-was None after e = cc
   window-was (Some before) after e = (before, refl, grind arith)
 

@@ -8,7 +8,8 @@ use Rattle.audit_core.proofs.TableRows.{AreRows, IsRow, is_row, quiet, row-say, 
 use Rattle.audit_core.proofs.Words.{AllByRecursion, AreApart, Body, Change, Client, ConnectionState, EachPair, Finding}
 use Rattle.audit_core.proofs.Words.{Frame, InForce, IsInRange, Kind, PassState, Server, SettingsBody, Side, Sides, Step}
 use Rattle.audit_core.proofs.Words.{Stream, Unreadable, body_said, change_of, cond_both, connection_said}
-use Rattle.audit_core.proofs.Words.{connection_window_said, counted, credit_after, each-append, each-weaker, fault}
+use Rattle.audit_core.proofs.Words.{connection_window_said, credit_after_step, credit_after, each-append, each-weaker}
+use Rattle.audit_core.proofs.Words.{fault}
 use Rattle.audit_core.proofs.Words.{finding_at, frame_said, ints, length_said, live_window_said, local_said, meets}
 use Rattle.audit_core.proofs.Words.{new_limit, opening_order_said, opens, opens_stream, other, overflows, place_stream}
 use Rattle.audit_core.proofs.Words.{promise_order_said, promised_in, push_said, rank_of, reading_fault, say, say_of}
@@ -25,7 +26,7 @@ granted-side d before frame o = grind (arith, ints)
 -- a change moves only the windows of the side that acknowledges
 module _ (d : Side) (stream : ℕ) (now : InForce) (initial : Sides ℕ) (frame : Frame) (before : ℤ) where
   moved-side : (is_some (change_of now frame) && overflows before
-      (counted d stream initial (step_of now frame stream) before)) ≡ true → d ≡ frame.side
+      (credit_after_step d stream initial (step_of now frame stream) before)) ≡ true → d ≡ frame.side
   moved-side o = let ack = change-ack now frame in grind (arith, ints)
 
 -- ---- the rows

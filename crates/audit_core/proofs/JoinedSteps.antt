@@ -4,7 +4,7 @@ use Rattle.std.proofs.Common.{◌<◌, ◌∙◌, ◌∷◌}
 use Rattle.audit_core.proofs.Words.{flat_map, option_to_list, AllByRecursion, map-map, meets, InForce, taken}
 use Rattle.audit_core.proofs.Words.{change_taking, in_force_after, initial_in_force, changes_from, changes_of}
 use Rattle.audit_core.proofs.Words.{IsOrderlyFrom, frame_step, with_change, steps_of, frames_of, Frame, Change, Step}
-use Rattle.audit_core.proofs.Words.{Settings, EachPair, StreamsHaveSteps, AreRising, IsFilled}
+use Rattle.audit_core.proofs.Words.{Settings, EachPair, StreamsHaveSteps, AreRising, HasFrameOrChange}
 use Rattle.audit_core.proofs.Words.{StepsJoinFramesAndChanges, or-true, nat_tests, each-weaker}
 use Rattle.audit_core.proofs.Pairs.{all-before_map, pairs-mapped, pairs-filter, all-mapped}
 use Rattle.audit_core.proofs.StreamSteps.{with_change-cases, all-with, all-steps, all-numbers, all-change_numbers}
@@ -64,7 +64,7 @@ of_frames : (P : Step → Type 0) → ((frame : Frame) → P (frame_step frame))
 of_frames P p [] = tt
 of_frames P p (frame ∷ frames) = (p frame, of_frames P p frames)
 
-filled : (frame : Frame) → IsFilled (frame_step frame)
+filled : (frame : Frame) → HasFrameOrChange (frame_step frame)
 filled frame = record { has_one = refl; frame = refl; change = tt }
 
 -- ---- all changes
@@ -72,7 +72,7 @@ filled frame = record { has_one = refl; frame = refl; change = tt }
 pub steps_join_lem : StepsJoinFramesAndChanges
 steps_join_lem frames [] rising changing = record {
   rising = rw (map-map (λ (step : Step). step.number) frame_step frames) rising;
-  filled = all-mapped IsFilled frame_step frames (of_frames IsFilled filled frames);
+  filled = all-mapped HasFrameOrChange frame_step frames (of_frames HasFrameOrChange filled frames);
   its_frames = frame_steps-frames frames;
   its_changes = frame_steps-changes frames;
 }
@@ -85,7 +85,7 @@ steps_join_lem frames (change ∷ changes) rising changing =
     (each-weaker (λ (c : Change). change.number < c.number) _ (λ c p e. p) changes
     (all-before_map (λ n. change.number < n) (λ (c : Change). c.number) changes changing.0)) in record {
       rising = rising-with change steps joined.rising;
-      filled = all-with IsFilled
+      filled = all-with HasFrameOrChange
           (λ c step e new old. record { has_one = or-true _; frame = old.frame; change = sym e }) change steps
           (record { has_one = refl; frame = tt; change = refl }) joined.filled;
       its_frames = frames-with change steps ∙ joined.its_frames;

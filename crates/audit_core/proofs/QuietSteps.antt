@@ -2,7 +2,7 @@
 use Rattle.std.proofs.Common.{◌≡◌, ℕ, ℤ, [], ap, arith, Option, None}
 use Rattle.audit_core.proofs.Words.{ints, Side, Client, Server, Sides, Change, Step, Stream, say_of, side_of}
 use Rattle.audit_core.proofs.Words.{new_initial, window_step, live_window_said, window_after}
-use Rattle.audit_core.proofs.Words.{stream_said, stream_after, counted, initial_after}
+use Rattle.audit_core.proofs.Words.{stream_said, stream_after, credit_after_step, initial_after}
 
 -- a step of a change alone, or of nothing
 abbrev pub bare_step : ℕ → Option Change → Step
@@ -15,7 +15,7 @@ module _ (stream : ℕ) (initial : Sides ℕ) (number : ℕ) (change : Option Ch
   still Client = ap (λ (both : Sides ℕ). both.client) unmoved
   still Server = ap (λ (both : Sides ℕ). both.server) unmoved
 
-  counted-quiet : (d : Side) (before : ℤ) → counted d stream initial (bare_step number change) before ≡ before
+  counted-quiet : (d : Side) (before : ℤ) → credit_after_step d stream initial (bare_step number change) before ≡ before
   counted-quiet d before = omega (arith, ints, still d)
 
   window_said-quiet : (d : Side) (window : Option ℤ) →

@@ -3,13 +3,13 @@ pub use Rattle.std.proofs.{Math.Bool.and-false, Math.Bool.or-true, lemmas.Int.in
 pub use Rattle.std.proofs.lemmas.{Bool.Decides.nat_tests, Bool.and_parts, Bool.cases_Bool, Bool.cond_both, Simd.map-map}
 pub use Rattle.std.specs.{List.AllByRecursion, List.find, List.flat_map, List.list_any, Option.option_map_or}
 pub use Rattle.{audit_core.specs.declared.rows.StreamRow.StreamRow, std.specs.Option.option_to_list}
-pub use Rattle.{audit_terms.specs.Side.other, fault_rules.specs.code.StreamSteps.counted}
+pub use Rattle.{audit_terms.specs.Side.other, fault_rules.specs.code.StreamSteps.credit_after_step}
 pub use Rattle.audit_core.specs.code.StreamRows.{RowFits, idle_rows, row_after, row_opens, row_said, rows_in}
 pub use Rattle.audit_core.specs.laws.{Apart.AreApart, Apart.AreApartAsErrors, Apart.StandApart, Stop.EndsAt}
 pub use Rattle.audit_core.specs.laws.{Apart.EachPair, Streams.StreamsAreNamedOnce, Streams.StreamsAreThoseMet}
 pub use Rattle.audit_core.specs.laws.{Credit.ConnectionCreditIsSum, Parts.PartsMakeFull, Parts.joined}
 pub use Rattle.audit_core.specs.laws.{Credit.StreamCreditIsSum, Steps.StepsJoinFramesAndChanges, Steps.StreamsHaveSteps}
-pub use Rattle.audit_core.specs.laws.{Steps.AreRising, Steps.IsFilled, Stop.KeptUptoFirstStop, Stop.NoneStops}
+pub use Rattle.audit_core.specs.laws.{Steps.AreRising, Steps.HasFrameOrChange, Stop.KeptUptoFirstStop, Stop.NoneStops}
 pub use Rattle.audit_core.specs.laws.LiveWindows.{LiveWindowsAreOpened, LiveWindowsAreUnended}
 pub use Rattle.audit_terms.proofs.{Bounds.room-wider, SaidPlaces.at-connection, SaidPlaces.at-in_order}
 pub use Rattle.audit_terms.proofs.FindingLists.{each-append, each-filter, each-ordered, each-put, each-weaker}
@@ -40,10 +40,10 @@ pub use Rattle.audit_terms.specs.code.runs.Blocks.{block_run, block_runs, connec
 pub use Rattle.audit_terms.specs.code.runs.Streams.{IsAcknowledged, change_step, initial_after, step_at}
 pub use Rattle.audit_terms.specs.code.runs.Streams.{stream_run_from}
 pub use Rattle.audit_terms.specs.code.runs.Streams.{frame_step, frames_of, group_run, steps_of, stream_run, with_change}
-pub use Rattle.audit_terms.specs.declared.{connections.ConnectionState.ConnectionState, settings.Settings.Settings}
+pub use Rattle.audit_terms.specs.declared.{connection_state.ConnectionState.ConnectionState, settings.Settings.Settings}
 pub use Rattle.audit_terms.specs.declared.{findings.Finding.Finding, frames.Body.TheVariants.Settings as SettingsBody}
 pub use Rattle.audit_terms.specs.declared.{kinds.Kind.Kind, kinds.Kind.TheVariants.UnmatchedAck, sides.Sides.Sides}
-pub use Rattle.audit_terms.specs.declared.{lives.StreamLife.StreamLife, streams.Stream.Stream}
+pub use Rattle.audit_terms.specs.declared.{lives.StreamLife.StreamLife, stream_state.Stream.Stream}
 pub use Rattle.audit_terms.specs.declared.frames.{Body.Body, Body.TheVariants.Unreadable, Frame.Frame}
 pub use Rattle.audit_terms.specs.declared.items.{Change.Change, Item.Item, Step.Step}
 pub use Rattle.audit_terms.specs.declared.sides.Side.{Side, TheVariants.Client, TheVariants.Server}

@@ -2,7 +2,8 @@
 use Rattle.audit_rounds.proofs.Words.{◌≡◌, ℕ, zero, suc, ◌+◌, ◌<◌, ◌≤◌, List, [], ◌∷◌, ◌++◌, append_assoc, append-nil}
 use Rattle.audit_rounds.proofs.Words.{map, take, drop, length, get_or, All, refl, sym, ap, ◌∙◌, arith, length-map}
 use Rattle.audit_rounds.proofs.Words.{length-take-le, take-append-drop, map-append, All-append, AllByRecursion, Frame}
-use Rattle.audit_rounds.proofs.Words.{Item, IsOrderly, IsOrderlyFrom, items_of, Block, item_with, items_in, IsBlock}
+use Rattle.audit_rounds.proofs.Words.{Item, IsOrderly, IsOrderlyFrom, items_in_blocks, Block, item_with, items_in}
+use Rattle.audit_rounds.proofs.Words.{IsBlock}
 use Rattle.audit_rounds.proofs.Words.{length-orderly, ConnSum, ConnectionBlock, IsShort, AreSums, blocks_of_connection}
 use Rattle.audit_rounds.proofs.Words.{wholes, AddsBlocks, ◌==◌, Bool, if◌then◌else◌, All-head, All-tail}
 use Rattle.audit_rounds.proofs.Words.{flat_map-append, ne_eqb, ConnectionState, Finding}
@@ -12,10 +13,10 @@ use Rattle.audit_rounds.proofs.Words.{shown_at, IsPlan, shown-append, drop-at, l
 use Rattle.std.proofs.lemmas.List.{map_more}
 use Rattle.std.proofs.lemmas.Bool.{eq-eqb}
 use Rattle.conn_scan.specs.code.Block.{MovesLittle, ItemsFit}
-use Rattle.conn_scan.specs.code.Walk.{numbers_from, changes_from}
-use Rattle.conn_scan.proofs.WalkLemmas.{numbers_from-rise, changes_from-orderly, items_with-from}
+use Rattle.conn_scan.specs.code.Walk.{numbers_not_below, changes_not_below}
+use Rattle.conn_scan.proofs.WalkLemmas.{numbers_not_below-rise, changes_not_below-orderly, items_with-from}
 use Rattle.conn_scan.specs.code.ConnSum.{conn_advance}
-use Rattle.conn_scan.specs.code.ConnSumLaws.{moved}
+use Rattle.conn_scan.specs.code.ConnSumLaws.{advance-sum}
 use Rattle.conn_scan.specs.code.FitLaws.{first_fit, rest_fit}
 use Rattle.audit_terms.proofs.FindingLists.{each-append}
 use Rattle.audit_rounds.specs.code.Blocks.{AreBlocksOf, laid_out, AreFit, IsReady, after_of, before_of}
@@ -28,8 +29,8 @@ use Rattle.audit_rounds.proofs.Parts.{orderly-take, orderly-drop}
 
 -- a block of some frames of another, with the numbers and the changes from a frame on
 pub record IsPart (whole : Block) (first : Frame) (own : List Frame) (part : Block) : Type 0 where
-  pub opened : part.opened.now ≡ numbers_from first.number whole.opened.now
-  pub changes : part.changes.now ≡ changes_from first.number whole.changes.now
+  pub opened : part.opened.now ≡ numbers_not_below first.number whole.opened.now
+  pub changes : part.changes.now ≡ changes_not_below first.number whole.changes.now
   pub frames : part.frames.now ≡ own
 
 module _ (whole : Block) (first : Frame) (later : List Frame) (h : IsBlock whole)
@@ -37,8 +38,8 @@ module _ (whole : Block) (first : Frame) (later : List Frame) (h : IsBlock whole
   part-is : (frames : List Frame) (part : Block) → IsPart whole first frames part → IsOrderly frames → IsBlock part
   part-is frames part p orderly = record {
     frames = rw p.frames orderly;
-    opened = rw p.opened (numbers_from-rise 0 0 first.number whole.opened.now (omega arith) h.opened);
-    changes = rw p.changes (changes_from-orderly 0 0 first.number whole.changes.now (omega arith) h.changes);
+    opened = rw p.opened (numbers_not_below-rise 0 0 first.number whole.opened.now (omega arith) h.opened);
+    changes = rw p.changes (changes_not_below-orderly 0 0 first.number whole.changes.now (omega arith) h.changes);
   }
 
   -- a block of the first frames, and one of the others
@@ -47,8 +48,8 @@ module _ (whole : Block) (first : Frame) (later : List Frame) (h : IsBlock whole
       → IsShort front × IsBlock back × (items_in front ++ items_in back ≡ items_in whole)
   block-cut n front back f b =
       let frames = whole.frames.now in
-      let item = item_with (numbers_from first.number whole.opened.now)
-      (changes_from first.number whole.changes.now) in
+      let item = item_with (numbers_not_below first.number whole.opened.now)
+      (changes_not_below first.number whole.changes.now) in
       let block = part-is _ front f (orderly-take 0 n frames h.frames) in
       let few = length-orderly 0 front.frames.now (omega arith) block.frames in
       let all = rw is at h.frames in
@@ -63,7 +64,7 @@ module _ (whole : Block) (first : Frame) (later : List Frame) (h : IsBlock whole
 
 -- the items of one block more
 pub items-push : (blocks : List Block) (block : Block)
-    → items_of (map items_in (blocks ++ block ∷ [])) ≡ items_of (map items_in blocks) ++ items_in block
+    → items_in_blocks (map items_in (blocks ++ block ∷ [])) ≡ items_in_blocks (map items_in blocks) ++ items_in block
 items-push [] block = append-nil (items_in block)
 items-push (b ∷ blocks) block = rw (items-push blocks block, append_assoc) refl
 
@@ -82,7 +83,7 @@ pub cut-next : (all : List Block) (at : ℕ) (whole : Block) (blocks new : List 
     → whole ≡ get_or all at whole → AreBlocksOf (wholes (take at all)) blocks → AddsBlocks at whole blocks new
     → AreBlocksOf (wholes (take (at + 1) all)) new
 cut-next all at whole blocks new l is h adds =
-    let joined = λ (cut : List Block). items_of (map items_in cut) in
+    let joined = λ (cut : List Block). items_in_blocks (map items_in cut) in
     let same = sym (length-map h.cuts joined) ∙ sym (ap length h.items) ∙ length-map (take at all) items_in in
     let front = length-take-le at all (omega arith) in
     let number : 0 + length h.cuts ≡ at = omega arith in
@@ -204,7 +205,7 @@ module _ (blocks : List ConnectionBlock) (at : ℕ) (one : ConnectionBlock) (l :
         let left = drop-at blocks at one is l in
         let fits = rw left at so_far.fits in
         let after : next ≡ after_of last now one = moves ∙ rw (summed.is, e)
-        (moved (before_of last now one) (items_in one.block)) in
+        (advance-sum (before_of last now one) (items_in one.block)) in
         let longer = ap length more ∙ length-append plan jobs in
         let shorter = ap length left in
         let few = so_far.few in
@@ -245,9 +246,9 @@ module _ (c : Bool) (connection : ℕ) (rest : List ConnectionBlock) (later : �
     (walk : (last : ℕ) (now : ConnectionState) → IsNew (connection + 1) last now → IsWalk c last now rest later) where
   own-walk : (last : ℕ) (now before : ConnectionState) (cut : List Block)
       → (if connection == last then now else connection_start) ≡ before
-      → ItemsFit before (items_of (map items_in cut)) → IsNew (connection + 1) last now
+      → ItemsFit before (items_in_blocks (map items_in cut)) → IsNew (connection + 1) last now
       → IsWalk c last now (blocks_of_connection connection cut ++ rest)
-      (λ n. where_of connection n (shown c (block_run before (items_of (map items_in cut)))) ++ later n)
+      (λ n. where_of connection n (shown c (block_run before (items_in_blocks (map items_in cut)))) ++ later n)
   own-walk last now before [] e fits new =
       let others = walk last now new in
       record {
@@ -256,7 +257,7 @@ module _ (c : Bool) (connection : ℕ) (rest : List ConnectionBlock) (later : �
       }
   own-walk last now before (block ∷ cut) e fits new =
       let items = items_in block in
-      let others = items_of (map items_in cut) in
+      let others = items_in_blocks (map items_in cut) in
       let after = connection_after_all before items in
       let here = eq-eqb connection connection refl in
       let next = own-walk connection after after cut (rw here refl) (rest_fit before items others fits)
@@ -272,7 +273,7 @@ module _ (c : Bool) (connection : ℕ) (rest : List ConnectionBlock) (later : �
 -- the items of a connection's blocks move credits by little
 little-joined : (connection : ℕ) (cut : List Block) (rest : List ConnectionBlock)
     → All Little (blocks_of_connection connection cut ++ rest)
-    → AllByRecursion MovesLittle (items_of (map items_in cut)) × All Little rest
+    → AllByRecursion MovesLittle (items_in_blocks (map items_in cut)) × All Little rest
 little-joined connection [] rest h = (tt, h)
 little-joined connection (block ∷ cut) rest h =
     let later = little-joined connection cut rest (All-tail Little _ _ h) in
@@ -280,10 +281,10 @@ little-joined connection (block ∷ cut) rest h =
 
 laid-walk : (c : Bool) (connection last : ℕ) (now : ConnectionState) (cuts : List (List Block))
     → IsNew connection last now
-    → All (BlockFits connection_start) (map (λ (cut : List Block). items_of (map items_in cut)) cuts)
+    → All (BlockFits connection_start) (map (λ (cut : List Block). items_in_blocks (map items_in cut)) cuts)
     → All Little (laid_out connection cuts)
     → IsWalk c last now (laid_out connection cuts)
-    (shown_at c connection (map (λ (cut : List Block). items_of (map items_in cut)) cuts))
+    (shown_at c connection (map (λ (cut : List Block). items_in_blocks (map items_in cut)) cuts))
 laid-walk c connection last now [] new fits little = record { fits = tt; shown = λ n. refl }
 laid-walk c connection last now (cut ∷ cuts) new fits little =
     let own = little-joined connection cut (laid_out (connection + 1) cuts) little in

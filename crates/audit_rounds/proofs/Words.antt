@@ -68,11 +68,11 @@ pub use Rattle.audit_terms.specs.code.runs.Look.{is_past, Asked, IsRun}
 pub use Rattle.audit_terms.specs.code.runs.Orderly.{IsOrderly, IsOrderlyFrom}
 pub use Rattle.audit_terms.specs.code.runs.States.{state_from, items_from}
 pub use Rattle.audit_terms.specs.code.runs.Streams.{frames_of, stream_at_end, stream_run, initial_after}
-pub use Rattle.audit_terms.specs.declared.{connections.ConnectionState.ConnectionState, findings.Finding.Finding}
+pub use Rattle.audit_terms.specs.declared.{connection_state.ConnectionState.ConnectionState, findings.Finding.Finding}
 pub use Rattle.audit_terms.specs.declared.{frames.Body.Body, frames.Body.TheVariants.Unreadable, frames.Frame.Frame}
 pub use Rattle.audit_terms.specs.declared.{items.Change.Change, items.Item.Item, items.Step.Step, sides.Sides.Sides}
-pub use Rattle.audit_terms.specs.declared.streams.Stream.{Stream}
-pub use Rattle.block_scan.specs.code.List.{items_of}
+pub use Rattle.audit_terms.specs.declared.stream_state.Stream.{Stream}
+pub use Rattle.block_scan.specs.code.List.{items_in_blocks}
 pub use Rattle.conn_scan.specs.code.Block.{BlockFits}
 pub use Rattle.conn_scan.specs.code.ConnSum.{conn_sum_of}
 pub use Rattle.conn_scan.specs.code.Items.{items_in, IsBlock, NeverFallFrom, is_marked, item_with, items_with}

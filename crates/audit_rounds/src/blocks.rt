@@ -5,7 +5,7 @@ ghost use Rattle.conn_scan.specs.code.Items.{IsBlock};
 ghost use Rattle.audit_rounds.specs.code.Blocks.{AddsBlocks, AreBlocksOf, AreShort, wholes};
 ghost use Rattle.audit_rounds.specs.code.Few.{RestsAreFew};
 
-use conn_scan::{Block, changes_from, numbers_from};
+use conn_scan::{Block, changes_not_below, numbers_not_below};
 use std::alloc::{AllocError, Global};
 
 /// A block, and the connection that it is of.
@@ -30,8 +30,8 @@ fn add_blocks<'a>(
     let mut rest = *whole;
     while let Some((first, _)) = rest.frames.split_first() {
         let (front, back) = rest.frames.split_at(size.min(rest.frames.len()));
-        rest.opened = numbers_from(rest.opened, first.number);
-        rest.changes = changes_from(rest.changes, first.number);
+        rest.opened = numbers_not_below(rest.opened, first.number);
+        rest.changes = changes_not_below(rest.changes, first.number);
         rest.frames = front;
         blocks.push(ConnectionBlock {
             connection,

@@ -10,7 +10,7 @@ use Rattle.audit_terms.specs.Connection.{connection_said, connection_window_said
 use Rattle.audit_terms.specs.Finding.{comes_after, finding_at, in_order, say, say_of}
 use Rattle.audit_terms.specs.LocalFault.{body_said, fault, local_said, reading_fault}
 use Rattle.audit_terms.specs.Stream.{frame_said, live_window_said, opened_window_said, stream_said, stream_window_said}
-use Rattle.audit_terms.specs.declared.{connections.ConnectionState.ConnectionState, streams.Stream.Stream}
+use Rattle.audit_terms.specs.declared.{connection_state.ConnectionState.ConnectionState, stream_state.Stream.Stream}
 use Rattle.audit_terms.specs.declared.{findings.Finding.Finding, frames.Frame.Frame}
 use Rattle.audit_terms.specs.declared.{items.Item.Item, items.Step.Step, kinds.Kind.Kind}
 use Rattle.audit_terms.specs.declared.frames.Body.{Body, TheVariants.Settings as SettingsBody, TheVariants.Unreadable}

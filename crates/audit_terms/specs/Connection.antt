@@ -12,7 +12,7 @@ use Rattle.audit_terms.specs.declared.kinds.Kind.TheVariants.{ConnectionStallEnd
 use Rattle.audit_terms.specs.declared.kinds.Kind.TheVariants.{ConnectionCredit}
 use Rattle.audit_terms.specs.declared.frames.Frame.{Frame}
 use Rattle.audit_terms.specs.declared.items.Item.{Item}
-use Rattle.audit_terms.specs.declared.connections.ConnectionState.{ConnectionState}
+use Rattle.audit_terms.specs.declared.connection_state.ConnectionState.{ConnectionState}
 use Rattle.audit_terms.specs.declared.findings.Finding.{Finding}
 use Rattle.audit_terms.specs.Side.{other}
 use Rattle.audit_terms.specs.Sides.{side_of, each_side}

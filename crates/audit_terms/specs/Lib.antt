@@ -16,3 +16,4 @@ pub mod Stream
 pub mod Pass
 pub mod laws
 pub mod code
+pub mod examples

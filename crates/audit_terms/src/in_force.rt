@@ -33,7 +33,7 @@ pub fn new_initial(change: &Option<Change>, side: Side, before: u32) -> u32
     }
 }
 
-/// The same of both sides.
+/// The initial windows in force for both sides (6.9.2).
 pub fn initial_after(change: &Option<Change>, initial: &Sides<u32>) -> Sides<u32>
     ensures { result ≡ initial_after change.now initial.now }
 {
@@ -53,7 +53,7 @@ pub fn new_limit(change: &Option<Change>, side: Side, before: u32) -> u32
     }
 }
 
-/// The same of both sides.
+/// The greatest length in bytes of a frame that each side may send.
 pub fn limit_after(change: &Option<Change>, limit: &Sides<u32>) -> Sides<u32>
     ensures { result ≡ each_side (λ d. new_limit change.now d (side_of d limit.now)) }
 {

@@ -31,7 +31,7 @@
 //!   succeed where there is memory is tested by those above them.
 #![tactic(auto)]
 
-mod connections;
+mod connection_state;
 mod counts;
 mod findings;
 pub mod frame_types;
@@ -47,11 +47,11 @@ mod places;
 mod settings;
 mod sides;
 pub mod standings;
-mod streams;
+mod stream_state;
 mod widths;
 mod windows;
 
-pub use connections::{ConnectionState, FIRST_LIMIT};
+pub use connection_state::{ConnectionState, FIRST_LIMIT};
 pub use counts::Count;
 pub use findings::{Finding, cut_at_stop, keep_shown, keep_up_to, put_in_order, say_if};
 pub use frames::{Body, Frame};
@@ -64,6 +64,6 @@ pub use looks::{Look, Watch};
 pub use places::Place;
 pub use settings::{PackedSettings, Settings};
 pub use sides::{Side, Sides};
-pub use streams::Stream;
+pub use stream_state::Stream;
 pub use widths::{Length, Word};
 pub use windows::{FIRST_WINDOW, LARGEST_WINDOW};

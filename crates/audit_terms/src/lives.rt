@@ -53,10 +53,7 @@ impl StreamLife {
     {
         StreamLife {
             opened: None,
-            ended: Sides {
-                client: false,
-                server: false,
-            },
+            ended: Sides::both(false),
         }
     }
 

@@ -21,7 +21,8 @@ pub trait Look {
         ensures { answers self.old found.now result self.new };
 }
 
-/// How many steps a run makes from one look to the next.
+/// How many steps a run makes from one look to the next, as `specs/code/runs/Look.antt` says. It bounds the work past a
+/// stop, and spreads the cost of a look, which loads a word that other threads write.
 const STEPS_BETWEEN: u32 = 256;
 
 /// A run that looks, between two of its steps: the last answer, how often it looked, and when it is to look again.

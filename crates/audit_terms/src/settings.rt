@@ -108,7 +108,7 @@ fn one_more(identifier: Option<u16>) -> u8
     }
 }
 
-/// The identifier of such a number.
+/// The identifier that a number is one more than; none of 0.
 fn one_less(number: u8) -> Option<u16>
     ensures { result ≡ one_less number }
 {

@@ -3,7 +3,8 @@
 
 ghost use Rattle.std.specs.Prelude.{◌≡◌};
 ghost use Rattle.std.specs.Option.{ForSome};
-ghost use Rattle.audit_terms.specs.code.Standing.{has_credit, has_ended, mark, IsBalance, IsCreditOf, IsMovedBy};
+ghost use Rattle.audit_terms.specs.code.Standing.{has_credit, has_ended, without_window, IsBalance, IsCreditOf};
+ghost use Rattle.audit_terms.specs.code.Standing.{IsMovedBy};
 
 use crate::windows::LARGEST_WINDOW;
 
@@ -26,8 +27,8 @@ pub fn has_ended(standing: u32) -> bool
 }
 
 /// How a side stands whose window is not live, by whether it has ended the stream.
-pub fn mark(is_ended: bool) -> u32
-    ensures { result ≡ mark is_ended }
+pub fn without_window(is_ended: bool) -> u32
+    ensures { result ≡ without_window is_ended }
 {
     if is_ended { ENDED } else { 0 }
 }
@@ -45,7 +46,8 @@ pub fn balance(credit: u32, rise: u32, fall: u32) -> Option<u32>
 }
 
 /// A credit as it is kept, if some is left and it is no more than the largest (RFC 9113, 6.9.1).
-// With this test written out in `moved` LLVM makes code that takes 14 % longer where each change meets many windows.
+// With this test written out in `standing_after_change` LLVM makes code that takes 14 % longer where each change meets
+// many windows.
 fn kept(credit: i64) -> Option<u32>
     ensures { ForSome result (IsCreditOf credit) }
 {
@@ -57,7 +59,7 @@ fn kept(credit: i64) -> Option<u32>
 
 /// How a side stands after a change of the initial window, if its credit is still more than 0 and no more than the
 /// largest (6.9.2).
-pub fn moved(standing: u32, before: u32, after: u32) -> Option<u32>
+pub fn standing_after_change(standing: u32, before: u32, after: u32) -> Option<u32>
     ensures { ForSome result (IsMovedBy before after standing) }
 {
     if !has_credit(standing) {

@@ -1,8 +1,10 @@
 -- What the summary of a block tells is what its items do.
 use Rattle.conn_scan.proofs.Terms.{◌≡◌, ℕ, max, ◌%◌, ℤ, pos, not, ◌∷◌, map, None, refl, ints, Side, Item, high, low}
 use Rattle.conn_scan.proofs.Terms.{neg_ℤ, least_limit, conn_sum_of, connections, high-signed, length_clear, promised_in}
-use Rattle.conn_scan.proofs.Terms.{◌+ℤ◌, nat_tests, new_limit, change_of, credit_of, longest_by, low-signed, push_clear}
-use Rattle.conn_scan.proofs.Terms.{◌-ℤ◌, Bool, true, false, ◌&&◌, ◌||◌, ◌==◌, ◌<ℤ◌, ◌≤ℤ◌, List, [], Some, arith, lesser}
+use Rattle.conn_scan.proofs.Terms.{◌+ℤ◌, nat_tests, new_limit, credit_change, credit_of, longest_by, low-signed}
+use Rattle.conn_scan.proofs.Terms.{push_clear}
+use Rattle.conn_scan.proofs.Terms.{◌-ℤ◌, Bool, true, false, ◌&&◌, ◌||◌, ◌==◌, ◌<ℤ◌, ◌≤ℤ◌, List, [], Some, arith}
+use Rattle.conn_scan.proofs.Terms.{lesser_limit}
 use Rattle.conn_scan.proofs.Terms.{nat_le, connection_after, some_early_promise, some_barred_promise, is_server_promise}
 use Rattle.conn_scan.proofs.Terms.{int_lt, int_le, Option, int_min, clamps, by_lt_z, Client, Server, push_in, is_zero}
 use Rattle.conn_scan.proofs.Terms.{if◌then◌else◌, ConnectionState, some_odd_promise, grants_something, promises_allowed}
@@ -12,7 +14,7 @@ use Rattle.std.specs.Prelude.{unwrap_or, is_none}
 use Rattle.std.proofs.Common.{inl, inr}
 use Rattle.std.proofs.lemmas.Bool.{cases_Bool}
 use Rattle.conn_scan.specs.code.Rising.{present, rising_of}
-use Rattle.conn_scan.specs.code.Ids.{opened_in, promised_by}
+use Rattle.conn_scan.specs.code.Ids.{opened_id, promised_id}
 use Rattle.conn_scan.specs.code.LatestLaws.{limit_is, push_is}
 
 -- ---- credit
@@ -73,20 +75,20 @@ id_same g x [] = grind (arith, nat_tests)
 id_same g x (y ∷ ids) = grind (arith, nat_tests)
 
 openings_same : (now : ConnectionState) (items : List Item)
-    → openings_rise now items ≡ ids_clear now.opened (rising_of (present (map opened_in items)))
+    → openings_rise now items ≡ ids_clear now.opened (rising_of (present (map opened_id items)))
 openings_same now [] = refl
 openings_same now (item ∷ items) =
     let later = openings_same (connection_after now item) items in
-    let one = id_same now.opened item.frame.stream (present (map opened_in items)) in
+    let one = id_same now.opened item.frame.stream (present (map opened_id items)) in
     grind arith
 
 promises_same : (now : ConnectionState) (items : List Item) → promises_rise now items
-    ≡ ids_clear now.promised (rising_of (present (map promised_by items))) && not (some_odd_promise items)
+    ≡ ids_clear now.promised (rising_of (present (map promised_id items))) && not (some_odd_promise items)
 promises_same now [] = refl
 promises_same now (item ∷ items) =
     let n = promised_in item.frame.body in
     rw (promises_same (connection_after now item) items)
-    (turn (is_server_promise item.frame) (n % 2 == 0) (n % 2 == 1) n now.promised (map promised_by items)
+    (turn (is_server_promise item.frame) (n % 2 == 0) (n % 2 == 1) n now.promised (map promised_id items)
     (some_odd_promise items) (grind (arith, nat_tests))) where
       turn : (p e d : Bool) (n g : ℕ) (later : List (Option ℕ)) (o : Bool) → d ≡ not e
           → not (p && (d || nat_le n g))
@@ -131,15 +133,15 @@ within_same d limit step l now (item ∷ items) =
     (turn l (limit now) (limit_in d item.change) (least_limit d items)) where
       turn : (l limit : ℕ) (m least : Option ℕ)
           → nat_le l limit && (nat_le l (unwrap_or m limit) && is_within l least)
-          ≡ nat_le l limit && is_within l (lesser m least)
+          ≡ nat_le l limit && is_within l (lesser_limit m least)
       turn l limit None least = grind arith
       turn l limit (Some v) None = grind arith
       turn l limit (Some v) (Some y) = grind (arith, nat_tests)
 
 pub clear_same : (now : ConnectionState) (items : List Item) → sum_clear now (conn_sum_of items) ≡ is_clear now items
 clear_same now items =
-    let client = credit_same (λ s. s.credit.client) (change_of Client) (λ s x. refl) now items in
-    let server = credit_same (λ s. s.credit.server) (change_of Server) (λ s x. refl) now items in
+    let client = credit_same (λ s. s.credit.client) (credit_change Client) (λ s x. refl) now items in
+    let server = credit_same (λ s. s.credit.server) (credit_change Server) (λ s x. refl) now items in
     let grants = grants_same now items in
     let openings = openings_same now items in
     let push = push_same now items in

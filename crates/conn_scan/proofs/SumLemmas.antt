@@ -3,7 +3,8 @@ use Rattle.conn_scan.proofs.Terms.{◌≡◌, ℤ, ◌-◌, ◌*◌, ◌^◌, �
 use Rattle.conn_scan.proofs.Terms.{List, ◌++◌, arith, Client, Server, roomy, Block, walked, ItemsFit, conn_one, IsRoomy}
 use Rattle.conn_scan.proofs.Terms.{length, credit_of, AreSmall, ChangesFit, conn_none, conn_join, room-wider, no_change}
 use Rattle.conn_scan.proofs.Terms.{length-append, AllByRecursion, ConnectionState, HasRoom, summary-shown, credit_shows}
-use Rattle.conn_scan.proofs.Terms.{length-map, summary_of, change_of, one_change, credit_join, MovesLittle, conn_sum_of}
+use Rattle.conn_scan.proofs.Terms.{length-map, summary_of, credit_change, one_change, credit_join, MovesLittle}
+use Rattle.conn_scan.proofs.Terms.{conn_sum_of}
 use Rattle.audit_terms.specs.Sides.{side_of}
 use Rattle.conn_scan.specs.declared.sums.ConnSum.{ConnSum}
 use Rattle.conn_scan.specs.code.ConnSumLaws.{conn_shows}
@@ -32,19 +33,19 @@ module _ (change : Item → ℤ) (small : (item : Item) → MovesLittle item →
 
 -- the changes of one side's credit fit it
 pub side_fit : (d : Side) (now : ConnectionState) (items : List Item) → ItemsFit now items
-    → ChangesFit (side_of d now.credit) (map (change_of d) items)
-side_fit Client now items f = changes_fit (change_of Client) (λ x h. h.0) _ items f.0.number f.1 f.0.client
-side_fit Server now items f = changes_fit (change_of Server) (λ x h. h.1) _ items f.0.number f.1 f.0.server
+    → ChangesFit (side_of d now.credit) (map (credit_change d) items)
+side_fit Client now items f = changes_fit (credit_change Client) (λ x h. h.0) _ items f.0.number f.1 f.0.client
+side_fit Server now items f = changes_fit (credit_change Server) (λ x h. h.1) _ items f.0.number f.1 f.0.server
 
 -- the summary of a connection's items has that of the changes of each side's credit
 pub side_summed : (d : Side) (items : List Item) (sum : ConnSum) → sum ≡ summary_of conn_none conn_one conn_join items
-    → side_of d sum.credit ≡ summary_of no_change one_change credit_join (map (change_of d) items)
+    → side_of d sum.credit ≡ summary_of no_change one_change credit_join (map (credit_change d) items)
 side_summed Client items sum e =
     ap (λ s. s.credit.client) (e ∙ summary-shown conn_shows items)
-    ∙ sym (summary-shown credit_shows (map (change_of Client) items))
+    ∙ sym (summary-shown credit_shows (map (credit_change Client) items))
 side_summed Server items sum e =
     ap (λ s. s.credit.server) (e ∙ summary-shown conn_shows items)
-    ∙ sym (summary-shown credit_shows (map (change_of Server) items))
+    ∙ sym (summary-shown credit_shows (map (credit_change Server) items))
 
 -- the sum of the first items of a block is far from what a word holds
 pub sum_roomy : (block : Block) (done rest : List Item) (sum : ConnSum)
@@ -55,6 +56,6 @@ sum_roomy block done rest sum split number little is =
     let all = length-walked block.opened.now block.changes.now block.frames.now in
     let few : length done ≤ 2 ^ 28 = omega (arith, ap length split, length-append done rest) in
     rw is (
-      (changes_roomy (change_of Client) (λ x h. h.0) done few little).sum,
-      (changes_roomy (change_of Server) (λ x h. h.1) done few little).sum,
+      (changes_roomy (credit_change Client) (λ x h. h.0) done few little).sum,
+      (changes_roomy (credit_change Server) (λ x h. h.1) done few little).sum,
     )

@@ -19,7 +19,7 @@ pub use Rattle.audit_terms.specs.code.Room.{HasRoom, HaveMovedLittle}
 pub use Rattle.audit_terms.specs.code.Watch.{IsStopped, NeverFallFrom, Watches}
 pub use Rattle.audit_terms.specs.code.runs.Blocks.{block_run, connection_after_all}
 pub use Rattle.audit_terms.specs.code.runs.Orderly.{IsInRange, IsOrderlyFrom}
-pub use Rattle.audit_terms.specs.declared.connections.ConnectionState.{ConnectionState}
+pub use Rattle.audit_terms.specs.declared.connection_state.ConnectionState.{ConnectionState}
 pub use Rattle.audit_terms.specs.declared.findings.Finding.{Finding}
 pub use Rattle.audit_terms.specs.declared.frames.Frame.{Frame}
 pub use Rattle.audit_terms.specs.declared.items.Change.{Change}
@@ -33,15 +33,16 @@ pub use Rattle.conn_scan.specs.code.Clear.{connections, grants_something, is_cle
 pub use Rattle.conn_scan.specs.code.Clear.{openings_rise, promises_allowed, promises_rise}
 pub use Rattle.conn_scan.specs.code.Cleared.{credit_clear, ids_clear, is_within, length_clear, push_clear, sum_clear}
 pub use Rattle.conn_scan.specs.code.ConnSum.{conn_join, conn_none, conn_one, conn_sum_of}
-pub use Rattle.conn_scan.specs.code.Credit.{AreSmall, ChangesFit, change_of, credit_join, credit_of, high, low}
+pub use Rattle.conn_scan.specs.code.Credit.{AreSmall, ChangesFit, credit_change, credit_join, credit_of, high, low}
 pub use Rattle.conn_scan.specs.code.Credit.{no_change, one_change}
 pub use Rattle.conn_scan.specs.code.CreditLaws.{IsRoomy, credit_shows, high-signed, low-signed, not_above, rest_fits}
 pub use Rattle.conn_scan.specs.code.CreditLaws.{roomy, summary_room}
 pub use Rattle.conn_scan.specs.code.FitLaws.{first_fit, rest_fit, room-wider}
 pub use Rattle.conn_scan.specs.code.Items.{IsBlock, change_at, is_marked, item_with, items_in, items_with}
-pub use Rattle.conn_scan.specs.code.Latest.{is_zero, latest_of, least_limit, length_by, lesser, limit_in, longest_by}
+pub use Rattle.conn_scan.specs.code.Latest.{is_zero, latest_of, least_limit, length_by, lesser_limit, limit_in}
+pub use Rattle.conn_scan.specs.code.Latest.{longest_by}
 pub use Rattle.conn_scan.specs.code.Latest.{push_in, some_barred_promise, some_early_promise, some_odd_promise}
 pub use Rattle.conn_scan.specs.code.Latest.{some_zero_grant}
-pub use Rattle.conn_scan.specs.code.Walk.{ChangesStartFrom, StartFrom, changes_from, first_change, is_first}
-pub use Rattle.conn_scan.specs.code.Walk.{numbers_from, walked}
+pub use Rattle.conn_scan.specs.code.Walk.{ChangesStartFrom, StartFrom, changes_not_below, first_change, is_first}
+pub use Rattle.conn_scan.specs.code.Walk.{numbers_not_below, walked}
 pub use Rattle.conn_scan.specs.declared.block_items.Block.{Block}

@@ -1,7 +1,8 @@
 -- The forward walk gives the items of the definition.
 use Rattle.conn_scan.proofs.Terms.{Block, items_in, IsBlock, ◌≡◌, ℕ, suc, ◌+◌, ◌<◌, ◌≤◌, ◌==◌, false, List, [], ◌∷◌}
 use Rattle.conn_scan.proofs.Terms.{length, None, refl, ap, arith, list_any, find, nat_tests, Frame, Change, Item}
-use Rattle.conn_scan.proofs.Terms.{IsOrderlyFrom, items_with, NeverFallFrom, numbers_from, changes_from, is_first}
+use Rattle.conn_scan.proofs.Terms.{IsOrderlyFrom, items_with, NeverFallFrom, numbers_not_below, changes_not_below}
+use Rattle.conn_scan.proofs.Terms.{is_first}
 use Rattle.conn_scan.proofs.Terms.{first_change, walked, StartFrom, ChangesStartFrom}
 use Rattle.audit_terms.specs.code.runs.Changes.{AreOrderlyFrom}
 
@@ -15,23 +16,23 @@ any_below low number (n ∷ numbers) lt h =
     let later = any_below n number numbers (omega (arith, h.0)) h.1 in grind (arith, nat_tests)
 
 any_from : (low number : ℕ) (numbers : List ℕ) → low ≤ number
-    → list_any (λ n. n == number) numbers ≡ list_any (λ n. n == number) (numbers_from low numbers)
+    → list_any (λ n. n == number) numbers ≡ list_any (λ n. n == number) (numbers_not_below low numbers)
 any_from low number [] le = refl
 any_from low number (n ∷ numbers) le = grind (arith, nat_tests, any_from low number numbers le)
 
 -- a number is there where it is the first of those that are not below it
 any_first : (low number : ℕ) (numbers : List ℕ) → NeverFallFrom low numbers
-    → list_any (λ n. n == number) numbers ≡ is_first number (numbers_from number numbers)
+    → list_any (λ n. n == number) numbers ≡ is_first number (numbers_not_below number numbers)
 any_first low number [] h = refl
 any_first low number (n ∷ numbers) h =
     let later = λ (lt : number < n). any_below n number numbers lt h.1 in
     grind (arith, nat_tests, any_first n number numbers h.1)
 
-pub numbers_from-rise : (base start low : ℕ) (numbers : List ℕ) → base ≤ low → NeverFallFrom start numbers
-    → NeverFallFrom base (numbers_from low numbers)
-numbers_from-rise base start low [] le h = tt
-numbers_from-rise base start low (n ∷ numbers) le h =
-    let later = numbers_from-rise base n low numbers le h.1 in grind (arith, nat_tests)
+pub numbers_not_below-rise : (base start low : ℕ) (numbers : List ℕ) → base ≤ low → NeverFallFrom start numbers
+    → NeverFallFrom base (numbers_not_below low numbers)
+numbers_not_below-rise base start low [] le h = tt
+numbers_not_below-rise base start low (n ∷ numbers) le h =
+    let later = numbers_not_below-rise base n low numbers le h.1 in grind (arith, nat_tests)
 
 -- ---- changes
 
@@ -43,29 +44,31 @@ find_below low number (c ∷ changes) lt h =
 
 find_from : (low number : ℕ) (changes : List Change) → low ≤ number
     → find (λ (change : Change). change.number == number) changes
-    ≡ find (λ (change : Change). change.number == number) (changes_from low changes)
+    ≡ find (λ (change : Change). change.number == number) (changes_not_below low changes)
 find_from low number [] le = refl
 find_from low number (c ∷ changes) le = grind (arith, nat_tests, find_from low number changes le)
 
 find_first : (low number : ℕ) (changes : List Change) → AreOrderlyFrom low changes
-    → find (λ (change : Change). change.number == number) changes ≡ first_change number (changes_from number changes)
+    → find (λ (change : Change). change.number == number) changes
+    ≡ first_change number (changes_not_below number changes)
 find_first low number [] h = refl
 find_first low number (c ∷ changes) h =
     let later = find_below (c.number + 1) number changes in
     grind (arith, nat_tests, find_first (c.number + 1) number changes h.2)
 
-pub changes_from-orderly : (base start low : ℕ) (changes : List Change) → base ≤ low → AreOrderlyFrom start changes
-    → AreOrderlyFrom base (changes_from low changes)
-changes_from-orderly base start low [] le h = tt
-changes_from-orderly base start low (c ∷ changes) le h =
-    let later = changes_from-orderly base (c.number + 1) low changes le h.2 in grind (arith, nat_tests)
+pub changes_not_below-orderly : (base start low : ℕ) (changes : List Change) → base ≤ low → AreOrderlyFrom start changes
+    → AreOrderlyFrom base (changes_not_below low changes)
+changes_not_below-orderly base start low [] le h = tt
+changes_not_below-orderly base start low (c ∷ changes) le h =
+    let later = changes_not_below-orderly base (c.number + 1) low changes le h.2 in grind (arith, nat_tests)
 
 -- ---- items
 
 -- what stands below all frames may be left out
 pub items_with-from : (low base : ℕ) (opened : List ℕ) (changes : List Change) (frames : List Frame) → low ≤ base
     → IsOrderlyFrom base frames
-    → items_with opened changes frames ≡ items_with (numbers_from low opened) (changes_from low changes) frames
+    → items_with opened changes frames
+    ≡ items_with (numbers_not_below low opened) (changes_not_below low changes) frames
 items_with-from low base opened changes [] le h = refl
 items_with-from low base opened changes (frame ∷ frames) le h =
     let mark = any_from low frame.number opened (omega (arith, h.0)) in
@@ -77,7 +80,7 @@ pub length-walked : (opened : List ℕ) (changes : List Change) (frames : List F
     → length (walked opened changes frames) ≡ length frames
 length-walked opened changes [] = refl
 length-walked opened changes (frame ∷ frames) =
-    ap suc (length-walked (numbers_from frame.number opened) (changes_from frame.number changes) frames)
+    ap suc (length-walked (numbers_not_below frame.number opened) (changes_not_below frame.number changes) frames)
 
 -- ---- frames that stand beside no opening and no change
 
@@ -86,12 +89,12 @@ abbrev pub idle_at : Frame → Item
 idle_at frame = record { frame = frame; opens = false; change = None }
 
 numbers-before : (number due : ℕ) (numbers : List ℕ) → number < due → StartFrom due numbers
-    → (numbers_from number numbers ≡ numbers) × (is_first number numbers ≡ false)
+    → (numbers_not_below number numbers ≡ numbers) × (is_first number numbers ≡ false)
 numbers-before number due [] lt h = (refl, refl)
 numbers-before number due (n ∷ numbers) lt h = grind (arith, nat_tests)
 
 changes-before : (number due : ℕ) (changes : List Change) → number < due → ChangesStartFrom due changes
-    → (changes_from number changes ≡ changes) × (first_change number changes ≡ None)
+    → (changes_not_below number changes ≡ changes) × (first_change number changes ≡ None)
 changes-before number due [] lt h = (refl, refl)
 changes-before number due (c ∷ changes) lt h = grind (arith, nat_tests)
 
@@ -106,18 +109,18 @@ walked-idle due opened changes frame frames lt o c =
 -- ---- what stands below all frames may be left out
 
 numbers-again : (low number : ℕ) (numbers : List ℕ) → low ≤ number
-    → numbers_from number numbers ≡ numbers_from number (numbers_from low numbers)
+    → numbers_not_below number numbers ≡ numbers_not_below number (numbers_not_below low numbers)
 numbers-again low number [] le = refl
 numbers-again low number (n ∷ numbers) le = grind (arith, nat_tests, numbers-again low number numbers le)
 
 changes-again : (low number : ℕ) (changes : List Change) → low ≤ number
-    → changes_from number changes ≡ changes_from number (changes_from low changes)
+    → changes_not_below number changes ≡ changes_not_below number (changes_not_below low changes)
 changes-again low number [] le = refl
 changes-again low number (c ∷ changes) le = grind (arith, nat_tests, changes-again low number changes le)
 
 pub walked-from : (low base : ℕ) (opened : List ℕ) (changes : List Change) (frames : List Frame) → low ≤ base
     → IsOrderlyFrom base frames
-    → walked opened changes frames ≡ walked (numbers_from low opened) (changes_from low changes) frames
+    → walked opened changes frames ≡ walked (numbers_not_below low opened) (changes_not_below low changes) frames
 walked-from low base opened changes [] le h = refl
 walked-from low base opened changes (frame ∷ frames) le h =
     let within : low ≤ frame.number = omega (arith, h.0) in

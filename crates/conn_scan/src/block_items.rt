@@ -1,7 +1,8 @@
 ghost use Rattle.std.specs.Prelude.{◌≡◌};
 ghost use Rattle.std.specs.Iterator.{YieldsFirst, item_count};
 ghost use Rattle.conn_scan.specs.code.Items.{items_in, IsBlock};
-ghost use Rattle.conn_scan.specs.code.Walk.{numbers_from, changes_from, is_first, first_change, item_at, walked};
+ghost use Rattle.conn_scan.specs.code.Walk.{numbers_not_below, changes_not_below, is_first, first_change, item_at};
+ghost use Rattle.conn_scan.specs.code.Walk.{walked};
 ghost use Rattle.conn_scan.specs.code.Walk.{StartFrom, ChangesStartFrom};
 
 use audit_terms::{Change, Frame, Item};
@@ -51,8 +52,8 @@ impl Iterator for Walk<'_> {
             None => None,
             Some((frame, frames)) => {
                 self.frames = frames;
-                self.opened = numbers_from(self.opened, frame.number);
-                self.changes = changes_from(self.changes, frame.number);
+                self.opened = numbers_not_below(self.opened, frame.number);
+                self.changes = changes_not_below(self.changes, frame.number);
                 Some(item_at(frame, self.opened, self.changes))
             }
         }
@@ -60,8 +61,8 @@ impl Iterator for Walk<'_> {
 }
 
 /// The numbers from the first that is not below a number.
-pub fn numbers_from(numbers: &[u32], low: u32) -> &[u32]
-    ensures { result.now ≡ numbers_from low numbers.now }
+pub fn numbers_not_below(numbers: &[u32], low: u32) -> &[u32]
+    ensures { result.now ≡ numbers_not_below low numbers.now }
 {
     let mut rest = numbers;
     while let Some((first, later)) = rest.split_first() {
@@ -74,8 +75,8 @@ pub fn numbers_from(numbers: &[u32], low: u32) -> &[u32]
 }
 
 /// The changes from the first whose number is not below a number.
-pub fn changes_from(changes: &[Change], low: u32) -> &[Change]
-    ensures { result.now ≡ changes_from low changes.now }
+pub fn changes_not_below(changes: &[Change], low: u32) -> &[Change]
+    ensures { result.now ≡ changes_not_below low changes.now }
 {
     let mut rest = changes;
     while let Some((first, later)) = rest.split_first() {

@@ -22,7 +22,7 @@ pub fn clear(before: &ConnectionState, sum: &ConnSum) -> bool
     is_sum_clear(before, sum)
 }
 
-/// The same, from the numbers of the summary.
+/// Do the numbers of a summary tell that its block shows nothing but connection credit?
 fn is_sum_clear(before: &ConnectionState, sum: &ConnSum) -> bool
     ensures { result ≡ sum_clear before.now sum.now }
 {

@@ -1,5 +1,5 @@
 ghost use Rattle.std.specs.Prelude.{◌≡◌, Some};
-ghost use Rattle.conn_scan.specs.code.Latest.{is_zero, newer, lesser, no_item, latest_join};
+ghost use Rattle.conn_scan.specs.code.Latest.{is_zero, newer, lesser_limit, no_item, latest_join};
 ghost use Rattle.conn_scan.specs.code.Latest.{latest_promised, latest_changed};
 
 use audit_terms::{Change, Side, Sides};
@@ -47,8 +47,8 @@ fn newer(before: Option<u32>, later: Option<u32>) -> Option<u32>
 }
 
 /// The lesser of two values that may be there.
-fn lesser(a: Option<u32>, b: Option<u32>) -> Option<u32>
-    ensures { result ≡ lesser a b }
+fn lesser_limit(a: Option<u32>, b: Option<u32>) -> Option<u32>
+    ensures { result ≡ lesser_limit a b }
 {
     match (a, b) {
         (Some(a), Some(b)) => Some(a.min(b)),
@@ -63,18 +63,9 @@ impl Latest {
         ensures { result ≡ no_item }
     {
         Latest {
-            limit: Sides {
-                client: None,
-                server: None,
-            },
-            least: Sides {
-                client: None,
-                server: None,
-            },
-            longest: Sides {
-                client: 0,
-                server: 0,
-            },
+            limit: Sides::both(None),
+            least: Sides::both(None),
+            longest: Sides::both(0),
             push: None,
             zero_grant: false,
             odd_promise: false,
@@ -105,16 +96,12 @@ impl Latest {
     fn change(&mut self, change: &Change)
         ensures { self.new ≡ latest_changed self.old (Some change.now) }
     {
-        match change.side {
-            Side::Client => {
-                self.limit.client = newer(self.limit.client, change.max_frame);
-                self.least.client = lesser(self.least.client, change.max_frame);
-            }
-            Side::Server => {
-                self.limit.server = newer(self.limit.server, change.max_frame);
-                self.least.server = lesser(self.least.server, change.max_frame);
-                self.push = newer(self.push, change.push);
-            }
+        let limit = self.limit.of_mut(change.side);
+        *limit = newer(*limit, change.max_frame);
+        let least = self.least.of_mut(change.side);
+        *least = lesser_limit(*least, change.max_frame);
+        if change.side == Side::Server {
+            self.push = newer(self.push, change.push);
         }
     }
 
@@ -128,8 +115,8 @@ impl Latest {
                 server: newer(self.limit.server, later.limit.server),
             },
             least: Sides {
-                client: lesser(self.least.client, later.least.client),
-                server: lesser(self.least.server, later.least.server),
+                client: lesser_limit(self.least.client, later.least.client),
+                server: lesser_limit(self.least.server, later.least.server),
             },
             longest: Sides {
                 client: self.longest.client.max(later.longest.client),

@@ -6,7 +6,7 @@
 //!   lengths of their frames.
 //! - [`Block`] is a range of frames with the numbers of those that open streams and the changes of settings: its items
 //!   are walked one by one, and no list of them is made. A number counts as an opening on HEADERS alone, and numbers of
-//!   no frame are passed over. [`numbers_from`] and [`changes_from`] are what a later block needs of both.
+//!   no frame are passed over. [`numbers_not_below`] and [`changes_not_below`] are what a later block needs of both.
 //! - [`ConnSum`] is all of these, a lawful summary of `block_scan` whose steps are those of the connection, and
 //!   [`block_sum`] that of a block. It takes each item in place, and none is made of an item alone to be joined: most
 //!   frames move a credit or nothing.
@@ -26,7 +26,7 @@
 #![tactic(auto)]
 
 mod block_items;
-mod blocks;
+mod block_runs;
 mod cleared;
 mod credits;
 mod ids;
@@ -36,8 +36,8 @@ mod rising;
 mod sums;
 pub mod worked_examples;
 
-pub use block_items::{Block, changes_from, numbers_from};
-pub use blocks::{BlockRun, block_findings};
+pub use block_items::{Block, changes_not_below, numbers_not_below};
+pub use block_runs::{BlockRun, block_findings};
 pub use cleared::clear;
 pub use credits::Credit;
 pub use latest::Latest;

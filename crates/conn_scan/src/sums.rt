@@ -10,9 +10,9 @@ ghost use Rattle.conn_scan.specs.code.Credit.{spent_by, granted_by, credit_met};
 ghost use Rattle.conn_scan.specs.code.ConnSum.{conn_sum_of, conn_met, conn_counted};
 ghost use Rattle.conn_scan.specs.code.ConnSum.{conn_promised};
 
-use crate::block_items::{Block, changes_from, first_number, item_at, numbers_from};
+use crate::block_items::{Block, changes_not_below, first_number, item_at, numbers_not_below};
 use crate::credits::Credit;
-use crate::ids::{opened_in, promise_of};
+use crate::ids::{opened_id, promise_of};
 use crate::latest::Latest;
 use crate::rising::Rising;
 use audit_terms::{ConnectionState, Frame, Item, Side, Sides};
@@ -60,7 +60,7 @@ impl ConnSum {
     {
         self.count(&item.frame);
         self.see_promise(&item.frame);
-        self.opened.meet(opened_in(item));
+        self.opened.meet(opened_id(item));
         self.latest.meet_change(&item.change);
     }
 
@@ -124,10 +124,7 @@ impl Summary for ConnSum {
 
     fn empty() -> Self {
         ConnSum {
-            credit: Sides {
-                client: Credit::empty(),
-                server: Credit::empty(),
-            },
+            credit: Sides::both(Credit::empty()),
             opened: Rising::empty(),
             promised: Rising::empty(),
             latest: Latest::empty(),
@@ -190,11 +187,11 @@ pub fn block_sum(block: &Block) -> ConnSum
             sum.count(frame);
             sum.see_promise(frame);
         } else {
-            opened = numbers_from(opened, frame.number);
-            changes = changes_from(changes, frame.number);
+            opened = numbers_not_below(opened, frame.number);
+            changes = changes_not_below(changes, frame.number);
             sum.meet(&item_at(frame, opened, changes));
-            opened = numbers_from(opened, frame.number + 1);
-            changes = changes_from(changes, frame.number + 1);
+            opened = numbers_not_below(opened, frame.number + 1);
+            changes = changes_not_below(changes, frame.number + 1);
             due = first_number(opened, changes);
         }
         frames = later;

@@ -5,11 +5,11 @@ use Rattle.std.specs.Bool.{OnTrue}
 use Rattle.audit_terms.specs.Connection.{connection_after, connection_said}
 use Rattle.audit_terms.specs.Finding.{say_of}
 use Rattle.audit_terms.specs.Stream.{frame_said, life_at, opens}
-use Rattle.audit_terms.specs.declared.connections.ConnectionState.{ConnectionState}
+use Rattle.audit_terms.specs.declared.connection_state.ConnectionState.{ConnectionState}
 use Rattle.audit_terms.specs.declared.frames.Frame.{Frame}
 use Rattle.audit_terms.specs.declared.items.Item.{Item}
 use Rattle.audit_terms.specs.declared.items.Step.{Step}
-use Rattle.audit_terms.specs.declared.streams.Stream.{Stream}
+use Rattle.audit_terms.specs.declared.stream_state.Stream.{Stream}
 use Rattle.fault_rules.specs.code.Plain.{IsPlainItem, IsPlainStep, MovesAlone, plain_after, plain_said}
 
 and-false : (b : Bool) → (b && false) ≡ false

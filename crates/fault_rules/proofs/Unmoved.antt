@@ -7,7 +7,7 @@ use Rattle.audit_terms.specs.declared.frames.Frame.{Frame}
 use Rattle.audit_terms.specs.declared.items.Step.{Step}
 use Rattle.audit_terms.specs.declared.sides.Side.{Side}
 use Rattle.audit_terms.specs.declared.sides.Sides.{Sides}
-use Rattle.fault_rules.specs.code.StreamSteps.{counted}
+use Rattle.fault_rules.specs.code.StreamSteps.{credit_after_step}
 use Rattle.fault_rules.specs.code.Unmoved.{LeavesConnection, LeavesWindow}
 
 -- the connection window
@@ -23,7 +23,7 @@ says_nothing d before frame leaves =
 -- a window of a stream
 module _ (d : Side) (stream : ℕ) (initial : Sides ℕ) (step : Step) (before : ℤ) (leaves : LeavesWindow d stream step)
   where
-    counted_stays : counted d stream initial step before ≡ before
+    counted_stays : credit_after_step d stream initial step before ≡ before
     counted_stays = rw leaves.change (omega (arith, ints, leaves.grant, leaves.content))
 
     pub window_stays : window_after d stream initial step (Some before) ≡ Some before

@@ -23,16 +23,16 @@
 //! - Trusted: the port of `rayon`, which starts the threads; that several work at once is not proved.
 #![tactic(auto)]
 
-mod connections;
+mod connection_rules;
 mod frame_faults;
 mod previous;
 mod shares;
 mod spots;
-mod streams;
-mod windows;
+mod stream_rules;
+mod window_rules;
 
-pub use connections::say_connection;
+pub use connection_rules::say_connection;
 pub use frame_faults::say_local;
 pub use previous::keep_last;
 pub use shares::local_faults;
-pub use streams::say_stream;
+pub use stream_rules::say_stream;

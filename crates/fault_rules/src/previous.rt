@@ -11,10 +11,7 @@ use audit_terms::{Frame, Side, Sides};
 pub fn keep_last(previous: &mut Sides<Option<Frame>>, frame: &Frame)
     ensures { previous.new ≡ previous_after previous.old frame.now }
 {
-    match frame.side {
-        Side::Client => previous.client = Some(*frame),
-        Side::Server => previous.server = Some(*frame),
-    }
+    *previous.of_mut(frame.side) = Some(*frame);
 }
 
 /// Did a side send the frame?

@@ -4,7 +4,7 @@ ghost use Rattle.std.specs.Prelude.{◌≡◌, ◌*◌, ◌<◌, ◌++◌, lengt
 ghost use Rattle.std.specs.Fork.{slice_chunk};
 ghost use Rattle.audit_terms.specs.code.runs.Orderly.{IsInRange, IsOrderly};
 ghost use Rattle.audit_terms.specs.Finding.{in_order};
-ghost use Rattle.audit_terms.specs.LocalFault.{local_said, no_previous};
+ghost use Rattle.audit_terms.specs.LocalFault.{local_said};
 ghost use Rattle.audit_terms.specs.code.runs.LocalFaults.{local_run_from, local_run};
 ghost use Rattle.fault_rules.specs.code.Shares.{share_run, AreBefores};
 
@@ -15,7 +15,7 @@ use rayon::prelude::*;
 use std::alloc::{AllocError, Global};
 use std::thread::Threads;
 
-/// How many frames make a share at least.
+/// How many frames make a share at least, 160 KiB of them: it bounds what the start of a thread costs a frame.
 const SHARE_FRAMES: usize = 4096;
 
 /// The local faults of a connection's frames, in order, each frame's in order of rank: a side that does not begin with
@@ -33,7 +33,7 @@ pub fn local_faults(
 {
     let size = frames.len().div_ceil(workers).max(SHARE_FRAMES);
     if frames.len() <= size {
-        return faults_after(alloc, none_before(), frames);
+        return faults_after(alloc, Sides::both(None), frames);
     }
     let befores = befores(alloc, size, frames)?;
     faults_in_shares(rt, alloc, size, frames, befores.as_slice())
@@ -65,16 +65,6 @@ fn faults_in_shares(
     joined(alloc, shares.as_slice())
 }
 
-/// No frame of either side.
-fn none_before() -> Sides<Option<Frame>>
-    ensures { result ≡ no_previous }
-{
-    Sides {
-        client: None,
-        server: None,
-    }
-}
-
 /// The last frame of each side before each share.
 fn befores(
     alloc: Global,
@@ -85,7 +75,7 @@ fn befores(
     ensures { IfOk result (λ befores. AreBefores size frames.now befores.items) }
 {
     let mut befores = Vec::new(alloc);
-    let mut previous = none_before();
+    let mut previous = Sides::both(None);
     for n in 0..frames.len().div_ceil(size) {
         befores.push(previous)?;
         previous = previous_after_all(&previous, share(size, frames, n));

@@ -11,17 +11,17 @@ use Rattle.audit_terms.specs.declared.items.Item.{Item}
 use Rattle.audit_terms.specs.Life.{is_opening}
 use Rattle.audit_terms.specs.LocalFault.{local_said}
 use Rattle.audit_terms.specs.Pass.{PassState, pass_start, step_of, opens_stream, next, streams_said, said, full_from}
-use Rattle.audit_terms.specs.Pass.{first_of, streams_of, pass, item_of as item_in}
+use Rattle.audit_terms.specs.Pass.{first_of, streams_of, pass, item_of}
 use Rattle.audit_terms.specs.code.runs.States.{state_from, state_after}
 use Rattle.stream_credit.proofs.QuietSteps.{both, unsaid, none-shown}
 use Rattle.audit_terms.specs.declared.last_frames.LastFrame.{LastFrame}
-use Rattle.settings_pair.specs.declared.pending.Pending.{Pending}
+use Rattle.settings_pair.specs.declared.pending_settings.Pending.{Pending}
 use Rattle.quiet_pass.specs.declared.passes.QuietPass.{QuietPass}
-use Rattle.quiet_pass.specs.declared.streams.Streams.{Streams}
+use Rattle.quiet_pass.specs.declared.kept_streams.Streams.{Streams}
 use Rattle.stream_credit.specs.code.Standings.{IsQuiet, AreQuiet}
 use Rattle.audit_terms.specs.code.LastFrame.{last_of}
 use Rattle.settings_pair.specs.code.Pending.{IsPending, IsBrought}
-use Rattle.quiet_pass.specs.code.Connection.{connection_of, item_of, IsConnectionAfter}
+use Rattle.quiet_pass.specs.code.Connection.{connection_of, as_item, IsConnectionAfter}
 use Rattle.quiet_pass.specs.code.Streams.{AreStreams, AreMet, AreMetOn}
 use Rattle.quiet_pass.specs.code.QuietPass.{StandsFor, AreNamed, BringsNothing, IsBroughtInto, IsRestMet, IsQuietStep}
 use Rattle.quiet_pass.specs.code.QuietPass.{IsQuietAfter}
@@ -126,7 +126,7 @@ module _ (frame : Frame) (old mid : QuietPass) (state : PassState) (stands : Sta
   all : AreMet state.in_force.initial frame (change_of state.in_force frame) state.streams mid.streams
   all = rw (own.brings, ← stands.initial) (rest.streams state.streams stands.streams)
 
-  item : item_of frame rest.opens rest.change ≡ item_in state frame
+  item : as_item frame rest.opens rest.change ≡ item_of state frame
   item = rw (opens-is, rest.opening state.streams stands.streams, own.brings) refl
 
   settings-quiet : AreQuiet (settings_said state.in_force frame)
@@ -134,9 +134,9 @@ module _ (frame : Frame) (old mid : QuietPass) (state : PassState) (stands : Sta
       unsaid _ _ (ap (λ b. is_ack frame.body && b) (sym (none-taken frame (taken state.in_force frame)))
       ∙ ap (λ (c : Option Change). is_ack frame.body && is_none c) own.brings ∙ rest.answered)
 
-  connection-quiet : AreQuiet (connection_said state.connection (item_in state frame))
+  connection-quiet : AreQuiet (connection_said state.connection (item_of state frame))
   connection-quiet =
-      subst (λ (now : ConnectionState). AreQuiet (connection_said now (item_in state frame))) stands.connection
+      subst (λ (now : ConnectionState). AreQuiet (connection_said now (item_of state frame))) stands.connection
       (subst (λ (item : Item). AreQuiet (connection_said (connection_of old.connection) item)) item
       rest.connection.said)
 
@@ -163,7 +163,7 @@ module _ (frame : Frame) (old mid : QuietPass) (state : PassState) (stands : Sta
           ∙ ap (initial_after (change_of state.in_force frame)) stands.initial;
       connection = rest.connection.after
           ∙ ap (λ (item : Item). connection_after (connection_of old.connection) item) item
-          ∙ ap (λ (now : ConnectionState). connection_after now (item_in state frame)) stands.connection;
+          ∙ ap (λ (now : ConnectionState). connection_after now (item_of state frame)) stands.connection;
       streams = all.after;
     };
   }

@@ -2,9 +2,9 @@
 use Rattle.stream_credit.proofs.Words.{nat_tests, Sides, Frame, idle_stream}
 use Rattle.std.proofs.Common.{◌≡◌, ◌≢◌, ℕ, zero, suc, ◌-◌, ◌<◌, List, [], ◌∷◌, ◌++◌, length, get_or, slice_get}
 use Rattle.std.proofs.Common.{slice_set, Some, true, false, refl, arith}
-use Rattle.quiet_pass.specs.declared.rows.Row.{Row}
+use Rattle.quiet_pass.specs.declared.opened_rows.Row.{Row}
 use Rattle.stream_credit.specs.code.Standings.{stream_of}
-use Rattle.quiet_pass.specs.code.Rows.{entry_in, AreRisingFrom, AreRising, IsPast, IsRowOf, IsRowAfter}
+use Rattle.quiet_pass.specs.code.Rows.{entry_in, AreRisingFrom, AreRising, IsAboveAll, IsRowOf, IsRowAfter}
 use Rattle.quiet_pass.specs.code.Rows.{IsOpened, IsMetOn, IsRowMoved, AreMoved}
 
 -- ---- the row of a stream
@@ -62,11 +62,11 @@ row-met rows at frame next of after rising initial =
 
 -- ---- a row added
 
-past-idle : (rows : List Row) (stream : ℕ) → IsPast rows stream → entry_in rows stream ≡ idle_stream
+past-idle : (rows : List Row) (stream : ℕ) → IsAboveAll rows stream → entry_in rows stream ≡ idle_stream
 past-idle [] stream h = refl
 past-idle (row ∷ rows) stream h = grind (arith, nat_tests, past-idle rows stream h.1)
 
-push-own : (rows : List Row) (row : Row) (stream : ℕ) → IsPast rows stream → row.stream ≡ stream
+push-own : (rows : List Row) (row : Row) (stream : ℕ) → IsAboveAll rows stream → row.stream ≡ stream
     → entry_in (rows ++ row ∷ []) stream ≡ stream_of row.standings
 push-own [] row stream h e = grind (arith, nat_tests)
 push-own (one ∷ rows) row stream h e = grind (arith, nat_tests, push-own rows row stream h.1 e)
@@ -76,17 +76,18 @@ push-others : (rows : List Row) (row : Row) (other : ℕ) → other ≢ row.stre
 push-others [] row other h = grind (arith, nat_tests)
 push-others (one ∷ rows) row other h = rw (push-others rows row other h) refl
 
-push-rising : (low : ℕ) (rows : List Row) (row : Row) → AreRisingFrom low rows → IsPast rows row.stream
+push-rising : (low : ℕ) (rows : List Row) (row : Row) → AreRisingFrom low rows → IsAboveAll rows row.stream
     → low < row.stream → AreRisingFrom low (rows ++ row ∷ [])
 push-rising low [] row h p below = (below, tt)
 push-rising low (one ∷ rows) row h p below = (h.0, push-rising one.stream rows row h.1 p.1 p.0)
 
-past-above : (rows : List Row) (stream : ℕ) → IsPast rows stream → 0 < stream
+past-above : (rows : List Row) (stream : ℕ) → IsAboveAll rows stream → 0 < stream
 past-above [] stream h = h
 past-above (row ∷ rows) stream h = omega (arith, h.0)
 
-pub row-opened : (rows : List Row) (stream : ℕ) (initial : Sides ℕ) (frame : Frame) (row : Row) → IsPast rows stream →
-    IsOpened stream initial frame row → AreRising rows → IsMetOn stream initial frame true rows (rows ++ row ∷ [])
+pub row-opened : (rows : List Row) (stream : ℕ) (initial : Sides ℕ) (frame : Frame) (row : Row)
+    → IsAboveAll rows stream → IsOpened stream initial frame row → AreRising rows
+    → IsMetOn stream initial frame true rows (rows ++ row ∷ [])
 row-opened rows stream initial frame row past opened rising =
     let old = past-idle rows stream past in record {
       opening = rw old opened.by.opening;
@@ -98,7 +99,7 @@ row-opened rows stream initial frame row past opened rising =
 
 -- a stream past the last row of rows that rise
 pub past-last : (low : ℕ) (rows : List Row) (row : Row) (stream : ℕ) → slice_get rows (length rows - 1) ≡ Some row
-    → row.stream < stream → AreRisingFrom low rows → IsPast rows stream
+    → row.stream < stream → AreRisingFrom low rows → IsAboveAll rows stream
 past-last low [] row stream e below h = cc
 past-last low (one ∷ []) row stream e below h = grind arith
 past-last low (one ∷ two ∷ rows) row stream e below h =

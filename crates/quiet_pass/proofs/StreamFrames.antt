@@ -8,7 +8,7 @@ use Rattle.audit_terms.specs.Frame.{is_content, is_headers, is_update, needs_ope
 use Rattle.audit_terms.specs.Life.{is_opening}
 use Rattle.stream_credit.proofs.QuietSteps.{frame-quiet, IsQuietAt, quiet-same, stream-quiet, stream-moved}
 use Rattle.stream_credit.proofs.StandingLemmas.{promises-other, unlast}
-use Rattle.quiet_pass.specs.declared.rows.Row.{Row}
+use Rattle.quiet_pass.specs.declared.opened_rows.Row.{Row}
 use Rattle.quiet_pass.specs.code.Rows.{entry_in, AreRising, IsMetOn}
 
 -- what a frame opens, where nothing is shown of it

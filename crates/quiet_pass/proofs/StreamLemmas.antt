@@ -1,23 +1,24 @@
 -- All streams after a frame, and after a change of the initial windows in force (RFC 9113, 6.9.2), of which nothing is
 -- shown.
 use Rattle.stream_credit.proofs.Words.{◌≡◌, ℕ, ℤ, ◌<◌, true, List, ◌∷◌, Some, None, refl, sym, ◌∙◌, inl, inr, ints}
-use Rattle.stream_credit.proofs.Words.{◌==◌, Bool, false, ap, subst, arith, ne_eqb, Sides, Frame, Change, Stream, moved}
+use Rattle.stream_credit.proofs.Words.{◌==◌, Bool, false, ap, subst, arith, ne_eqb, Sides, Frame, Change, Stream}
+use Rattle.stream_credit.proofs.Words.{credit_after_change}
 use Rattle.stream_credit.proofs.Words.{int_lt, option_map, and-false, cases_Bool, same_Some, StreamLife, initial_after}
 use Rattle.stream_credit.proofs.Words.{[], Option, or-false, cases_eq}
 use Rattle.stream_credit.proofs.Words.{eq-eqb, IsQuietMove, window_of, and-true, IsMovedBy}
 use Rattle.std.proofs.Common.{◌%◌, ap₂}
 use Rattle.audit_terms.specs.Frame.{is_server_promise, promised_in, meets}
 use Rattle.stream_credit.proofs.QuietSteps.{change_alone, quiet-changes, stream-quiet, stream-moved}
-use Rattle.quiet_pass.specs.declared.rows.Row.{Row}
-use Rattle.quiet_pass.specs.declared.streams.Streams.{Streams}
+use Rattle.quiet_pass.specs.declared.opened_rows.Row.{Row}
+use Rattle.quiet_pass.specs.declared.kept_streams.Streams.{Streams}
 use Rattle.quiet_pass.specs.code.Rows.{entry_in, AreRisingFrom, AreRising, IsMetOn, AreMoved}
-use Rattle.quiet_pass.specs.code.Streams.{AreStreams, step_at, IsStep, AreMet, AreMetOn, AreAllMoved, IsEntryMoved}
+use Rattle.quiet_pass.specs.code.Streams.{AreStreams, as_step, IsStep, AreMet, AreMetOn, AreAllMoved, IsEntryMoved}
 
 -- ---- a stream that the frame does not meet
 
 step-moved : (s : ℕ) (initial after : Sides ℕ) (frame : Frame) (change : Option Change) (entry next : Stream)
     → IsEntryMoved initial after entry next → after ≡ initial_after change initial → meets s frame ≡ false
-    → IsStep s initial (step_at frame change s) entry next
+    → IsStep s initial (as_step frame change s) entry next
 step-moved s initial after frame change entry next m is unmet =
     let step = change_alone frame.number change in
     let quiet = quiet-changes s initial frame.number change after entry.window next.window is m.client m.server
@@ -29,7 +30,7 @@ step-moved s initial after frame change entry next m is unmet =
     })
 
 -- windows that stay where the initial window does
-window-stays : (i : ℕ) (window : Option ℤ) → window ≡ option_map (moved i i) window
+window-stays : (i : ℕ) (window : Option ℤ) → window ≡ option_map (credit_after_change i i) window
 window-stays i None = refl
 window-stays i (Some credit) = ap Some (omega (arith, ints))
 
@@ -40,7 +41,7 @@ window-quiet window credit e next f =
     rw (← same) (refl, rw level refl)
 
 step-unmet : (s : ℕ) (initial : Sides ℕ) (frame : Frame) (rows : List Row) (entry : Stream) → meets s frame ≡ false
-    → entry ≡ entry_in rows s → IsStep s initial (step_at frame None s) entry (entry_in rows s)
+    → entry ≡ entry_in rows s → IsStep s initial (as_step frame None s) entry (entry_in rows s)
 step-unmet s initial frame rows entry m is =
     rw (← is) (step-moved s initial initial frame None entry entry (record {
       life = refl;
@@ -54,13 +55,13 @@ step-unmet s initial frame rows entry m is =
 
 step-met : (stream : ℕ) (initial : Sides ℕ) (frame : Frame) (opens : Bool) (old new : List Row)
     → IsMetOn stream initial frame opens old new → (s : ℕ) (entry : Stream) → entry ≡ entry_in old s
-    → meets s frame ≡ (stream == s) → IsStep s initial (step_at frame None s) entry (entry_in new s)
+    → meets s frame ≡ (stream == s) → IsStep s initial (as_step frame None s) entry (entry_in new s)
 step-met stream initial frame opens old new h s entry is m =
     elim (cases_eq stream s) [
       | inl own ↦
           let met : meets s frame ≡ true = m ∙ eq-eqb stream s own in
           subst (λ s. entry ≡ entry_in old s → meets s frame ≡ true
-          → IsStep s initial (step_at frame None s) entry (entry_in new s)) own
+          → IsStep s initial (as_step frame None s) entry (entry_in new s)) own
           (λ is met. rw met (record { said = rw is h.said; after = rw is h.after })) is met
       | inr differ ↦
           step-unmet s initial frame new entry (m ∙ ne_eqb stream s differ)
@@ -71,9 +72,9 @@ step-met stream initial frame opens old new h s entry is m =
 
 all-met : (initial : Sides ℕ) (frame : Frame) (change : Option Change) (streams : ℕ → Stream) (kept : Streams)
     → ((s : ℕ) → s % 2 ≡ 1
-    → IsStep s initial (step_at frame change s) (streams s) (entry_in kept.opened.items s))
+    → IsStep s initial (as_step frame change s) (streams s) (entry_in kept.opened.items s))
     → ((s : ℕ) → s % 2 ≡ 0 → 0 < s
-    → IsStep s initial (step_at frame change s) (streams s) (entry_in kept.promised.items s))
+    → IsStep s initial (as_step frame change s) (streams s) (entry_in kept.promised.items s))
     → AreRising kept.opened.items → AreRising kept.promised.items → AreMet initial frame change streams kept
 all-met initial frame change streams kept odd even opened promised = record {
   said = λ s above. elim (cases_eq (s % 2) 1) [

@@ -14,7 +14,7 @@
 //!   client opens odd streams in rising order, and the server promises even ones so (5.1.1): a row is found by a guess,
 //!   and else by halving. A stream that does not open past all before it is a reason to give up, as is any use of one
 //!   that is not opened. PRIORITY and frames of unknown types do nothing to such a stream.
-//! - A row answers each kind of frame on its stream by the same rule, ends and resets too.
+//! - One rule brings a row to its state after a frame of any type, ends and resets too.
 //! - Frames cost no memory, but for a new stream and SETTINGS. No sum wraps, and nothing is asked of the caller:
 //!   credits are kept in 32 bits, and each sum is made in 64.
 //! - Refused by the prover: content of a reset stream that the connection does not count (5.1).
@@ -24,13 +24,13 @@
 //!   Where it does, the rounds say what is.
 #![tactic(auto)]
 
-mod connections;
-mod last_frames;
+mod kept_connection;
+mod kept_streams;
 pub mod laws;
+mod opened_rows;
 mod passes;
 mod quiet_connections;
-mod rows;
-mod streams;
+mod quiet_frames;
 
 pub use passes::QuietPass;
 pub use quiet_connections::{QuietConnection, quiet_connection};

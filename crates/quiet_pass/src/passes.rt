@@ -10,15 +10,16 @@ ghost use Rattle.audit_terms.specs.code.LastFrame.{last_of};
 ghost use Rattle.quiet_pass.specs.code.QuietPass.{StandsFor, IsQuietStep, IsQuietAfter, BringsNothing, IsRestMet};
 ghost use Rattle.quiet_pass.specs.code.QuietPass.{IsBroughtInto};
 
-use crate::connections::KeptConnection;
-use crate::last_frames::is_followed;
-use crate::streams::Streams;
+use crate::kept_connection::KeptConnection;
+use crate::kept_streams::Streams;
+use crate::quiet_frames::is_followed;
 use audit_terms::{Body, Change, FIRST_WINDOW, Frame, LastFrame, Side, Sides, initial_after};
 use settings_pair::Pending;
 use std::alloc::{AllocError, Global};
 
-/// The most changes that move windows: each goes over all rows, so that frames cost a bounded time each.
-const MOST_MOVES: u32 = 64;
+/// The most changes that move windows. Each goes over all rows, and a frame opens one row at most: so a frame costs a
+/// bounded time, its own and at most 64 moves of a row.
+const MOST_MOVING_CHANGES: u32 = 64;
 
 /// A connection between two of its frames, for as long as nothing of it is shown where credits are not shown.
 #[derive(Drop)]
@@ -41,18 +42,12 @@ impl QuietPass {
         ensures { IsQuietAfter [] result }
     {
         QuietPass {
-            last: Sides {
-                client: LastFrame::Missing,
-                server: LastFrame::Missing,
-            },
+            last: Sides::both(LastFrame::Missing),
             pending: Pending::new(alloc),
-            initial: Sides {
-                client: FIRST_WINDOW,
-                server: FIRST_WINDOW,
-            },
+            initial: Sides::both(FIRST_WINDOW),
             connection: KeptConnection::start(),
             streams: Streams::new(alloc),
-            moves_left: MOST_MOVES,
+            moves_left: MOST_MOVING_CHANGES,
         }
     }
 
@@ -71,7 +66,7 @@ impl QuietPass {
         Ok(is_quiet)
     }
 
-    /// The same, by the states of the pass.
+    /// Meets the next frame, and answers whether nothing of it is shown: from one state of the pass to the next.
     fn step(&mut self, frame: &Frame) -> Result<bool, AllocError>
         ensures { IfOk result (λ met. OnTrue met ((state : PassState) → StandsFor self.old state
             → IsQuietStep state frame.now self.new)) }
@@ -80,11 +75,11 @@ impl QuietPass {
             return Ok(false);
         }
         let is_quiet = self.meet_rest(frame)?;
-        self.last = last_after(&self.last, frame);
+        keep_last(&mut self.last, frame);
         Ok(is_quiet)
     }
 
-    /// Meets a frame beside what it shows by itself.
+    /// Meets a frame beside what it shows by itself, and answers whether nothing of that may be shown.
     fn meet_rest(&mut self, frame: &Frame) -> Result<bool, AllocError>
         ensures { IfOk result (λ met. OnTrue met (IsRestMet frame.now self.old self.new)) }
     {
@@ -97,7 +92,7 @@ impl QuietPass {
         self.meet_stream(frame)
     }
 
-    /// The same of a frame on a stream.
+    /// Meets a frame on a stream, one that brings no change, and answers whether nothing of that may be shown.
     fn meet_stream(&mut self, frame: &Frame) -> Result<bool, AllocError>
         requires streamed { 0 < frame.now.stream }
         requires plain { BringsNothing frame.now }
@@ -114,7 +109,7 @@ impl QuietPass {
         Ok(is_quiet)
     }
 
-    /// The same of a frame on stream 0.
+    /// Meets a frame on stream 0 that brings no change, and answers whether nothing of that may be shown.
     fn meet_connection(&mut self, frame: &Frame) -> bool
         requires streamed { frame.now.stream ≡ 0 }
         requires plain { BringsNothing frame.now }
@@ -126,7 +121,7 @@ impl QuietPass {
         self.connection.meet_lone(frame)
     }
 
-    /// The same of SETTINGS and acknowledgements.
+    /// Meets a SETTINGS or an acknowledgement, and answers whether nothing of that may be shown.
     fn meet_settings(&mut self, frame: &Frame) -> Result<bool, AllocError>
         ensures { IfOk result (λ met. OnTrue met (IsRestMet frame.now self.old self.new)) }
     {
@@ -173,21 +168,12 @@ fn is_unmatched(frame: &Frame, change: &Option<Change>) -> bool
     frame.body.is_ack() && change.is_none()
 }
 
-/// What is kept of the last frame of each side after a frame.
-fn last_after(last: &Sides<LastFrame>, frame: &Frame) -> Sides<LastFrame>
-    ensures client { result.client ≡ (if is_side Side.Client frame.now.side then last_of (Option.Some frame.now)
-        else last.now.client) }
-    ensures server { result.server ≡ (if is_side Side.Server frame.now.side then last_of (Option.Some frame.now)
-        else last.now.server) }
+/// Keeps what the next frame of its side asks of a frame.
+fn keep_last(last: &mut Sides<LastFrame>, frame: &Frame)
+    ensures client { last.new.client ≡ (if is_side Side.Client frame.now.side then last_of (Option.Some frame.now)
+        else last.old.client) }
+    ensures server { last.new.server ≡ (if is_side Side.Server frame.now.side then last_of (Option.Some frame.now)
+        else last.old.server) }
 {
-    match frame.side {
-        Side::Client => Sides {
-            client: LastFrame::of(frame),
-            server: last.server,
-        },
-        Side::Server => Sides {
-            client: last.client,
-            server: LastFrame::of(frame),
-        },
-    }
+    *last.of_mut(frame.side) = LastFrame::of(frame);
 }

@@ -17,8 +17,8 @@
 #![tactic(auto)]
 
 mod pairing;
-mod pending;
+mod pending_settings;
 pub mod worked_examples;
 
 pub use pairing::{Pairs, pair};
-pub use pending::Pending;
+pub use pending_settings::Pending;

@@ -7,7 +7,7 @@ ghost use Rattle.audit_terms.specs.code.runs.Changes.{AreAcknowledged, AreOrderl
 ghost use Rattle.audit_terms.specs.Finding.{finding_at, say};
 ghost use Rattle.settings_pair.specs.code.Pending.{IsPending};
 
-use crate::pending::Pending;
+use crate::pending_settings::Pending;
 use audit_terms::{Change, Finding, Frame, Kind};
 use std::alloc::{AllocError, Global};
 

@@ -1,10 +1,12 @@
 -- A step that shows nothing of a stream where credits are not shown, and a change that is one.
 use Rattle.stream_credit.proofs.Words.{◌≡◌, option_map, new_initial, ends_window, step_amount, window_step, stream_said}
-use Rattle.stream_credit.proofs.Words.{int_lt, Option, arith, Client, Server, Change, Stream, say_of, life_at, counted}
+use Rattle.stream_credit.proofs.Words.{int_lt, Option, arith, Client, Server, Change, Stream, say_of, life_at}
+use Rattle.stream_credit.proofs.Words.{credit_after_step}
 use Rattle.stream_credit.proofs.Words.{ℕ, cond-true, overflows, step_test}
 use Rattle.stream_credit.proofs.Words.{is_stalled, frame_step, HasCounted, HasRoomAt}
 use Rattle.stream_credit.proofs.Words.{ℤ, [], ◌∷◌, refl, sym, ap, ◌∙◌, ints, Side, Step, say, Walk, ◌+◌}
-use Rattle.stream_credit.proofs.Words.{Bool, true, ◌&&◌, not, List, ◌++◌, Some, None, Sides, Frame, shown, opens, moved}
+use Rattle.stream_credit.proofs.Words.{Bool, true, ◌&&◌, not, List, ◌++◌, Some, None, Sides, Frame, shown, opens}
+use Rattle.stream_credit.proofs.Words.{credit_after_change}
 use Rattle.stream_credit.proofs.Words.{false, is_some, or_from, or_left, Finding, side_of, in_order, IsQuietMove}
 use Rattle.stream_credit.proofs.Words.{and_right, is_zero_grant, live_window_said, is_overflowing_grant}
 use Rattle.stream_credit.proofs.Words.{cond-false, append-nil, content_by, is_used_up, overruns, WindowStep, frame_said}
@@ -70,9 +72,9 @@ module _ (d : Side) (stream : ℕ) (initial : Sides ℕ) (step : Step) where
   pub quiet-none : IsQuietAt d stream initial step None None
   quiet-none = record { said = tt; after = refl }
 
-  module _ (before after : ℤ) (moved : counted d stream initial step before ≡ after)
+  module _ (before after : ℤ) (moved : credit_after_step d stream initial step before ≡ after)
       (fits : overflows before after ≡ false) (within : overruns before (step_amount (content_by d) step) ≡ false) where
-    not-over : overflows before (counted d stream initial step before) ≡ false
+    not-over : overflows before (credit_after_step d stream initial step before) ≡ false
     not-over = ap (overflows before) moved ∙ fits
 
     no-overflow : is_overflowing_grant d stream initial step before ≡ false
@@ -90,14 +92,14 @@ module _ (d : Side) (stream : ℕ) (initial : Sides ℕ) (step : Step) where
     pub quiet-one : step_test (ends_window d) step ≡ false → is_used_up before ≡ is_used_up after
         → IsQuietAt d stream initial step (Some before) (Some after)
     quiet-one goes_on used = quiet-by (Some after)
-        (cond-false _ None (Some (counted d stream initial step before)) (or_from _ _ goes_on no-overflow)
+        (cond-false _ None (Some (credit_after_step d stream initial step before)) (or_from _ _ goes_on no-overflow)
         ∙ ap Some moved) used
 
     -- the step ends it
     pub quiet-ended : step_test (ends_window d) step ≡ true → is_used_up before ≡ false
         → IsQuietAt d stream initial step (Some before) None
     quiet-ended ends some = quiet-by None
-        (cond-true _ None (Some (counted d stream initial step before)) (or_left _ _ ends)) some
+        (cond-true _ None (Some (credit_after_step d stream initial step before)) (or_left _ _ ends)) some
 
 -- a frame that grants nothing to it, sends nothing through it and does not end it leaves it as it is
 pub quiet-same : (d : Side) (stream : ℕ) (initial : Sides ℕ) (frame : Frame) → grant_to d stream frame ≡ 0
@@ -132,22 +134,22 @@ change_alone number change = record { number = number; frame = None; change = ch
 
 pub quiet-change : (d : Side) (stream : ℕ) (initial : Sides ℕ) (number : ℕ) (change : Option Change) (after : ℕ)
     (window next : Option ℤ) → after ≡ new_initial change d (side_of d initial)
-    → next ≡ option_map (moved (side_of d initial) after) window → IsQuietMove window next
+    → next ≡ option_map (credit_after_change (side_of d initial) after) window → IsQuietMove window next
     → IsQuietAt d stream initial (change_alone number change) window next
 quiet-change d stream initial number change after None None a e h = quiet-none d stream initial _
 quiet-change d stream initial number change after None (Some next) a e h = cc
 quiet-change d stream initial number change after (Some credit) None a e h = cc
 quiet-change d stream initial number change after (Some credit) (Some next) a e h =
     let one = h credit refl next refl in
-    let to : next ≡ moved (side_of d initial) after credit = cc in
-    let now : counted d stream initial (change_alone number change) credit ≡ next =
+    let to : next ≡ credit_after_change (side_of d initial) after credit = cc in
+    let now : credit_after_step d stream initial (change_alone number change) credit ≡ next =
     rw (← a) (omega (arith, ints, to)) in
     quiet-one d stream initial (change_alone number change) credit next now one.1 refl refl one.0
 
 pub quiet-changes : (stream : ℕ) (initial : Sides ℕ) (number : ℕ) (change : Option Change) (after : Sides ℕ)
     (window next : Sides (Option ℤ)) → after ≡ initial_after change initial
-    → next.client ≡ option_map (moved initial.client after.client) window.client
-    → next.server ≡ option_map (moved initial.server after.server) window.server
+    → next.client ≡ option_map (credit_after_change initial.client after.client) window.client
+    → next.server ≡ option_map (credit_after_change initial.server after.server) window.server
     → IsQuietMove window.client next.client → IsQuietMove window.server next.server → (d : Side)
     → IsQuietAt d stream initial (change_alone number change) (side_of d window) (side_of d next)
 quiet-changes stream initial number change after window next a c s p q Client =
@@ -161,8 +163,8 @@ quiet-changes stream initial number change after window next a c s p q Server =
 pub change-counted : (old : Walk) (number : ℕ) (frame : Option Frame) (change : Option Change) (after : Sides ℕ)
     (next : Sides (Option ℤ)) → old.frames_shown ≡ false → is_some frame ≡ false
     → after ≡ initial_after change old.initial
-    → next.client ≡ option_map (moved old.initial.client after.client) old.entry.window.client
-    → next.server ≡ option_map (moved old.initial.server after.server) old.entry.window.server
+    → next.client ≡ option_map (credit_after_change old.initial.client after.client) old.entry.window.client
+    → next.server ≡ option_map (credit_after_change old.initial.server after.server) old.entry.window.server
     → IsQuietMove old.entry.window.client next.client → IsQuietMove old.entry.window.server next.server
     → HasRoomAt (number + 1) (record { life = old.entry.life; window = next })
     → HasCounted old (record { number = number; frame = frame; change = change })

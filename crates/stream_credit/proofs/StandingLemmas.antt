@@ -4,8 +4,8 @@ use Rattle.stream_credit.proofs.Words.{None, refl, sym, ◌∙◌, arith, and-fa
 use Rattle.stream_credit.proofs.Words.{nat_tests, ints, Side, Client, Server, Sides, Frame}
 use Rattle.stream_credit.proofs.Words.{other, is_side, side_of, is_reset, is_zero_grant, content_by, sends_end}
 use Rattle.stream_credit.proofs.Words.{is_last_of, ends_window, is_not_opened, is_after_end, is_used_up}
-use Rattle.stream_credit.proofs.Words.{overflows, overruns, say_of, idle_stream, counted}
-use Rattle.stream_credit.proofs.Words.{frame_step, has_credit, has_ended, mark, window_of, opened_window_said}
+use Rattle.stream_credit.proofs.Words.{overflows, overruns, say_of, idle_stream, credit_after_step}
+use Rattle.stream_credit.proofs.Words.{frame_step, has_credit, has_ended, without_window, window_of, opened_window_said}
 use Rattle.stream_credit.proofs.Words.{stream_window_said, opened_of, AreQuiet, IsBalanced, IsStandingAfter}
 use Rattle.stream_credit.proofs.Words.{IsOpeningStanding, IsNextOpened, IsOpenedBy, life_of, stream_of}
 use Rattle.stream_credit.proofs.Words.{Standings}
@@ -50,7 +50,7 @@ module _ (d : Side) (frame : Frame) (standing after : ℕ) (live : has_credit st
   fits : overflows (pos standing) (pos after) ≡ false
   fits = let within = c.within in grind (arith, ints, within)
 
-  now : (initial : Sides ℕ) → counted d frame.stream initial (frame_step frame) (pos standing) ≡ pos after
+  now : (initial : Sides ℕ) → credit_after_step d frame.stream initial (frame_step frame) (pos standing) ≡ pos after
   now initial = let moved = c.moved in omega (arith, ints, moved)
 
   standing-by : (next : ℕ) → ((initial : Sides ℕ)
@@ -74,16 +74,17 @@ module _ (d : Side) (frame : Frame) (standing after : ℕ) (live : has_credit st
 
   -- the window ends, and with it perhaps what the side sends
   pub standing_ends : ends_window d frame ≡ true
-      → IsStandingAfter d frame standing (mark (is_last_of d frame.stream frame))
+      → IsStandingAfter d frame standing (without_window (is_last_of d frame.stream frame))
   standing_ends ends =
-      let is = mark-is (is_last_of d frame.stream frame) in
-      standing-by (mark (is_last_of d frame.stream frame)) (λ initial. rw is.0
+      let is = unwindowed-is (is_last_of d frame.stream frame) in
+      standing-by (without_window (is_last_of d frame.stream frame)) (λ initial. rw is.0
       (quiet-ended d frame.stream initial (frame_step frame) (pos standing) (pos after) (now initial) fits overrun ends
       (some-left standing live))) is.1
     where
-      mark-is : (last : Bool) → (window_of (mark last) ≡ None) × (has_ended (mark last) ≡ last)
-      mark-is true = (refl, refl)
-      mark-is false = (refl, refl)
+      unwindowed-is : (last : Bool)
+          → (window_of (without_window last) ≡ None) × (has_ended (without_window last) ≡ last)
+      unwindowed-is true = (refl, refl)
+      unwindowed-is false = (refl, refl)
 
 -- ---- a stream that is opened, and a frame on it
 

@@ -12,18 +12,19 @@ pub use Rattle.audit_terms.specs.Stream.{opened_window_said, opens, step_amount,
 pub use Rattle.audit_terms.specs.Stream.{stream_window_said, window_after, window_step}
 pub use Rattle.audit_terms.specs.{Window.is_used_up, Window.overflows, Window.overruns, code.Room.HasRoom}
 pub use Rattle.audit_terms.specs.code.{Room.WindowHasRoom, Watch.IsStopped, Watch.NeverFallFrom, Watch.Watches}
-pub use Rattle.audit_terms.specs.code.Standing.{IsMovedBy, IsQuietMove, has_credit, has_ended, mark, moved, window_of}
+pub use Rattle.audit_terms.specs.code.Standing.{IsMovedBy, IsQuietMove, has_credit, has_ended, without_window}
+pub use Rattle.audit_terms.specs.code.Standing.{credit_after_change, window_of}
 pub use Rattle.audit_terms.specs.code.runs.Changes.{AreAcknowledged, AreOrderly, AreOrderlyFrom}
 pub use Rattle.audit_terms.specs.code.runs.Look.{IsRun, found_before, is_past, steps_between, up_to}
 pub use Rattle.audit_terms.specs.code.runs.{Orderly.IsOrderly, Orderly.IsOrderlyFrom, Streams.IsAcknowledged}
 pub use Rattle.audit_terms.specs.code.runs.Streams.{change_step, frame_step, initial_after, steps_of, stream_after_all}
 pub use Rattle.audit_terms.specs.code.runs.Streams.{stream_at_end, stream_run, stream_run_from, with_change}
-pub use Rattle.audit_terms.specs.declared.{connections.ConnectionState.ConnectionState, findings.Finding.Finding}
+pub use Rattle.audit_terms.specs.declared.{connection_state.ConnectionState.ConnectionState, findings.Finding.Finding}
 pub use Rattle.audit_terms.specs.declared.frames.{Body.Body, Body.TheVariants.WindowUpdate, Frame.Frame}
 pub use Rattle.audit_terms.specs.declared.{items.Change.Change, items.Step.Step, lives.StreamLife.StreamLife}
 pub use Rattle.audit_terms.specs.declared.{settings.Settings.Settings, sides.Side.Side, sides.Side.TheVariants.Client}
-pub use Rattle.audit_terms.specs.declared.{sides.Side.TheVariants.Server, sides.Sides.Sides, streams.Stream.Stream}
-pub use Rattle.fault_rules.specs.code.StreamSteps.{counted, is_overflowing_grant}
+pub use Rattle.audit_terms.specs.declared.{sides.Side.TheVariants.Server, sides.Sides.Sides, stream_state.Stream.Stream}
+pub use Rattle.fault_rules.specs.code.StreamSteps.{credit_after_step, is_overflowing_grant}
 pub use Rattle.std.proofs.Common.{Bool, List, None, Option, Some, [], ap, append_assoc, arith, drop, false}
 pub use Rattle.std.proofs.Common.{if◌then◌else◌, inl, inr, int_lt, is_none, is_some, length, map, nat_lt, not}
 pub use Rattle.std.proofs.Common.{option_map, pos, refl, rules, slice_get, slice_index_or, subst, suc, sym, take, true}
@@ -53,5 +54,6 @@ pub use Rattle.stream_credit.specs.code.Standings.{IsOpeningStanding, IsStanding
 pub use Rattle.stream_credit.specs.code.{Standings.stream_of, StreamPart.frames_at, StreamPart.frames_met}
 pub use Rattle.stream_credit.specs.code.Walk.{AreInOrder, CanCount, HasEnded, HasRoomAt, HasStopped, IsAt, IsBegun}
 pub use Rattle.stream_credit.specs.code.Walk.{HasCounted, IsNumbered, IsSound, WholeRun, met_by, numbers_of}
-pub use Rattle.stream_credit.specs.declared.{quiet.Move.Move, quiet_streams.QuietStream.QuietStream, walks.Walk.Walk}
-pub use Rattle.stream_credit.specs.declared.{standings.Standings.Standings}
+pub use Rattle.stream_credit.specs.declared.{quiet_moves.Move.Move, quiet_streams.QuietStream.QuietStream}
+pub use Rattle.stream_credit.specs.declared.{walks.Walk.Walk}
+pub use Rattle.stream_credit.specs.declared.{stream_standings.Standings.Standings}

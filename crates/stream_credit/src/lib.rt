@@ -16,8 +16,8 @@
 //!   each side a number, as `audit_terms` has it. A frame or a change leads to the next ones, unless something may be
 //!   shown. The rows of `quiet_pass` hold these too.
 //! - A [`QuietStream`] is such a stream with the changes that it has met. It meets the stream's frames one by one,
-//!   beside all other streams. What is quiet after its last frame shows nothing, and its opening is known: so it needs
-//!   no run.
+//!   beside all other streams. One that is quiet after its last frame shows nothing, and its opening is known: so it
+//!   needs no run.
 //! - No sum wraps, for any increments and settings that a frame can hold: 2^28 steps of less than 2^32 fit a signed
 //!   word.
 //! - [`worked_examples`] are short runs of the definitions: ends of both sides, resets, promises and where they stand
@@ -35,18 +35,18 @@
 #![tactic(auto)]
 
 mod changes;
-mod ends;
-mod quiet;
 mod quiet_changes;
+mod quiet_moves;
 mod quiet_streams;
+mod run_ends;
 mod runs;
-mod standings;
 mod stream_parts;
+mod stream_standings;
 mod walks;
 pub mod worked_examples;
 
 pub use changes::Changes;
 pub use quiet_streams::QuietStream;
 pub use runs::stream_run;
-pub use standings::Standings;
 pub use stream_parts::{StreamPart, StreamRun};
+pub use stream_standings::Standings;

@@ -3,26 +3,26 @@
 ghost use Rattle.std.specs.Prelude.{◌≡◌, ℕ, ◌+◌, ◌^◌, option_map};
 ghost use Rattle.std.specs.Bool.{OnTrue};
 ghost use Rattle.audit_terms.specs.code.Room.{HasRoom, WindowHasRoom};
-ghost use Rattle.audit_terms.specs.code.Standing.{moved, IsQuietMove};
+ghost use Rattle.audit_terms.specs.code.Standing.{credit_after_change, IsQuietMove};
 
 use audit_terms::LARGEST_WINDOW;
 
 /// A window after the initial window in force goes from one value to another (RFC 9113, 6.9.2).
-pub(crate) fn moved(window: &Option<i64>, before: u32, after: u32) -> Option<i64>
+pub(crate) fn window_after_change(window: &Option<i64>, before: u32, after: u32) -> Option<i64>
     requires { WindowHasRoom (2 ^ 60) window.now }
-    ensures moved { result ≡ option_map (moved before after) window.now }
+    ensures moved { result ≡ option_map (credit_after_change before after) window.now }
     ensures room { (bound : ℕ) → WindowHasRoom bound window.now → WindowHasRoom (bound + 2 ^ 32) result }
 {
     match window {
-        Some(credit) => Some(moved_credit(credit, before, after)),
+        Some(credit) => Some(credit_after_change(credit, before, after)),
         None => None,
     }
 }
 
-/// The credit of such a window.
-fn moved_credit(credit: &i64, before: u32, after: u32) -> i64
+/// A credit after the initial window in force goes from one value to another (6.9.2).
+fn credit_after_change(credit: &i64, before: u32, after: u32) -> i64
     requires { HasRoom (2 ^ 60) credit.now }
-    ensures moved { result ≡ moved before after credit.now }
+    ensures moved { result ≡ credit_after_change before after credit.now }
     ensures room { (bound : ℕ) → HasRoom bound credit.now → HasRoom (bound + 2 ^ 32) result }
 {
     *credit + i64::from(after) - i64::from(before)

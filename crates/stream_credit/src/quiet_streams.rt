@@ -14,11 +14,11 @@ ghost use Rattle.stream_credit.specs.code.QuietStream.{CanMeet, HasMetChanges, I
 ghost use Rattle.stream_credit.specs.code.QuietStream.{IsPassed, IsQuietToEnd};
 
 use crate::changes::{Changes, windows_after};
-use crate::standings::Standings;
+use crate::stream_standings::Standings;
 use audit_terms::{Frame, Length, Sides};
 
-/// The most changes that a stream is followed through: more do not fit its count.
-const MOST_MET: u32 = 0xff_ffff;
+/// The most changes that a stream is followed through: more do not fit the three bytes of its count.
+const MOST_CHANGES_MET: u32 = 0xff_ffff;
 
 /// A stream between two of its frames, for as long as nothing is shown of it. A connection keeps many: it takes 16
 /// bytes, what needs no alignment last.
@@ -37,7 +37,7 @@ const _: () = prove!(size_of::<QuietStream>() == 16);
 fn kept_met(met: u32) -> Option<Length>
     ensures { ForSome result (λ kept. kept ≡ met) }
 {
-    if met > MOST_MET {
+    if met > MOST_CHANGES_MET {
         return None;
     }
     Some(Length::of(met))
@@ -63,7 +63,7 @@ impl QuietStream {
         ensures { OnTrue result (IsPassed before.now after.now self.old self.new) }
     {
         let (Some(next), Some(met)) = (
-            self.standings.moved(before, after),
+            self.standings.after_change(before, after),
             kept_met(self.met.get() + 1),
         ) else {
             return false;

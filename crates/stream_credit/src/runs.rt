@@ -12,17 +12,17 @@ ghost use Rattle.stream_credit.specs.code.StreamPart.{IsStreamPart, frames_at, f
 ghost use Rattle.stream_credit.specs.code.Walk.{WholeRun, IsSound, HasEnded, HasStopped};
 
 use crate::changes::Changes;
-use crate::ends::run_of;
+use crate::run_ends::run_of;
 use crate::stream_parts::{StreamPart, StreamRun};
 use crate::walks::Walk;
 use audit_terms::{Frame, Look};
 use std::alloc::{AllocError, Global};
 
-/// How many frames of a stream are gathered at once.
+/// How many frames of a stream are gathered at once: 1,280 bytes, which stay in the nearest cache until they are met.
 const NEAR_FRAMES: usize = 32;
 
-/// Makes of `near` the frames at some positions. They lie far from one another, and loads of which none waits for what
-/// another one brings are under way at once.
+/// Makes of `near` the frames at some positions. They lie far from one another, and loads that do not depend on each
+/// other overlap.
 fn gather(near: &mut Vec<Frame>, frames: &[Frame], positions: &[u32]) -> Result<(), AllocError>
     requires { All (λ (position : ℕ). position < length frames.now) positions.now }
     ensures { OnOk result (near.new.items ≡ frames_at frames.now positions.now) }

@@ -9,8 +9,8 @@ ghost use Rattle.stream_credit.specs.code.Walk.{CanCount, CanMeetBefore, HasStop
 ghost use Rattle.stream_credit.specs.code.Walk.{MeetsBefore, WholeRun};
 
 use crate::changes::{Changes, FIRST_WINDOWS, met_after};
-use crate::quiet::{move_of, moved_quietly};
-use crate::quiet_changes::{is_quiet_move, moved};
+use crate::quiet_changes::{is_quiet_move, window_after_change};
+use crate::quiet_moves::{move_of, move_quietly};
 use audit_terms::{
     Change, Finding, Frame, Look, Sides, Step, Stream, Watch, initial_after, keep_shown,
     put_in_order,
@@ -91,8 +91,8 @@ impl Walk {
         }
         let initial = initial_after(&step.change, &self.initial);
         let Sides { client, server } = self.entry.window;
-        let next_client = moved(&client, self.initial.client, initial.client);
-        let next_server = moved(&server, self.initial.server, initial.server);
+        let next_client = window_after_change(&client, self.initial.client, initial.client);
+        let next_server = window_after_change(&server, self.initial.server, initial.server);
         if !is_quiet_move(&client, &next_client) || !is_quiet_move(&server, &next_server) {
             return false;
         }
@@ -237,10 +237,6 @@ impl Walk {
         let Some(one) = move_of(self.stream, &self.entry.life, frame) else {
             return false;
         };
-        let Some(windows) = moved_quietly(&self.entry.window, &one) else {
-            return false;
-        };
-        self.entry.window = windows;
-        true
+        move_quietly(&mut self.entry.window, &one)
     }
 }

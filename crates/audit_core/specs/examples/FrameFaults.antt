@@ -11,11 +11,12 @@ use Rattle.audit_terms.specs.FrameType.{push_promise_type, ping_type, ack_flag, 
 use Rattle.audit_terms.specs.FrameType.{padded_flag}
 use Rattle.audit_terms.specs.Pass.{pass}
 use Rattle.audit_terms.specs.code.Settings.{no_settings}
-use Rattle.audit_core.specs.examples.Script.{scripted, data_frame, headers_frame, open_headers_frame}
-use Rattle.audit_core.specs.examples.Script.{continuation_frame, open_continuation_frame, priority_frame, reset_frame}
-use Rattle.audit_core.specs.examples.Script.{update_frame, promise_frame, ping_frame, goaway_frame, unknown_frame}
-use Rattle.audit_core.specs.examples.Script.{settings_frame, max_frame_size_frame, ack_frame, unreadable_frame}
-use Rattle.audit_core.specs.examples.Script.{without_credits, audit_of, all_of, all_with_credits_of}
+use Rattle.audit_terms.specs.examples.Script.{scripted, data_frame, headers_frame, reset_frame, update_frame}
+use Rattle.audit_terms.specs.examples.Script.{promise_frame, settings_frame, ack_frame}
+use Rattle.audit_core.specs.examples.Script.{open_headers_frame, continuation_frame, open_continuation_frame}
+use Rattle.audit_core.specs.examples.Script.{priority_frame, ping_frame, goaway_frame, unknown_frame}
+use Rattle.audit_core.specs.examples.Script.{max_frame_size_frame, unreadable_frame, without_credits, audit_of, all_of}
+use Rattle.audit_core.specs.examples.Script.{all_with_credits_of}
 
 -- a first frame that acknowledges is no SETTINGS of its side's preface; one of wrong size is SETTINGS all the same
 abbrev pub FirstFrameAcknowledges : Type 0

@@ -7,8 +7,9 @@ use Rattle.audit_terms.specs.declared.kinds.Kind.TheVariants.{ConnectionCredit, 
 use Rattle.audit_terms.specs.declared.frames.Frame.{Frame}
 use Rattle.audit_terms.specs.declared.findings.Finding.{Finding}
 use Rattle.audit_terms.specs.Finding.{finding_at}
-use Rattle.audit_core.specs.examples.Script.{headers_frame, data_frame, reset_frame, update_frame, promise_frame}
-use Rattle.audit_core.specs.examples.Script.{enable_push_frame, ack_frame, audit_of, audit_with_credits_of, all_of}
+use Rattle.audit_terms.specs.examples.Script.{headers_frame, data_frame, reset_frame, update_frame, promise_frame}
+use Rattle.audit_terms.specs.examples.Script.{ack_frame}
+use Rattle.audit_core.specs.examples.Script.{enable_push_frame, audit_of, audit_with_credits_of, all_of}
 use Rattle.audit_core.specs.examples.Script.{all_with_credits_of}
 
 -- a stream's opening by the client shows the credit of both sides

@@ -4,7 +4,7 @@ use Rattle.audit_terms.specs.declared.sides.Side.TheVariants.{Client, Server}
 use Rattle.audit_terms.specs.declared.kinds.Kind.TheVariants.{ConnectionOverrun, ConnectionStallBegin, SettingOverflow}
 use Rattle.audit_terms.specs.declared.kinds.Kind.TheVariants.{StreamOverflow, StreamOverrun, StreamStallBegin}
 use Rattle.audit_terms.specs.Finding.{finding_at}
-use Rattle.audit_core.specs.examples.Script.{headers_frame, data_frame, update_frame, initial_window_frame, ack_frame}
+use Rattle.audit_terms.specs.examples.Script.{headers_frame, data_frame, update_frame, initial_window_frame, ack_frame}
 use Rattle.audit_core.specs.examples.Script.{audit_of}
 
 -- 11 bytes on a stream where the client's settings left 10

@@ -8,9 +8,9 @@ use Rattle.audit_terms.specs.declared.frames.Body.TheVariants.{Settings as Setti
 use Rattle.audit_terms.specs.FrameType.{settings_type}
 use Rattle.audit_terms.specs.Finding.{finding_at}
 use Rattle.audit_terms.specs.code.Settings.{no_settings}
-use Rattle.audit_core.specs.examples.Script.{scripted, headers_frame, data_frame, promise_frame, settings_frame}
-use Rattle.audit_core.specs.examples.Script.{initial_window_frame, max_frame_size_frame, enable_push_frame, ack_frame}
-use Rattle.audit_core.specs.examples.Script.{audit_of}
+use Rattle.audit_terms.specs.examples.Script.{scripted, headers_frame, data_frame, promise_frame, settings_frame}
+use Rattle.audit_terms.specs.examples.Script.{initial_window_frame, ack_frame}
+use Rattle.audit_core.specs.examples.Script.{max_frame_size_frame, enable_push_frame, audit_of}
 
 -- an empty SETTINGS leaves the initial window of 10 bytes in force
 abbrev pub InitialWindowStays : Type 0

@@ -6,9 +6,10 @@ use Rattle.audit_terms.specs.declared.kinds.Kind.TheVariants.{LongFrame, TooLong
 use Rattle.audit_terms.specs.declared.kinds.Kind.TheVariants.{WrongStream, BadPriority}
 use Rattle.audit_terms.specs.Finding.{finding_at}
 use Rattle.audit_terms.specs.code.Settings.{no_settings}
-use Rattle.audit_core.specs.examples.Script.{scripted, headers_frame, data_frame, padded_data_frame, reset_frame}
-use Rattle.audit_core.specs.examples.Script.{update_frame, ping_frame, settings_frame, unreadable_frame}
-use Rattle.audit_core.specs.examples.Script.{without_credits, audit_of, audit_with_credits_of}
+use Rattle.audit_terms.specs.examples.Script.{scripted, headers_frame, data_frame, reset_frame, update_frame}
+use Rattle.audit_terms.specs.examples.Script.{settings_frame}
+use Rattle.audit_core.specs.examples.Script.{padded_data_frame, ping_frame, unreadable_frame, without_credits, audit_of}
+use Rattle.audit_core.specs.examples.Script.{audit_with_credits_of}
 use Rattle.audit_terms.specs.FrameType.{data_type, headers_type, priority_type, settings_type, end_headers_flag}
 use Rattle.audit_terms.specs.FrameType.{padded_flag}
 use Rattle.audit_terms.specs.declared.frames.Body.TheVariants.{Headers, Settings as SettingsBody}

@@ -10,9 +10,9 @@ use Rattle.audit_terms.specs.declared.kinds.Kind.TheVariants.{SettingOverflow, Z
 use Rattle.audit_terms.specs.declared.kinds.Kind.TheVariants.{WrongSize}
 use Rattle.audit_terms.specs.Finding.{finding_at}
 use Rattle.audit_terms.specs.code.Settings.{no_settings}
-use Rattle.audit_core.specs.examples.Script.{headers_frame, data_frame, padded_data_frame, update_frame}
-use Rattle.audit_core.specs.examples.Script.{initial_window_frame, ack_frame, unreadable_frame, opening_frames}
-use Rattle.audit_core.specs.examples.Script.{audit_of, audit_with_credits_of}
+use Rattle.audit_terms.specs.examples.Script.{headers_frame, data_frame, update_frame, initial_window_frame, ack_frame}
+use Rattle.audit_terms.specs.examples.Script.{opening_frames}
+use Rattle.audit_core.specs.examples.Script.{padded_data_frame, unreadable_frame, audit_of, audit_with_credits_of}
 use Rattle.audit_terms.specs.FrameType.{window_update_type}
 use Rattle.audit_terms.specs.Change.{change_by}
 use Rattle.audit_terms.specs.code.runs.Changes.{changes_of}

@@ -7,9 +7,9 @@ use Rattle.audit_terms.specs.declared.kinds.Kind.TheVariants.{StreamStallBegin, 
 use Rattle.audit_terms.specs.declared.kinds.Kind.TheVariants.{ConnectionOverrun, StreamOverrun, NotOpened, AfterEnd}
 use Rattle.audit_terms.specs.declared.kinds.Kind.TheVariants.{IdNotGreater, UnmatchedAck}
 use Rattle.audit_terms.specs.Finding.{finding_at}
-use Rattle.audit_core.specs.examples.Script.{headers_frame, data_frame, last_data_frame, reset_frame, update_frame}
-use Rattle.audit_core.specs.examples.Script.{ping_frame, ack_frame, opening_frames, without_credits, audit_of}
-use Rattle.audit_core.specs.examples.Script.{audit_with_credits_of}
+use Rattle.audit_terms.specs.examples.Script.{headers_frame, data_frame, last_data_frame, reset_frame, update_frame}
+use Rattle.audit_terms.specs.examples.Script.{ack_frame, opening_frames}
+use Rattle.audit_core.specs.examples.Script.{ping_frame, without_credits, audit_of, audit_with_credits_of}
 use Rattle.audit_terms.specs.Pass.{full}
 use Rattle.audit_core.specs.examples.Stalls.{padded_stall_script, padded_stall_findings}
 

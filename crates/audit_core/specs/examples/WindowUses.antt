@@ -9,9 +9,9 @@ use Rattle.audit_terms.specs.declared.kinds.Kind.TheVariants.{StreamCredit}
 use Rattle.audit_terms.specs.declared.frames.Frame.{Frame}
 use Rattle.audit_terms.specs.declared.findings.Finding.{Finding}
 use Rattle.audit_terms.specs.Finding.{finding_at}
-use Rattle.audit_core.specs.examples.Script.{headers_frame, last_headers_frame, data_frame, last_data_frame}
-use Rattle.audit_core.specs.examples.Script.{reset_frame, update_frame, initial_window_frame, ack_frame, audit_of}
-use Rattle.audit_core.specs.examples.Script.{audit_with_credits_of, all_of, all_with_credits_of}
+use Rattle.audit_terms.specs.examples.Script.{headers_frame, last_headers_frame, data_frame, last_data_frame}
+use Rattle.audit_terms.specs.examples.Script.{reset_frame, update_frame, initial_window_frame, ack_frame}
+use Rattle.audit_core.specs.examples.Script.{audit_of, audit_with_credits_of, all_of, all_with_credits_of}
 
 -- 11 bytes are sent where 10 are left, on the connection and on the stream
 abbrev overrun_script : List Frame

@@ -19,8 +19,8 @@ abbrev pub joined : {A : Type 0} → List (List A) → List A
 joined parts = flat_map (λ part. part) parts
 
 -- the local faults, the unmatched acknowledgements, the findings of all groups of streams and those of all blocks
-abbrev pub parts_of : List Frame → (groups : List (List ℕ)) → (blocks : List (List Item)) → List Finding
-parts_of frames groups blocks =
+abbrev pub runs_of_parts : List Frame → (groups : List (List ℕ)) → (blocks : List (List Item)) → List Finding
+runs_of_parts frames groups blocks =
     ((local_run frames ++ settings_run frames) ++ flat_map (group_run frames) groups)
     ++ block_runs connection_start blocks
 
@@ -28,4 +28,4 @@ parts_of frames groups blocks =
 abbrev pub PartsMakeFull : Type 0
 PartsMakeFull = (frames : List Frame) (groups : List (List ℕ)) (blocks : List (List Item)) → IsOrderly frames →
     joined groups ≡ streams_of frames → joined blocks ≡ items_of frames →
-    full frames ≡ in_order (parts_of frames groups blocks)
+    full frames ≡ in_order (runs_of_parts frames groups blocks)

@@ -15,7 +15,7 @@ abbrev pub AreRising : List ℕ → Type 0
 AreRising numbers = EachPair (λ m n. m < n) numbers
 
 -- a step has a frame or a change, each of the step's own number
-pub record IsFilled (step : Step) : Type 0 where
+pub record HasFrameOrChange (step : Step) : Type 0 where
   pub has_one : (is_some step.frame || is_some step.change) ≡ true
   pub frame : IfSome step.frame (λ frame. frame.number ≡ step.number)
   pub change : IfSome step.change (λ change. change.number ≡ step.number)
@@ -23,7 +23,7 @@ pub record IsFilled (step : Step) : Type 0 where
 -- the steps have these frames and these changes, and nothing else, in order of numbers
 pub record AreJoined (frames : List Frame) (changes : List Change) (steps : List Step) : Type 0 where
   pub rising : AreRising (map (λ (step : Step). step.number) steps)
-  pub filled : AllByRecursion IsFilled steps
+  pub filled : AllByRecursion HasFrameOrChange steps
   pub its_frames : flat_map (λ (step : Step). option_to_list step.frame) steps ≡ frames
   pub its_changes : flat_map (λ (step : Step). option_to_list step.change) steps ≡ changes
 

@@ -2,11 +2,11 @@
 use Rattle.std.specs.Prelude.{◌≡◌, ℕ, ◌+◌, ◌<◌, ◌≤◌, ◌^◌, All, List, [], ◌∷◌, ◌++◌, length, map, slice_index_or}
 use Rattle.std.specs.Prelude.{◌==◌, if◌then◌else◌}
 use Rattle.std.specs.List.{AllByRecursion}
-use Rattle.audit_terms.specs.declared.connections.ConnectionState.{ConnectionState}
+use Rattle.audit_terms.specs.declared.connection_state.ConnectionState.{ConnectionState}
 use Rattle.audit_terms.specs.declared.items.Item.{Item}
 use Rattle.audit_terms.specs.Connection.{connection_start}
 use Rattle.audit_terms.specs.code.runs.Blocks.{connection_after_all}
-use Rattle.block_scan.specs.code.List.{items_of}
+use Rattle.block_scan.specs.code.List.{items_in_blocks}
 use Rattle.conn_scan.specs.declared.block_items.Block.{Block}
 use Rattle.conn_scan.specs.code.Items.{items_in, IsBlock}
 use Rattle.conn_scan.specs.code.Block.{MovesLittle, BlockFits}
@@ -57,7 +57,7 @@ wholes connections = map items_in connections
 pub record AreBlocksOf (wholes : List (List Item)) (blocks : List ConnectionBlock) : Type 0 where
   pub cuts : List (List Block)
   pub laid : blocks ≡ laid_out 0 cuts
-  pub items : wholes ≡ map (λ (blocks : List Block). items_of (map items_in blocks)) cuts
+  pub items : wholes ≡ map (λ (blocks : List Block). items_in_blocks (map items_in blocks)) cuts
 
 -- the connection before a block, where the last block, one of connection `last`, left it so
 abbrev pub before_of : (last : ℕ) → ConnectionState → ConnectionBlock → ConnectionState
@@ -77,6 +77,6 @@ AreFit last now (one ∷ rest) =
 pub record AddsBlocks (connection : ℕ) (whole : Block) (old new : List ConnectionBlock) : Type 0 where
   pub cut : List Block
   pub added : new ≡ old ++ blocks_of_connection connection cut
-  pub items : items_of (map items_in cut) ≡ items_in whole
+  pub items : items_in_blocks (map items_in cut) ≡ items_in whole
   pub short : AreShort old → AreShort new
   pub few : length new ≤ length old + length whole.frames.now

@@ -16,8 +16,8 @@ abbrev pub has_ended : (standing : ℕ) → Bool
 has_ended standing = standing == ended_mark
 
 -- how a side stands whose window is not live
-abbrev pub mark : (is_ended : Bool) → ℕ
-mark is_ended = if is_ended then ended_mark else 0
+abbrev pub without_window : (is_ended : Bool) → ℕ
+without_window is_ended = if is_ended then ended_mark else 0
 
 -- the window of a side that stands so
 abbrev pub window_of : (standing : ℕ) → Option ℤ
@@ -35,8 +35,8 @@ pub record IsCreditOf (credit : ℤ) (kept : ℕ) : Type 0 where
   pub within : kept < 2 ^ 31
 
 -- a credit after the initial window in force goes from one value to another
-abbrev pub moved : (before after : ℕ) → ℤ → ℤ
-moved before after credit = credit +ℤ (pos after -ℤ pos before)
+abbrev pub credit_after_change : (before after : ℕ) → ℤ → ℤ
+credit_after_change before after credit = credit +ℤ (pos after -ℤ pos before)
 
 -- a window whose credit does not rise above the largest, and of which no stall begins or ends
 abbrev pub IsQuietMove : (before after : Option ℤ) → Type 0
@@ -46,6 +46,6 @@ IsQuietMove before after =
 
 -- how a side stands after the initial window in force goes from one value to another: nothing of that is shown
 pub record IsMovedBy (before after standing next : ℕ) : Type 0 where
-  pub moved : window_of next ≡ option_map (moved before after) (window_of standing)
+  pub moved : window_of next ≡ option_map (credit_after_change before after) (window_of standing)
   pub quiet : IsQuietMove (window_of standing) (window_of next)
   pub ended : has_ended next ≡ has_ended standing

@@ -2,23 +2,23 @@
 -- moves a state as the steps do.
 use Rattle.std.proofs.Common.{◌≡◌, List, [], ◌∷◌, ◌++◌, refl, sym, ap, ◌∙◌, append_assoc, append-nil}
 use Rattle.block_scan.specs.code.Summary.{SummaryLaws, summary_of}
-use Rattle.block_scan.specs.code.List.{state_after}
+use Rattle.block_scan.specs.code.List.{after_all}
 
-pub state_after-append : {State Item : Type 0} (step : State → Item → State) (s : State) (a b : List Item)
-    → state_after step s (a ++ b) ≡ state_after step (state_after step s a) b
-state_after-append step s [] b = refl
-state_after-append step s (x ∷ a) b = state_after-append step (step s x) a b
+pub after_all-append : {State Item : Type 0} (step : State → Item → State) (s : State) (a b : List Item)
+    → after_all step s (a ++ b) ≡ after_all step (after_all step s a) b
+after_all-append step s [] b = refl
+after_all-append step s (x ∷ a) b = after_all-append step (step s x) a b
 
 -- What the closed form `shown` must keep.
 pub record Shows {Sum Item State : Type 0} (shown : List Item → Sum) (empty : Sum) (of : Item → Sum) (join : Sum
     → Sum → Sum) (advance : State → Sum → State) (step : State → Item → State) (fits : State → List Item
     → Type 0) : Type 0 where
   pub first_fit : (s : State) (a b : List Item) → fits s (a ++ b) → fits s a
-  pub rest_fits : (s : State) (a b : List Item) → fits s (a ++ b) → fits (state_after step s a) b
+  pub rest_fits : (s : State) (a b : List Item) → fits s (a ++ b) → fits (after_all step s a) b
   pub none : shown [] ≡ empty
   pub one : (item : Item) → shown (item ∷ []) ≡ of item
   pub joined : (a b : List Item) → shown (a ++ b) ≡ join (shown a) (shown b)
-  pub moved : (s : State) (a : List Item) → fits s a → advance s (shown a) ≡ state_after step s a
+  pub moved : (s : State) (a : List Item) → fits s a → advance s (shown a) ≡ after_all step s a
 
 module _ {Sum Item State : Type 0} {shown : List Item → Sum} {empty : Sum} {of : Item → Sum} {join : Sum → Sum
     → Sum} {advance : State → Sum → State} {step : State → Item → State} {fits : State → List Item → Type 0}
@@ -33,7 +33,7 @@ module _ {Sum Item State : Type 0} {shown : List Item → Sum} {empty : Sum} {of
       ∙ ap (λ y. join y (summary_of empty of join b)) (sym (summary-shown a))
 
   pub advance-shown : (s : State) (a : List Item) → fits s a → advance s (summary_of empty of join a)
-      ≡ state_after step s a
+      ≡ after_all step s a
   advance-shown s a f = ap (advance s) (summary-shown a) ∙ is.moved s a f
 
   pub lawful : SummaryLaws empty of join advance step fits
@@ -53,6 +53,6 @@ module _ {Sum Item State : Type 0} {shown : List Item → Sum} {empty : Sum} {of
     advance_twice = λ s a b f.
         let sum = summary_of empty of join in
         ap (λ t. advance t (sum b)) (advance-shown s a (is.first_fit s a b f))
-        ∙ advance-shown (state_after step s a) b (is.rest_fits s a b f) ∙ sym (state_after-append step s a b)
+        ∙ advance-shown (after_all step s a) b (is.rest_fits s a b f) ∙ sym (after_all-append step s a b)
         ∙ sym (advance-shown s (a ++ b) f) ∙ ap (advance s) (append-shown a b);
   }

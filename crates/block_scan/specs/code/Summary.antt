@@ -1,6 +1,6 @@
 -- What a summary of items is, and the laws that let blocks be summed apart and joined in any grouping.
 use Rattle.std.specs.Prelude.{◌≡◌, List, [], ◌∷◌, ◌++◌}
-use Rattle.block_scan.specs.code.List.{state_after}
+use Rattle.block_scan.specs.code.List.{after_all}
 
 -- the summary of some items: each item's, joined; `empty` of no items
 abbrev pub summary_of : {Sum Item : Type 0} → (empty : Sum) → (of : Item → Sum) → (join : Sum → Sum → Sum)
@@ -14,7 +14,7 @@ pub record SummaryLaws {Sum Item State : Type 0} (empty : Sum) (of : Item → Su
   -- of items that fit, the first ones fit
   pub first_fit : (s : State) (a b : List Item) → fits s (a ++ b) → fits s a
   -- and the rest fits the state after them
-  pub rest_fits : (s : State) (a b : List Item) → fits s (a ++ b) → fits (state_after step s a) b
+  pub rest_fits : (s : State) (a b : List Item) → fits s (a ++ b) → fits (after_all step s a) b
   -- the summary of one item is `of` it
   pub one : (s : State) (item : Item) → fits s (item ∷ []) → summary_of empty of join (item ∷ []) ≡ of item
   -- `empty` is the unit of `join`

@@ -1,16 +1,16 @@
 -- The conditions under which a block of items is summed and audited.
 use Rattle.std.specs.Prelude.{◌-◌, ◌*◌, ◌^◌, ◌≤◌, List, [], ◌∷◌, length}
 use Rattle.audit_terms.specs.declared.sides.Side.TheVariants.{Client, Server}
-use Rattle.audit_terms.specs.declared.connections.ConnectionState.{ConnectionState}
+use Rattle.audit_terms.specs.declared.connection_state.ConnectionState.{ConnectionState}
 use Rattle.audit_terms.specs.declared.items.Item.{Item}
 use Rattle.audit_terms.specs.code.runs.Blocks.{connection_after_all}
 use Rattle.audit_terms.specs.code.Room.{HasRoom}
 use Rattle.std.specs.List.{AllByRecursion}
-use Rattle.conn_scan.specs.code.Credit.{change_of}
+use Rattle.conn_scan.specs.code.Credit.{credit_change}
 
 -- the item moves each side's credit by at most 2^32
 abbrev pub MovesLittle : Item → Type 0
-MovesLittle item = HasRoom (2 ^ 32) (change_of Client item) × HasRoom (2 ^ 32) (change_of Server item)
+MovesLittle item = HasRoom (2 ^ 32) (credit_change Client item) × HasRoom (2 ^ 32) (credit_change Server item)
 
 -- At most 2^28 items, from credits that these, each moving them by at most 2^32, cannot bring beyond 2^60.
 pub record BlockFits (now : ConnectionState) (items : List Item) : Type 0 where

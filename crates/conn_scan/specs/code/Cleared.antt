@@ -1,7 +1,7 @@
 -- What clears a block, by its summary.
 use Rattle.std.specs.Prelude.{ℕ, ℤ, neg_ℤ, ◌-ℤ◌, Bool, true, ◌==◌, ◌&&◌, ◌||◌, not, nat_lt, nat_le, int_lt, int_le}
 use Rattle.std.specs.Prelude.{Option, Some, None}
-use Rattle.audit_terms.specs.declared.connections.ConnectionState.{ConnectionState}
+use Rattle.audit_terms.specs.declared.connection_state.ConnectionState.{ConnectionState}
 use Rattle.audit_terms.specs.Window.{largest_window}
 use Rattle.conn_scan.specs.declared.credits.Credit.{Credit}
 use Rattle.conn_scan.specs.declared.rising.Rising.{Rising}

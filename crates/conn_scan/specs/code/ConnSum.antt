@@ -1,22 +1,22 @@
 -- All that a list of items does to its connection.
 use Rattle.std.specs.Prelude.{max, unwrap_or, List, map}
-use Rattle.audit_terms.specs.declared.connections.ConnectionState.{ConnectionState}
+use Rattle.audit_terms.specs.declared.connection_state.ConnectionState.{ConnectionState}
 use Rattle.audit_terms.specs.declared.frames.Frame.{Frame}
 use Rattle.audit_terms.specs.declared.items.Item.{Item}
 use Rattle.audit_terms.specs.Connection.{credit_moved}
 use Rattle.audit_terms.specs.Sides.{side_of, each_side}
 use Rattle.conn_scan.specs.declared.sums.ConnSum.{ConnSum}
-use Rattle.conn_scan.specs.code.Credit.{change_of, credit_of, no_change, credit_join, credit_met, credit_advance}
+use Rattle.conn_scan.specs.code.Credit.{credit_change, credit_of, no_change, credit_join, credit_met, credit_advance}
 use Rattle.conn_scan.specs.code.Rising.{present, rising_of, no_identifier, rising_join, rising_met}
-use Rattle.conn_scan.specs.code.Ids.{opened_in, promise_of, promised_by}
+use Rattle.conn_scan.specs.code.Ids.{opened_id, promise_of, promised_id}
 use Rattle.conn_scan.specs.code.Latest.{latest_of, no_item, latest_join, latest_seen, latest_marked, latest_met}
 
 -- the summary of some items: what they do to each side's credit, which streams they open, what they bring into force
 abbrev pub conn_sum_of : List Item → ConnSum
 conn_sum_of items = record {
-  credit = each_side (λ d. credit_of (map (change_of d) items));
-  opened = rising_of (present (map opened_in items));
-  promised = rising_of (present (map promised_by items));
+  credit = each_side (λ d. credit_of (map (credit_change d) items));
+  opened = rising_of (present (map opened_id items));
+  promised = rising_of (present (map promised_id items));
   latest = latest_of items;
 }
 
@@ -45,9 +45,9 @@ conn_promised a frame = record a {
 -- the items of a summary, and then one more
 abbrev pub conn_met : ConnSum → Item → ConnSum
 conn_met a item = record {
-  credit = each_side (λ d. credit_met (side_of d a.credit) (change_of d item));
-  opened = rising_met a.opened (opened_in item);
-  promised = rising_met a.promised (promised_by item);
+  credit = each_side (λ d. credit_met (side_of d a.credit) (credit_change d item));
+  opened = rising_met a.opened (opened_id item);
+  promised = rising_met a.promised (promised_id item);
   latest = latest_met a.latest item;
 }
 

@@ -12,8 +12,8 @@ use Rattle.audit_terms.specs.code.Room.{HasRoom}
 use Rattle.conn_scan.specs.declared.credits.Credit.{Credit}
 
 -- what an item moves the connection credit of side d by; 0 where it leaves the side untouched
-abbrev pub change_of : Side → Item → ℤ
-change_of d item = credit_moved d item.frame
+abbrev pub credit_change : Side → Item → ℤ
+credit_change d item = credit_moved d item.frame
 
 -- the same of the credit of a frame's sender, which its content takes from
 abbrev pub spent_by : Frame → ℤ

@@ -8,7 +8,7 @@ use Rattle.std.specs.Int.{int_max, int_min}
 use Rattle.std.proofs.lemmas.Int.{ints, clamps}
 use Rattle.audit_terms.specs.code.Room.{HasRoom}
 use Rattle.block_scan.specs.code.Summary.{SummaryLaws, summary_of}
-use Rattle.block_scan.specs.code.List.{state_after}
+use Rattle.block_scan.specs.code.List.{after_all}
 use Rattle.block_scan.specs.code.Shown.{Shows, lawful, summary-shown}
 use Rattle.conn_scan.specs.declared.credits.Credit.{Credit}
 use Rattle.conn_scan.specs.code.Credit.{total, high, low, credit_of, no_change, one_change, credit_join, credit_met}
@@ -80,9 +80,9 @@ low-one x = omega (arith, ints, clamps)
 one_of : (x : ℤ) → credit_of (x ∷ []) ≡ one_change x
 one_of x = λ i. record { sum = +ℤ_idr x i; high = high-one x i; low = low-one x i }
 
-moved : (s : ℤ) (a : List ℤ) → s +ℤ total a ≡ state_after ◌+ℤ◌ s a
-moved s [] = +ℤ_idr s
-moved s (x ∷ a) = sym (+ℤ_assoc s x (total a)) ∙ moved (s +ℤ x) a
+advance-total : (s : ℤ) (a : List ℤ) → s +ℤ total a ≡ after_all ◌+ℤ◌ s a
+advance-total s [] = +ℤ_idr s
+advance-total s (x ∷ a) = sym (+ℤ_assoc s x (total a)) ∙ advance-total (s +ℤ x) a
 
 pub total-room : (a : List ℤ) → AreSmall a → HasRoom (2 ^ 32 * length a) (total a)
 total-room [] h = (omega (arith, ints), omega (arith, ints))
@@ -98,11 +98,11 @@ first_fit s a b f =
       room = (omega (arith, ints), omega (arith, ints));
     }
 
-pub rest_fits : (s : ℤ) (a b : List ℤ) → ChangesFit s (a ++ b) → ChangesFit (state_after ◌+ℤ◌ s a) b
+pub rest_fits : (s : ℤ) (a b : List ℤ) → ChangesFit s (a ++ b) → ChangesFit (after_all ◌+ℤ◌ s a) b
 rest_fits s a b f =
     let n = f.number in let l = f.room.0 in let u = f.room.1 in let e = length-append a b in
     let r = total-room a (all-front (HasRoom (2 ^ 32)) a b f.sizes) in let p = r.0 in let q = r.1 in
-    rw (sym (moved s a))
+    rw (sym (advance-total s a))
     (record {
       number = omega arith;
       sizes = all-back (HasRoom (2 ^ 32)) a b f.sizes;
@@ -117,7 +117,7 @@ credit_shows = record {
   none = refl;
   one = one_of;
   joined = credit_of-append;
-  moved = λ s a f. moved s a;
+  moved = λ s a f. advance-total s a;
 }
 
 pub credit_laws : SummaryLaws no_change one_change credit_join credit_advance ◌+ℤ◌ ChangesFit

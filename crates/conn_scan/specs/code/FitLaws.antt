@@ -4,12 +4,12 @@ use Rattle.std.proofs.Common.{arith}
 use Rattle.std.proofs.lemmas.Int.{ints}
 use Rattle.std.specs.List.{AllByRecursion}
 use Rattle.audit_terms.specs.declared.sides.Side.TheVariants.{Client, Server}
-use Rattle.audit_terms.specs.declared.connections.ConnectionState.{ConnectionState}
+use Rattle.audit_terms.specs.declared.connection_state.ConnectionState.{ConnectionState}
 use Rattle.audit_terms.specs.declared.items.Item.{Item}
 use Rattle.audit_terms.specs.Connection.{connection_after}
 use Rattle.audit_terms.specs.code.runs.Blocks.{connection_after_all}
 use Rattle.audit_terms.specs.code.Room.{HasRoom}
-use Rattle.conn_scan.specs.code.Credit.{change_of}
+use Rattle.conn_scan.specs.code.Credit.{credit_change}
 use Rattle.conn_scan.specs.code.Each.{all-front, all-back}
 use Rattle.conn_scan.specs.code.Block.{MovesLittle, ItemsFit}
 
@@ -53,9 +53,11 @@ rest_fit now a b f =
       record {
         number = omega arith;
         client = room-wider _ _ (connection_after_all now a).credit.client (omega arith)
-            (room-after (λ s. s.credit.client) (change_of Client) (λ s x. refl) (λ x h. h.0) _ now a first f.0.client);
+            (room-after (λ s. s.credit.client) (credit_change Client) (λ s x. refl) (λ x h. h.0) _ now a first
+            f.0.client);
         server = room-wider _ _ (connection_after_all now a).credit.server (omega arith)
-            (room-after (λ s. s.credit.server) (change_of Server) (λ s x. refl) (λ x h. h.1) _ now a first f.0.server);
+            (room-after (λ s. s.credit.server) (credit_change Server) (λ s x. refl) (λ x h. h.1) _ now a first
+            f.0.server);
       },
       all-back MovesLittle a b f.1,
     )

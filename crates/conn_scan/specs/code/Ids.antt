@@ -6,13 +6,13 @@ use Rattle.audit_terms.specs.Frame.{promised_in}
 use Rattle.audit_terms.specs.Connection.{is_opened_by_headers, is_even_promise}
 
 -- the stream that the HEADERS of an item open
-abbrev pub opened_in : Item → Option ℕ
-opened_in item = if is_opened_by_headers item then Some item.frame.stream else None
+abbrev pub opened_id : Item → Option ℕ
+opened_id item = if is_opened_by_headers item then Some item.frame.stream else None
 
 -- the even stream that the server promises by a frame
 abbrev pub promise_of : Frame → Option ℕ
 promise_of frame = if is_even_promise frame then Some (promised_in frame.body) else None
 
 -- the same by an item
-abbrev pub promised_by : Item → Option ℕ
-promised_by item = promise_of item.frame
+abbrev pub promised_id : Item → Option ℕ
+promised_id item = promise_of item.frame

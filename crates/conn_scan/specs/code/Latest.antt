@@ -45,10 +45,10 @@ newer before None = before
 newer before (Some x) = Some x
 
 -- the lesser of two values that may be there
-abbrev pub lesser : Option ℕ → Option ℕ → Option ℕ
-lesser x None = x
-lesser None (Some y) = Some y
-lesser (Some x) (Some y) = Some (min x y)
+abbrev pub lesser_limit : Option ℕ → Option ℕ → Option ℕ
+lesser_limit x None = x
+lesser_limit None (Some y) = Some y
+lesser_limit (Some x) (Some y) = Some (min x y)
 
 -- the last limit that some items bring for side d
 abbrev pub last_limit : Side → List Item → Option ℕ
@@ -58,7 +58,7 @@ last_limit d (item ∷ items) = newer (limit_in d item.change) (last_limit d ite
 -- the least limit that some items bring for side d
 abbrev pub least_limit : Side → List Item → Option ℕ
 least_limit d [] = None
-least_limit d (item ∷ items) = lesser (limit_in d item.change) (least_limit d items)
+least_limit d (item ∷ items) = lesser_limit (limit_in d item.change) (least_limit d items)
 
 -- the last ENABLE_PUSH that some items bring
 abbrev pub last_push : List Item → Option ℕ
@@ -144,7 +144,7 @@ latest_promised a stream = record a {
 abbrev pub latest_changed : Latest → Option Change → Latest
 latest_changed a change = record a {
   limit = each_side (λ d. newer (side_of d a.limit) (limit_in d change));
-  least = each_side (λ d. lesser (side_of d a.least) (limit_in d change));
+  least = each_side (λ d. lesser_limit (side_of d a.least) (limit_in d change));
   push = newer a.push (push_in change);
 }
 
@@ -156,7 +156,7 @@ latest_met a item = latest_changed (latest_marked (latest_seen a item.frame) ite
 abbrev pub latest_join : Latest → Latest → Latest
 latest_join a b = record {
   limit = each_side (λ d. newer (side_of d a.limit) (side_of d b.limit));
-  least = each_side (λ d. lesser (side_of d a.least) (side_of d b.least));
+  least = each_side (λ d. lesser_limit (side_of d a.least) (side_of d b.least));
   longest = each_side (λ d. max (side_of d a.longest) (side_of d b.longest));
   push = newer a.push b.push;
   zero_grant = a.zero_grant || b.zero_grant;

@@ -10,7 +10,8 @@ use Rattle.audit_terms.specs.declared.items.Item.{Item}
 use Rattle.audit_terms.specs.Sides.{side_of, each_side}
 use Rattle.audit_terms.specs.Frame.{is_server_promise}
 use Rattle.audit_terms.specs.Change.{new_limit, new_push}
-use Rattle.conn_scan.specs.code.Latest.{limit_in, push_in, length_by, grants_zero, promises_odd, is_zero, newer, lesser}
+use Rattle.conn_scan.specs.code.Latest.{limit_in, push_in, length_by, grants_zero, promises_odd, is_zero, newer}
+use Rattle.conn_scan.specs.code.Latest.{lesser_limit}
 use Rattle.conn_scan.specs.code.Latest.{last_limit, least_limit, last_push, longest_by, some_zero_grant}
 use Rattle.conn_scan.specs.code.Latest.{some_odd_promise, some_early_promise, some_barred_promise, latest_of}
 use Rattle.conn_scan.specs.code.Latest.{latest_join, latest_met}
@@ -19,7 +20,7 @@ limit-append : (d : Side) (a b : List Item) → last_limit d (a ++ b) ≡ newer 
 limit-append d [] b = grind arith
 limit-append d (x ∷ a) b = grind (arith, limit-append d a b)
 
-least-append : (d : Side) (a b : List Item) → least_limit d (a ++ b) ≡ lesser (least_limit d a) (least_limit d b)
+least-append : (d : Side) (a b : List Item) → least_limit d (a ++ b) ≡ lesser_limit (least_limit d a) (least_limit d b)
 least-append d [] b = grind arith
 least-append d (x ∷ a) b = grind (arith, least-append d a b)
 

@@ -6,15 +6,15 @@ use Rattle.audit_terms.specs.declared.items.Item.{Item}
 use Rattle.audit_terms.specs.Frame.{is_headers}
 
 -- the numbers from the first that is not below `low`
-abbrev pub numbers_from : (low : ℕ) → List ℕ → List ℕ
-numbers_from low [] = []
-numbers_from low (number ∷ numbers) = if nat_lt number low then numbers_from low numbers else number ∷ numbers
+abbrev pub numbers_not_below : (low : ℕ) → List ℕ → List ℕ
+numbers_not_below low [] = []
+numbers_not_below low (number ∷ numbers) = if nat_lt number low then numbers_not_below low numbers else number ∷ numbers
 
 -- the changes from the first whose number is not below `low`
-abbrev pub changes_from : (low : ℕ) → List Change → List Change
-changes_from low [] = []
-changes_from low (change ∷ changes) =
-    if nat_lt change.number low then changes_from low changes else change ∷ changes
+abbrev pub changes_not_below : (low : ℕ) → List Change → List Change
+changes_not_below low [] = []
+changes_not_below low (change ∷ changes) =
+    if nat_lt change.number low then changes_not_below low changes else change ∷ changes
 
 -- is it the first number?
 abbrev pub is_first : (number : ℕ) → List ℕ → Bool
@@ -37,8 +37,8 @@ item_at frame opened changes = record {
 abbrev pub walked : (opened : List ℕ) → List Change → List Frame → List Item
 walked opened changes [] = []
 walked opened changes (frame ∷ frames) =
-    let marks = numbers_from frame.number opened in
-    let news = changes_from frame.number changes in
+    let marks = numbers_not_below frame.number opened in
+    let news = changes_not_below frame.number changes in
     item_at frame marks news ∷ walked marks news frames
 
 -- the first number, if there is one, is not below `low`

@@ -1,7 +1,7 @@
 -- A worked example: a window of 65,535 bytes is used up, 1 byte is granted, 1 byte is sent.
 use Rattle.std.specs.Prelude.{◌≡◌, ℕ, ℤ, pos, neg_ℤ, ◌+ℤ◌, List, [], ◌∷◌, ◌++◌, length, map, take}
 use Rattle.block_scan.specs.code.Summary.{summary_of}
-use Rattle.block_scan.specs.code.List.{state_after}
+use Rattle.block_scan.specs.code.List.{after_all}
 use Rattle.conn_scan.specs.declared.credits.Credit.{Credit}
 use Rattle.conn_scan.specs.code.Credit.{total, high, low, no_change, one_change, credit_join, credit_advance}
 
@@ -13,7 +13,7 @@ last_changes = neg_ℤ (pos 1) ∷ []
 
 -- the credit after the first changes, so many of them
 abbrev pub credit_at : (count : ℕ) → ℤ
-credit_at count = state_after ◌+ℤ◌ (pos 65535) (take count (first_changes ++ last_changes))
+credit_at count = after_all ◌+ℤ◌ (pos 65535) (take count (first_changes ++ last_changes))
 
 -- the credit after each change
 abbrev pub StatesFound : Type 0

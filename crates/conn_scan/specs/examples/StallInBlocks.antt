@@ -1,50 +1,26 @@
 -- A worked example: the client uses up 65,535 bytes of connection credit, is granted 1 byte, and sends 1 byte.
-use Rattle.std.specs.Prelude.{◌≡◌, ℕ, ◌+◌, ◌*◌, pos, Bool, true, false, List, [], ◌∷◌, map, take, drop}
-use Rattle.audit_terms.specs.declared.sides.Side.{Side}
+use Rattle.std.specs.Prelude.{◌≡◌, ℕ, pos, Bool, true, false, List, [], ◌∷◌, ◌++◌, map, take, drop}
 use Rattle.audit_terms.specs.declared.sides.Side.TheVariants.{Client, Server}
 use Rattle.audit_terms.specs.declared.kinds.Kind.TheVariants.{ConnectionStallBegin, ConnectionStallEnd}
-use Rattle.audit_terms.specs.code.Settings.{no_settings}
-use Rattle.audit_terms.specs.declared.frames.Body.{Body}
-use Rattle.audit_terms.specs.declared.frames.Body.TheVariants.{Content, Headers, Settings as SettingsBody, SettingsAck}
-use Rattle.audit_terms.specs.declared.frames.Body.TheVariants.{WindowUpdate}
 use Rattle.audit_terms.specs.declared.frames.Frame.{Frame}
 use Rattle.audit_terms.specs.declared.items.Item.{Item}
 use Rattle.audit_terms.specs.declared.findings.Finding.{Finding}
-use Rattle.audit_terms.specs.FrameType.{data_type, headers_type, settings_type, window_update_type}
 use Rattle.audit_terms.specs.Finding.{finding_at, shown}
 use Rattle.audit_terms.specs.code.runs.Changes.{changes_of}
 use Rattle.audit_terms.specs.Connection.{connection_start}
 use Rattle.audit_terms.specs.code.runs.Blocks.{connection_after_all}
 use Rattle.audit_terms.specs.code.runs.States.{items_of}
 use Rattle.audit_terms.specs.code.runs.Blocks.{block_runs}
+use Rattle.audit_terms.specs.examples.Script.{data_frame, headers_frame, update_frame, opening_frames}
 use Rattle.conn_scan.specs.code.Items.{items_with}
 use Rattle.conn_scan.specs.code.Clear.{is_clear}
-
-abbrev pub scripted : ℕ → Side → (code stream length : ℕ) → Body → Frame
-scripted number side code stream length body = record {
-  number = number;
-  side = side;
-  rec = number + 2;
-  nanos = (number + 2) * 1000;
-  code = code;
-  flags = 0;
-  stream = stream;
-  length = length;
-  body = body;
-}
-
-abbrev pub data_frame : (number length : ℕ) → Frame
-data_frame number length = scripted number Client data_type 1 length Content
 
 -- both sides send empty settings and acknowledge them; frames 5 to 9 use up the credit
 abbrev pub stall_script : List Frame
 stall_script =
-    scripted 1 Client settings_type 0 0 (SettingsBody no_settings)
-    ∷ scripted 2 Server settings_type 0 0 (SettingsBody no_settings)
-    ∷ scripted 3 Client settings_type 0 0 SettingsAck ∷ scripted 4 Server settings_type 0 0 SettingsAck
-    ∷ scripted 5 Client headers_type 1 0 Headers
-    ∷ data_frame 6 16384 ∷ data_frame 7 16384 ∷ data_frame 8 16384 ∷ data_frame 9 16383
-    ∷ scripted 10 Server window_update_type 0 4 (WindowUpdate 1) ∷ data_frame 11 1 ∷ []
+    opening_frames ++ headers_frame 5 Client 1
+    ∷ data_frame 6 Client 1 16384 ∷ data_frame 7 Client 1 16384 ∷ data_frame 8 Client 1 16384
+    ∷ data_frame 9 Client 1 16383 ∷ update_frame 10 Server 0 1 ∷ data_frame 11 Client 1 1 ∷ []
 
 -- its items: frame 5 opens a stream
 abbrev pub stall_items : List Item
@@ -63,8 +39,8 @@ by_two (x ∷ []) = (x ∷ []) ∷ []
 by_two (x ∷ y ∷ items) = (x ∷ y ∷ []) ∷ by_two items
 
 -- what blocks show of the connection, without the credits
-abbrev pub shown_of : List (List Item) → List Finding
-shown_of blocks = shown false (block_runs connection_start blocks)
+abbrev pub shown_by_blocks : List (List Item) → List Finding
+shown_by_blocks blocks = shown false (block_runs connection_start blocks)
 
 abbrev pub stall_findings : List Finding
 stall_findings =
@@ -72,13 +48,13 @@ stall_findings =
     ∷ finding_at ConnectionStallBegin 11 0 Client (pos 0) ∷ []
 
 abbrev pub StallByOne : Type 0
-StallByOne = shown_of (by_one stall_items) ≡ stall_findings
+StallByOne = shown_by_blocks (by_one stall_items) ≡ stall_findings
 
 abbrev pub StallByTwo : Type 0
-StallByTwo = shown_of (by_two stall_items) ≡ stall_findings
+StallByTwo = shown_by_blocks (by_two stall_items) ≡ stall_findings
 
 abbrev pub StallAtOnce : Type 0
-StallAtOnce = shown_of (stall_items ∷ []) ≡ stall_findings
+StallAtOnce = shown_by_blocks (stall_items ∷ []) ≡ stall_findings
 
 -- is the item alone, at a place of the script, a clear block?
 abbrev pub is_clear_at : (place : ℕ) → Bool

@@ -7,14 +7,14 @@ use Rattle.audit_terms.specs.Life.{is_after_end, is_last_of, is_not_opened, is_o
 use Rattle.audit_terms.specs.Frame.{is_zero_grant}
 use Rattle.audit_terms.specs.Sides.{each_side, side_of}
 use Rattle.audit_terms.specs.Stream.{frame_said, life_at, opens}
-use Rattle.audit_terms.specs.declared.connections.ConnectionState.{ConnectionState}
+use Rattle.audit_terms.specs.declared.connection_state.ConnectionState.{ConnectionState}
 use Rattle.audit_terms.specs.declared.findings.Finding.{Finding}
 use Rattle.audit_terms.specs.declared.frames.Frame.{Frame}
 use Rattle.audit_terms.specs.declared.items.Item.{Item}
 use Rattle.audit_terms.specs.declared.items.Step.{Step}
 use Rattle.audit_terms.specs.declared.lives.StreamLife.{StreamLife}
 use Rattle.audit_terms.specs.declared.sides.Side.{Side}
-use Rattle.audit_terms.specs.declared.streams.Stream.{Stream}
+use Rattle.audit_terms.specs.declared.stream_state.Stream.{Stream}
 
 -- of the connection the item can show its length, and move the windows
 pub record IsPlainItem (item : Item) : Type 0 where

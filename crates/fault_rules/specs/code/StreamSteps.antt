@@ -17,15 +17,15 @@ window_moved d stream initial step =
     +ℤ (pos (new_initial step.change d (side_of d initial)) -ℤ pos (side_of d initial))
 
 -- the credit of a live window once the step is counted
-abbrev pub counted : Side → (stream : ℕ) → Sides ℕ → Step → (before : ℤ) → ℤ
-counted d stream initial step before = before +ℤ window_moved d stream initial step
+abbrev pub credit_after_step : Side → (stream : ℕ) → Sides ℕ → Step → (before : ℤ) → ℤ
+credit_after_step d stream initial step before = before +ℤ window_moved d stream initial step
 
 -- a grant that would bring the window above the largest (6.9.1)
 abbrev pub is_overflowing_grant : Side → (stream : ℕ) → Sides ℕ → Step → (before : ℤ) → Bool
 is_overflowing_grant d stream initial step before =
-    nat_lt 0 (step_amount (grant_to d stream) step) && overflows before (counted d stream initial step before)
+    nat_lt 0 (step_amount (grant_to d stream) step) && overflows before (credit_after_step d stream initial step before)
 
 -- the last credit that is known of a live window: an overflowing grant is not added
 abbrev pub last_credit : Side → (stream : ℕ) → Sides ℕ → Step → (before : ℤ) → ℤ
 last_credit d stream initial step before =
-    if is_overflowing_grant d stream initial step before then before else counted d stream initial step before
+    if is_overflowing_grant d stream initial step before then before else credit_after_step d stream initial step before

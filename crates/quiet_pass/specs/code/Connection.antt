@@ -4,12 +4,12 @@ use Rattle.audit_terms.specs.declared.sides.Side.{Side}
 use Rattle.audit_terms.specs.declared.frames.Frame.{Frame}
 use Rattle.audit_terms.specs.declared.items.Change.{Change}
 use Rattle.audit_terms.specs.declared.items.Item.{Item}
-use Rattle.audit_terms.specs.declared.connections.ConnectionState.{ConnectionState}
+use Rattle.audit_terms.specs.declared.connection_state.ConnectionState.{ConnectionState}
 use Rattle.audit_terms.specs.Frame.{promised_in, content_by, grant_to, grants_nothing}
 use Rattle.audit_terms.specs.Connection.{connection_said, connection_after, connection_window_said, credit_after}
 use Rattle.audit_terms.specs.Connection.{is_opened_by_headers, is_even_promise, opening_order_said}
 use Rattle.audit_terms.specs.Connection.{promise_order_said, push_said}
-use Rattle.quiet_pass.specs.declared.connections.KeptConnection.{KeptConnection}
+use Rattle.quiet_pass.specs.declared.kept_connection.KeptConnection.{KeptConnection}
 use Rattle.stream_credit.specs.code.Standings.{AreQuiet}
 
 -- the connection that is kept so
@@ -23,14 +23,14 @@ connection_of now = record {
 }
 
 -- a frame with what the connection meets beside it
-abbrev pub item_of : Frame → (opens : Bool) → Option Change → Item
-item_of frame opens change = record { frame = frame; opens = opens; change = change }
+abbrev pub as_item : Frame → (opens : Bool) → Option Change → Item
+as_item frame opens change = record { frame = frame; opens = opens; change = change }
 
 -- the connection after a frame: nothing of that is shown
 pub record IsConnectionAfter (frame : Frame) (opens : Bool) (change : Option Change)
     (old new : KeptConnection) : Type 0 where
-  pub said : AreQuiet (connection_said (connection_of old) (item_of frame opens change))
-  pub after : connection_of new ≡ connection_after (connection_of old) (item_of frame opens change)
+  pub said : AreQuiet (connection_said (connection_of old) (as_item frame opens change))
+  pub after : connection_of new ≡ connection_after (connection_of old) (as_item frame opens change)
 
 -- a credit after a frame, where some is left before and after it, and no more than the largest
 pub record IsCountedCredit (d : Side) (frame : Frame) (before after : ℕ) : Type 0 where
@@ -53,8 +53,8 @@ pub record LeavesCredit (d : Side) (frame : Frame) : Type 0 where
 -- the greatest stream opened by the client after a frame: nothing of that is shown
 pub record IsOpenedAfter (frame : Frame) (opens : Bool) (before after : ℕ) : Type 0 where
   pub opened : (change : Option Change)
-      → after ≡ (if is_opened_by_headers (item_of frame opens change) then max before frame.stream else before)
-  pub said : (change : Option Change) → opening_order_said before (item_of frame opens change) ≡ []
+      → after ≡ (if is_opened_by_headers (as_item frame opens change) then max before frame.stream else before)
+  pub said : (change : Option Change) → opening_order_said before (as_item frame opens change) ≡ []
 
 -- the greatest even stream promised by the server after a frame: nothing of that is shown
 pub record IsPromisedAfter (frame : Frame) (push before after : ℕ) : Type 0 where

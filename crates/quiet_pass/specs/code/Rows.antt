@@ -3,12 +3,12 @@ use Rattle.std.specs.Prelude.{◌≡◌, ◌≢◌, ℕ, ◌<◌, Bool, ◌==◌
 use Rattle.std.specs.Prelude.{slice_get}
 use Rattle.audit_terms.specs.declared.sides.Sides.{Sides}
 use Rattle.audit_terms.specs.declared.frames.Frame.{Frame}
-use Rattle.audit_terms.specs.declared.streams.Stream.{Stream}
+use Rattle.audit_terms.specs.declared.stream_state.Stream.{Stream}
 use Rattle.audit_terms.specs.Life.{is_opening}
 use Rattle.audit_terms.specs.Stream.{idle_stream, stream_said, stream_after}
 use Rattle.audit_terms.specs.code.runs.Streams.{frame_step}
 use Rattle.stream_credit.specs.code.Standings.{stream_of, AreQuiet, IsNextOpened, IsOpenedBy, AreMovedBy}
-use Rattle.quiet_pass.specs.declared.rows.Row.{Row}
+use Rattle.quiet_pass.specs.declared.opened_rows.Row.{Row}
 
 -- a stream by its identifier: one without a row is not opened
 abbrev pub entry_in : List Row → (stream : ℕ) → Stream
@@ -24,9 +24,9 @@ abbrev pub AreRising : List Row → Type 0
 AreRising rows = AreRisingFrom 0 rows
 
 -- each row's identifier is below this one, which is not 0
-abbrev pub IsPast : List Row → (stream : ℕ) → Type 0
-IsPast [] stream = 0 < stream
-IsPast (row ∷ rows) stream = (row.stream < stream) × IsPast rows stream
+abbrev pub IsAboveAll : List Row → (stream : ℕ) → Type 0
+IsAboveAll [] stream = 0 < stream
+IsAboveAll (row ∷ rows) stream = (row.stream < stream) × IsAboveAll rows stream
 
 -- the row of a stream stands there
 pub record IsRowOf (rows : List Row) (stream at : ℕ) : Type 0 where

@@ -4,12 +4,12 @@ use Rattle.audit_terms.specs.declared.sides.Sides.{Sides}
 use Rattle.audit_terms.specs.declared.frames.Frame.{Frame}
 use Rattle.audit_terms.specs.declared.items.Change.{Change}
 use Rattle.audit_terms.specs.declared.items.Step.{Step}
-use Rattle.audit_terms.specs.declared.streams.Stream.{Stream}
+use Rattle.audit_terms.specs.declared.stream_state.Stream.{Stream}
 use Rattle.audit_terms.specs.Frame.{meets}
 use Rattle.audit_terms.specs.Life.{is_opening}
 use Rattle.audit_terms.specs.Stream.{stream_said, stream_after}
-use Rattle.audit_terms.specs.code.Standing.{moved, IsQuietMove}
-use Rattle.quiet_pass.specs.declared.streams.Streams.{Streams}
+use Rattle.audit_terms.specs.code.Standing.{credit_after_change, IsQuietMove}
+use Rattle.quiet_pass.specs.declared.kept_streams.Streams.{Streams}
 use Rattle.stream_credit.specs.code.Standings.{AreQuiet}
 use Rattle.quiet_pass.specs.code.Rows.{entry_in, AreRising, AreMoved}
 
@@ -22,8 +22,8 @@ pub record AreStreams (streams : ℕ → Stream) (kept : Streams) : Type 0 where
   pub promised : AreRising kept.promised.items
 
 -- what a stream meets at a frame that brings a change, or none
-abbrev pub step_at : Frame → Option Change → (stream : ℕ) → Step
-step_at frame change stream = record {
+abbrev pub as_step : Frame → Option Change → (stream : ℕ) → Step
+as_step frame change stream = record {
   number = frame.number;
   frame = (if meets stream frame then Some frame else None);
   change = change;
@@ -38,8 +38,8 @@ pub record IsStep (stream : ℕ) (initial : Sides ℕ) (step : Step) (entry next
 pub record AreMet (initial : Sides ℕ) (frame : Frame) (change : Option Change) (streams : ℕ → Stream)
     (kept : Streams) : Type 0 where
   pub said : (stream : ℕ) → 0 < stream
-      → AreQuiet (stream_said stream initial (streams stream) (step_at frame change stream))
-  pub after : AreStreams (λ stream. stream_after stream initial (streams stream) (step_at frame change stream)) kept
+      → AreQuiet (stream_said stream initial (streams stream) (as_step frame change stream))
+  pub after : AreStreams (λ stream. stream_after stream initial (streams stream) (as_step frame change stream)) kept
 
 -- the same of a frame on a stream, which opens it or not
 pub record AreMetOn (initial : Sides ℕ) (frame : Frame) (opens : Bool) (streams : ℕ → Stream)
@@ -55,7 +55,7 @@ pub record AreAllMoved (before after : Sides ℕ) (old new : Streams) : Type 0 w
 -- a stream after that
 pub record IsEntryMoved (before after : Sides ℕ) (entry next : Stream) : Type 0 where
   pub life : next.life ≡ entry.life
-  pub client : next.window.client ≡ option_map (moved before.client after.client) entry.window.client
-  pub server : next.window.server ≡ option_map (moved before.server after.server) entry.window.server
+  pub client : next.window.client ≡ option_map (credit_after_change before.client after.client) entry.window.client
+  pub server : next.window.server ≡ option_map (credit_after_change before.server after.server) entry.window.server
   pub client_quiet : IsQuietMove entry.window.client next.window.client
   pub server_quiet : IsQuietMove entry.window.server next.window.server

@@ -6,7 +6,7 @@ use Rattle.audit_terms.specs.declared.settings.Settings.{Settings}
 use Rattle.audit_terms.specs.declared.frames.Frame.{Frame}
 use Rattle.audit_terms.specs.declared.items.Change.{Change}
 use Rattle.audit_terms.specs.InForce.{InForce, change_of, in_force_after}
-use Rattle.settings_pair.specs.declared.pending.Pending.{Pending}
+use Rattle.settings_pair.specs.declared.pending_settings.Pending.{Pending}
 
 -- all SETTINGS that a side sent
 abbrev pub sent_by : Side → Pending → List Settings

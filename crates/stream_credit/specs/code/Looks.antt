@@ -4,7 +4,7 @@ use Rattle.audit_terms.specs.declared.sides.Sides.{Sides}
 use Rattle.audit_terms.specs.declared.frames.Frame.{Frame}
 use Rattle.audit_terms.specs.declared.items.Change.{Change}
 use Rattle.audit_terms.specs.declared.items.Step.{Step}
-use Rattle.audit_terms.specs.declared.streams.Stream.{Stream}
+use Rattle.audit_terms.specs.declared.stream_state.Stream.{Stream}
 use Rattle.audit_terms.specs.InForce.{initial_in_force}
 use Rattle.audit_terms.specs.Stream.{idle_stream, stream_after}
 use Rattle.audit_terms.specs.code.runs.Streams.{initial_after}

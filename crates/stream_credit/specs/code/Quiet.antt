@@ -10,7 +10,7 @@ use Rattle.audit_terms.specs.Frame.{is_zero_grant, content_by, grant_to}
 use Rattle.audit_terms.specs.Life.{is_opening, ends_window, is_not_opened, is_after_end, life_after}
 use Rattle.audit_terms.specs.Window.{is_used_up, overflows, overruns}
 use Rattle.audit_terms.specs.code.Room.{HasRoom}
-use Rattle.stream_credit.specs.declared.quiet.Move.{Move}
+use Rattle.stream_credit.specs.declared.quiet_moves.Move.{Move}
 
 -- what DATA moves, and HEADERS by 0
 abbrev pub sent : Frame → Move

@@ -5,7 +5,7 @@ use Rattle.audit_terms.specs.declared.sides.Side.{Side}
 use Rattle.audit_terms.specs.declared.sides.Sides.{Sides}
 use Rattle.audit_terms.specs.declared.frames.Frame.{Frame}
 use Rattle.audit_terms.specs.declared.lives.StreamLife.{StreamLife}
-use Rattle.audit_terms.specs.declared.streams.Stream.{Stream}
+use Rattle.audit_terms.specs.declared.stream_state.Stream.{Stream}
 use Rattle.audit_terms.specs.declared.findings.Finding.{Finding}
 use Rattle.audit_terms.specs.Frame.{content_by, grant_to}
 use Rattle.audit_terms.specs.Life.{idle_life, is_opening, is_last_of}
@@ -15,7 +15,7 @@ use Rattle.audit_terms.specs.Stream.{idle_stream, stream_said, stream_after, win
 use Rattle.audit_terms.specs.Stream.{live_window_said}
 use Rattle.audit_terms.specs.code.runs.Streams.{frame_step}
 use Rattle.audit_terms.specs.code.Standing.{has_ended, window_of, IsBalance, IsMovedBy}
-use Rattle.stream_credit.specs.declared.standings.Standings.{Standings}
+use Rattle.stream_credit.specs.declared.stream_standings.Standings.{Standings}
 
 -- findings that are not shown where credits are not
 abbrev pub IsQuiet : Finding → Type 0

@@ -4,16 +4,16 @@ use Rattle.std.specs.Prelude.{◌≡◌, ℕ, ℤ, pos, true, false, List, [], �
 use Rattle.audit_terms.specs.declared.sides.Side.TheVariants.{Client, Server}
 use Rattle.audit_terms.specs.declared.sides.Sides.{Sides}
 use Rattle.audit_terms.specs.declared.kinds.Kind.TheVariants.{NotOpened, AfterEnd}
-use Rattle.audit_terms.specs.declared.frames.Body.TheVariants.{Ping, WindowUpdate}
+use Rattle.audit_terms.specs.declared.frames.Body.TheVariants.{Ping}
 use Rattle.audit_terms.specs.declared.frames.Frame.{Frame}
-use Rattle.audit_terms.specs.declared.streams.Stream.{Stream}
+use Rattle.audit_terms.specs.declared.stream_state.Stream.{Stream}
 use Rattle.audit_terms.specs.declared.findings.Finding.{Finding}
 use Rattle.audit_terms.specs.FrameType.{data_type, headers_type, rst_stream_type, push_promise_type, ping_type}
 use Rattle.audit_terms.specs.FrameType.{window_update_type}
 use Rattle.audit_terms.specs.Finding.{finding_at, shown}
 use Rattle.audit_terms.specs.code.runs.Streams.{frames_of, stream_run, stream_at_end}
-use Rattle.stream_credit.specs.examples.Script.{scripted, data_frame, last_data_frame, headers_frame}
-use Rattle.stream_credit.specs.examples.Script.{last_headers_frame, reset_frame, promise_frame}
+use Rattle.audit_terms.specs.examples.Script.{scripted, data_frame, last_data_frame, headers_frame, last_headers_frame}
+use Rattle.audit_terms.specs.examples.Script.{reset_frame, update_frame, promise_frame}
 
 -- what is shown of a stream over the frames of a connection, where credits are not
 abbrev pub shows : (stream : ℕ) → List Frame → List Finding
@@ -40,12 +40,13 @@ none_lives = record { client = None; server = None }
 abbrev pub BothSidesEnd : Type 0
 BothSidesEnd =
     (shows 1 (
-    data_frame 4 Client 1 ∷ headers_frame 5 Client 1 ∷ data_frame 6 Client 1 ∷ last_data_frame 7 Client 1
-    ∷ data_frame 8 Client 1 ∷ data_frame 9 Server 1 ∷ last_headers_frame 10 Server 1 ∷ headers_frame 11 Server 1 ∷ [])
+    data_frame 4 Client 1 0 ∷ headers_frame 5 Client 1 ∷ data_frame 6 Client 1 0 ∷ last_data_frame 7 Client 1 0
+    ∷ data_frame 8 Client 1 0 ∷ data_frame 9 Server 1 0 ∷ last_headers_frame 10 Server 1 ∷ headers_frame 11 Server 1
+    ∷ [])
     ≡ finding_at NotOpened 4 1 Client (pos data_type) ∷ finding_at AfterEnd 8 1 Client (pos data_type)
     ∷ finding_at AfterEnd 11 1 Server (pos headers_type) ∷ [])
-    × ((after_script 1 (headers_frame 5 Client 1 ∷ data_frame 6 Client 1 ∷ [])).window ≡ both_live)
-    × ((after_script 1 (headers_frame 5 Client 1 ∷ last_data_frame 7 Client 1 ∷ [])).window ≡ server_lives)
+    × ((after_script 1 (headers_frame 5 Client 1 ∷ data_frame 6 Client 1 0 ∷ [])).window ≡ both_live)
+    × ((after_script 1 (headers_frame 5 Client 1 ∷ last_data_frame 7 Client 1 0 ∷ [])).window ≡ server_lives)
     × ((after_script 1 (headers_frame 5 Client 1 ∷ last_headers_frame 10 Server 1 ∷ [])).window ≡ client_lives)
 
 -- a RST_STREAM takes both windows and ends the stream for its sender; DATA of the side that was reset is no use after
@@ -53,8 +54,8 @@ BothSidesEnd =
 abbrev pub AfterReset : Type 0
 AfterReset =
     (shows 3 (
-    headers_frame 6 Client 3 ∷ headers_frame 7 Client 1 ∷ reset_frame 13 Server 3 ∷ data_frame 14 Client 3
-    ∷ data_frame 15 Server 3 ∷ [])
+    headers_frame 6 Client 3 ∷ headers_frame 7 Client 1 ∷ reset_frame 13 Server 3 ∷ data_frame 14 Client 3 0
+    ∷ data_frame 15 Server 3 0 ∷ [])
     ≡ finding_at AfterEnd 15 3 Server (pos data_type) ∷ [])
     × ((after_script 3 (headers_frame 6 Client 3 ∷ reset_frame 13 Server 3 ∷ [])).window ≡ none_lives)
     × ((after_script 3 (headers_frame 6 Client 3 ∷ reset_frame 13 Server 3 ∷ [])).life.ended
@@ -72,8 +73,8 @@ OpensAndEnds =
 abbrev pub NothingOpens : Type 0
 NothingOpens =
     (shows 1 (
-    headers_frame 5 Server 1 ∷ reset_frame 6 Client 1 ∷ scripted 7 Server window_update_type 0 1 (WindowUpdate 1)
-    ∷ scripted 8 Client ping_type 0 1 Ping ∷ [])
+    headers_frame 5 Server 1 ∷ reset_frame 6 Client 1 ∷ update_frame 7 Server 1 1
+    ∷ scripted 8 Client ping_type 0 1 8 Ping ∷ [])
     ≡ finding_at NotOpened 5 1 Server (pos headers_type) ∷ finding_at NotOpened 6 1 Client (pos rst_stream_type)
     ∷ finding_at NotOpened 7 1 Server (pos window_update_type) ∷ [])
     × (shows 2 (headers_frame 5 Client 2 ∷ []) ≡ finding_at NotOpened 5 2 Client (pos headers_type) ∷ [])
@@ -82,8 +83,8 @@ NothingOpens =
 -- a promise of stream 2, on which the server sends and the client, which never can, does
 abbrev pub promise_script : List Frame
 promise_script =
-    headers_frame 5 Client 1 ∷ promise_frame 6 Server 1 2 ∷ headers_frame 7 Server 2 ∷ data_frame 8 Server 2
-    ∷ data_frame 12 Client 2 ∷ reset_frame 13 Client 2 ∷ data_frame 14 Server 2 ∷ []
+    headers_frame 5 Client 1 ∷ promise_frame 6 Server 1 2 ∷ headers_frame 7 Server 2 ∷ data_frame 8 Server 2 0
+    ∷ data_frame 12 Client 2 0 ∷ reset_frame 13 Client 2 ∷ data_frame 14 Server 2 0 ∷ []
 
 -- the promise opens the promised stream for the server, and is nothing to the stream that carries it
 abbrev pub PromiseOpens : Type 0
@@ -100,7 +101,7 @@ abbrev pub PromiseOpensOnce : Type 0
 PromiseOpensOnce =
     (shows 2 (promise_frame 6 Server 1 2 ∷ promise_frame 7 Server 3 2 ∷ []) ≡ [])
     × ((after_script 2 (promise_frame 6 Server 1 2 ∷ promise_frame 7 Server 3 2 ∷ [])).life.opened ≡ Some 6)
-    × (shows 2 (promise_frame 6 Client 1 2 ∷ data_frame 7 Server 2 ∷ [])
+    × (shows 2 (promise_frame 6 Client 1 2 ∷ data_frame 7 Server 2 0 ∷ [])
     ≡ finding_at NotOpened 7 2 Server (pos data_type) ∷ [])
 
 -- a promise on a stream that is not opened, on one of the server's own, or on one that the server has ended: it opens
@@ -110,7 +111,7 @@ MisplacedPromise =
     (shows 1 (promise_frame 5 Server 1 2 ∷ []) ≡ finding_at NotOpened 5 1 Server (pos push_promise_type) ∷ [])
     × (shows 2 (promise_frame 5 Server 1 2 ∷ []) ≡ [])
     × ((after_script 2 (promise_frame 5 Server 1 2 ∷ [])).life.opened ≡ Some 5)
-    × (shows 2 (promise_frame 5 Server 2 2 ∷ data_frame 6 Server 2 ∷ [])
+    × (shows 2 (promise_frame 5 Server 2 2 ∷ data_frame 6 Server 2 0 ∷ [])
     ≡ finding_at NotOpened 5 2 Server (pos push_promise_type) ∷ finding_at NotOpened 6 2 Server (pos data_type) ∷ [])
     × (shows 2 (promise_frame 5 Server 1 2 ∷ promise_frame 6 Server 2 4 ∷ [])
     ≡ finding_at NotOpened 6 2 Server (pos push_promise_type) ∷ [])

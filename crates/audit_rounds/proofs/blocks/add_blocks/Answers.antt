@@ -6,8 +6,8 @@ use Rattle.audit_rounds.proofs.blocks.add_blocks.Goals as goal
 pub loop-first-preserved : goal.loop-first-preserved
 loop-first-preserved c =
     let i = c.loop-first.invariant in
-    let numbers = c.numbers_from-rest in
-    let changes = c.changes_from-rest in
+    let numbers = c.numbers_not_below-rest in
+    let changes = c.changes_not_below-rest in
     let parts = c.split_at in
     let front : Block = record { frames = parts.result.0; opened = numbers.result; changes = changes.result } in
     let back : Block = record { frames = parts.result.1; opened = numbers.result; changes = changes.result } in

@@ -1,4 +1,4 @@
-use Rattle.audit_rounds.proofs.Words.{◌≡◌, ◌+◌, ◌≤◌, ◌++◌, List, length, map, items_of, Block, items_in, IsBlock}
+use Rattle.audit_rounds.proofs.Words.{◌≡◌, ◌+◌, ◌≤◌, ◌++◌, List, length, map, items_in_blocks, Block, items_in, IsBlock}
 use Rattle.audit_rounds.proofs.Words.{AreShort, blocks_of_connection}
 use Rattle.audit_rounds.proofs.blocks.add_blocks.Given as goal
 
@@ -9,7 +9,7 @@ invariant-loop-first l = record {
   short : AreShort l.fn.blocks.items → AreShort l.blocks.items;
   few : length l.blocks.items + length l.rest.frames.now ≤ length l.fn.blocks.items + length l.whole.frames.now;
   added : (cut : List Block) × (l.blocks.items ≡ l.fn.blocks.items ++ blocks_of_connection l.connection cut)
-      × (items_of (map items_in cut) ++ items_in l.rest ≡ items_in l.whole);
+      × (items_in_blocks (map items_in cut) ++ items_in l.rest ≡ items_in l.whole);
 }
 
 abbrev pub decreases-loop-first : goal.decreases-loop-first

@@ -1,7 +1,7 @@
 -- What blocks of frames show by themselves, each from the connection before it, with no stop.
 use Rattle.std.specs.Prelude.{List, [], ◌∷◌, ◌++◌}
 use Rattle.audit_terms.specs.declared.items.Item.{Item}
-use Rattle.audit_terms.specs.declared.connections.ConnectionState.{ConnectionState}
+use Rattle.audit_terms.specs.declared.connection_state.ConnectionState.{ConnectionState}
 use Rattle.audit_terms.specs.declared.findings.Finding.{Finding}
 use Rattle.audit_terms.specs.Connection.{connection_after, connection_said}
 use Rattle.audit_terms.specs.Finding.{in_order}

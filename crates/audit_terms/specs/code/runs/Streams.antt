@@ -8,7 +8,7 @@ use Rattle.audit_terms.specs.declared.frames.Frame.{Frame}
 use Rattle.audit_terms.specs.declared.items.Change.{Change}
 use Rattle.audit_terms.specs.declared.items.Item.{Item}
 use Rattle.audit_terms.specs.declared.items.Step.{Step}
-use Rattle.audit_terms.specs.declared.streams.Stream.{Stream}
+use Rattle.audit_terms.specs.declared.stream_state.Stream.{Stream}
 use Rattle.audit_terms.specs.declared.findings.Finding.{Finding}
 use Rattle.audit_terms.specs.Sides.{side_of, each_side}
 use Rattle.audit_terms.specs.Frame.{is_ack, meets}

@@ -1,5 +1,6 @@
-use Rattle.conn_scan.proofs.Terms.{◌≡◌, ◌+◌, [], ◌∷◌, ◌++◌, append_assoc, append-nil, sym, ◌∙◌, items_in, numbers_from}
-use Rattle.conn_scan.proofs.Terms.{changes_from, MovesLittle, each-append, arith}
+use Rattle.conn_scan.proofs.Terms.{◌≡◌, ◌+◌, [], ◌∷◌, ◌++◌, append_assoc, append-nil, sym, ◌∙◌, items_in}
+use Rattle.conn_scan.proofs.Terms.{numbers_not_below}
+use Rattle.conn_scan.proofs.Terms.{changes_not_below, MovesLittle, each-append, arith}
 use Rattle.conn_scan.specs.code.ConnSumLaws.{conn_sum_of-met}
 use Rattle.conn_scan.proofs.WalkLemmas.{block_walked, idle_at, walked-idle, walked-from}
 use Rattle.std.proofs.lemmas.List.{nil_from_length}
@@ -44,8 +45,8 @@ loop-frame-preserved c =
     let is = c.in-Some.ensures.cases.0 in
     let orderly = rw is at i.orderly in
     let item = c.item_at.result in
-    let left = walked-from (n + 1) (n + 1) (numbers_from n c.loop-frame.opened.now)
-    (changes_from n c.loop-frame.changes.now) c.in-Some.later.now (omega arith) orderly.2 in
+    let left = walked-from (n + 1) (n + 1) (numbers_not_below n c.loop-frame.opened.now)
+    (changes_not_below n c.loop-frame.changes.now) c.in-Some.later.now (omega arith) orderly.2 in
     record {
       low = n + 1;
       orderly = orderly.2;
@@ -55,10 +56,10 @@ loop-frame-preserved c =
       split = rw (
         append_assoc,
         c.item_at.ensures,
-        c.numbers_from-opened-else-frame-due.ensures,
-        c.changes_from-changes-else-frame-due.ensures,
-        c.numbers_from-opened.ensures,
-        c.changes_from-changes.ensures,
+        c.numbers_not_below-opened-else-frame-due.ensures,
+        c.changes_not_below-changes-else-frame-due.ensures,
+        c.numbers_not_below-opened.ensures,
+        c.changes_not_below-changes.ensures,
         ← left,
       ) (rw is at i.split);
       sum = rw (c.meet.ensures.met, i.sum) (sym (conn_sum_of-met i.done item));

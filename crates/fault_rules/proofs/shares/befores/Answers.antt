@@ -22,7 +22,7 @@ pub loop-n-init : goal.loop-n-init
 loop-n-init c =
     let start : c.new-befores.result.items ≡ [] = c.new-befores.ensures.items in
     record {
-      previous = c.none_before-previous.ensures ∙ sym (before_share-first c.args.size c.args.frames.now);
+      previous = c.both-previous.ensures ∙ sym (before_share-first c.args.size c.args.frames.now);
       count = ap length start;
       each = λ k d l. absurd (omega (arith, l, ap length start));
     }

@@ -1,8 +1,0 @@
-use Rattle.conn_scan.proofs.Terms.{◌≡◌, length, changes_from}
-use Rattle.conn_scan.proofs.block_items.changes_from.Given as goal
-
-abbrev pub invariant-loop-first : goal.invariant-loop-first
-invariant-loop-first l = changes_from l.low l.rest ≡ changes_from l.low l.changes
-
-abbrev pub decreases-loop-first : goal.decreases-loop-first
-decreases-loop-first l = length l.rest

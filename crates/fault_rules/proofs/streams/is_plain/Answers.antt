@@ -1,6 +1,0 @@
-use Rattle.std.proofs.Common.{rules}
-use Rattle.fault_rules.proofs.Plain.{plain_on}
-use Rattle.fault_rules.proofs.streams.is_plain.Goals as goal
-
-pub returns-in-Some : goal.returns-in-Some
-returns-in-Some c = search (rules, plain_on)

@@ -1,5 +1,0 @@
-use Rattle.fault_rules.proofs.Terms.{arith, ints}
-use Rattle.fault_rules.proofs.windows.moved.Goals as goal
-
-pub returns : goal.returns
-returns c = omega (arith, ints, c.from.ensures, c.from-2.ensures, c.from-3.ensures, c.from-4.ensures)

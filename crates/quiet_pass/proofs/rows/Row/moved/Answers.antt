@@ -1,8 +1,0 @@
-use Rattle.stream_credit.proofs.Words.{refl, subst, same_Some}
-use Rattle.quiet_pass.specs.code.Rows.{IsRowMoved}
-use Rattle.quiet_pass.proofs.rows.Row.moved.Goals as goal
-
-pub returns : goal.returns
-returns c = λ x e.
-    subst (IsRowMoved c.args.before.now c.args.after.now c.args.self.now) (same_Some _ _ e)
-    (record { same = refl; moved = c.moved.ensures _ c.in_ok-moved.was })

@@ -1,8 +1,0 @@
-use Rattle.stream_credit.proofs.Words.{refl, subst, same_Some}
-use Rattle.quiet_pass.specs.code.Rows.{IsOpened}
-use Rattle.quiet_pass.proofs.rows.Row.opened.Goals as goal
-
-pub returns : goal.returns
-returns c = λ x e.
-    subst (IsOpened c.args.stream c.args.initial.now c.args.frame.now) (same_Some _ _ e)
-    (record { same = refl; by = c.opened.ensures _ c.in_ok-opened.was })

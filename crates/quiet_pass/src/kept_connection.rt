@@ -1,0 +1,169 @@
+//! The connection between two frames, for as long as nothing of it is shown where credits are not shown: then both
+//! windows have credit.
+
+ghost use Rattle.std.specs.Prelude.{◌≡◌, false, Option};
+ghost use Rattle.std.specs.Bool.{OnTrue};
+ghost use Rattle.std.specs.Option.{ForSome};
+ghost use Rattle.audit_terms.specs.Frame.{is_server_promise};
+ghost use Rattle.audit_terms.specs.Connection.{connection_start};
+ghost use Rattle.quiet_pass.specs.code.Connection.{connection_of, IsConnectionAfter, IsCountedCredit, IsCreditAfter};
+ghost use Rattle.quiet_pass.specs.code.Connection.{IsOpenedAfter, IsPromisedAfter, LeavesCredit};
+
+use audit_terms::standings::balance;
+use audit_terms::{
+    Change, FIRST_LIMIT, FIRST_WINDOW, Frame, Side, Sides, limit_after, new_limit, new_push,
+};
+
+/// The connection between two frames (RFC 9113, 4.2, 5.1.1, 6.9).
+#[derive(Clone, Copy)]
+pub(crate) struct KeptConnection {
+    /// The credit in bytes of each side's connection window: more than 0.
+    credit: Sides<u32>,
+    /// The greatest stream that the client opened so far, or 0.
+    opened: u32,
+    /// The greatest even stream that the server promised so far, or 0.
+    promised: u32,
+    /// ENABLE_PUSH of the client, in force for the server (6.5.2).
+    push: u32,
+    /// The greatest length in bytes of a frame that each side may send.
+    limit: Sides<u32>,
+}
+
+impl KeptConnection {
+    /// The connection before any frame.
+    pub(crate) fn start() -> Self
+        ensures { connection_of result ≡ connection_start }
+    {
+        KeptConnection {
+            credit: Sides::both(FIRST_WINDOW),
+            opened: 0,
+            promised: 0,
+            push: 1,
+            limit: Sides::both(FIRST_LIMIT),
+        }
+    }
+
+    /// Meets a frame, which opens its stream or not and may bring a change, and answers whether nothing of that may be
+    /// shown.
+    pub(crate) fn meet(&mut self, frame: &Frame, opens: bool, change: &Option<Change>) -> bool
+        ensures { OnTrue result (IsConnectionAfter frame.now opens change.now self.old self.new) }
+    {
+        let longest = new_limit(change, frame.side, self.limit.of(frame.side));
+        if longest < frame.length.get() {
+            return false;
+        }
+        let (Some(opened), Some(promised)) = (
+            self.opened_after(frame, opens),
+            self.promised_after(frame),
+        ) else {
+            return false;
+        };
+        let (Some(client), Some(server)) = (
+            credit_after(self.credit.client, Side::Client, frame),
+            credit_after(self.credit.server, Side::Server, frame),
+        ) else {
+            return false;
+        };
+        self.credit = Sides { client, server };
+        self.opened = opened;
+        self.promised = promised;
+        self.push = new_push(change, self.push);
+        self.limit = limit_after(change, &self.limit);
+        true
+    }
+
+    /// Meets a frame that opens no stream, promises none and brings no change, as most do, and answers whether nothing
+    /// of that may be shown.
+    #[inline]
+    pub(crate) fn meet_lone(&mut self, frame: &Frame) -> bool
+        requires { is_server_promise frame.now ≡ false }
+        ensures { OnTrue result (IsConnectionAfter frame.now false Option.None self.old self.new) }
+    {
+        if self.limit.of(frame.side) < frame.length.get() {
+            return false;
+        }
+        let Some(side) = moved_side(frame) else {
+            return true;
+        };
+        let Some(credit) = credit_after(self.credit.of(side), side, frame) else {
+            return false;
+        };
+        *self.credit.of_mut(side) = credit;
+        true
+    }
+
+    /// Meets a SETTINGS, or an acknowledgement with the change that it brings, and answers whether nothing of that may
+    /// be shown.
+    pub(crate) fn meet_settings(&mut self, frame: &Frame, change: &Option<Change>) -> bool
+        requires { is_server_promise frame.now ≡ false }
+        ensures { OnTrue result (IsConnectionAfter frame.now false change.now self.old self.new) }
+    {
+        match change {
+            Some(_) => self.meet(frame, false, change),
+            None => self.meet_lone(frame),
+        }
+    }
+
+    /// The greatest stream that the client opened, after a frame, if that is in order (5.1.1).
+    fn opened_after(&self, frame: &Frame, opens: bool) -> Option<u32>
+        ensures { ForSome result (IsOpenedAfter frame.now opens self.now.opened) }
+    {
+        if !(opens && frame.body.is_headers()) {
+            return Some(self.opened);
+        }
+        if frame.stream <= self.opened {
+            return None;
+        }
+        Some(frame.stream)
+    }
+
+    /// The greatest even stream that the server promised, after a frame, if that is in order and allowed (5.1.1, 8.4).
+    fn promised_after(&self, frame: &Frame) -> Option<u32>
+        ensures { ForSome result (IsPromisedAfter frame.now self.now.push self.now.promised) }
+    {
+        if !frame.is_server_promise() {
+            return Some(self.promised);
+        }
+        let promised = frame.body.promised();
+        if self.push == 0 || promised % 2 == 1 || promised <= self.promised {
+            return None;
+        }
+        Some(promised)
+    }
+}
+
+/// Whose credit a frame may move: it does nothing to the others.
+#[inline]
+fn moved_side(frame: &Frame) -> Option<Side>
+    ensures client { (result ≡ Option.Some Side.Client → ⊥) → LeavesCredit Side.Client frame.now }
+    ensures server { (result ≡ Option.Some Side.Server → ⊥) → LeavesCredit Side.Server frame.now }
+{
+    if frame.body.is_content() {
+        return Some(frame.side);
+    }
+    if frame.stream == 0 && frame.body.is_update() {
+        return Some(frame.side.other());
+    }
+    None
+}
+
+/// A credit after a frame, if some is left before and after it, and no more than the largest window (6.9.1).
+fn balance_after(credit: u32, side: Side, frame: &Frame) -> Option<u32>
+    ensures { ForSome result (IsCountedCredit side frame.now credit) }
+{
+    let after = balance(credit, frame.grant_to(side, 0), frame.content_by(side))?;
+    if credit == 0 || after == 0 {
+        return None;
+    }
+    Some(after)
+}
+
+/// A credit after a frame, if nothing but credit is shown of that (6.9, 6.9.1).
+fn credit_after(credit: u32, side: Side, frame: &Frame) -> Option<u32>
+    ensures { ForSome result (IsCreditAfter side frame.now credit) }
+{
+    if frame.grants_nothing(side, 0) {
+        return None;
+    }
+    balance_after(credit, side, frame)
+}

@@ -1,0 +1,110 @@
+//! All streams of a connection, for as long as nothing of them is shown where credits are not shown.
+
+ghost use Rattle.std.specs.Prelude.{◌≡◌, ℕ, ◌<◌, true, false, [], IfOk};
+ghost use Rattle.std.specs.Bool.{OnTrue};
+ghost use Rattle.std.specs.Option.{ForSome};
+ghost use Rattle.audit_terms.specs.declared.sides.Sides.{Sides as SidesTerm};
+ghost use Rattle.audit_terms.specs.declared.stream_state.Stream.{Stream};
+ghost use Rattle.audit_terms.specs.Frame.{is_server_promise};
+ghost use Rattle.quiet_pass.specs.code.Rows.{AreRising, IsMetOn};
+ghost use Rattle.quiet_pass.specs.code.Streams.{AreStreams, AreMetOn, AreAllMoved};
+
+use crate::opened_rows::{Row, find, meet, move_all, open};
+use audit_terms::{Frame, Sides};
+use std::alloc::{AllocError, Global};
+
+/// The rows of the streams that were opened.
+#[derive(Drop)]
+pub(crate) struct Streams {
+    /// The odd ones, which the client opens.
+    opened: Vec<Row>,
+    /// The even ones, which the server promises.
+    promised: Vec<Row>,
+}
+
+impl Streams {
+    pub(crate) fn new(alloc: Global) -> Self
+        ensures opened { result.opened.items ≡ [] }
+        ensures promised { result.promised.items ≡ [] }
+    {
+        Streams {
+            opened: Vec::new(alloc),
+            promised: Vec::new(alloc),
+        }
+    }
+
+    /// Meets a frame on a stream, and says whether it opens the stream; nothing where something may be shown.
+    pub(crate) fn meet(
+        &mut self,
+        initial: &Sides<u32>,
+        frame: &Frame,
+    ) -> Result<Option<bool>, AllocError>
+        requires { 0 < frame.now.stream }
+        ensures { IfOk result (λ met. ForSome met (λ opens. (streams : ℕ → Stream) → AreStreams streams self.old
+            → AreMetOn initial.now frame.now opens streams self.new)) }
+    {
+        if frame.is_server_promise() {
+            let is_quiet = self.promise(initial, frame)?;
+            return Ok(is_quiet.then_some(false));
+        }
+        if frame.stream % 2 == 1 {
+            meet_on(&mut self.opened, initial, frame)
+        } else {
+            meet_on(&mut self.promised, initial, frame)
+        }
+    }
+
+    /// Meets a promise of the server, which opens the promised stream, and answers whether nothing of that may be shown
+    /// (RFC 9113, 6.6).
+    fn promise(&mut self, initial: &Sides<u32>, frame: &Frame) -> Result<bool, AllocError>
+        requires { is_server_promise frame.now ≡ true }
+        ensures { IfOk result (λ quiet. OnTrue quiet ((streams : ℕ → Stream) → AreStreams streams self.old
+            → AreMetOn initial.now frame.now false streams self.new)) }
+    {
+        if frame.stream % 2 == 0 || !meet_opened(&mut self.opened, frame) {
+            return Ok(false);
+        }
+        open(&mut self.promised, frame.body.promised(), initial, frame)
+    }
+
+    /// Meets a change of the initial windows in force, and answers whether nothing of that may be shown (6.9.2).
+    pub(crate) fn move_windows(&mut self, before: &Sides<u32>, after: &Sides<u32>) -> bool
+        ensures { OnTrue result (AreAllMoved before.now after.now self.old self.new) }
+    {
+        move_all(&mut self.opened, before, after) && move_all(&mut self.promised, before, after)
+    }
+}
+
+/// Meets a frame on a stream that has to be opened, and answers whether nothing of that may be shown.
+fn meet_opened(rows: &mut Vec<Row>, frame: &Frame) -> bool
+    ensures { OnTrue result (AreRising rows.old.items → (initial : SidesTerm ℕ)
+        → IsMetOn frame.now.stream initial frame.now false rows.old.items rows.new.items) }
+{
+    match find(rows.as_slice(), frame.stream) {
+        Some(at) => meet(rows, at, frame),
+        None => false,
+    }
+}
+
+/// Meets a frame on a stream, one of those in the rows, and says whether it opens the stream; nothing where something
+/// may be shown. Frames that need no opened stream do nothing to one without a row.
+#[inline]
+fn meet_on(
+    rows: &mut Vec<Row>,
+    initial: &Sides<u32>,
+    frame: &Frame,
+) -> Result<Option<bool>, AllocError>
+    requires { is_server_promise frame.now ≡ false }
+    ensures { IfOk result (λ met. ForSome met (λ opens. AreRising rows.old.items
+        → IsMetOn frame.now.stream initial.now frame.now opens rows.old.items rows.new.items)) }
+{
+    if let Some(at) = find(rows.as_slice(), frame.stream) {
+        let is_quiet = meet(rows, at, frame);
+        return Ok(is_quiet.then_some(false));
+    }
+    if !frame.needs_opening() {
+        return Ok(Some(false));
+    }
+    let is_quiet = open(rows, frame.stream, initial, frame)?;
+    Ok(is_quiet.then_some(true))
+}

@@ -1,0 +1,152 @@
+//! The streams that were opened, of each a row: in the order of their identifiers, which is that of their opening
+//! (RFC 9113, 5.1.1).
+
+ghost use Rattle.std.specs.Prelude.{◌≡◌, ℕ, true, false, IfOk};
+ghost use Rattle.std.specs.Bool.{OnTrue};
+ghost use Rattle.std.specs.Option.{ForSome};
+ghost use Rattle.audit_terms.specs.declared.sides.Sides.{Sides as SidesTerm};
+ghost use Rattle.quiet_pass.specs.code.Rows.{IsRowOf, IsRowAfter, IsOpened, AreRising, IsMetOn};
+ghost use Rattle.quiet_pass.specs.code.Rows.{AreMoved, IsAboveAll, IsRowMoved};
+
+use audit_terms::{Frame, Sides};
+use std::alloc::AllocError;
+use stream_credit::Standings;
+
+/// A stream that is opened, between two frames: 16 bytes.
+#[derive(Clone, Copy)]
+pub(crate) struct Row {
+    /// Its identifier.
+    pub(crate) stream: u32,
+    pub(crate) standings: Standings,
+}
+
+const _: () = prove!(size_of::<Row>() == 16);
+
+impl Row {
+    /// The row after a frame on its stream, if nothing of that is shown.
+    #[inline]
+    fn after(&self, frame: &Frame) -> Option<Row>
+        ensures { ForSome result (IsRowAfter frame.now self.now) }
+    {
+        Some(Row {
+            standings: self.standings.after(frame)?,
+            ..*self
+        })
+    }
+
+    /// The row of a stream that a frame opens, if it does and nothing but credits is shown of that.
+    fn opened(stream: u32, initial: &Sides<u32>, frame: &Frame) -> Option<Row>
+        ensures { ForSome result (IsOpened stream initial.now frame.now) }
+    {
+        Some(Row {
+            stream,
+            standings: Standings::opened(stream, initial, frame)?,
+        })
+    }
+
+    /// The row after a change of the initial windows in force, if nothing of that is shown (RFC 9113, 6.9.2).
+    fn after_change(&self, before: &Sides<u32>, after: &Sides<u32>) -> Option<Row>
+        ensures { ForSome result (IsRowMoved before.now after.now self.now) }
+    {
+        Some(Row {
+            standings: self.standings.after_change(before, after)?,
+            ..*self
+        })
+    }
+}
+
+/// Where the row of a stream stands. Clients mostly open every odd stream, so a guess finds most.
+#[inline]
+pub(crate) fn find(rows: &[Row], stream: u32) -> Option<usize>
+    ensures { ForSome result (IsRowOf rows.now stream) }
+{
+    let Some(first) = rows.first() else {
+        return None;
+    };
+    let guess = stream.wrapping_sub(first.stream) as usize / 2;
+    if is_row_of(rows, guess, stream) {
+        return Some(guess);
+    }
+    search(rows, stream)
+}
+
+/// Where the row of a stream stands, found by halving.
+fn search(rows: &[Row], stream: u32) -> Option<usize>
+    ensures { ForSome result (IsRowOf rows.now stream) }
+{
+    let at = rows.partition_point(|row| row.stream < stream);
+    if is_row_of(rows, at, stream) {
+        return Some(at);
+    }
+    None
+}
+
+/// Does the row of a stream stand here?
+fn is_row_of(rows: &[Row], at: usize, stream: u32) -> bool
+    ensures { OnTrue result (IsRowOf rows.now stream at) }
+{
+    match rows.get(at) {
+        Some(row) => row.stream == stream,
+        None => false,
+    }
+}
+
+/// Meets a frame on the stream of a row, and answers whether nothing of that may be shown.
+#[inline]
+pub(crate) fn meet(rows: &mut Vec<Row>, at: usize, frame: &Frame) -> bool
+    requires { IsRowOf rows.old.items frame.now.stream at }
+    ensures { OnTrue result (AreRising rows.old.items → (initial : SidesTerm ℕ)
+        → IsMetOn frame.now.stream initial frame.now false rows.old.items rows.new.items) }
+{
+    let Some(next) = rows[at].after(frame) else {
+        return false;
+    };
+    rows[at] = next;
+    true
+}
+
+/// Is a stream above those of all rows?
+fn is_above_all(rows: &[Row], stream: u32) -> bool
+    ensures { OnTrue result (AreRising rows.now → IsAboveAll rows.now stream) }
+{
+    match rows.last() {
+        Some(row) => row.stream < stream,
+        None => 0 < stream,
+    }
+}
+
+/// Adds a row if a frame opens this stream, above those of all rows, and nothing but credits is shown of that; and
+/// answers whether it did.
+pub(crate) fn open(
+    rows: &mut Vec<Row>,
+    stream: u32,
+    initial: &Sides<u32>,
+    frame: &Frame,
+) -> Result<bool, AllocError>
+    ensures { IfOk result (λ opened. OnTrue opened (AreRising rows.old.items
+        → IsMetOn stream initial.now frame.now true rows.old.items rows.new.items)) }
+{
+    if !is_above_all(rows.as_slice(), stream) {
+        return Ok(false);
+    }
+    match Row::opened(stream, initial, frame) {
+        Some(row) => {
+            rows.push(row)?;
+            Ok(true)
+        }
+        None => Ok(false),
+    }
+}
+
+/// Meets a change of the initial windows in force, and answers whether nothing of that may be shown.
+pub(crate) fn move_all(rows: &mut Vec<Row>, before: &Sides<u32>, after: &Sides<u32>) -> bool
+    ensures { OnTrue result (AreMoved before.now after.now rows.old.items rows.new.items) }
+{
+    for at in 0..rows.len() {
+        let Some(next) = rows[at].after_change(before, after) else {
+            return false;
+        };
+        rows[at] = next;
+    }
+    true
+}

@@ -1,0 +1,87 @@
+//! The SETTINGS that each side sent, and how many of them are acknowledged (RFC 9113, 6.5.3).
+
+ghost use Rattle.std.specs.Prelude.{◌≡◌, true, [], slice_get, IfOk};
+ghost use Rattle.audit_terms.specs.declared.sides.Side.{Side as SideTerm};
+ghost use Rattle.audit_terms.specs.Side.{other};
+ghost use Rattle.audit_terms.specs.Sides.{side_of};
+ghost use Rattle.audit_terms.specs.Frame.{is_ack};
+ghost use Rattle.audit_terms.specs.InForce.{InForce};
+ghost use Rattle.settings_pair.specs.code.Pending.{sent_by, IsPending, IsBrought};
+
+use audit_terms::{Body, Change, Frame, PackedSettings, Settings, Side, Sides, change_by};
+use std::alloc::{AllocError, Global};
+
+/// The SETTINGS of a connection so far: a few, as connections go.
+#[derive(Drop)]
+pub struct Pending {
+    /// All that the client sent.
+    pub client: Vec<PackedSettings>,
+    /// All that the server sent.
+    pub server: Vec<PackedSettings>,
+    /// How many acknowledgements of each side took one of the other side's.
+    pub taken: Sides<usize>,
+}
+
+impl Pending {
+    /// The SETTINGS before any frame: none.
+    pub fn new(alloc: Global) -> Self
+        ensures client { result.client.items ≡ [] }
+        ensures server { result.server.items ≡ [] }
+        ensures taken { (d : SideTerm) → side_of d result.taken ≡ 0 }
+    {
+        Pending {
+            client: Vec::new(alloc),
+            server: Vec::new(alloc),
+            taken: Sides::both(0),
+        }
+    }
+
+    /// What the next acknowledgement of a side takes.
+    fn next(&self, side: Side) -> Option<Settings>
+        ensures { result ≡ slice_get (sent_by (other side) self.now) (side_of side self.now.taken) }
+    {
+        let sent = match side {
+            Side::Client => &self.server,
+            Side::Server => &self.client,
+        };
+        match sent.get(self.taken.of(side)) {
+            Some(settings) => Some(settings.settings()),
+            None => None,
+        }
+    }
+
+    /// The change that a frame brings, if it is an acknowledgement that takes a SETTINGS, the oldest of the other side
+    /// that none took; and what stands after it.
+    ///
+    /// # Errors
+    ///
+    /// Without memory for settings.
+    // In line, since it is called for each frame: as a call it took up to a tenth of the instructions of an audit.
+    #[inline(always)]
+    pub fn meet(&mut self, frame: &Frame) -> Result<Option<Change>, AllocError>
+        ensures { IfOk result (λ change. (now : InForce) → IsPending now self.old
+            → IsBrought now frame.now change self.new) }
+    {
+        match frame.body {
+            Body::Settings(settings) => {
+                match frame.side {
+                    Side::Client => self.client.push(settings)?,
+                    Side::Server => self.server.push(settings)?,
+                }
+                Ok(None)
+            }
+            Body::SettingsAck => Ok(self.take(frame)),
+            _ => Ok(None),
+        }
+    }
+
+    /// What an acknowledgement brings, if it takes a SETTINGS.
+    fn take(&mut self, frame: &Frame) -> Option<Change>
+        requires { is_ack frame.now.body ≡ true }
+        ensures { (now : InForce) → IsPending now self.old → IsBrought now frame.now result self.new }
+    {
+        let settings = self.next(frame.side)?;
+        *self.taken.of_mut(frame.side) += 1;
+        Some(change_by(frame, settings))
+    }
+}

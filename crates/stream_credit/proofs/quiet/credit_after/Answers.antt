@@ -1,8 +1,0 @@
-use Rattle.stream_credit.proofs.quiet.credit_after.Goals as goal
-
-pub returns-in-Some : goal.returns-in-Some
-returns-in-Some c = λ after e. record {
-  before = c.in-Some.before;
-  live = c.in-Some.is;
-  raised = c.raised.ensures after e;
-}
