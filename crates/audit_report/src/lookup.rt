@@ -16,15 +16,9 @@ pub(crate) fn frame_at(frames: &[Frame], number: u32) -> Option<Frame>
     }
 }
 
-<<<<<<< HEAD
 /// The frame of this number. Frames numbered without a gap have it as far behind the first one as their numbers differ:
 /// there it is looked for first.
-pub fn frame_of(frames: &[Frame], number: u32) -> Option<Frame>
-=======
-/// The frame of this number. Frames numbered from 1 without a gap have it at its own place: that is where it is looked
-/// for first.
 pub(crate) fn frame_of(frames: &[Frame], number: u32) -> Option<Frame>
->>>>>>> 6c851d8b1d596f65615e56e65f4831f154bbdf73
     requires { IsOrderly frames.now }
     ensures { result ≡ frame_numbered frames.now number }
 {
