@@ -7,3 +7,4 @@ pub mod FindingLists
 pub mod SaidPlaces
 mod Packing
 pub mod OrderlyFrames
+pub mod LeastPlaces

@@ -2,6 +2,7 @@ pub mod Packing
 pub mod Room
 pub mod Sides
 pub mod Standing
+pub mod Stops
 pub mod LastFrame
 pub mod Watch
 pub mod Widths

@@ -19,7 +19,8 @@
 //! - [`PackedSettings`], [`Word`] and [`Length`] need no alignment, so that a frame takes fewer bytes; contracts see
 //!   the settings and the numbers that they hold.
 //! - [`Place`], [`Kind`] and [`Finding`] say where a finding stands, what it says and whether it stops the audit;
-//!   [`put_in_order`], [`cut_at_stop`], [`keep_up_to`] and [`keep_shown`] order findings, end them and drop credits.
+//!   [`put_in_order`], [`cut_at_stop`], [`keep_up_to`] and [`keep_shown`] order findings, end them and drop credits;
+//!   [`first_stop_place`] says where they stop, and [`lesser_place`] which of two places comes first.
 //! - [`Look`] and [`Watch`]: a run asks where its connection stops, and hands each look what is shown of the steps
 //!   before it. When a look is due, `specs/code/runs/Look.antt` says, and docs/ARCHITECTURE.md ("How the work is
 //!   divided").
@@ -47,6 +48,7 @@ mod places;
 mod settings;
 mod sides;
 pub mod standings;
+mod stops;
 mod stream_state;
 mod widths;
 mod windows;
@@ -64,6 +66,7 @@ pub use looks::{Look, Watch};
 pub use places::Place;
 pub use settings::{PackedSettings, Settings};
 pub use sides::{Side, Sides};
+pub use stops::{first_stop_place, lesser_place};
 pub use stream_state::Stream;
 pub use widths::{Length, Word};
 pub use windows::{FIRST_WINDOW, LARGEST_WINDOW};
