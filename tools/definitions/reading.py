@@ -229,7 +229,7 @@ class Reader:
         else:
             self.at -= 1
             made = self.made("name", self.word())
-        while self.peek() == "." and all(token.joined for token in self.tokens[self.at : self.at + 2]):
+        while self.peek() == "." and [token.joined for token in self.tokens[self.at : self.at + 2]] == [True, True]:
             self.at += 2
             made = self.made("field", made, self.peek(-1))
         return made
