@@ -31,7 +31,7 @@ pub fn one_pass(alloc: Global, frames: &[Frame]) -> Result<Vec<Finding>, AllocEr
     shown_with(alloc, true, frames, &pairs, rows)
 }
 
-/// The same as far as it is shown, with or without credits, if this takes time about as the frames do: where streams
+/// What is shown of the plain pass, with or without credits, if this takes time about as the frames do: where streams
 /// first come in rising order, and few frames may be met by all of them. Else there is no answer.
 pub fn shown_in_one_pass(
     alloc: Global,

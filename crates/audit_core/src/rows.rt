@@ -14,13 +14,13 @@ use std::alloc::{AllocError, Global};
 
 /// A stream and what it is between two frames.
 #[derive(Clone, Copy)]
-pub struct StreamRow {
+pub(crate) struct StreamRow {
     pub stream: u32,
     pub entry: Stream,
 }
 
 /// A row for each stream other than 0 that meets one of the frames, in order of its first frame, not opened yet.
-pub fn idle_rows(alloc: Global, frames: &[Frame]) -> Result<Vec<StreamRow>, AllocError>
+pub(crate) fn idle_rows(alloc: Global, frames: &[Frame]) -> Result<Vec<StreamRow>, AllocError>
     ensures { IfOk result (λ rows. rows.items ≡ idle_rows (streams_of frames.now)) }
 {
     let Some((frame, later)) = frames.split_first() else {
@@ -47,7 +47,7 @@ fn put_first(rows: &mut Vec<StreamRow>, stream: u32) -> Result<(), AllocError>
 
 /// The rows of [`idle_rows`], where streams first come in rising order, as they have to be opened (RFC 9113, 5.1.1);
 /// else none.
-pub fn rising_rows(alloc: Global, frames: &[Frame]) -> Result<Option<IdleRows>, AllocError>
+pub(crate) fn rising_rows(alloc: Global, frames: &[Frame]) -> Result<Option<IdleRows>, AllocError>
     ensures { IfOk result (λ made. ForSome made (λ idle. idle.rows.items ≡ idle_rows (streams_of frames.now))) }
 {
     let mut made = RisingRows {
@@ -75,7 +75,7 @@ fn may_meet_all(frame: &Frame) -> bool {
 
 /// A row for each stream that meets one of some frames.
 #[derive(Drop)]
-pub struct IdleRows {
+pub(crate) struct IdleRows {
     pub rows: Vec<StreamRow>,
     /// How many of the frames all streams may meet.
     pub met_by_all: usize,
@@ -83,7 +83,7 @@ pub struct IdleRows {
 
 /// Rows of streams in rising order, up to the last.
 #[derive(Drop)]
-pub struct RisingRows {
+pub(crate) struct RisingRows {
     pub rows: Vec<StreamRow>,
     pub last: u32,
 }
@@ -104,7 +104,7 @@ impl RisingRows {
         self.put(frame.promised_by())
     }
 
-    /// The same of one stream; 0 has no row.
+    /// Puts the row of one stream behind the others, where it has none, if the stream is past them; 0 has no row.
     fn put(&mut self, stream: u32) -> Result<bool, AllocError>
         ensures { IfOk result (λ rises. OnTrue rises ((streams : List ℕ) → AreRowsOf streams self.old
             → AreRowsOf (with_stream stream streams) self.new)) }
@@ -137,7 +137,7 @@ fn find(rows: &[StreamRow], stream: u32) -> Option<usize>
     search(rows, stream)
 }
 
-/// The same by halving.
+/// Where the row of a stream stands, found by halving.
 fn search(rows: &[StreamRow], stream: u32) -> Option<usize>
     ensures { ForSome result (IsRowOf rows.now stream) }
 {
@@ -159,7 +159,7 @@ fn is_row_of(rows: &[StreamRow], at: usize, stream: u32) -> bool
 }
 
 /// Does a frame open its stream (RFC 9113, 5.1.1)?
-pub fn opens(rows: &[StreamRow], frame: &Frame) -> bool
+pub(crate) fn opens(rows: &[StreamRow], frame: &Frame) -> bool
     requires { AreDistinct rows.now }
     ensures { result ≡ list_any (row_opens frame.now) rows.now }
 {
@@ -176,7 +176,7 @@ pub fn opens(rows: &[StreamRow], frame: &Frame) -> bool
     }
 }
 
-/// The same, whatever the stream of the frame.
+/// Does a frame open its stream, whether the stream has a row or not?
 fn opens_some(rows: &[StreamRow], frame: &Frame) -> bool
     ensures { result ≡ list_any (row_opens frame.now) rows.now }
 {
@@ -186,7 +186,7 @@ fn opens_some(rows: &[StreamRow], frame: &Frame) -> bool
 
 /// Adds what each stream shows at an item, and brings it to its state after the item; `initial` are the initial windows
 /// in force before it. An item that brings no change and promises no stream is met by one stream at most.
-pub fn meet(
+pub(crate) fn meet(
     rows: &mut [StreamRow],
     found: &mut Vec<Finding>,
     initial: &Sides<u32>,
@@ -214,7 +214,7 @@ pub fn meet(
     }
 }
 
-/// The same of an item on the stream of the row that stands there, which no other stream meets.
+/// Adds what one stream shows at an item that no other stream meets: that of the row which stands there.
 fn meet_at(
     rows: &mut [StreamRow],
     at: usize,
@@ -240,7 +240,8 @@ fn meet_at(
     Ok(())
 }
 
-/// The same, where any stream may meet the item: by halves, since there may be as many streams as frames.
+/// Adds what each stream shows at an item that any may meet: by halves, since there may be as many streams as frames,
+/// and a call for each would need a stack as long.
 fn meet_all(
     rows: &mut [StreamRow],
     found: &mut Vec<Finding>,
