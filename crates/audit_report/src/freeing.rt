@@ -11,6 +11,7 @@ ghost use Rattle.audit_terms.specs.declared.findings.Finding.{Finding as Finding
 
 use crate::endings::{push_end_line_after, push_stall_lines};
 use crate::findings::push_finding_lines;
+use crate::lookup::offset_of;
 use crate::stalls::stall_pairs;
 use audit_terms::{Finding, Frame};
 use std::alloc::AllocError;
@@ -87,16 +88,18 @@ fn do_rise(findings: &[Finding]) -> bool
     true
 }
 
-/// How many frames stand before the first of this number or above.
+/// How many frames stand before the one of this number, where frames are numbered without a gap; else none.
 fn count_below(frames: &[Frame], number: u32) -> usize
+    requires { IsOrderly frames.now }
     ensures within { result ≤ length frames.now }
     ensures below { AreBelow number result frames.now }
 {
-    let mut count = 0;
-    while count < frames.len() && frames[count].number < number {
-        count += 1;
+    let count = offset_of(frames, number).min(frames.len());
+    if count == 0 {
+        return 0;
     }
-    count
+    let last = frames[count - 1].number;
+    if last < number { count } else { 0 }
 }
 
 /// Drops so many from the front, and gives their memory back.
