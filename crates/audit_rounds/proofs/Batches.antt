@@ -1,6 +1,6 @@
 -- Batches of connections: made ready, those that are still to be gone through, and fronts. A batch has few frames, and
 -- so its rounds have few jobs.
-use Rattle.audit_rounds.proofs.Words.{◌≡◌, ℕ, suc, ◌+◌, ◌*◌, ◌<◌, ◌≤◌, ◌==◌, ◌++◌, Bool, true, false, not, min}
+use Rattle.audit_rounds.proofs.Words.{◌≡◌, ℕ, zero, suc, ◌+◌, ◌*◌, ◌<◌, ◌≤◌, ◌==◌, ◌++◌, Bool, true, false, not, min}
 use Rattle.audit_rounds.proofs.Words.{nat_lt}
 use Rattle.audit_rounds.proofs.Words.{if◌then◌else◌, List, [], ◌∷◌, map, take, drop, filter, length, get_or, All, refl}
 use Rattle.audit_rounds.proofs.Words.{sym, ap, ◌∙◌, arith, Option, None, Vec, Global, Bor, AllZip, sum_by, zip}
@@ -21,7 +21,7 @@ use Rattle.std.proofs.lemmas.List.Sums.{sum_by-take-drop, sum_by-le-sum_by, leng
 use Rattle.split_merge.specs.code.Groups.{group_at}
 use Rattle.audit_rounds.specs.code.Batch.{AreShownAfter, shown_after}
 use Rattle.audit_rounds.specs.code.Few.{PreparedAreFew, RestsAreFew}
-use Rattle.split_merge.specs.code.Pending.{is_pending, pending_of, put_back}
+use Rattle.audit_rounds.specs.code.Pending.{is_pending, pending_of, put_back}
 use Rattle.audit_rounds.proofs.EarlyStop.{fronts_settle_lem}
 use Rattle.audit_rounds.proofs.Lists.{items_in, frames_in, some_of, all-alike, sums-alike}
 use Rattle.audit_rounds.proofs.Parts.{orderly-take}
@@ -77,6 +77,17 @@ pending-batch all found batch = record {
   orderly = pending-lent all found batch.orderly;
   few = let fewer = pending-few all found in let few = batch.few in omega arith;
 }
+
+-- once all are gone over, that is what stands there
+pub back-all : (all : List (Bor (List Frame))) (found : List (Vec Finding Global)) (n : ℕ)
+    (rest : List (Vec Finding Global)) → n ≡ length all → length found ≡ length all
+    → map items_in (take n found) ++ put_back (drop n all) (drop n found) rest ≡ map items_in found
+back-all [] [] zero rest l e = refl
+back-all [] [] (suc n) rest l e = absurd (omega arith)
+back-all [] (y ∷ found) n rest l e = absurd (omega arith)
+back-all (x ∷ all) [] n rest l e = absurd (omega arith)
+back-all (x ∷ all) (y ∷ found) zero rest l e = absurd (omega arith)
+back-all (x ∷ all) (y ∷ found) (suc n) rest l e = grind (arith, back-all all found n rest (omega arith) (omega arith))
 
 -- what is found of them later, put back, is what is shown after what was found of all
 pub back-shown : (frames_shown : Bool) (all : List (Bor (List Frame))) (found later : List (Vec Finding Global))

@@ -11,6 +11,5 @@ mod Jobs
 mod Settles
 mod StreamOrder
 mod StreamWork
-mod Openers
 mod StreamRounds
 mod EarlyStop

@@ -4,7 +4,8 @@ use Rattle.audit_rounds.proofs.Words.{get_or, append-nil, append_assoc, Option, 
 use Rattle.audit_rounds.proofs.Words.{option_to_list, All-contains, All-append, All-nil, Contains-append_left, Finding}
 use Rattle.audit_rounds.proofs.Words.{in_order, Asked, IsRun, place_number, opened_up_to, IsPast, whole_is_cut_lem}
 use Rattle.audit_rounds.proofs.Words.{RunLooks, Result, Ok, Err, IfOk, Frame, IsOrderly, shown, stream_run, Reaches}
-use Rattle.audit_rounds.proofs.Words.{stream_at_end, StreamRow, frames_at, Streams, lesser, IsWork, IsRow, RowsLook}
+use Rattle.audit_rounds.proofs.Words.{stream_at_end, StreamRow, frames_at, Streams, lesser_place, IsWork, IsRow}
+use Rattle.audit_rounds.proofs.Words.{RowsLook}
 use Rattle.audit_rounds.proofs.Words.{row_shown, row_opened, rows_shown, rows_opened, ◌<◌, take, drop, length, map}
 use Rattle.audit_rounds.proofs.Words.{slice_get, slice_get-get_or, get_or_from_slice_get, All-take, All-drop, Job}
 use Rattle.audit_rounds.proofs.Words.{IsCut, StreamJob, AreOpenedUpTo, length-map, IsJobOf, IsReady, job_of}
@@ -43,12 +44,12 @@ module _ {L : Type 0} (answers : L → List Finding → Option ℕ → L → Typ
 
 -- ---- the lesser of two places
 
-reaches-one : (one other : Option ℕ) → Reaches one (lesser one other)
+reaches-one : (one other : Option ℕ) → Reaches one (lesser_place one other)
 reaches-one None other = tt
 reaches-one (Some a) None = omega arith
 reaches-one (Some a) (Some b) = omega arith
 
-reaches-other : (one other : Option ℕ) → Reaches other (lesser one other)
+reaches-other : (one other : Option ℕ) → Reaches other (lesser_place one other)
 reaches-other one None = tt
 reaches-other None (Some b) = omega arith
 reaches-other (Some a) (Some b) = omega arith
@@ -58,7 +59,7 @@ past-reached None stop place r h = absurd h
 past-reached (Some a) None place r h = absurd r
 past-reached (Some a) (Some b) place r h = omega arith
 
-lesser-is : (one other : Option ℕ) (place : ℕ) → lesser one other ≡ Some place
+lesser-is : (one other : Option ℕ) (place : ℕ) → lesser_place one other ≡ Some place
     → (one ≡ Some place) ⊎ (other ≡ Some place)
 lesser-is None other place e = inr e
 lesser-is (Some a) None place e = inl e
@@ -67,11 +68,11 @@ lesser-is (Some a) (Some b) place e =
     ⊎_elim (λ l. inl (ap Some (let same : a ≡ place = omega arith in same)))
     (λ l. inr (ap Some (let same : b ≡ place = omega arith in same))) (cases_lt a b)
 
-lesser-none : (one : Option ℕ) → lesser one None ≡ one
+lesser-none : (one : Option ℕ) → lesser_place one None ≡ one
 lesser-none None = refl
 lesser-none (Some a) = refl
 
-lesser-assoc : (a b c : Option ℕ) → lesser (lesser a b) c ≡ lesser a (lesser b c)
+lesser-assoc : (a b c : Option ℕ) → lesser_place (lesser_place a b) c ≡ lesser_place a (lesser_place b c)
 lesser-assoc None b c = refl
 lesser-assoc (Some a) None c = refl
 lesser-assoc (Some a) (Some b) None = refl
@@ -87,7 +88,7 @@ all-in_order P xs h k d l =
 module _ (frames_shown : Bool) (streams : Streams) (row : StreamRow) where
   looks-more : (rows : List StreamRow) (asked asked' : List Asked) (one other : Option ℕ)
       → RowsLook frames_shown streams rows asked one → RowLooks frames_shown streams row asked' other
-      → RowsLook frames_shown streams (rows ++ row ∷ []) (asked ++ asked') (lesser one other)
+      → RowsLook frames_shown streams (rows ++ row ∷ []) (asked ++ asked') (lesser_place one other)
   looks-more [] asked asked' one other (none, whole) k =
       rw (none, whole) (asked', [], other, None, sym (append-nil asked'), sym (lesser-none other), k, (refl, refl))
   looks-more (first ∷ rows) asked asked' one other (front, rest, a, b, is, least, h, later) k =
@@ -95,7 +96,7 @@ module _ (frames_shown : Bool) (streams : Streams) (row : StreamRow) where
         front,
         rest ++ asked',
         a,
-        lesser b other,
+        lesser_place b other,
         append_assoc front rest asked',
         lesser-assoc a b other,
         h,
@@ -133,7 +134,7 @@ module _ {L : Type 0} (answers : L → List Finding → Option ℕ → L → Typ
     -- the work of some rows and of one more
     pub work-more : (rows : List StreamRow) (row : StreamRow) (a b c : L) (kept kept' : List Finding) (opened : List ℕ)
         (opened' one other : Option ℕ) → IsRowsWork rows a b one kept opened → IsRowWork row b c other kept' opened'
-        → IsRowsWork (rows ++ row ∷ []) a c (lesser one other) (in_order (kept ++ kept'))
+        → IsRowsWork (rows ++ row ∷ []) a c (lesser_place one other) (in_order (kept ++ kept'))
         (opened ++ option_to_list opened')
     work-more rows row a b c kept kept' opened opened' one other h k =
         let whole = rows_shown frames_shown streams rows in
@@ -147,9 +148,9 @@ module _ {L : Type 0} (answers : L → List Finding → Option ℕ → L → Typ
           ← flat_map_more (row_shown frames_shown streams) [] rows row,
           ← flat_map_more (λ row. option_to_list (row_opened streams row)) [] rows row,
         ) (record {
-          cut = cuts_join_lem whole own kept kept' (lesser one other) one other h.cut k.cut
+          cut = cuts_join_lem whole own kept kept' (lesser_place one other) one other h.cut k.cut
               (λ place. past-reached one _ place first) (λ place. past-reached other _ place second);
-          opens = agree-append (lesser one other) opened openings (option_to_list opened') opening
+          opens = agree-append (lesser_place one other) opened openings (option_to_list opened') opening
               (agree-reached one _ opened openings first h.opens)
               (agree-reached other _ (option_to_list opened') opening second k.opens);
           numbered = all-in_order IsNumbered (kept ++ kept') (All-append IsNumbered kept kept' h.numbered k.numbered);

@@ -30,7 +30,7 @@ pub use Rattle.audit_rounds.specs.code.AfterStreams.{AreAfterStreams, HaveSettle
 pub use Rattle.audit_rounds.specs.code.Batch.{IsBatch, AreReady}
 pub use Rattle.audit_rounds.specs.code.Blocks.{IsSum, AreSums, wholes, IsShort, AreShort, blocks_of_connection}
 pub use Rattle.audit_rounds.specs.code.Blocks.{AddsBlocks}
-pub use Rattle.audit_rounds.specs.code.Connections.{AreRests, IsRest}
+pub use Rattle.audit_rounds.specs.code.Rests.{AreRests, IsRest}
 pub use Rattle.audit_rounds.specs.code.EarlyStops.{front_of, IsEarly}
 pub use Rattle.audit_rounds.specs.code.Few.{RowsAreFew}
 pub use Rattle.audit_rounds.specs.code.MadeReady.{AreMadeReady}
@@ -41,13 +41,14 @@ pub use Rattle.audit_rounds.specs.code.Prepared.{IsPrepared, found_before}
 pub use Rattle.audit_rounds.specs.code.Remaining.{IsRemaining, AreRemaining, AreGoneThrough}
 pub use Rattle.audit_rounds.specs.code.Shown.{streams_shown, blocks_shown}
 pub use Rattle.audit_rounds.specs.code.StreamJobs.{IsReady, IsJobOf, job_of, job_at, of_rows, plan_from}
-pub use Rattle.audit_rounds.specs.code.StreamRound.{IsFirstStop, IsStreamsOf}
-pub use Rattle.audit_rounds.specs.code.Streams.{IsRow, rows_opened, lesser, AreOpenedUpTo, RowsLook, rows_shown, IsWork}
+pub use Rattle.audit_rounds.specs.code.StreamRound.{IsStreamsOf}
+pub use Rattle.audit_rounds.specs.code.Streams.{IsRow, rows_opened, AreOpenedUpTo, RowsLook, rows_shown, IsWork}
 pub use Rattle.audit_rounds.specs.code.Streams.{row_shown, row_opened}
 pub use Rattle.audit_rounds.specs.code.Within.{AgreeWithin, IsAfterStreams, frames_within}
-pub use Rattle.audit_rounds.specs.declared.{block_plans.ReadyBlock.ReadyBlock, blocks.ConnectionBlock.ConnectionBlock}
+pub use Rattle.audit_rounds.specs.declared.block_plans.ReadyBlock.{ReadyBlock}
+pub use Rattle.audit_rounds.specs.declared.connection_blocks.ConnectionBlock.{ConnectionBlock}
 pub use Rattle.audit_rounds.specs.declared.{prepared.MadeReady.MadeReady, prepared.Prepared.Prepared}
-pub use Rattle.audit_rounds.specs.declared.{stream_jobs.StreamJob.StreamJob, streams.Streams.Streams}
+pub use Rattle.audit_rounds.specs.declared.{stream_jobs.StreamJob.StreamJob, connection_streams.Streams.Streams}
 pub use Rattle.audit_rounds.specs.laws.Settling.{Reaches}
 pub use Rattle.audit_terms.proofs.FindingOrder.{comes_after_is, in_order-append_left}
 pub use Rattle.audit_terms.proofs.OrderedLists.{ordered-in_order, in_order-append, in_order-ordered}
@@ -61,6 +62,7 @@ pub use Rattle.audit_terms.specs.Pass.{pass, PassState, pass_start, first_of, ne
 pub use Rattle.audit_terms.specs.Place.{place_number}
 pub use Rattle.audit_terms.specs.Sides.{side_of}
 pub use Rattle.audit_terms.specs.Stream.{idle_stream, stream_said, stream_after}
+pub use Rattle.audit_terms.specs.code.Stops.{IsFirstStop, IsLeast, StopsAt, lesser_place}
 pub use Rattle.audit_terms.specs.code.runs.Blocks.{block_run, connection_after_all}
 pub use Rattle.audit_terms.specs.code.runs.Changes.{AreAcknowledged, changes_of, settings_run, settings_run_from}
 pub use Rattle.audit_terms.specs.code.runs.LocalFaults.{local_run, local_run_from}
@@ -80,7 +82,7 @@ pub use Rattle.conn_scan.specs.declared.{block_items.Block.Block, sums.ConnSum.C
 pub use Rattle.stop_desk.proofs.RoundCuts.{whole_is_cut_lem}
 pub use Rattle.stop_desk.proofs.RoundMembers.{contains-none}
 pub use Rattle.stop_desk.proofs.RoundMerge.{board_merges_lem}
-pub use Rattle.stop_desk.specs.code.Board.{Job, IsLeast, StopsAt, findings_of_parts, findings_of_jobs, IsCut, IsPast}
+pub use Rattle.stop_desk.specs.code.Board.{Job, findings_of_parts, findings_of_jobs, IsCut, IsPast}
 pub use Rattle.stop_desk.specs.code.Heeding.{Heeds, RunLooks}
 pub use Rattle.stop_desk.specs.code.Laid.{part_of}
 pub use Rattle.stop_desk.specs.code.Settling.{HasSettled}

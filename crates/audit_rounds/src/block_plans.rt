@@ -7,11 +7,11 @@ ghost use Rattle.audit_terms.specs.Connection.{connection_start};
 ghost use Rattle.audit_terms.specs.code.runs.Blocks.{block_run};
 ghost use Rattle.audit_terms.specs.Finding.{shown};
 ghost use Rattle.conn_scan.specs.code.ConnSum.{conn_sum_of};
-ghost use Rattle.audit_rounds.specs.declared.blocks.ConnectionBlock.{ConnectionBlock as BlockTerm};
+ghost use Rattle.audit_rounds.specs.declared.connection_blocks.ConnectionBlock.{ConnectionBlock as BlockTerm};
 ghost use Rattle.audit_rounds.specs.code.Blocks.{AreFit, AreShort, AreSums, before_of};
 ghost use Rattle.audit_rounds.specs.code.Plans.{IsPlan, shown_from};
 
-use crate::blocks::ConnectionBlock;
+use crate::connection_blocks::ConnectionBlock;
 use audit_terms::ConnectionState;
 use block_scan::Summary;
 use conn_scan::{Block, ConnSum, clear};

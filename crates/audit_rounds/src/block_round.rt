@@ -2,13 +2,13 @@
 
 ghost use Rattle.std.specs.Prelude.{◌≡◌, ◌-◌, ◌<◌, ◌^◌, [], length, map, slice_index_or, ⊤};
 ghost use Rattle.std.proofs.Props.{props};
-ghost use Rattle.audit_rounds.specs.declared.blocks.ConnectionBlock.{ConnectionBlock as BlockTerm};
+ghost use Rattle.audit_rounds.specs.declared.connection_blocks.ConnectionBlock.{ConnectionBlock as BlockTerm};
 ghost use Rattle.audit_rounds.specs.code.Blocks.{AreShort, IsSum};
 ghost use Rattle.audit_rounds.specs.code.Plans.{block_job, sum_job, AreReady, BlockLooks};
 ghost use Rattle.audit_rounds.specs.code.Props.{frames-prop, changes-prop, numbers-prop};
 
 use crate::block_plans::ReadyBlock;
-use crate::blocks::ConnectionBlock;
+use crate::connection_blocks::ConnectionBlock;
 use audit_terms::Look;
 use conn_scan::{ConnSum, block_findings, block_sum};
 use std::alloc::{AllocError, Global};

@@ -13,15 +13,14 @@ ghost use Rattle.audit_rounds.specs.code.Remaining.{AreGoneThrough, AreRemaining
 
 use crate::block_plans::{ReadyBlock, plan_of};
 use crate::block_round::{BlockRound, SumRound};
-use crate::blocks::{ConnectionBlock, in_blocks};
-use crate::crew::Crew;
-use crate::gathering::{gathered, none_of_each};
-use crate::merging::merged_each;
+use crate::connection_blocks::{ConnectionBlock, in_blocks};
+use crate::division::Division;
+use crate::gathering::{gathered, merged_each, none_of_each};
 use audit_terms::{Finding, Place};
 use conn_scan::{Block, ConnSum};
 use std::alloc::{AllocError, Global};
 use std::thread::Threads;
-use stop_desk::{AuditRound, Gate, Part, settle};
+use stop_desk::{AuditRound, Gate, Part, Team, settle};
 
 /// The summaries that parts hold.
 fn sums_in(alloc: Global, parts: &[Part<ConnSum>]) -> Result<Vec<ConnSum>, AllocError>
@@ -36,7 +35,8 @@ fn sums_in(alloc: Global, parts: &[Part<ConnSum>]) -> Result<Vec<ConnSum>, Alloc
 
 /// The summary of each block.
 fn sums_of<R: Threads + Sync, G: Gate>(
-    crew: &Crew<'_, R, G>,
+    team: &Team<'_, R, G>,
+    division: &Division,
     stops: &[Option<Place>],
     blocks: &[ConnectionBlock<'_>],
 ) -> Result<Vec<ConnSum>, AllocError>
@@ -47,13 +47,14 @@ fn sums_of<R: Threads + Sync, G: Gate>(
     ensures { IfOk result (λ sums. AreSums blocks.now sums.items) }
 {
     let round = SumRound { blocks };
-    let settled = settle(&crew.team(), AuditRound::Sums, stops, &round)?;
-    sums_in(crew.alloc, settled.parts.as_slice())
+    let settled = settle(team, AuditRound::Sums, stops, &round)?;
+    sums_in(team.alloc, settled.parts.as_slice())
 }
 
 /// The blocks of all connections of which anything may be shown, each with the connection before it.
 fn planned<'a, R: Threads + Sync, G: Gate>(
-    crew: &Crew<'_, R, G>,
+    team: &Team<'_, R, G>,
+    division: &Division,
     stops: &[Option<Place>],
     connections: &[Block<'a>],
 ) -> Result<Vec<ReadyBlock<'a>>, AllocError>
@@ -62,34 +63,35 @@ fn planned<'a, R: Threads + Sync, G: Gate>(
     requires whole { All IsBlock connections.now }
     requires fits { All (BlockFits connection_start) (wholes connections.now) }
     requires few { RestsAreFew connections.now }
-    ensures plan { IfOk result (λ plan. IsPlan crew.now.frames_shown (length connections.now)
-        (shown_at crew.now.frames_shown 0 (wholes connections.now)) plan.items) }
+    ensures plan { IfOk result (λ plan. IsPlan division.now.frames_shown (length connections.now)
+        (shown_at division.now.frames_shown 0 (wholes connections.now)) plan.items) }
     ensures few { IfOk result (λ plan. length plan.items < 2 ^ 32) }
 {
-    let blocks = in_blocks(crew.alloc, crew.division.block as usize, connections)?;
+    let blocks = in_blocks(team.alloc, division.block as usize, connections)?;
     let blocks = blocks.as_slice();
-    let sums = sums_of(crew, stops, blocks)?;
-    plan_of(crew.alloc, crew.frames_shown, blocks, sums.as_slice())
+    let sums = sums_of(team, division, stops, blocks)?;
+    plan_of(team.alloc, division.frames_shown, blocks, sums.as_slice())
 }
 
 /// What was found of each connection, and what its blocks show, up to where it is known to stop.
 pub(crate) fn rounds_over_blocks<R: Threads + Sync, G: Gate>(
-    crew: &Crew<'_, R, G>,
+    team: &Team<'_, R, G>,
+    division: &Division,
     stops: &[Option<Place>],
     connections: &[Block<'_>],
     found: Vec<Vec<Finding>>,
 ) -> Result<Vec<Vec<Finding>>, AllocError>
     requires few { RestsAreFew connections.now }
     requires remaining { AreRemaining connections.now stops.now found.items }
-    ensures { IfOk result (λ last. AreGoneThrough crew.now.frames_shown connections.now found.items last.items) }
+    ensures { IfOk result (λ last. AreGoneThrough division.now.frames_shown connections.now found.items last.items) }
 {
-    let plan = planned(crew, stops, connections)?;
+    let plan = planned(team, division, stops, connections)?;
     let round = BlockRound {
         plan: plan.as_slice(),
-        frames_shown: crew.frames_shown,
+        frames_shown: division.frames_shown,
     };
-    let settled = settle(&crew.team(), AuditRound::Blocks, stops, &round)?;
-    let none = none_of_each(crew.alloc, connections.len())?;
+    let settled = settle(team, AuditRound::Blocks, stops, &round)?;
+    let none = none_of_each(team.alloc, connections.len())?;
     let own = gathered(none, settled.parts)?;
-    merged_each(crew, found, own)
+    merged_each(team, found, own)
 }

@@ -1,15 +1,19 @@
-//! What rounds found, connection by connection: findings, and which frames open streams, as the parts of the round over
-//! streams and the splits tell.
+//! What rounds found, connection by connection: findings, merged and cut at the first error, and which frames open
+//! streams, as the parts of the round over streams and the splits tell.
 
 ghost use Rattle.std.specs.Prelude.{◌≡◌, ℕ, [], ◌++◌, ◌<◌, All, IfOk, OnOk, map, length, slice_index_or};
+ghost use Rattle.std.specs.List.{zip};
+ghost use Rattle.audit_terms.specs.Finding.{in_order, upto_stop};
 ghost use Rattle.stop_desk.specs.code.Board.{findings_of_parts};
 ghost use Rattle.stop_desk.specs.code.Laid.{part_of};
 ghost use Rattle.audit_rounds.specs.code.Opened.{numbers_told, IsInOrder};
 
 use crate::prepared::Prepared;
 use audit_terms::Finding;
+use split_merge::merge_by;
 use std::alloc::{AllocError, Global};
-use stop_desk::Part;
+use std::thread::Threads;
+use stop_desk::{Gate, Part, Team};
 
 /// So many empty lists.
 pub(crate) fn none_of_each<T: Drop>(
@@ -71,6 +75,25 @@ pub(crate) fn opened_each(
     }
     for (n, connection) in connections.iter().enumerate() {
         with_quiet(&mut all[n], connection.split.opened.as_slice())?;
+    }
+    Ok(all)
+}
+
+/// The findings of each connection, of its two lists, in order, up to and including the first that stops.
+pub(crate) fn merged_each<R: Threads + Sync, G: Gate>(
+    team: &Team<'_, R, G>,
+    found: Vec<Vec<Finding>>,
+    more: Vec<Vec<Finding>>,
+) -> Result<Vec<Vec<Finding>>, AllocError>
+    ensures { IfOk result (λ all. map (λ one. one.items) all.items
+        ≡ map (λ pair. upto_stop (in_order (pair.0.items ++ pair.1.items))) (zip found.items more.items)) }
+{
+    let mut all = Vec::with_capacity(team.alloc, found.len())?;
+    let mut rest = more.into_iter();
+    for one in found {
+        if let Some(other) = rest.next() {
+            all.push(merge_by(team.rt, team.alloc, team.workers, one, other)?)?;
+        }
     }
     Ok(all)
 }

@@ -5,13 +5,13 @@ ghost use Rattle.audit_rounds.specs.code.Batch.{IsBatch};
 
 use audit_terms::Frame;
 
-/// How many frames connections have together.
-pub(crate) fn together(connections: &[&[Frame]]) -> usize {
-    let mut together = 0usize;
+/// How many frames connections have in all.
+pub(crate) fn total_frames(connections: &[&[Frame]]) -> usize {
+    let mut total = 0usize;
     for frames in connections {
-        together = together.saturating_add(frames.len());
+        total = total.saturating_add(frames.len());
     }
-    together
+    total
 }
 
 /// The connections in two halves, with about as many frames each.
@@ -24,7 +24,7 @@ pub(crate) fn in_halves<'a, 'b>(
     ensures one { IsBatch result.0.now }
     ensures other { IsBatch result.1.now }
 {
-    let half = together(connections) / 2;
+    let half = total_frames(connections) / 2;
     let mut before = connections[0].len();
     let mut count = 1;
     while count < connections.len() - 1 && before < half {

@@ -24,29 +24,29 @@
 //!   frames shows the same.
 //! - [`laws::openings_are_found`] and [`laws::items_are_found`]: the numbers that streams tell, and the changes, make
 //!   the items of the pass.
-//! - Refused by the prover, in the crates below: what is found of a connection, given to another (`split_merge`); wrong
-//!   looks and stops (`stop_desk`), runs of streams (`stream_credit`) and blocks (`conn_scan`). Here none is tried: an
-//!   edit costs a second proof of its crate, and this is the longest.
+//! - Refused by the prover, in the crates below: wrong looks and stops (`stop_desk`), runs of streams (`stream_credit`)
+//!   and blocks (`conn_scan`). Here none is tried: an edit costs a second proof of its crate, and this is the longest.
 //! - Tested by whole reports, in many mixes of workers, groups and block lengths: that the call succeeds where there is
 //!   memory.
 #![tactic(auto)]
 
+mod all_rounds;
 mod batch;
-mod beginnings;
 mod block_plans;
 mod block_round;
 mod block_rounds;
-mod blocks;
-mod connections;
-mod crew;
-mod divisions;
+mod connection_blocks;
+mod connection_streams;
+mod division;
+mod entry;
+mod fronts;
 mod gathering;
 mod halves;
 pub mod laws;
-mod merging;
+mod pending;
 mod prepared;
 mod stream_jobs;
 mod stream_round;
-mod streams;
 
-pub use divisions::{Division, findings_of_each};
+pub use division::Division;
+pub use entry::findings_of_each;

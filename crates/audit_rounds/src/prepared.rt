@@ -9,7 +9,7 @@ ghost use Rattle.audit_rounds.specs.code.Batch.{AreJoined, IsBatch};
 ghost use Rattle.audit_rounds.specs.code.MadeReady.{AddsReady, AreMadeReady};
 ghost use Rattle.audit_rounds.specs.code.Prepared.{AreForSplit};
 
-use crate::crew::{Crew, LONG};
+use crate::division::{Division, LONG_FRAMES};
 use crate::halves::in_halves;
 use audit_terms::{Change, Finding, Frame};
 use fault_rules::local_faults;
@@ -17,7 +17,7 @@ use settings_pair::{Pairs, pair};
 use split_merge::{SplitFrames, split};
 use std::alloc::{AllocError, Global};
 use std::thread::{Threads, join};
-use stop_desk::Gate;
+use stop_desk::{Gate, Team};
 
 /// The frames of a connection, with what its rounds need beside them.
 #[derive(Drop)]
@@ -50,7 +50,8 @@ impl<'a> MadeReady<'a> {
 
 /// The faults of single frames, and the frames by stream: side by side, where there are many frames and workers.
 fn faults_and_split<R: Threads + Sync, G: Gate>(
-    crew: &Crew<'_, R, G>,
+    team: &Team<'_, R, G>,
+    division: &Division,
     changes: &[Change],
     frames: &[Frame],
 ) -> (
@@ -59,21 +60,17 @@ fn faults_and_split<R: Threads + Sync, G: Gate>(
 )
     requires frames { AreForSplit frames.now changes.now }
     ensures faults { IfOk result.0 (λ found. found.items ≡ local_run frames.now) }
-    ensures split { IfOk result.1 (IsSplit crew.now.frames_shown changes.now frames.now) }
+    ensures split { IfOk result.1 (IsSplit division.now.frames_shown changes.now frames.now) }
 {
-    let (rt, alloc, hash, frames_shown) = (
-        crew.rt,
-        crew.alloc,
-        crew.division.hash,
-        crew.frames_shown,
-    );
-    if crew.division.workers == 1 || frames.len() < LONG {
+    let (rt, alloc) = (team.rt, team.alloc);
+    let (hash, frames_shown) = (division.hash, division.frames_shown);
+    if team.workers == 1 || frames.len() < LONG_FRAMES {
         return (
             local_faults(rt, alloc, 1, frames),
             split(alloc, hash, frames_shown, changes, frames),
         );
     }
-    let others = crew.division.workers as usize - 1;
+    let others = team.workers as usize - 1;
     join(
         rt,
         || -> Result<Vec<Finding>, AllocError>
@@ -88,7 +85,7 @@ fn faults_and_split<R: Threads + Sync, G: Gate>(
 }
 
 /// Adds a connection with what was made of it: these faults are found of it, and what its pairs show.
-fn add<'a>(
+fn add_ready<'a>(
     made: &mut MadeReady<'a>,
     frames: &'a [Frame],
     mut pairs: Pairs,
@@ -112,18 +109,19 @@ fn add<'a>(
 
 /// Makes one connection more ready.
 fn prepare<'a, R: Threads + Sync, G: Gate>(
-    crew: &Crew<'_, R, G>,
+    team: &Team<'_, R, G>,
+    division: &Division,
     made: &mut MadeReady<'a>,
     frames: &'a [Frame],
 ) -> Result<(), AllocError>
     requires { IsOrderly frames.now }
-    ensures { OnOk result (AddsReady crew.now.frames_shown frames.entry made.old made.new) }
+    ensures { OnOk result (AddsReady division.now.frames_shown frames.entry made.old made.new) }
 {
-    let pairs = pair(crew.alloc, frames)?;
-    let (found, split) = faults_and_split(crew, pairs.changes.as_slice(), frames);
+    let pairs = pair(team.alloc, frames)?;
+    let (found, split) = faults_and_split(team, division, pairs.changes.as_slice(), frames);
     let found = found?;
     let split = split?;
-    add(made, frames, pairs, found, split)
+    add_ready(made, frames, pairs, found, split)
 }
 
 /// The connections of both halves, made ready.
@@ -141,16 +139,17 @@ fn both_ready<'a>(
 }
 
 /// Makes each connection ready, one after the other.
-fn prepare_in_turn<'a, R: Threads + Sync, G: Gate>(
-    crew: &Crew<'_, R, G>,
+fn prepare_one_by_one<'a, R: Threads + Sync, G: Gate>(
+    team: &Team<'_, R, G>,
+    division: &Division,
     connections: &[&'a [Frame]],
 ) -> Result<MadeReady<'a>, AllocError>
     requires { IsBatch connections.now }
-    ensures { IfOk result (AreMadeReady crew.now.frames_shown connections.now) }
+    ensures { IfOk result (AreMadeReady division.now.frames_shown connections.now) }
 {
-    let mut made = MadeReady::with_capacity(crew.alloc, connections.len())?;
+    let mut made = MadeReady::with_capacity(team.alloc, connections.len())?;
     for frames in connections {
-        prepare(crew, &mut made, *frames)?;
+        prepare(team, division, &mut made, *frames)?;
     }
     Ok(made)
 }
@@ -158,40 +157,46 @@ fn prepare_in_turn<'a, R: Threads + Sync, G: Gate>(
 /// Makes each connection ready, halves of them side by side where there are workers, and answers what is found of each
 /// before the rounds.
 pub(crate) fn prepare_each<'a, R: Threads + Sync, G: Gate>(
-    crew: &Crew<'_, R, G>,
+    team: &Team<'_, R, G>,
+    division: &Division,
     connections: &[&'a [Frame]],
 ) -> Result<MadeReady<'a>, AllocError>
     requires { IsBatch connections.now }
-    ensures { IfOk result (AreMadeReady crew.now.frames_shown connections.now) }
+    ensures { IfOk result (AreMadeReady division.now.frames_shown connections.now) }
 {
-    let workers = crew.division.workers;
-    if workers == 1 || connections.len() < 2 {
-        return prepare_in_turn(crew, connections);
+    if team.workers == 1 || connections.len() < 2 {
+        return prepare_one_by_one(team, division, connections);
     }
     let (front, back) = in_halves(connections);
-    let (rt, gate, alloc, frames_shown) = (crew.rt, crew.gate, crew.alloc, crew.frames_shown);
-    let several = crew.is_of_several;
-    let few = crew.division.with_workers(workers / 2);
-    let others = crew.division.with_workers(workers - workers / 2);
+    // `join` passes on nothing of what closures say that hold a team, which has a lifetime and an invariant.
+    let (rt, alloc, gate) = (team.rt, team.alloc, team.gate);
+    let few = team.workers / 2;
+    let others = team.workers - few;
     let (one, other) = join(
         rt,
         || -> Result<MadeReady<'_>, AllocError>
-            requires { IsSync R.row × IsSync G.row × IsBatch front.now }
-            ensures { IfOk result (AreMadeReady frames_shown front.entry.now) }
+            requires { IsSync R.row × IsSync G.row × (0 < few) × IsBatch front.now }
+            ensures { IfOk result (AreMadeReady division.entry.now.frames_shown front.entry.now) }
         {
-            prepare_each(
-                &Crew::of(rt, gate, alloc, few, frames_shown, several),
-                front,
-            )
+            let team = Team {
+                rt,
+                alloc,
+                workers: few,
+                gate,
+            };
+            prepare_each(&team, division, front)
         },
         || -> Result<MadeReady<'_>, AllocError>
-            requires { IsSync R.row × IsSync G.row × IsBatch back.now }
-            ensures { IfOk result (AreMadeReady frames_shown back.entry.now) }
+            requires { IsSync R.row × IsSync G.row × (0 < others) × IsBatch back.now }
+            ensures { IfOk result (AreMadeReady division.entry.now.frames_shown back.entry.now) }
         {
-            prepare_each(
-                &Crew::of(rt, gate, alloc, others, frames_shown, several),
-                back,
-            )
+            let team = Team {
+                rt,
+                alloc,
+                workers: others,
+                gate,
+            };
+            prepare_each(&team, division, back)
         },
     );
     both_ready(one, other)

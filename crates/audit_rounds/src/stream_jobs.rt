@@ -7,7 +7,7 @@ ghost use Rattle.audit_rounds.specs.code.Few.{RowsAreFew};
 ghost use Rattle.audit_rounds.specs.code.StreamJobs.{IsReady, IsJobOf, JobLooks, Makes, job_at, job_of, plan_from};
 ghost use Rattle.audit_rounds.specs.code.Props.{frames-prop, changes-prop};
 
-use crate::streams::{Streams, run_of_rows};
+use crate::connection_streams::{Streams, run_of_rows};
 use audit_terms::Look;
 use split_merge::groups;
 use std::alloc::{AllocError, Global};

@@ -1,22 +1,23 @@
 //! The round over streams: each job is a group of the streams of one connection.
 
 ghost use Rattle.std.specs.Prelude.{◌≡◌, All, IfOk, length};
+ghost use Rattle.std.specs.List.{AllZip};
+ghost use Rattle.audit_terms.specs.code.Stops.{IsFirstStop};
 ghost use Rattle.stop_desk.specs.code.Stop.{IsStop};
 ghost use Rattle.audit_rounds.specs.code.Batch.{AreReady};
 ghost use Rattle.audit_rounds.specs.code.AfterStreams.{AreAfterStreams, HaveSettled, HaveSettledOver};
 ghost use Rattle.audit_rounds.specs.code.Few.{RowsAreFew};
 ghost use Rattle.audit_rounds.specs.code.StreamJobs.{IsReady};
 
-use crate::beginnings::{opening_stops, streams_each};
-use crate::crew::Crew;
+use crate::connection_streams::{Streams, streams_each};
+use crate::division::Division;
 use crate::gathering::{gathered, opened_each};
 use crate::prepared::Prepared;
 use crate::stream_jobs::{StreamsRound, stream_plan};
-use crate::streams::Streams;
-use audit_terms::{Finding, Place};
-use std::alloc::AllocError;
+use audit_terms::{Finding, Place, first_stop_place};
+use std::alloc::{AllocError, Global};
 use std::thread::Threads;
-use stop_desk::{AuditRound, Gate, Settled, settle};
+use stop_desk::{AuditRound, Gate, Settled, Team, settle};
 
 /// What the round over streams leaves, connection by connection.
 #[derive(Drop)]
@@ -29,9 +30,21 @@ pub(crate) struct AfterStreams {
     pub(crate) opened: Vec<Vec<u32>>,
 }
 
+/// Where each connection is known to stop, as the round opens.
+fn opening_stops(alloc: Global, found: &[Vec<Finding>]) -> Result<Vec<Option<Place>>, AllocError>
+    ensures { IfOk result (λ stops. AllZip (λ one stop. IsFirstStop one.items stop) found.now stops.items) }
+{
+    let mut stops = Vec::new(alloc);
+    for one in found {
+        stops.push(first_stop_place(one.as_slice()))?;
+    }
+    Ok(stops)
+}
+
 /// What is found of these streams, in groups, where it is known of some connections where they stop.
 fn settled_streams<R: Threads + Sync, G: Gate>(
-    crew: &Crew<'_, R, G>,
+    team: &Team<'_, R, G>,
+    division: &Division,
     streams: &[Streams<'_>],
     stops: &[Option<Place>],
 ) -> Result<Settled<Vec<u32>>, AllocError>
@@ -39,44 +52,46 @@ fn settled_streams<R: Threads + Sync, G: Gate>(
     requires few { RowsAreFew streams.now }
     requires number { length stops.now ≡ length streams.now }
     requires places { All IsStop stops.now }
-    ensures { IfOk result (HaveSettled crew.now.frames_shown crew.now.division.groups streams.now stops.now) }
+    ensures { IfOk result (HaveSettled division.now.frames_shown division.now.groups streams.now stops.now) }
 {
-    let plan = stream_plan(crew.alloc, crew.division.groups as usize, streams)?;
+    let plan = stream_plan(team.alloc, division.groups as usize, streams)?;
     let round = StreamsRound {
         connections: streams,
         plan: plan.as_slice(),
-        frames_shown: crew.frames_shown,
+        frames_shown: division.frames_shown,
     };
-    settle(&crew.team(), AuditRound::Streams, stops, &round)
+    settle(team, AuditRound::Streams, stops, &round)
 }
 
 /// What is found of the streams of connections that are ready, of each of which this was found before.
 fn settled_over<R: Threads + Sync, G: Gate>(
-    crew: &Crew<'_, R, G>,
+    team: &Team<'_, R, G>,
+    division: &Division,
     connections: &[Prepared<'_>],
     found: &[Vec<Finding>],
 ) -> Result<Settled<Vec<u32>>, AllocError>
-    requires { AreReady crew.now.frames_shown connections.now found.now }
-    ensures { IfOk result (λ settled. HaveSettledOver crew.now.frames_shown crew.now.division.groups connections.now
+    requires { AreReady division.now.frames_shown connections.now found.now }
+    ensures { IfOk result (λ settled. HaveSettledOver division.now.frames_shown division.now.groups connections.now
         found.now settled) }
 {
-    let stops = opening_stops(crew.alloc, found)?;
-    let streams = streams_each(crew.alloc, connections)?;
-    settled_streams(crew, streams.as_slice(), stops.as_slice())
+    let stops = opening_stops(team.alloc, found)?;
+    let streams = streams_each(team.alloc, connections)?;
+    settled_streams(team, division, streams.as_slice(), stops.as_slice())
 }
 
 /// Goes through the streams of all connections, of each of which this was found before.
 pub(crate) fn round_over_streams<R: Threads + Sync, G: Gate>(
-    crew: &Crew<'_, R, G>,
+    team: &Team<'_, R, G>,
+    division: &Division,
     connections: &[Prepared<'_>],
     found: Vec<Vec<Finding>>,
 ) -> Result<AfterStreams, AllocError>
-    requires { AreReady crew.now.frames_shown connections.now found.items }
-    ensures { IfOk result (λ after. AreAfterStreams crew.now.frames_shown connections.now after.found.items
+    requires { AreReady division.now.frames_shown connections.now found.items }
+    ensures { IfOk result (λ after. AreAfterStreams division.now.frames_shown connections.now after.found.items
         after.stops.items after.opened.items) }
 {
-    let settled = settled_over(crew, connections, found.as_slice())?;
-    let opened = opened_each(crew.alloc, connections, settled.parts.as_slice())?;
+    let settled = settled_over(team, division, connections, found.as_slice())?;
+    let opened = opened_each(team.alloc, connections, settled.parts.as_slice())?;
     let found = gathered(found, settled.parts)?;
     Ok(AfterStreams {
         found,

@@ -1,6 +1,7 @@
 //! Random frames, by the rounds, by the plain pass and by the quiet pass.
 
 ghost use Rattle.std.specs.Prelude.{◌≤◌, ◌<◌};
+ghost use Rattle.audit_terms.specs.code.runs.Orderly.{IsOrderly};
 
 use crate::Answer;
 use crate::fakes::{NoBytes, TestGate};
@@ -10,13 +11,14 @@ use crate::frames::{
 use audit_core::one_pass;
 use audit_rounds::{Division, findings_of_each};
 use audit_terms::frame_types::END_STREAM_FLAG;
-use audit_terms::{Frame, Side, keep_shown};
+use audit_terms::{Finding, Frame, Side, keep_shown};
 use input_output::TableHash;
 use quiet_pass::QuietPass;
 use rand_core::Rng;
 use rand_pcg::Pcg32;
 use std::alloc::{AllocError, Global};
 use std::thread::Threads;
+use stop_desk::Team;
 
 /// One of some numbers.
 fn one_of(rng: &mut Pcg32, numbers: &[u32; 4]) -> u32 {
@@ -54,7 +56,7 @@ fn random_kind(rng: &mut Pcg32, number: u32) -> Frame {
     }
 }
 
-/// A random frame, with END_STREAM in one of eight.
+/// A frame of a side on a stream, with END_STREAM in one of eight.
 fn random_frame(rng: &mut Pcg32, number: u32) -> Frame {
     let made = random_kind(rng, number);
     let end = END_STREAM_FLAG * u8::from(rng.next_u32() % 8 == 0);
@@ -84,15 +86,16 @@ fn script(alloc: Global, rng: &mut Pcg32, count: u32) -> Result<Vec<Frame>, Allo
     Ok(frames)
 }
 
-/// A division for so many workers, groups and frames in a block.
-fn divided(workers: u32, groups: u32, block: u32) -> Division
-    requires { (0 < workers) × (0 < groups) × (0 < block) }
+/// A division into so many groups, and blocks of so many frames. Connections of up to `undivided` frames stay whole.
+fn divided(groups: u32, block: u32, undivided: usize, frames_shown: bool) -> Division
+    requires { (0 < groups) × (0 < block) }
 {
     Division {
-        workers,
         groups,
         block,
+        undivided,
         hash: TableHash::drawn(&NoBytes),
+        frames_shown,
     }
 }
 
@@ -107,6 +110,29 @@ fn is_quiet(alloc: Global, frames: &[Frame]) -> Answer {
     Ok(true)
 }
 
+/// Whether so many workers find in the frames what is wanted, by a division.
+fn finds(
+    rt: &(impl Sync + Threads),
+    alloc: Global,
+    workers: u32,
+    division: &Division,
+    frames: &[Frame],
+    want: &[Finding],
+) -> Answer
+    requires some { 0 < workers }
+    requires orderly { IsOrderly frames.now }
+{
+    let gate = TestGate::holding(0);
+    let team = Team {
+        rt,
+        alloc,
+        workers,
+        gate: &gate,
+    };
+    let found = findings_of_each(&team, division, &[frames])?;
+    Ok(found.len() == 1 && found[0].as_slice() == want)
+}
+
 /// Whether each division shows of the frames what the plain pass does, with credits and without, and the quiet pass
 /// knows whether that is nothing.
 fn shows_the_pass(rt: &(impl Sync + Threads), alloc: Global, frames: &[Frame]) -> Answer {
@@ -116,12 +142,15 @@ fn shows_the_pass(rt: &(impl Sync + Threads), alloc: Global, frames: &[Frame]) -
     let mut want = one_pass(alloc, frames)?;
     for frames_shown in [true, false] {
         keep_shown(&mut want, frames_shown);
-        for division in [divided(1, 1, 4096), divided(2, 2, 1), divided(4, 3, 7)] {
-            let gate = TestGate::holding(0);
-            let found = findings_of_each(rt, alloc, &division, &gate, frames_shown, &[frames])?;
-            if found.len() != 1 || found[0].as_slice() != want.as_slice() {
-                return Ok(false);
-            }
+        let want = want.as_slice();
+        let undivided = divided(1, 4096, 4096, frames_shown);
+        let few = divided(2, 1, 1, frames_shown);
+        let many = divided(3, 7, 7, frames_shown);
+        if !finds(rt, alloc, 1, &undivided, frames, want)?
+            || !finds(rt, alloc, 2, &few, frames, want)?
+            || !finds(rt, alloc, 4, &many, frames, want)?
+        {
+            return Ok(false);
         }
     }
     Ok(is_quiet(alloc, frames)? == want.is_empty())

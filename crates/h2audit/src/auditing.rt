@@ -128,26 +128,24 @@ fn audit_records<R: Threads + Sync, G: Gate>(
     // Nor are there lists of members.
     let headings = headings_of(team.alloc, opened)?;
     let division = Division {
-        workers: options.workers(),
         groups: options.groups(),
         block: options.block(),
+        // One worker divides no connection, and several none that is one block.
+        undivided: if options.workers() == 1 {
+            usize::MAX
+        } else {
+            options.block() as usize
+        },
         hash,
-    };
-    report_parts(
-        team,
         frames_shown,
-        &division,
-        lines,
-        headings.as_slice(),
-        parts,
-    )
+    };
+    report_parts(team, &division, lines, headings.as_slice(), parts)
 }
 
 /// The report of connections, behind the lines of the capture, and its verdict. Of each these parts tell what its flows
 /// hold.
 fn report_parts<R: Threads + Sync, G: Gate>(
     team: &Team<'_, R, G>,
-    frames_shown: bool,
     division: &Division,
     lines: Vec<u8>,
     headings: &[SectionHeading],
@@ -155,13 +153,19 @@ fn report_parts<R: Threads + Sync, G: Gate>(
 ) -> Result<(Vec<u8>, Verdict), AllocError>
     requires each { length parts.items ≡ length headings.now }
     requires orderly { All (λ (part : PartTerm ToldTerm). HasOrderlyOutcome part.made.outcome) parts.items }
-    ensures { IfOk result (λ r. AreTold frames_shown lines.items headings.now parts.items r.0.items r.1) }
+    ensures { IfOk result (λ r. AreTold division.now.frames_shown lines.items headings.now parts.items r.0.items r.1) }
 {
-    if frames_shown && team.workers == 1 {
-        return report_in_turn(team, frames_shown, division, lines, headings, parts);
+    if division.frames_shown && team.workers == 1 {
+        return report_in_turn(team, division, lines, headings, parts);
     }
-    let told = audit_each(team, frames_shown, division, parts)?;
-    report_told(team, frames_shown, lines, headings, told.as_slice())
+    let told = audit_each(team, division, parts)?;
+    report_told(
+        team,
+        division.frames_shown,
+        lines,
+        headings,
+        told.as_slice(),
+    )
 }
 
 /// The lines of a capture, and what the flows of its connections hold. Packets and strays are gone when it answers.

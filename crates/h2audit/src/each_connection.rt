@@ -48,12 +48,7 @@ pub(crate) fn flows_each<R: Threads + Sync, G: Gate>(
         packets,
         opened,
     };
-    let team = Team {
-        rt: team.rt,
-        alloc: team.alloc,
-        workers: sharers(team.workers, packets.len(), opened.len()),
-        gate: team.gate,
-    };
+    let team = team.with_workers(sharers(team.workers, packets.len(), opened.len()));
     let settled = settle(&team, AuditRound::Flows, stops.as_slice(), &round)?;
     Ok(settled.parts)
 }
@@ -70,23 +65,15 @@ fn sharers(workers: u32, packets: usize, opened: usize) -> u32
 /// What is told of each connection, in order: what its flows hold, with what is found in the frames that are kept.
 pub(crate) fn audit_each<R: Threads + Sync, G: Gate>(
     team: &Team<'_, R, G>,
-    frames_shown: bool,
     division: &Division,
     parts: Vec<Part<Told>>,
 ) -> Result<Vec<Told>, AllocError>
     requires { All (λ (part : Part Told). HasOrderlyOutcome part.made.outcome) parts.items }
-    ensures { IfOk result (λ told. AreFound frames_shown parts.items told.items) }
+    ensures { IfOk result (λ told. AreFound division.now.frames_shown parts.items told.items) }
 {
     let found = {
         let kept = kept_frames(team.alloc, parts.as_slice())?;
-        findings_of_each(
-            team.rt,
-            team.alloc,
-            division,
-            team.gate,
-            frames_shown,
-            kept.as_slice(),
-        )?
+        findings_of_each(team, division, kept.as_slice())?
     };
     all_with_findings(team.alloc, parts, found)
 }

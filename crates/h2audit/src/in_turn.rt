@@ -27,7 +27,6 @@ use stop_desk::{Gate, Part, Team};
 /// hold.
 pub(crate) fn report_in_turn<R: Threads + Sync, G: Gate>(
     team: &Team<'_, R, G>,
-    frames_shown: bool,
     division: &Division,
     lines: Vec<u8>,
     headings: &[SectionHeading],
@@ -35,16 +34,16 @@ pub(crate) fn report_in_turn<R: Threads + Sync, G: Gate>(
 ) -> Result<(Vec<u8>, Verdict), AllocError>
     requires each { length parts.items ≡ length headings.now }
     requires orderly { All (λ (part : PartTerm ToldTerm). HasOrderlyOutcome part.made.outcome) parts.items }
-    ensures { IfOk result (λ r. AreTold frames_shown lines.items headings.now parts.items r.0.items r.1) }
+    ensures { IfOk result (λ r. AreTold division.now.frames_shown lines.items headings.now parts.items r.0.items r.1) }
 {
     let mut text = lines;
     let mut verdict = Verdict::Clean;
     let mut at = 0;
     for part in parts {
-        let told = with_findings(team, frames_shown, division, part.made)?;
+        let told = with_findings(team, division, part.made)?;
         verdict = worse(verdict, &told.outcome);
         push_told(
-            frames_shown,
+            division.frames_shown,
             &mut text,
             at as u64 + 1,
             &heading_at(headings, at),
@@ -66,37 +65,30 @@ fn heading_at(headings: &[SectionHeading], at: usize) -> SectionHeading
 /// What is told of a connection, with what is found in the frames that are kept of it.
 fn with_findings<R: Threads + Sync, G: Gate>(
     team: &Team<'_, R, G>,
-    frames_shown: bool,
     division: &Division,
     told: Told,
 ) -> Result<Told, AllocError>
     requires { HasOrderlyOutcome told.outcome }
-    ensures { IfOk result (IsFoundIn frames_shown told) }
+    ensures { IfOk result (IsFoundIn division.now.frames_shown told) }
 {
-    let mut found = shown_in(team, frames_shown, division, &told.outcome)?.into_iter();
+    let mut found = shown_in(team, division, &told.outcome)?.into_iter();
     Ok(with_next_findings(told, &mut found))
 }
 
 /// What is shown of the frames of a connection, where they are kept.
 fn shown_in<R: Threads + Sync, G: Gate>(
     team: &Team<'_, R, G>,
-    frames_shown: bool,
     division: &Division,
     outcome: &Outcome,
 ) -> Result<Vec<Vec<Finding>>, AllocError>
     requires { HasOrderlyOutcome outcome.now }
     ensures { IfOk result (λ found. map (λ one. one.items) found.items
-        ≡ map (λ frames. shown frames_shown (pass frames)) (frames_of outcome.now)) }
+        ≡ map (λ frames. shown division.now.frames_shown (pass frames)) (frames_of outcome.now)) }
 {
     match outcome {
-        Outcome::Audited(audited) => findings_of_each(
-            team.rt,
-            team.alloc,
-            division,
-            team.gate,
-            frames_shown,
-            &[audited.frames.as_slice()],
-        ),
+        Outcome::Audited(audited) => {
+            findings_of_each(team, division, &[audited.frames.as_slice()])
+        }
         _ => Ok(Vec::new(team.alloc)),
     }
 }

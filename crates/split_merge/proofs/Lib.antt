@@ -8,5 +8,4 @@ mod LoudStreams
 pub mod GroupRanges
 pub mod ShownMerge
 mod MergedRuns
-mod PutBack
 mod Stretches

@@ -3,5 +3,4 @@ pub mod Ahead
 pub mod Loud
 pub mod Groups
 pub mod Split
-pub mod Pending
 pub mod Stretches

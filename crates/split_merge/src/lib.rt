@@ -11,11 +11,9 @@
 //! - [`merge`] puts lists of findings into one, up to the least connection error (5.4.1). It asks for neither sorted
 //!   nor distinct findings, since their order is total. [`merge_by`] does so with two lists by several workers, each of
 //!   which takes a range of places.
-//! - [`pending_of`] gives the connections of a batch that are still to be gone through, and [`put_back`] puts what is
-//!   found of these in their places.
 //! - [`worked_examples`] shows splits, quiet streams, groups, and where a merge ends.
 //! - Refused by the prover: a rest of streams left out, a stream that is called quiet before its last changes, a cut at
-//!   the first reported error, what is found of a connection, given to another.
+//!   the first reported error.
 //! - Tested by whole reports: that the calls succeed where there is memory.
 //! - Trusted: the ports of `indexmap` and `itertools`.
 #![tactic(auto)]
@@ -23,7 +21,6 @@
 mod grouping;
 mod loud;
 mod merging;
-mod pending;
 mod ranges;
 mod row_index;
 mod splits;
@@ -32,6 +29,5 @@ pub mod worked_examples;
 
 pub use grouping::groups;
 pub use merging::merge;
-pub use pending::{pending_of, put_back};
 pub use ranges::merge_by;
 pub use splits::{SplitFrames, StreamRow, split};

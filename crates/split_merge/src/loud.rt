@@ -11,16 +11,16 @@ use stream_credit::QuietStream;
 
 /// The loud streams among all of a table.
 #[derive(Drop)]
-pub struct Loud {
+pub(crate) struct Loud {
     /// Their rows, in order.
-    pub rows: Vec<Visited>,
+    pub(crate) rows: Vec<Visited>,
     /// The numbers of the frames that open the others.
-    pub opened: Vec<u32>,
+    pub(crate) opened: Vec<u32>,
 }
 
 impl Loud {
     /// The loud streams of a table.
-    pub fn of(alloc: Global, table: &Visits) -> Result<Loud, AllocError>
+    pub(crate) fn of(alloc: Global, table: &Visits) -> Result<Loud, AllocError>
         requires { length table.now.quiets.items ≡ length table.now.rows.items }
         ensures rows { IfOk result (λ loud. loud.rows.items
             ≡ loud_of table.now.rows.items table.now.quiets.items) }
@@ -53,7 +53,10 @@ impl Loud {
 }
 
 /// For each row of a table the row among those of the loud streams, if its stream is loud.
-pub fn places_of(alloc: Global, quiets: &[QuietStream]) -> Result<Vec<Option<u32>>, AllocError>
+pub(crate) fn places_of(
+    alloc: Global,
+    quiets: &[QuietStream],
+) -> Result<Vec<Option<u32>>, AllocError>
     requires { length quiets.now < 2 ^ 31 }
     ensures { IfOk result (λ places. places.items ≡ places_from 0 quiets.now) }
 {
@@ -68,7 +71,7 @@ pub fn places_of(alloc: Global, quiets: &[QuietStream]) -> Result<Vec<Option<u32
 }
 
 /// The index of a stream's row among those of the loud ones, if it is one of them.
-pub fn place_of(table: &mut Visits, places: &[Option<u32>], stream: u32) -> Option<u32>
+pub(crate) fn place_of(table: &mut Visits, places: &[Option<u32>], stream: u32) -> Option<u32>
     requires index { IsIndex (streams_in table.old.rows.items) table.old.index }
     requires room { length table.old.rows.items < 2 ^ 31 }
     requires long { length places.now ≡ length table.old.rows.items }

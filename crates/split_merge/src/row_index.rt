@@ -13,16 +13,16 @@ use std::alloc::{AllocError, Global};
 /// their rows are found by halving, and nothing is kept beside them. From the first stream on that is met out of order,
 /// they stand in a table.
 #[derive(Drop)]
-pub struct RowIndex {
+pub(crate) struct RowIndex {
     /// How many rows at the front stand in order of their streams.
-    pub rising: u32,
+    pub(crate) rising: u32,
     /// The streams of the rows behind them, row by row.
-    pub others: IndexSet<u32, TableHash>,
+    pub(crate) others: IndexSet<u32, TableHash>,
 }
 
 impl RowIndex {
     /// The index of no row.
-    pub fn new(alloc: Global, hash: TableHash) -> RowIndex
+    pub(crate) fn new(alloc: Global, hash: TableHash) -> RowIndex
         ensures { IsIndex [] result }
     {
         RowIndex {
@@ -32,7 +32,7 @@ impl RowIndex {
     }
 
     /// Where the row of a stream stands among these, if it has one.
-    pub fn find(&self, rows: &[Visited], stream: u32) -> Option<u32>
+    pub(crate) fn find(&self, rows: &[Visited], stream: u32) -> Option<u32>
         requires index { IsIndex (streams_in rows.now) self.now }
         requires room { length rows.now < 2 ^ 31 }
         ensures { MatchOption result (NotAmong stream (streams_in rows.now))
@@ -46,7 +46,11 @@ impl RowIndex {
     }
 
     /// Where the row of a stream stands among these, or is to be added behind them: then the second value is true.
-    pub fn insert(&mut self, rows: &[Visited], stream: u32) -> Result<(u32, bool), AllocError>
+    pub(crate) fn insert(
+        &mut self,
+        rows: &[Visited],
+        stream: u32,
+    ) -> Result<(u32, bool), AllocError>
         requires index { IsIndex (streams_in rows.now) self.old }
         requires room { length rows.now < 2 ^ 31 }
         requires above { stream ≢ 0 }

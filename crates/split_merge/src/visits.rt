@@ -19,34 +19,34 @@ use input_output::TableHash;
 use std::alloc::{AllocError, Global};
 use stream_credit::{Changes, QuietStream};
 
-/// How many rows are remembered, a power of 2.
-const HINTS: usize = 1024;
+/// How many rows are remembered, a power of 2: 4 KiB.
+const HINTED_ROWS: usize = 1024;
 
-/// Of so many frames and more rows are remembered.
-const MANY: usize = 128;
+/// Of so many frames and more rows are remembered. Fewer look-ups would not be worth the list.
+const HINTED_FRAMES: usize = 128;
 
 /// A stream, and of how many frames it is so far: it visits each frame that it meets.
 #[derive(Clone, Copy)]
-pub struct Visited {
-    pub stream: u32,
-    pub count: u32,
+pub(crate) struct Visited {
+    pub(crate) stream: u32,
+    pub(crate) count: u32,
 }
 
 /// The streams that meet the frames seen so far, in order of their first frames.
 #[derive(Drop)]
-pub struct Visits {
+pub(crate) struct Visits {
     /// A row for each stream.
-    pub rows: Vec<Visited>,
+    pub(crate) rows: Vec<Visited>,
     /// The stream of each row, for as long as nothing is shown of it.
-    pub quiets: Vec<QuietStream>,
+    pub(crate) quiets: Vec<QuietStream>,
     /// Where the row of each stream stands.
-    pub index: RowIndex,
+    pub(crate) index: RowIndex,
     /// Rows that were sought before, by the last bits of their streams' numbers: the streams of a connection are
     /// numbered one after the other, so that those of one time seldom share a place here.
     // A list of rows, one for each frame, would spare a second look-up, but take a tenth of the frames' memory.
-    pub hints: Vec<u32>,
+    pub(crate) hints: Vec<u32>,
     /// The row that was visited last.
-    pub last: u32,
+    pub(crate) last: u32,
 }
 
 impl Visits {
@@ -66,7 +66,7 @@ impl Visits {
 
     /// The streams that meet some frames, each after the changes behind its last one: nothing is shown of a quiet one.
     /// Where credits are shown, none is quiet.
-    pub fn ended(
+    pub(crate) fn ended(
         alloc: Global,
         hash: TableHash,
         frames_shown: bool,
@@ -170,7 +170,7 @@ impl Visits {
     }
 
     /// The index of a stream's row, if it has one.
-    pub fn known_row(&mut self, stream: u32) -> Option<u32>
+    pub(crate) fn known_row(&mut self, stream: u32) -> Option<u32>
         requires index { IsIndex (streams_in self.old.rows.items) self.old.index }
         requires room { length self.old.rows.items < 2 ^ 31 }
         ensures row { MatchOption result (NotAmong stream (streams_in self.old.rows.items))
@@ -231,15 +231,15 @@ fn end(quiet: &mut QuietStream, stream: u32, frames_shown: bool, changes: &Chang
 
 /// Room for rows to be remembered: none, where there are few frames.
 fn hints_for(alloc: Global, frames: usize) -> Result<Vec<u32>, AllocError> {
-    if frames < MANY {
+    if frames < HINTED_FRAMES {
         return Ok(Vec::new(alloc));
     }
-    vec![in alloc; 0; HINTS]
+    vec![in alloc; 0; HINTED_ROWS]
 }
 
 /// Where the row of a stream is remembered.
 fn hint_place(stream: u32) -> usize {
-    (stream / 2) as usize % HINTS
+    (stream / 2) as usize % HINTED_ROWS
 }
 
 /// The row that is remembered where that of a stream would be, or else the one that was visited last.

@@ -2,7 +2,8 @@
 use Rattle.std.proofs.lemmas.List.{Elements.All-map, FromFn.get_or-map-range_with_len, FromFn.length-map-range_with_len}
 use Rattle.std.proofs.lemmas.List.{get_or-drop, get_or-map, get_or_past, length-drop, length-map, Elements.All-contains}
 use Rattle.{std.proofs.lemmas.List.Folds.fold-map, stop_desk.specs.code.Settling.HasSettled}
-use Rattle.stop_desk.{proofs.RoundSteps.least-some, specs.code.Board.stop_of, specs.declared.settling.Settled.Settled}
+use Rattle.audit_terms.{proofs.LeastPlaces.least-some, specs.code.Stops.IsLeast}
+use Rattle.stop_desk.{specs.code.Board.stop_of, specs.declared.settling.Settled.Settled}
 use Rattle.stop_desk.proofs.RoundMembers.{contains-cases, contains-first, contains-got, contains-here, contains-later}
 use Rattle.stop_desk.proofs.RoundMembers.{contains-map, contains-none, count-cons, count-some, map-contains, some-count}
 use Rattle.stop_desk.proofs.Words.{All, Bool, ClosedView, Contains, Contains-permutation, DeskId, IsAllWorked, IsAtMost}
@@ -14,7 +15,7 @@ use Rattle.stop_desk.proofs.Words.{ltb-true, map, marks, nat_tests, opening_stop
 use Rattle.stop_desk.proofs.Words.{range_with_len, refl, slice_get, slice_get_within, stops, subst, suc, AuditRound}
 use Rattle.stop_desk.proofs.Words.{sum_by-IsPermutation, sym, zero, ℕ, ⊎_elim, ◌+◌, ◌<◌, ◌==◌, ◌∙◌, ◌∷◌, ◌≡◌, ◌≤◌, ◌⊎◌}
 use Rattle.stop_desk.specs.code.{Board.Board, Crew.IsDone, Crew.last_stops, Crew.last_stops_from, Crew.opening_stops}
-use Rattle.stop_desk.specs.code.Board.{IsGiven, IsLeast, IsPartOf, IsSettled, Job, Part as BoardPart, Round, parts_of}
+use Rattle.stop_desk.specs.code.Board.{IsGiven, IsPartOf, IsSettled, Job, PartView, RoundView, parts_of}
 
 -- marks counted, and marks in a list
 contains-marks : (c p : ℕ) (ms : List (ℕ × ℕ)) → Contains ms (c, p) → 0 < marks c p ms
@@ -83,12 +84,12 @@ module _ {M : Type 0} (makes : ℕ → Option ℕ → M → Type 0) (jobs : List
   one-each : (job : ℕ) → job < length jobs → parts_of job (map part_of parts) ≡ 1
   one-each job lt = let (n, past, some) = h.1 in grind (arith, nat_tests, s.numbers n, s.numbers job, h.0.drawn job lt)
 
-  parts-are : (part : BoardPart) → Contains (map part_of parts) part →
+  parts-are : (part : PartView) → Contains (map part_of parts) part →
       (job : Job) × (slice_get jobs part.job ≡ Some job) × IsPartOf last.seen last.lowered job part
   parts-are part k =
       let (laid, among, is) = map-contains part_of parts part k in
       let l = h.0.laid laid among in
-      subst (λ (p : BoardPart). (job : Job) × (slice_get jobs p.job ≡ Some job) × IsPartOf last.seen last.lowered job p)
+      subst (λ (p : PartView). (job : Job) × (slice_get jobs p.job ≡ Some job) × IsPartOf last.seen last.lowered job p)
       is (l.job, l.is_job, l.of_job)
 
   given-there : (c p : ℕ) → IsConnection desk c → (opening_stop desk c ≡ Some p) ⊎ (0 < marks c p last.lowered) →
@@ -174,11 +175,11 @@ module _ {X : Type 0} (number : X → ℕ) where
         places rest (suc n) d lt = omega (arith, rest n d (omega arith))
 
 -- a settled board is settled with its parts in another order
-settled-moves : (round : Round) (board : Board) (parts : List BoardPart) → IsPermutation board.parts parts →
+settled-moves : (round : RoundView) (board : Board) (parts : List PartView) → IsPermutation board.parts parts →
     IsSettled round board → IsSettled round (board_with parts board.seen board.lowered board.stops)
 settled-moves round board parts moved s = record {
   one_part_each = λ job lt.
-      sum_by-IsPermutation (λ (p : BoardPart). if p.job == job then 1 else 0) _ _ moved ∙ s.one_part_each job lt;
+      sum_by-IsPermutation (λ (p : PartView). if p.job == job then 1 else 0) _ _ moved ∙ s.one_part_each job lt;
   parts_of_jobs = λ part k. s.parts_of_jobs part (Contains-permutation _ _ part (IsPermutation-sym _ _ moved) k);
   lowered_real = s.lowered_real;
   seen_given = s.seen_given;

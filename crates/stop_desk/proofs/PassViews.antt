@@ -1,12 +1,13 @@
 -- What the fields of a pass and of a desk show, what a pass has after a look, and what the last pass knows.
 use Rattle.{atomic_table.specs.Seated.TableId, stop_desk.proofs.Weights.weigh-whole}
 use Rattle.stop_desk.proofs.Words.{All, DeskId, Final, IsAtMost, IsLook, IsStop, Knows, List, None, Opening, Option}
-use Rattle.stop_desk.proofs.Words.{PassState, PassView, Seen, Sees, Settled, Some, [], ap, arith, cases_lt, closed_of}
-use Rattle.stop_desk.proofs.Words.{cond_both, get_elem?, get_or, inl, inr, le-ltb, length, lt-ltb, map, marks, nat_lt}
+use Rattle.stop_desk.proofs.Words.{PassState, PassView, Seen, Sees, IsDeskSettled, Some, [], ap, arith, cases_lt}
+use Rattle.stop_desk.proofs.Words.{closed_of, cond_both, get_elem?, get_or, inl, inr}
+use Rattle.stop_desk.proofs.Words.{le-ltb, length, lt-ltb, map, marks, nat_lt}
 use Rattle.stop_desk.proofs.Words.{once_below, pass_of, past_places, place_at, refl, some, some-injective, some-ne-none}
 use Rattle.stop_desk.proofs.Words.{stop_word, suc, sym, times, weigh, zero, ℕ, ◌+◌, ◌<◌, ◌∙◌, ◌∷◌, ◌≡◌, ◌≤◌, ◌⊎◌}
 use Rattle.stop_desk.specs.code.Rule.{Holds, allowance_in, drawn_in, draws_in, lowered_in, seen_in, share}
-use Rattle.stop_desk.specs.code.Settled.{IsLeast}
+use Rattle.stop_desk.specs.code.Settled.{IsLeastOnDesk}
 
 nothing-drawn : (x : ℕ) (xs : List ℕ) → length xs ≡ 0 → times x xs ≡ 0
 nothing-drawn x [] e = refl
@@ -27,7 +28,7 @@ at_most-stop n m low = cond_both (nat_lt m past_places) (Some m) None (IsAtMost 
 
 least-stop : (d : DeskId) (lowered : List (ℕ × ℕ)) (c n : ℕ) → n ≤ get_or d.opened (c + 1) 0 →
     ((p : ℕ) → 0 < marks c p lowered → (n ≤ p) × (p < past_places)) →
-    (n ≡ get_or d.opened (c + 1) 0) ⊎ (0 < marks c n lowered) → IsLeast d lowered c (place_at n)
+    (n ≡ get_or d.opened (c + 1) 0) ⊎ (0 < marks c n lowered) → IsLeastOnDesk d lowered c (place_at n)
 least-stop d lowered c n below low reached = elim (cases_lt n past_places) [
   | inl place ↦ rw (place_at-place n place) (
     at_most-stop n (get_or d.opened (c + 1) 0) below,
@@ -40,7 +41,7 @@ least-stop d lowered c n below low reached = elim (cases_lt n past_places) [
 -- the last pass has all draws, places seen and places lowered, so what the rule says of all views it says of that one
 pub closes : (o : Opening) (id : ℕ) (v : Knows) (words : List ℕ) (slots : List (Unit {0})) (d : DeskId) → 0 < share v
     → share v ≡ o.whole → d.opened ≡ o.words.items → Final (Seen (Holds o) id v) words slots
-    → (length v.drawn ≡ get_or words 0 0) × Settled (closed_of d words v.drawn v.seen v.lowered)
+    → (length v.drawn ≡ get_or words 0 0) × IsDeskSettled (closed_of d words v.drawn v.seen v.lowered)
 closes o id v words slots d some_share all opened f =
     let s = f.0 in
     let h = f.1.0 in

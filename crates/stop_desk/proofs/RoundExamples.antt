@@ -5,7 +5,8 @@ use Rattle.stop_desk.proofs.RoundCuts.{front_is_cut_lem, whole_is_cut_lem}
 use Rattle.stop_desk.proofs.RoundMembers.{contains-cases, contains-here, contains-in_order, contains-none, contains-one}
 use Rattle.stop_desk.proofs.Words.{AllByRecursion, Contains, Finding, HasConnections, List, None, Some, [], ap, arith}
 use Rattle.stop_desk.proofs.Words.{false, in_order, refl, stops, suc, sym, zero, ℕ, ⊎_elim, ◌<◌, ◌∙◌, ◌∷◌, ◌≡◌}
-use Rattle.stop_desk.specs.code.Board.{IsCut, IsPartOf, Job, StopsAt}
+use Rattle.audit_terms.specs.code.Stops.{StopsAt}
+use Rattle.stop_desk.specs.code.Board.{IsCut, IsPartOf, Job}
 use Rattle.stop_desk.specs.examples.Rounds.{AllSkipped, CutUnseen, DrawnTwice, ErrorNotLowered, LookInvents}
 use Rattle.stop_desk.specs.examples.Rounds.{OverrunLowered, TwoWorkersFinish, TwoWorkersSettle, error, example}
 use Rattle.stop_desk.specs.examples.Rounds.{example_events, job, overrun, part}

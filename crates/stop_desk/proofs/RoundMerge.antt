@@ -6,7 +6,9 @@ use Rattle.std.specs.{Cmp.nat_cmp_is, declared.cmp.Ordering.TheVariants.Greater}
 use Rattle.audit_terms.proofs.FindingOrder.{comes_after_is, in_order-alike, in_order-append_comm}
 use Rattle.audit_terms.proofs.OrderedLists.{IsInOrder, NoneBefore, in_order-ordered}
 use Rattle.stop_desk.proofs.{RoundMembers.count-cons, RoundMembers.count-some, Words.Contains-append_right}
-use Rattle.stop_desk.proofs.{RoundMembers.in_order-contains, RoundSteps.least-moves, RoundSteps.least-some}
+use Rattle.audit_terms.proofs.LeastPlaces.{least-moves, least-some}
+use Rattle.audit_terms.specs.code.Stops.{IsLeast, StopsAt}
+use Rattle.stop_desk.proofs.RoundMembers.{in_order-contains}
 use Rattle.stop_desk.proofs.RoundMembers.{contains-apart, contains-cases, contains-here, contains-none, some-count}
 use Rattle.stop_desk.proofs.RoundMembers.{contains-flat_map, contains-in_order, contains-later, flat_map-contains}
 use Rattle.stop_desk.proofs.Words.{BoardMerges, comes_after, cond_both, nat_tests, slice_get, upto_stop, ℕ_discrete}
@@ -15,7 +17,7 @@ use Rattle.stop_desk.proofs.Words.{Contains-append_cases, IsPermutation-middle, 
 use Rattle.stop_desk.proofs.Words.{Contains-permutation, IsPermutation, IsPermutation-sym, append_assoc, if◌then◌else◌}
 use Rattle.stop_desk.proofs.Words.{List, None, Some, [], ap, inl, inr, suc, sym, ℕ, ◌+◌, ◌<◌, ◌∙◌, ◌∷◌, ◌≡◌, ◌≤◌, ◌⊎◌}
 use Rattle.stop_desk.proofs.Words.{Merges, Option, arith, eq-eqb, false, refl, stops, subst, true, zero, ◌++◌, ◌==◌}
-use Rattle.stop_desk.specs.code.Board.{Board, IsGiven, IsLeast, IsPartOf, IsPast, Job, Part, Round, StopsAt, stop_of}
+use Rattle.stop_desk.specs.code.Board.{Board, IsGiven, IsPartOf, IsPast, Job, PartView, RoundView, stop_of}
 use Rattle.stop_desk.specs.code.Board.{IsSettled, JobStopsAt, findings_of_jobs, findings_of_parts, parts_of}
 use native.Mathlib.Nat.{zero-add}
 
@@ -43,7 +45,7 @@ leaves-both kept whole kept' whole' h k = record {
 }
 
 -- what a part and a job have of a connection
-abbrev pub of_part : (connection : ℕ) → Part → List Finding
+abbrev pub of_part : (connection : ℕ) → PartView → List Finding
 of_part connection part = if part.connection == connection then part.findings else []
 
 abbrev pub of_job : (connection : ℕ) → Job → List Finding
@@ -54,7 +56,7 @@ abbrev pub IsBeyond : List (ℕ × ℕ) → ℕ → Finding → Type 0
 IsBeyond seen connection found = (place : ℕ) × Contains seen (connection, place) × (place < found.place)
 
 -- a part of the jobs that are numbered from `first` on
-abbrev pub IsOneOf : List (ℕ × ℕ) → List (ℕ × ℕ) → ℕ → List Job → Part → Type 0
+abbrev pub IsOneOf : List (ℕ × ℕ) → List (ℕ × ℕ) → ℕ → List Job → PartView → Type 0
 IsOneOf seen lowered first jobs part =
     (at : ℕ) × (job : Job) × (part.job ≡ first + at) × (slice_get jobs at ≡ Some job) × IsPartOf seen lowered job part
 
@@ -70,7 +72,7 @@ module _ (seen lowered : List (ℕ × ℕ)) (connection : ℕ) where
   past-some (Some stop) place h = (stop, refl, h)
 
   -- of one part
-  whole-part : (job : Job) (part : Part) → IsPartOf seen lowered job part →
+  whole-part : (job : Job) (part : PartView) → IsPartOf seen lowered job part →
       IsWhole (of_part connection part) (of_job connection job)
   whole-part job part h = rw (← h.of_connection) (elim (ℕ_discrete part.connection connection) [
     | yes same ↦ rw (eq-eqb part.connection connection same) (record {
@@ -82,13 +84,13 @@ module _ (seen lowered : List (ℕ × ℕ)) (connection : ℕ) where
     | no other ↦ rw (ne_eqb part.connection connection other) whole-none
   ])
 
-  abbrev own : List Part → List Finding
+  abbrev own : List PartView → List Finding
   own parts = findings_of_parts connection parts
 
   -- of all
-  pub whole-parts : (first : ℕ) (jobs : List Job) (parts : List Part) →
+  pub whole-parts : (first : ℕ) (jobs : List Job) (parts : List PartView) →
       ((at : ℕ) → at < length jobs → parts_of (first + at) parts ≡ 1) →
-      ((part : Part) → Contains parts part → IsOneOf seen lowered first jobs part) →
+      ((part : PartView) → Contains parts part → IsOneOf seen lowered first jobs part) →
       IsWhole (findings_of_parts connection parts) (findings_of_jobs connection jobs)
   whole-parts first [] [] one are = whole-none
   whole-parts first [] (part ∷ parts) one are = (let got = (are part (contains-here part parts)).3 in cc)
@@ -103,12 +105,12 @@ module _ (seen lowered : List (ℕ × ℕ)) (connection : ℕ) where
         beyond = both.beyond;
       } where
         -- the part of the first job, and those before and behind it
-        taken : (part : Part) × Contains parts part × ((part.job == first) ≡ true)
+        taken : (part : PartView) × Contains parts part × ((part.job == first) ≡ true)
         taken =
             let once = rw add-zero at (one 0 (omega arith)) in
-            count-some (λ (p : Part). p.job == first) parts (omega arith)
+            count-some (λ (p : PartView). p.job == first) parts (omega arith)
 
-        apart : (front : List Part) × (back : List Part) × (parts ≡ front ++ taken.0 ∷ back)
+        apart : (front : List PartView) × (back : List PartView) × (parts ≡ front ++ taken.0 ∷ back)
         apart = contains-apart parts taken.0 taken.1
 
         is_first : taken.0.job ≡ first
@@ -129,22 +131,22 @@ module _ (seen lowered : List (ℕ × ℕ)) (connection : ℕ) where
 
         counted : (n : ℕ) → parts_of n parts ≡ (if taken.0.job == n then 1 else 0) + parts_of n (apart.0 ++ apart.1)
         counted n =
-            sym (sum_by-IsPermutation (λ (p : Part). if p.job == n then 1 else 0) _ _ moved)
-            ∙ count-cons (λ (p : Part). p.job == n) taken.0 (apart.0 ++ apart.1)
+            sym (sum_by-IsPermutation (λ (p : PartView). if p.job == n then 1 else 0) _ _ moved)
+            ∙ count-cons (λ (p : PartView). p.job == n) taken.0 (apart.0 ++ apart.1)
 
         one-later : (at : ℕ) → at < length jobs → parts_of (suc first + at) (apart.0 ++ apart.1) ≡ 1
         one-later at l =
             let next : suc first + at ≡ first + suc at = omega arith in
             rw next (grind (arith, nat_tests, is_first, counted (first + suc at), one (suc at) (omega arith)))
 
-        later : (p : Part) → Contains (apart.0 ++ apart.1) p → IsOneOf seen lowered (suc first) jobs p
+        later : (p : PartView) → Contains (apart.0 ++ apart.1) p → IsOneOf seen lowered (suc first) jobs p
         later p k =
             by_number (are p (Contains-permutation _ _ p (IsPermutation-sym _ _ moved) (contains-later taken.0 _ p k)))
           where
             by_number : IsOneOf seen lowered first (job ∷ jobs) p → IsOneOf seen lowered (suc first) jobs p
             by_number (zero, j, e, got, h) =
                 let here = eq-eqb p.job first (omega arith) in
-                let again = some-count (λ (q : Part). q.job == first) (apart.0 ++ apart.1) p k here in
+                let again = some-count (λ (q : PartView). q.job == first) (apart.0 ++ apart.1) p k here in
                 absurd (grind (arith, nat_tests, is_first, counted first, rw add-zero at (one 0 (omega arith))))
             by_number (suc at, j, e, got, h) = (at, j, omega arith, got, h)
 
@@ -186,13 +188,13 @@ stops-right : (xs ys : List Finding) (place : ℕ) → StopsAt ys place → Stop
 stops-right xs ys place h = (h.0, Contains-append_right xs ys h.0 h.1, h.2, h.3)
 
 -- what a job of the connection finds is among all findings of its jobs
-stops-job : (round : Round) (connection place : ℕ) → JobStopsAt round connection place →
+stops-job : (round : RoundView) (connection place : ℕ) → JobStopsAt round connection place →
     StopsAt (findings_of_jobs connection round.jobs) place
 stops-job round connection place (job, among, is, (found, there, stopping, at)) =
     let own : Contains (of_job connection job) found = rw (eq-eqb job.connection connection is) there in
     (found, contains-flat_map (of_job connection) round.jobs job found among own, stopping, at)
 
-module _ (round : Round) (board : Board) (settled : IsSettled round board) (connection : ℕ) (earlier : List Finding)
+module _ (round : RoundView) (board : Board) (settled : IsSettled round board) (connection : ℕ) (earlier : List Finding)
     (opening : IsLeast (StopsAt earlier) (stop_of round.opening_stops connection)) where
   abbrev whole : List Finding
   whole = findings_of_jobs connection round.jobs
@@ -213,7 +215,7 @@ module _ (round : Round) (board : Board) (settled : IsSettled round board) (conn
       stops-right earlier whole place (stops-job round connection place (settled.lowered_real connection place k))
 
   -- where a part stops was lowered
-  lowered_part : (part : Part) (found : Finding) → Contains board.parts part →
+  lowered_part : (part : PartView) (found : Finding) → Contains board.parts part →
       Contains (of_part connection part) found → stops found ≡ true → Contains board.lowered (connection, found.place)
   lowered_part part found among own s =
       cond_both (part.connection == connection) part.findings []

@@ -1,33 +1,36 @@
 -- What the machine of workers keeps true after each event, from which a finished run is settled.
-use Rattle.stop_desk.{proofs.RoundMembers.contains-later, specs.code.Rule.Holds}
+use Rattle.audit_terms.{proofs.LeastPlaces.least-more, proofs.LeastPlaces.least-moves, specs.code.Stops.IsLeast}
+use Rattle.audit_terms.specs.code.Stops.{lesser_place}
+use Rattle.stop_desk.{proofs.RoundMembers.contains-later}
 use Rattle.stop_desk.proofs.{RoundMembers.own-all, Words.get_or-set_other, Words.get_or-set_same}
 use Rattle.stop_desk.proofs.RoundMembers.{contains-cases, contains-each, contains-here, contains-none, contains-pair}
 use Rattle.stop_desk.proofs.RoundMembers.{contains-got, contains-own, count-cons, count-some, map-contains, some-count}
-use Rattle.stop_desk.proofs.Words.{Bool, List, None, Some, [], ap, inr, refl, sym, ℕ, ◌<◌, ◌∙◌, ◌∷◌, ◌≡◌, ◌≤◌, ◌⊎◌}
+use Rattle.stop_desk.proofs.Words.{Bool, List, None, Some, [], ap, inr, sym, ℕ, ◌<◌, ◌∙◌, ◌∷◌, ◌≡◌, ◌≤◌, ◌⊎◌}
 use Rattle.stop_desk.proofs.Words.{Contains, Option, arith, eq-eqb, eqb-true, length, nat_tests, stops, subst, ◌==◌}
 use Rattle.stop_desk.proofs.Words.{HasConnections, RunSettles, length-set, slice_get, slice_set, ℕ_discrete}
-use Rattle.stop_desk.specs.code.Board.{IsGiven, IsLeast, IsPartOf, Job, JobStopsAt, Part, Round, parts_of, stop_of}
+use Rattle.stop_desk.specs.code.Board.{IsGiven, IsPartOf, Job, JobStopsAt, PartView, RoundView, parts_of, stop_of}
 use Rattle.stop_desk.specs.laws.Machine.{AreAllowed, RoundState, after_event, after_events, by_worker, round_start}
-use Rattle.stop_desk.specs.laws.Machine.{Draw, Event, Finish, IsAllowed, IsAtWork, Look, Lower, by_all, lesser}
+use Rattle.stop_desk.specs.laws.Machine.{Draw, Event, Finish, IsAllowed, IsAtWork, Look, Lower, by_all}
 
 -- each number was drawn by one worker, and each job has at most one part, of its drawer
-record AreDrawn (next : ℕ) (drawn : List (ℕ × ℕ)) (parts : List (ℕ × Part)) : Type 0 where
+record AreDrawn (next : ℕ) (drawn : List (ℕ × ℕ)) (parts : List (ℕ × PartView)) : Type 0 where
   below : (worker number : ℕ) → Contains drawn (worker, number) → number < next
   by_one : (one other number : ℕ) → Contains drawn (one, number) → Contains drawn (other, number) → one ≡ other
-  parts_drawn : (worker : ℕ) (part : Part) → Contains parts (worker, part) → Contains drawn (worker, part.job)
+  parts_drawn : (worker : ℕ) (part : PartView) → Contains parts (worker, part) → Contains drawn (worker, part.job)
   parts_once : (job : ℕ) → parts_of job (by_all parts) ≤ 1
 
 -- each place is one that may be known, and each stop the least of them
-record ArePlaces (round : Round) (seen lowered : List (ℕ × ℕ)) (stops : List (Option ℕ)) : Type 0 where
+record ArePlaces (round : RoundView) (seen lowered : List (ℕ × ℕ)) (stops : List (Option ℕ)) : Type 0 where
   lowered_right : (connection place : ℕ) → Contains lowered (connection, place) → JobStopsAt round connection place
   seen_right : (connection place : ℕ) → Contains seen (connection, place) → IsGiven round lowered connection place
   stops_right : (connection : ℕ) → IsLeast (IsGiven round lowered connection) (stop_of stops connection)
   wide : length stops ≡ length round.opening_stops
 
 -- what holds at every moment of a run
-record IsKept (round : Round) (state : RoundState) : Type 0 where
+record IsKept (round : RoundView) (state : RoundState) : Type 0 where
   draws : AreDrawn state.next state.drawn state.parts
-  parts : (part : Part) → Contains (by_all state.parts) part → (job : Job) × (slice_get round.jobs part.job ≡ Some job)
+  parts : (part : PartView) → Contains (by_all state.parts) part
+      → (job : Job) × (slice_get round.jobs part.job ≡ Some job)
       × IsPartOf (by_all state.seen) (by_all state.lowered) job part
   places : ArePlaces round (by_all state.seen) (by_all state.lowered) state.stops
 
@@ -35,46 +38,20 @@ record IsKept (round : Round) (state : RoundState) : Type 0 where
 abbrev Grows : List (ℕ × ℕ) → List (ℕ × ℕ) → Type 0
 Grows xs ys = (connection place : ℕ) → Contains xs (connection, place) → Contains ys (connection, place)
 
-pub part-grows : {seen lowered seen' lowered' : List (ℕ × ℕ)} {job : Job} {part : Part} → Grows seen seen' →
+pub part-grows : {seen lowered seen' lowered' : List (ℕ × ℕ)} {job : Job} {part : PartView} → Grows seen seen' →
     Grows lowered lowered' → IsPartOf seen lowered job part → IsPartOf seen' lowered' job part
 part-grows s l h = grind (arith, s, l, h)
 
--- the least of places, where there is one
-pub least-some : (Holds : ℕ → Type 0) (stop : Option ℕ) (place : ℕ) → IsLeast Holds stop → Holds place →
-    (least : ℕ) × (stop ≡ Some least) × Holds least × ((q : ℕ) → Holds q → least ≤ q)
-least-some Holds None place h k = absurd (h place k)
-least-some Holds (Some least) place h k = (least, refl, h.0, h.1)
-
--- the least of some places and one more
-least-lesser : (Holds Holds' : ℕ → Type 0) (stop : Option ℕ) (place : ℕ) → ((q : ℕ) → Holds q → Holds' q) →
-    Holds' place → ((q : ℕ) → Holds' q → (place ≡ q) ⊎ Holds q) → IsLeast Holds stop →
-    IsLeast Holds' (Some (lesser stop place))
-least-lesser Holds Holds' None place more here back h = (here, λ q k. grind (arith, back q k, h q))
-least-lesser Holds Holds' (Some stop) place more here back h =
-    (grind (arith, more stop h.0, here), λ q k. grind (arith, back q k, h.1 q))
-
--- the least of some places is that of others, where at or before each of the ones there is one of the others
-pub least-moves : (Holds Holds' : ℕ → Type 0) (stop : Option ℕ) →
-    ((q : ℕ) → Holds q → (least : ℕ) × (least ≤ q) × Holds' least) →
-    ((q : ℕ) → Holds' q → (least : ℕ) × (least ≤ q) × Holds least) → IsLeast Holds stop → IsLeast Holds' stop
-least-moves Holds Holds' None to from h = λ q k. let f = from q k in h f.0 f.2
-least-moves Holds Holds' (Some least) to from h =
-    let above : (q : ℕ) → Holds' q → least ≤ q
-    = λ q k. (let (p, low, is) = from q k in let l = h.1 p is in omega arith) in
-    let (first, low, is) = to least h.0 in
-    let same : first ≡ least = omega (arith, above first is) in
-    (rw same at is, above)
-
 -- at the start
-start-least : (round : Round) (connection : ℕ) (stop : Option ℕ) → stop_of round.opening_stops connection ≡ stop →
+start-least : (round : RoundView) (connection : ℕ) (stop : Option ℕ) → stop_of round.opening_stops connection ≡ stop →
     IsLeast (IsGiven round [] connection) stop
 start-least round connection None e = grind arith
 start-least round connection (Some least) e = grind arith
 
-start-kept : (round : Round) → IsKept round (round_start round)
+start-kept : (round : RoundView) → IsKept round (round_start round)
 start-kept round = grind (arith, contains-none, start-least round)
 
-module _ (round : Round) (state : RoundState) (h : IsKept round state) where
+module _ (round : RoundView) (state : RoundState) (h : IsKept round state) where
   abbrev seen : List (ℕ × ℕ)
   seen = by_all state.seen
 
@@ -126,14 +103,14 @@ module _ (round : Round) (state : RoundState) (h : IsKept round state) where
     given-cases c q given = grind (arith, contains-cases (connection, place) lowered (c, q))
 
     stops-least : (c : ℕ) → IsLeast (IsGiven round now c)
-        (stop_of (slice_set state.stops connection (Some (lesser (stop_of state.stops connection) place))) c)
+        (stop_of (slice_set state.stops connection (lesser_place (stop_of state.stops connection) (Some place))) c)
     stops-least c = elim (ℕ_discrete connection c) [
       | yes same ↦ (let wide : connection < length state.stops = omega (arith, h.places.wide) in
-          rw (← same) (rw (get_or-set_same state.stops connection (Some _) None wide)
-          (least-lesser (IsGiven round lowered connection) _ _ place (given-more connection)
+          rw (← same) (rw (get_or-set_same state.stops connection _ None wide)
+          (least-more (IsGiven round lowered connection) _ _ place (given-more connection)
           (inr (contains-here (connection, place) lowered))
           (λ q k. grind (arith, given-cases connection q k)) (h.places.stops_right connection))))
-      | no other ↦ rw (get_or-set_other state.stops connection c (Some _) None (λ e. other (sym e)))
+      | no other ↦ rw (get_or-set_other state.stops connection c _ None (λ e. other (sym e)))
           (least-moves (IsGiven round lowered c) _ _ (λ q k. (q, omega arith, given-more c q k))
           (λ q k. (q, omega arith, grind (arith, given-cases c q k, other))) (h.places.stops_right c))
     ]
@@ -152,18 +129,18 @@ module _ (round : Round) (state : RoundState) (h : IsKept round state) where
     }
 
   -- a job is finished
-  module _ (worker : ℕ) (part : Part) (job : Job) (work : IsAtWork state worker part.job)
+  module _ (worker : ℕ) (part : PartView) (job : Job) (work : IsAtWork state worker part.job)
       (is_job : slice_get round.jobs part.job ≡ Some job)
       (is_part : IsPartOf (by_worker worker state.seen) (by_worker worker state.lowered) job part) where
-    abbrev of_it : Part → Bool
+    abbrev of_it : PartView → Bool
     of_it other = other.job == part.job
 
     -- nobody has finished it: who did would have drawn it, and so is its drawer, who has not
     unfinished : 0 < parts_of part.job (by_all state.parts) → ⊥
     unfinished some =
         let (found, among, is) = count-some of_it (by_all state.parts) some in
-        let ((other, laid), there, same) = map-contains (λ (e : ℕ × Part). e.1) state.parts found among in
-        let number : laid.job ≡ part.job = ap (λ (p : Part). p.job) same ∙ eqb-true found.job part.job is in
+        let ((other, laid), there, same) = map-contains (λ (e : ℕ × PartView). e.1) state.parts found among in
+        let number : laid.job ≡ part.job = ap (λ (p : PartView). p.job) same ∙ eqb-true found.job part.job is in
         let who : other ≡ worker = h.draws.by_one other worker part.job
         (rw number at (h.draws.parts_drawn other laid there)) work.0 in
         let own = contains-own worker state.parts laid (subst (λ w. Contains state.parts (w, laid)) who there) in
@@ -175,7 +152,7 @@ module _ (round : Round) (state : RoundState) (h : IsKept round state) where
     once number =
         let none : parts_of part.job (by_all state.parts) ≡ 0 = omega (arith, unfinished) in
         let old = h.draws.parts_once number in
-        grind (arith, nat_tests, count-cons (λ (p : Part). p.job == number) part (by_all state.parts))
+        grind (arith, nat_tests, count-cons (λ (p : PartView). p.job == number) part (by_all state.parts))
 
     finish-kept : IsKept round (after_event state (Finish worker part))
     finish-kept = record {
@@ -187,7 +164,7 @@ module _ (round : Round) (state : RoundState) (h : IsKept round state) where
       places = h.places;
     }
 
-event-kept : (round : Round) → HasConnections round → (state : RoundState) (event : Event) →
+event-kept : (round : RoundView) → HasConnections round → (state : RoundState) (event : Event) →
     IsAllowed round state event → IsKept round state → IsKept round (after_event state event)
 event-kept round has state (Draw worker number) a h = draw-kept round state h worker number a
 event-kept round has state (Look worker connection stop) a h = look-kept round state h worker connection stop a
@@ -196,7 +173,7 @@ event-kept round has state (Lower worker connection place) (number, job, work, i
     lower-kept round state h worker connection place (job, among, of_it, stops) (rw of_it at (has job among))
 event-kept round has state (Finish worker part) a h = finish-kept round state h worker part a.0 a.1 a.2 a.3
 
-events-kept : (round : Round) → HasConnections round → (state : RoundState) (events : List Event) →
+events-kept : (round : RoundView) → HasConnections round → (state : RoundState) (events : List Event) →
     AreAllowed round state events → IsKept round state → IsKept round (after_events state events)
 events-kept round has state [] a h = h
 events-kept round has state (event ∷ events) a h =

@@ -21,7 +21,7 @@ pub use Rattle.stop_desk.specs.code.Calls.{Draws, IsAtMost, IsClaim, IsLook}
 pub use Rattle.stop_desk.specs.code.Counts.{is_mark, is_number, marks, once_below, times, weigh}
 pub use Rattle.stop_desk.specs.code.Desk.{ClosedView, DeskId, IsConnection, PassView, closed_of, final_stop}
 pub use Rattle.stop_desk.specs.code.Plays.{PassState, Sees, joined}
-pub use Rattle.stop_desk.specs.code.Settled.{IsLeast as IsLeastOnDesk, Settled, Settled as IsDeskSettled}
+pub use Rattle.stop_desk.specs.code.Settled.{IsDeskSettled, IsLeastOnDesk}
 pub use Rattle.audit_terms.specs.code.Places.{past_places, place_at}
 pub use Rattle.stop_desk.specs.code.Stop.{IsStop, stop_word}
 pub use Rattle.stop_desk.specs.code.Worked.{DoesJob, DrewJobs, IsAllWorked, IsLaid, IsWorked, stops_on}

@@ -12,7 +12,8 @@ use Rattle.stop_desk.proofs.Words.{append_assoc, arith, filter, flat_map, get_or
 use Rattle.stop_desk.proofs.Words.{joined, length, length-append, map, nat_tests, not, part_of, pass_draws, pass_of}
 use Rattle.stop_desk.proofs.Words.{refl, slice_get, slice_get-get_or, stops, stops_on, subst, suc, sum_by-append, sym}
 use Rattle.stop_desk.proofs.Words.{times, zero, ℕ, ⊎_elim, ◌++◌, ◌+◌, ◌<◌, ◌==◌, ◌∙◌, ◌∷◌, ◌≡◌, ◌≤◌, AuditRound}
-use Rattle.stop_desk.specs.code.Board.{IsCut, Job, Part as BoardPart, StopsAt, parts_of}
+use Rattle.audit_terms.specs.code.Stops.{StopsAt}
+use Rattle.stop_desk.specs.code.Board.{IsCut, Job, PartView, parts_of}
 use Rattle.stop_desk.specs.declared.claims.Claim.{Claim, TheVariants.Done, TheVariants.Job as Drawn, TheVariants.Spent}
 use Rattle.stop_desk.specs.declared.desk_looks.DeskLook.{DeskLook}
 
@@ -165,7 +166,7 @@ module _ {M : Type 0} (makes : ℕ → Option ℕ → M → Type 0) (jobs : List
   parts_of-append : (job : ℕ) (parts more : List (Part M)) →
       parts_of job (map part_of (parts ++ more)) ≡ parts_of job (map part_of parts) + parts_of job (map part_of more)
   parts_of-append job parts more = rw (map-append part_of parts more)
-      (sum_by-append (λ (p : BoardPart). if p.job == job then 1 else 0) (map part_of parts) (map part_of more))
+      (sum_by-append (λ (p : PartView). if p.job == job then 1 else 0) (map part_of parts) (map part_of more))
 
   -- one number more was drawn
   module _ (desk : DeskId) (whole : ℕ) (parts : List (Part M)) (before claimed : PassView) (n : ℕ)
@@ -203,7 +204,7 @@ module _ {M : Type 0} (makes : ℕ → Option ℕ → M → Type 0) (jobs : List
             desk_is = ap (λ (v : PassView). v.desk) goes.kept ∙ ap (λ (v : PassView). v.desk) draws.added ∙ h.desk_is;
             whole_is = ap pass_draws goes.kept ∙ same-whole;
             drawn = λ job l. (let more = parts_of-append job parts (part ∷ []) in
-                let one = count-cons (λ (p : BoardPart). p.job == job) (part_of part) [] in
+                let one = count-cons (λ (p : PartView). p.job == job) (part_of part) [] in
                 grind (arith, nat_tests, after-times job, h.drawn job l, number));
             laid = λ other k. ⊎_elim (λ old. laid-grows goes.seen_kept goes.lowered_kept
                 (rw draws.added (h.laid other old))) (λ new. rw new at laid) (Contains-push_cases parts part other k);

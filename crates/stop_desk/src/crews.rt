@@ -20,7 +20,7 @@ use std::alloc::{AllocError, Global};
 use std::thread::{Threads, join};
 
 /// Gives some of the workers of an unused pass a pass of their own.
-fn divide(desk: &Desk, pass: Pass, workers: u32, given: u32) -> (Pass, Pass)
+fn split_pass(desk: &Desk, pass: Pass, workers: u32, given: u32) -> (Pass, Pass)
     requires fresh { pass ≡ unused desk.now workers }
     requires some { 0 < given }
     requires fewer { given < workers }
@@ -31,7 +31,7 @@ fn divide(desk: &Desk, pass: Pass, workers: u32, given: u32) -> (Pass, Pass)
 }
 
 /// Makes one of what two groups of workers laid down, and of their passes, where both had memory.
-fn together<M: Drop>(
+fn both_worked<M: Drop>(
     desk: &Desk,
     mine: Result<(Vec<Part<M>>, Pass), AllocError>,
     theirs: Result<(Vec<Part<M>>, Pass), AllocError>,
@@ -66,7 +66,7 @@ fn fork<R: Threads + Sync, G: Gate, P: Round>(
     }
     let half = workers / 2;
     let rest = workers - half;
-    let (kept, given) = divide(shift.desk, pass, workers, half);
+    let (kept, given) = split_pass(shift.desk, pass, workers, half);
     let (mine, theirs) = join(
         rt,
         || -> Result<(Vec<Part<P::Made>>, Pass), AllocError>
@@ -82,7 +82,7 @@ fn fork<R: Threads + Sync, G: Gate, P: Round>(
                 (P.jobs shift.entry.now.plan.now) shift.entry.now.desk.now shift.entry.now.round rest r.0.items r.1) }
         { fork(rt, alloc, rest, shift, kept) },
     );
-    together(shift.desk, mine, theirs)
+    both_worked(shift.desk, mine, theirs)
 }
 
 /// A worker's share of the jobs with a little over, since some draw more than others; of a sole worker, all jobs.

@@ -10,9 +10,9 @@ use audit_terms::{Finding, Look, Place};
 /// Looks at the desk, for one connection. It owns the pass while a job runs.
 #[derive(Drop)]
 pub(crate) struct DeskLook<'a> {
-    pub pass: Pass,
-    pub desk: &'a Desk,
-    pub connection: usize,
+    pub(crate) pass: Pass,
+    pub(crate) desk: &'a Desk,
+    pub(crate) connection: usize,
     ghost own: { pass.desk ≡ desk.now.id },
     ghost there: { IsConnection desk.now.id connection },
 }

@@ -2,12 +2,12 @@ ghost use Rattle.std.specs.Prelude.{◌≡◌, ◌<◌, [], ◌∷◌, map, drop
 ghost use Rattle.audit_terms.specs.code.Places.{place_at};
 ghost use Rattle.stop_desk.specs.code.Stop.{IsStop, stop_word};
 ghost use Rattle.stop_desk.specs.code.Desk.{desk_of, pass_of, closed_of, all_draws, pass_draws};
-ghost use Rattle.stop_desk.specs.code.Settled.{Settled};
+ghost use Rattle.stop_desk.specs.code.Settled.{IsDeskSettled};
 
 use crate::closing::Closed;
 use crate::passes::Pass;
 use crate::rule::{DeskRule, Knows, Opening};
-use crate::stops::word_of;
+use crate::stop_words::word_of;
 use atomic_table::Table;
 use audit_terms::Place;
 use std::alloc::{AllocError, Global};
@@ -96,7 +96,7 @@ impl Desk {
         requires desk { last.desk ≡ self.id }
         requires all { pass_draws last ≡ all_draws self }
         ensures lists { result ≡ closed_of self.id result.words last.drawn last.seen last.lowered }
-        ensures settled { Settled result }
+        ensures settled { IsDeskSettled result }
     {
         let known = Snapshot::of(&last);
         let Desk { table, .. } = self;

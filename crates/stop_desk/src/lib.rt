@@ -1,6 +1,6 @@
 //! Jobs, the places at which connections stop, and the workers that draw the jobs. It deals numbered jobs to threads,
 //! where what one job finds can end others early. What the jobs are, it does not know; of the rounds of an audit it has
-//! the names ([`AuditRound`]). docs/ARCHITECTURE.md draws the circle that a worker goes ("How the work is divided").
+//! the names ([`AuditRound`]). docs/ARCHITECTURE.md has a diagram of the worker loop ("How the work is divided").
 //!
 //! - A [`Round`] says what its jobs are, as if nothing stopped them, and [`settle`] has a [`Team`] do them all: each
 //!   worker draws jobs, hands each a [`Look`](audit_terms::Look) at the stop of its connection, lowers the stop where a
@@ -18,7 +18,7 @@
 //!   place for a connection; [`Pass::look`] answers a place that is at most each that this pass gave or saw there
 //!   before, and that the desk was opened with or some pass gave.
 //! - [`Desk::close`] takes the last pass, and the [`Closed`] desk tells how many numbers were drawn, each once, and the
-//!   least place of each connection (`Settled` of `specs/code/Settled.antt`).
+//!   least place of each connection (`IsDeskSettled` of `specs/code/Settled.antt`).
 //! - The desk is one row of words: word 0 is the next number, and each other word the stop of a connection. The steps
 //!   of all threads stand in one order, and the desk's rule (`specs/code/Rule.antt`) holds between any two: each number
 //!   below word 0 was drawn once, word 0 and what may still be drawn add up, each stop is the least of its opening word
@@ -60,7 +60,7 @@ mod passes;
 mod rounds;
 mod rule;
 mod settling;
-mod stops;
+mod stop_words;
 mod teams;
 pub mod worked_rounds;
 mod workers;

@@ -6,7 +6,7 @@ ghost use Rattle.stop_desk.specs.code.Plays.{kept_part, given_part};
 
 use crate::claims::Claim;
 use crate::desks::Desk;
-use crate::rule::{Amount, Divide, Draw, Knows, Learn, Look, Lower, Unite};
+use crate::rule::{Amount, Divide, Draw, Knows, Learn, Lower, See, Unite};
 use atomic_table::Seat;
 use audit_terms::Place;
 use std::marker::{Brand, Model};
@@ -35,7 +35,7 @@ impl Model for Pass {
 }
 
 // Gives a part of the allowance to a new seat, which knows nothing else.
-fn divide<A: Amount>(desk: &Desk, seat: &mut Seat<(), Knows>, allowance: u64) -> Seat<(), Knows>
+fn split_seat<A: Amount>(desk: &Desk, seat: &mut Seat<(), Knows>, allowance: u64) -> Seat<(), Knows>
     requires amount { allowance ≡ A.amount }
     requires desk { seat.old.table_id ≡ desk.now.id.table }
     requires some { 0 < allowance }
@@ -68,7 +68,7 @@ impl Pass {
             mut seat,
             allowance: all,
         } = self;
-        let given = divide::<Brand>(desk, &mut seat, allowance);
+        let given = split_seat::<Brand>(desk, &mut seat, allowance);
         let kept = Pass {
             seat,
             allowance: all - allowance,
@@ -111,7 +111,7 @@ impl Pass {
         let word = desk
             .table
             .shared
-            .load::<Look>(&mut self.seat, connection + 1);
+            .load::<See>(&mut self.seat, connection + 1);
         Place::at_word(word)
     }
 

@@ -4,25 +4,25 @@ use std::collections::LinkedList;
 use std::marker::{Brand, PhantomData};
 
 /// What a pass knows. No value of it is made.
-pub struct Knows {
+pub(crate) struct Knows {
     /// The words that the desk was opened with.
-    pub opened: LinkedList<u64>,
-    pub allowance: u64,
-    pub drawn: LinkedList<u64>,
+    pub(crate) opened: LinkedList<u64>,
+    pub(crate) allowance: u64,
+    pub(crate) drawn: LinkedList<u64>,
     /// Places beside their connections, as in `lowered`.
-    pub seen: LinkedList<(u64, u64)>,
-    pub lowered: LinkedList<(u64, u64)>,
+    pub(crate) seen: LinkedList<(u64, u64)>,
+    pub(crate) lowered: LinkedList<(u64, u64)>,
 }
 
 /// What the rule is told once, when a desk is made.
 #[derive(Drop)]
-pub struct Opening {
+pub(crate) struct Opening {
     /// All numbers that may be drawn.
-    pub whole: u64,
-    pub words: Vec<u64>,
+    pub(crate) whole: u64,
+    pub(crate) words: Vec<u64>,
 }
 
-pub struct DeskRule;
+pub(crate) struct DeskRule;
 
 impl TableRule<(), Knows, Opening> for DeskRule {
     ghost use Rattle.stop_desk.specs.code.Rule.{Holds, opening_view};
@@ -33,7 +33,7 @@ impl TableRule<(), Knows, Opening> for DeskRule {
 }
 
 /// Adds 1 to word 0.
-pub struct Draw;
+pub(crate) struct Draw;
 
 impl Play<(), Knows> for Draw {
     ghost use Rattle.stop_desk.specs.code.Plays.{drawn_by};
@@ -42,16 +42,16 @@ impl Play<(), Knows> for Draw {
 }
 
 /// Loads a stop word.
-pub struct Look;
+pub(crate) struct See;
 
-impl Play<(), Knows> for Look {
+impl Play<(), Knows> for See {
     ghost use Rattle.stop_desk.specs.code.Plays.{seen_by};
 
     ghost then = { seen_by };
 }
 
 /// Lowers a stop word.
-pub struct Lower;
+pub(crate) struct Lower;
 
 impl Play<(), Knows> for Lower {
     ghost use Rattle.stop_desk.specs.code.Plays.{lowered_by};
@@ -60,7 +60,7 @@ impl Play<(), Knows> for Lower {
 }
 
 /// Loads word 0, which tells that the allowance fits a word.
-pub struct Learn;
+pub(crate) struct Learn;
 
 impl Play<(), Knows> for Learn {
     ghost use Rattle.stop_desk.specs.code.Plays.{learned_by};
@@ -69,7 +69,7 @@ impl Play<(), Knows> for Learn {
 }
 
 /// How much of an allowance is given away, picked at the call.
-pub trait Amount {
+pub(crate) trait Amount {
     ghost use Rattle.std.specs.Prelude.{ℕ};
 
     ghost amount: { ℕ };
@@ -80,7 +80,7 @@ impl Amount for Brand {
 }
 
 /// The first pass keeps the rest, and the second has the amount alone.
-pub struct Divide<A: Amount> {
+pub(crate) struct Divide<A: Amount> {
     amount: PhantomData<A>,
 }
 
@@ -93,7 +93,7 @@ impl<A: Amount> Split<Knows> for Divide<A> {
 }
 
 /// The first pass takes in all that the second knows.
-pub struct Unite;
+pub(crate) struct Unite;
 
 impl Join<Knows> for Unite {
     ghost use Rattle.stop_desk.specs.code.Plays.{joined, spent};

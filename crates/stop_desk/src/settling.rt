@@ -26,7 +26,7 @@ pub struct Settled<M> {
 }
 
 /// Puts parts in the order of their jobs.
-fn put_in_order<M>(parts: &mut Vec<Part<M>>)
+fn put_in_job_order<M>(parts: &mut Vec<Part<M>>)
     ensures same { IsPermutation parts.old.items parts.new.items }
     ensures sorted { IsNonDecreasingBy (λ (part : PartTerm M). part.job) parts.new.items }
 {
@@ -67,14 +67,8 @@ pub fn settle<R: Threads + Sync, G: Gate, P: Round>(
     let jobs = plan.count();
     let workers = team.workers.min(jobs).max(1);
     let (desk, pass) = Desk::make(team.alloc, jobs, stops, workers)?;
-    let team = Team {
-        rt: team.rt,
-        alloc: team.alloc,
-        workers,
-        gate: team.gate,
-    };
-    let (mut parts, closed) = crew(&team, desk, pass, round, plan)?;
-    put_in_order(&mut parts);
+    let (mut parts, closed) = crew(&team.with_workers(workers), desk, pass, round, plan)?;
+    put_in_job_order(&mut parts);
     let stops = stops_of(team.alloc, &closed, stops)?;
     Ok(Settled { parts, stops })
 }

@@ -1,4 +1,4 @@
-ghost use Rattle.std.specs.Prelude.{◌<◌};
+ghost use Rattle.std.specs.Prelude.{◌≡◌, ◌<◌};
 
 use crate::gate::Gate;
 use std::alloc::Global;
@@ -10,7 +10,23 @@ use std::thread::Threads;
 pub struct Team<'a, R: Threads + Sync, G: Gate> {
     pub rt: &'a R,
     pub alloc: Global,
+    /// How many threads work at once, 1 at least.
     pub workers: u32,
     pub gate: &'a G,
-    ghost some: { 0 < workers },
+    pub ghost some_workers: { 0 < workers },
+}
+
+impl<'a, R: Threads + Sync, G: Gate> Team<'a, R, G> {
+    /// A team of so many workers, beside which all else stays.
+    pub fn with_workers(&self, workers: u32) -> Team<'a, R, G>
+        requires { 0 < workers }
+        ensures { result.workers ≡ workers }
+    {
+        Team {
+            rt: self.rt,
+            alloc: self.alloc,
+            workers,
+            gate: self.gate,
+        }
+    }
 }

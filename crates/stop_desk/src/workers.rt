@@ -21,12 +21,12 @@ use std::alloc::{AllocError, Global};
 /// What the workers of a round share.
 #[derive(Drop)]
 pub(crate) struct Shift<'a, G: Gate, P: Round> {
-    pub desk: &'a Desk,
-    pub gate: &'a G,
-    pub round: AuditRound,
-    pub plan: &'a P,
+    pub(crate) desk: &'a Desk,
+    pub(crate) gate: &'a G,
+    pub(crate) round: AuditRound,
+    pub(crate) plan: &'a P,
     /// For how many parts each worker makes room before it draws.
-    pub share: usize,
+    pub(crate) share: usize,
     ghost counted: { desk.now.jobs ≡ length (P.jobs plan.now) },
     ghost there: { All (λ (job : Job). IsConnection desk.now.id job.connection) (P.jobs plan.now) },
 }

@@ -7,9 +7,10 @@ use Rattle.stop_desk.specs.code.Stop.{IsStop}
 use Rattle.stop_desk.specs.declared.settling.Settled.{Settled}
 use Rattle.stop_desk.specs.code.Settling.{HasSettled}
 use Rattle.audit_rounds.specs.declared.prepared.Prepared.{Prepared}
-use Rattle.audit_rounds.specs.declared.streams.Streams.{Streams}
+use Rattle.audit_rounds.specs.declared.connection_streams.Streams.{Streams}
 use Rattle.audit_rounds.specs.code.Within.{IsAfterStreams}
-use Rattle.audit_rounds.specs.code.StreamRound.{IsFirstStop, IsStreamsOf}
+use Rattle.audit_terms.specs.code.Stops.{IsFirstStop}
+use Rattle.audit_rounds.specs.code.StreamRound.{IsStreamsOf}
 use Rattle.audit_rounds.specs.code.StreamJobs.{Makes, job_of, plan_from}
 
 -- what was found of each connection, with its stop and its openings

@@ -10,7 +10,7 @@ use Rattle.audit_terms.specs.Finding.{shown}
 use Rattle.audit_terms.specs.Pass.{pass}
 use Rattle.audit_rounds.specs.declared.prepared.Prepared.{Prepared}
 use Rattle.audit_rounds.specs.code.Few.{AreFew, PreparedAreFew}
-use Rattle.split_merge.specs.code.Pending.{is_pending}
+use Rattle.audit_rounds.specs.code.Pending.{is_pending}
 use Rattle.audit_rounds.specs.code.Prepared.{IsPrepared, found_before}
 
 -- connections that may go through the rounds together

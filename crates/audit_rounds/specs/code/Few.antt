@@ -4,7 +4,7 @@ use Rattle.std.specs.List.{sum_by}
 use denote.Ref.{Bor}
 use Rattle.audit_terms.specs.declared.frames.Frame.{Frame}
 use Rattle.conn_scan.specs.declared.block_items.Block.{Block}
-use Rattle.audit_rounds.specs.declared.streams.Streams.{Streams}
+use Rattle.audit_rounds.specs.declared.connection_streams.Streams.{Streams}
 use Rattle.audit_rounds.specs.declared.prepared.Prepared.{Prepared}
 
 -- the frames of connections, all together

@@ -12,7 +12,7 @@ use Rattle.audit_terms.specs.code.runs.Look.{Asked}
 use Rattle.conn_scan.specs.code.Items.{items_in}
 use Rattle.stop_desk.specs.code.Board.{Job, findings_of_jobs}
 use Rattle.stop_desk.specs.code.Heeding.{RunLooks}
-use Rattle.audit_rounds.specs.declared.blocks.ConnectionBlock.{ConnectionBlock}
+use Rattle.audit_rounds.specs.declared.connection_blocks.ConnectionBlock.{ConnectionBlock}
 use Rattle.audit_rounds.specs.declared.block_plans.ReadyBlock.{ReadyBlock}
 use Rattle.audit_rounds.specs.code.Blocks.{IsReady, after_of, before_of}
 

@@ -9,7 +9,7 @@ use Rattle.conn_scan.specs.declared.block_items.Block.{Block}
 use Rattle.conn_scan.specs.code.Items.{items_in, IsBlock}
 use Rattle.conn_scan.specs.code.Block.{BlockFits}
 use Rattle.stop_desk.specs.code.Stop.{IsStop}
-use Rattle.stop_desk.specs.code.Board.{IsLeast, StopsAt}
+use Rattle.audit_terms.specs.code.Stops.{IsLeast, StopsAt}
 
 -- all frames make a block that fits the start of a connection, and its stop is the least error found so far
 pub record IsRemaining (whole : Block) (stop : Option ℕ) (found : List Finding) : Type 0 where

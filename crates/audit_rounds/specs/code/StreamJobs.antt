@@ -8,7 +8,7 @@ use Rattle.audit_terms.specs.code.runs.Changes.{AreOrderly}
 use Rattle.split_merge.specs.declared.splits.StreamRow.{StreamRow}
 use Rattle.split_merge.specs.code.Groups.{groups}
 use Rattle.stop_desk.specs.code.Board.{Job}
-use Rattle.audit_rounds.specs.declared.streams.Streams.{Streams}
+use Rattle.audit_rounds.specs.declared.connection_streams.Streams.{Streams}
 use Rattle.audit_rounds.specs.declared.stream_jobs.StreamJob.{StreamJob}
 use Rattle.audit_rounds.specs.code.Streams.{IsRow, AreOpenedUpTo, RowsLook, rows_shown, rows_opened}
 

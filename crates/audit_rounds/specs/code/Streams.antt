@@ -1,6 +1,6 @@
 -- What the streams of a connection show and open, a row of the split for each.
-use Rattle.std.specs.Prelude.{◌≡◌, ℕ, ◌^◌, ◌-◌, ◌==◌, ◌<◌, ◌≤◌, min, Bool, false, List, [], ◌∷◌, ◌++◌, All, length}
-use Rattle.std.specs.Prelude.{Option, Some, None}
+use Rattle.std.specs.Prelude.{◌≡◌, ℕ, ◌^◌, ◌-◌, ◌==◌, ◌<◌, ◌≤◌, Bool, false, List, [], ◌∷◌, ◌++◌, All, length}
+use Rattle.std.specs.Prelude.{Option, None}
 use Rattle.std.specs.Option.{option_to_list}
 use Rattle.std.specs.List.{flat_map, list_any}
 use Rattle.audit_terms.specs.declared.frames.Frame.{Frame}
@@ -10,13 +10,14 @@ use Rattle.audit_terms.specs.code.runs.Orderly.{IsOrderly}
 use Rattle.audit_terms.specs.code.runs.Changes.{AreAcknowledged, changes_of}
 use Rattle.audit_terms.specs.code.runs.Look.{Asked, is_past}
 use Rattle.audit_terms.specs.Place.{place_number}
+use Rattle.audit_terms.specs.code.Stops.{lesser_place}
 use Rattle.audit_terms.specs.code.runs.Streams.{frames_of, stream_run, stream_at_end}
 use Rattle.split_merge.specs.declared.splits.StreamRow.{StreamRow}
 use Rattle.split_merge.specs.code.Split.{IsRange, row_positions, frames_at}
 use Rattle.stop_desk.specs.code.Board.{IsCut}
 use Rattle.stop_desk.specs.code.Heeding.{Heeds, RunLooks}
 use Rattle.stream_credit.specs.code.Looks.{step_numbers}
-use Rattle.audit_rounds.specs.declared.streams.Streams.{Streams}
+use Rattle.audit_rounds.specs.declared.connection_streams.Streams.{Streams}
 
 -- what is shown of one stream
 abbrev pub shown_of : (frames_shown : Bool) → List Frame → (stream : ℕ) → List Finding
@@ -52,12 +53,6 @@ pub record IsRow (streams : Streams) (row : StreamRow) : Type 0 where
   pub orderly : IsOrderly (row_frames streams row)
   pub acknowledged : AreAcknowledged (row_frames streams row) streams.changes
 
--- the lesser of two places up to which runs went, of which none is the greatest
-abbrev pub lesser : (one other : Option ℕ) → Option ℕ
-lesser None other = other
-lesser (Some one) None = Some one
-lesser (Some one) (Some other) = Some (min one other)
-
 -- these openings are all up to a place, and none but those
 abbrev pub AreOpenedUpTo : (upto : Option ℕ) → (opened all : List ℕ) → Type 0
 AreOpenedUpTo upto opened all = (number : ℕ) → is_past upto number ≡ false →
@@ -74,7 +69,7 @@ abbrev pub RowsLook : (frames_shown : Bool) → Streams → List StreamRow → L
 RowsLook frames_shown streams [] asked upto = (asked ≡ []) × (upto ≡ None)
 RowsLook frames_shown streams (row ∷ rows) asked upto =
     (first : List Asked) × (rest : List Asked) × (one : Option ℕ) × (other : Option ℕ)
-    × (asked ≡ first ++ rest) × (upto ≡ lesser one other)
+    × (asked ≡ first ++ rest) × (upto ≡ lesser_place one other)
     × RowLooks frames_shown streams row first one × RowsLook frames_shown streams rows rest other
 
 -- what was made of some streams, which show `whole` and open at `openings`, with the looks that are due

@@ -9,7 +9,7 @@ use Rattle.audit_terms.specs.code.runs.LocalFaults.{local_run}
 use Rattle.audit_terms.specs.code.runs.Look.{is_past}
 use Rattle.audit_terms.specs.Pass.{streams_of}
 use Rattle.conn_scan.specs.code.Items.{NeverFallFrom}
-use Rattle.stop_desk.specs.code.Board.{IsLeast, StopsAt}
+use Rattle.audit_terms.specs.code.Stops.{IsLeast, StopsAt}
 use Rattle.audit_rounds.specs.code.Openings.{openings_of}
 use Rattle.audit_rounds.specs.code.Shown.{streams_shown}
 

@@ -1,9 +1,10 @@
 -- The board of a round: the parts that workers lay down, one for each job, and what makes it settled. Places are
 -- numbers in the order of findings, so the least place stands first.
-use Rattle.std.specs.Prelude.{◌≡◌, ℕ, ◌<◌, ◌≤◌, ◌==◌, true, if◌then◌else◌, ◌⊎◌, List, [], ◌++◌, length, slice_get}
+use Rattle.std.specs.Prelude.{◌≡◌, ℕ, ◌<◌, ◌==◌, if◌then◌else◌, ◌⊎◌, List, [], ◌++◌, length, slice_get}
 use Rattle.std.specs.Prelude.{slice_index_or, flat_map, count_by, Contains, Option, Some, None}
 use Rattle.audit_terms.specs.declared.findings.Finding.{Finding}
-use Rattle.audit_terms.specs.Finding.{stops, in_order}
+use Rattle.audit_terms.specs.Finding.{in_order}
+use Rattle.audit_terms.specs.code.Stops.{IsLeast, StopsAt}
 
 -- a job of a round: the connection that it is of, and all that it has to find, as if nothing stopped it
 pub record Job : Type 0 where
@@ -11,12 +12,12 @@ pub record Job : Type 0 where
   pub findings : List Finding
 
 -- a round: its jobs by number, and for each connection the place where it is known to stop as the round opens
-pub record Round : Type 0 where
+pub record RoundView : Type 0 where
   pub jobs : List Job
   pub opening_stops : List (Option ℕ)
 
 -- what is kept of a job: the findings up to a place, or all
-pub record Part : Type 0 where
+pub record PartView : Type 0 where
   pub job : ℕ
   pub connection : ℕ
   pub upto : Option ℕ
@@ -24,7 +25,7 @@ pub record Part : Type 0 where
 
 -- what a round leaves: the parts, the places that were seen and lowered, each with its connection, and the stops
 pub record Board : Type 0 where
-  pub parts : List Part
+  pub parts : List PartView
   pub seen : List (ℕ × ℕ)
   pub lowered : List (ℕ × ℕ)
   pub stops : List (Option ℕ)
@@ -32,15 +33,6 @@ pub record Board : Type 0 where
 -- where a connection stops, if it does
 abbrev pub stop_of : List (Option ℕ) → (connection : ℕ) → Option ℕ
 stop_of stops connection = slice_index_or stops connection None
-
--- one of the findings is an error of the connection, and stands at this place
-abbrev pub StopsAt : List Finding → (place : ℕ) → Type 0
-StopsAt findings place = (found : Finding) × Contains findings found × (stops found ≡ true) × (found.place ≡ place)
-
--- the least place of which something holds, or none where it holds of no place
-abbrev pub IsLeast : (ℕ → Type 0) → Option ℕ → Type 0
-IsLeast Holds None = (place : ℕ) → Holds place → ⊥
-IsLeast Holds (Some least) = Holds least × ((place : ℕ) → Holds place → least ≤ place)
 
 -- the place lies past the one up to which a part goes; where that is none, no place does
 abbrev pub IsPast : (upto : Option ℕ) → (place : ℕ) → Type 0
@@ -55,32 +47,32 @@ pub record IsCut (whole : List Finding) (upto : Option ℕ) (kept : List Finding
   pub past : (found : Finding) → Contains left_out found → IsPast upto found.place
 
 -- the part is a cut of the job, up to a place that was seen; where it stops was lowered
-pub record IsPartOf (seen lowered : List (ℕ × ℕ)) (job : Job) (part : Part) : Type 0 where
+pub record IsPartOf (seen lowered : List (ℕ × ℕ)) (job : Job) (part : PartView) : Type 0 where
   pub of_connection : part.connection ≡ job.connection
   pub cut : IsCut job.findings part.upto part.findings
   pub upto_seen : (place : ℕ) → part.upto ≡ Some place → Contains seen (part.connection, place)
   pub stops_lowered : (place : ℕ) → StopsAt part.findings place → Contains lowered (part.connection, place)
 
 -- how many of the parts are of this job
-abbrev pub parts_of : (job : ℕ) → List Part → ℕ
-parts_of job parts = count_by (λ (part : Part). part.job == job) parts
+abbrev pub parts_of : (job : ℕ) → List PartView → ℕ
+parts_of job parts = count_by (λ (part : PartView). part.job == job) parts
 
 -- a job of the connection has an error of the connection at this place
-abbrev pub JobStopsAt : Round → (connection place : ℕ) → Type 0
+abbrev pub JobStopsAt : RoundView → (connection place : ℕ) → Type 0
 JobStopsAt round connection place =
     (job : Job) × Contains round.jobs job × (job.connection ≡ connection) × StopsAt job.findings place
 
 -- the place is the connection's opening stop, or was lowered for it
-abbrev pub IsGiven : Round → (lowered : List (ℕ × ℕ)) → (connection place : ℕ) → Type 0
+abbrev pub IsGiven : RoundView → (lowered : List (ℕ × ℕ)) → (connection place : ℕ) → Type 0
 IsGiven round lowered connection place =
     (stop_of round.opening_stops connection ≡ Some place) ⊎ Contains lowered (connection, place)
 
 -- the board of a round in which every job is done
-pub record IsSettled (round : Round) (board : Board) : Type 0 where
+pub record IsSettled (round : RoundView) (board : Board) : Type 0 where
   -- each job has one part
   pub one_part_each : (job : ℕ) → job < length round.jobs → parts_of job board.parts ≡ 1
   -- each part is one of a job
-  pub parts_of_jobs : (part : Part) → Contains board.parts part →
+  pub parts_of_jobs : (part : PartView) → Contains board.parts part →
       (job : Job) × (slice_get round.jobs part.job ≡ Some job) × IsPartOf board.seen board.lowered job part
   -- each place lowered is an error of a job
   pub lowered_real : (connection place : ℕ) → Contains board.lowered (connection, place) →
@@ -98,6 +90,6 @@ findings_of_jobs connection jobs =
     flat_map (λ (job : Job). if job.connection == connection then job.findings else []) jobs
 
 -- all that the parts of a connection keep
-abbrev pub findings_of_parts : (connection : ℕ) → List Part → List Finding
+abbrev pub findings_of_parts : (connection : ℕ) → List PartView → List Finding
 findings_of_parts connection parts =
-    flat_map (λ (part : Part). if part.connection == connection then part.findings else []) parts
+    flat_map (λ (part : PartView). if part.connection == connection then part.findings else []) parts

@@ -41,8 +41,8 @@ pub record Dealt (whole : ℕ) (words : List ℕ) (views : List Knows) : Type 0 
   pub each_once : (x : ℕ) → weigh (drawn_in x) views ≡ once_below x (slice_index words 0)
 
 -- p is the word that the desk was opened with for connection c, or was lowered there
-abbrev pub IsGiven : (opened : List ℕ) → List Knows → (c p : ℕ) → Type 0
-IsGiven opened views c p = (p ≡ slice_index opened (c + 1)) ⊎ (0 < weigh (lowered_in c p) views)
+abbrev pub IsGivenOnDesk : (opened : List ℕ) → List Knows → (c p : ℕ) → Type 0
+IsGivenOnDesk opened views c p = (p ≡ slice_index opened (c + 1)) ⊎ (0 < weigh (lowered_in c p) views)
 
 -- each stop word is the least of what was given, and what was seen was given and is not below it
 pub record Stops (opened words : List ℕ) (views : List Knows) : Type 0 where
@@ -50,8 +50,8 @@ pub record Stops (opened words : List ℕ) (views : List Knows) : Type 0 where
   pub below_opening : (c : ℕ) → slice_index words (c + 1) ≤ slice_index opened (c + 1)
   pub below_lowered : (c p : ℕ) → 0 < weigh (lowered_in c p) views → (slice_index words (c + 1) ≤ p) × (p < past_places)
   pub below_seen : (c p : ℕ) → 0 < weigh (seen_in c p) views
-      → (slice_index words (c + 1) ≤ p) × (p < past_places) × IsGiven opened views c p
-  pub reached : (c : ℕ) → IsGiven opened views c (slice_index words (c + 1))
+      → (slice_index words (c + 1) ≤ p) × (p < past_places) × IsGivenOnDesk opened views c p
+  pub reached : (c : ℕ) → IsGivenOnDesk opened views c (slice_index words (c + 1))
 
 -- a pass with no share was joined away and knows nothing; any other knows what the desk was opened with
 pub record Fits (opened : List ℕ) (v : Knows) : Type 0 where

@@ -3,9 +3,10 @@ use Rattle.std.specs.Prelude.{◌≡◌, ℕ, ◌+◌, ◌*◌, ◌<◌, ◌≤�
 use Rattle.std.specs.Prelude.{Some}
 use Rattle.audit_terms.specs.declared.findings.Finding.{Finding}
 use Rattle.audit_terms.specs.Finding.{stops}
+use Rattle.audit_terms.specs.code.Stops.{StopsAt}
 use Rattle.stop_desk.specs.code.Counts.{times}
 use Rattle.stop_desk.specs.code.Desk.{DeskId, DeskView, PassView, pass_of, pass_draws, IsConnection}
-use Rattle.stop_desk.specs.code.Board.{Job, StopsAt, IsPartOf, parts_of}
+use Rattle.stop_desk.specs.code.Board.{Job, IsPartOf, parts_of}
 use Rattle.stop_desk.specs.declared.audit_round.AuditRound.{AuditRound}
 use Rattle.stop_desk.specs.declared.parts.Part.{Part}
 use Rattle.stop_desk.specs.code.Laid.{part_of}

@@ -5,7 +5,7 @@ use Rattle.audit_terms.specs.declared.sides.Side.TheVariants.{Client}
 use Rattle.audit_terms.specs.declared.kinds.Kind.TheVariants.{StreamOverrun, NotOpened}
 use Rattle.audit_terms.specs.declared.findings.Finding.{Finding}
 use Rattle.audit_terms.specs.Finding.{finding_at, in_order, upto_stop}
-use Rattle.stop_desk.specs.code.Board.{Job, Round, Part, Board, IsSettled, findings_of_jobs, findings_of_parts}
+use Rattle.stop_desk.specs.code.Board.{Job, RoundView, PartView, Board, IsSettled, findings_of_jobs, findings_of_parts}
 use Rattle.stop_desk.specs.laws.Machine.{Event, Draw, Look, Lower, Finish, round_start, after_events, AreAllowed}
 use Rattle.stop_desk.specs.laws.Machine.{IsFinished, board_of}
 
@@ -19,12 +19,12 @@ error number stream = finding_at NotOpened number stream Client (pos 0)
 abbrev pub job : (connection : ℕ) → List Finding → Job
 job connection findings = record { connection = connection; findings = findings }
 
-abbrev pub part : (job connection : ℕ) → Option ℕ → List Finding → Part
+abbrev pub part : (job connection : ℕ) → Option ℕ → List Finding → PartView
 part job connection upto findings =
     record { job = job; connection = connection; upto = upto; findings = findings }
 
 -- connection 0 has two jobs, and an error at frame 7 in the second; connection 1 has one job, and no error
-abbrev pub example : Round
+abbrev pub example : RoundView
 example = record {
   jobs =
       job 0 (overrun 6 1 ∷ overrun 9 1 ∷ [])

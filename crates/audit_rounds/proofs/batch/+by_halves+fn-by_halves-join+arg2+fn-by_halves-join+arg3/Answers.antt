@@ -4,7 +4,7 @@ use Rattle.audit_rounds.proofs.batch.+by_halves+fn-by_halves-join+arg2+fn-by_hal
 
 pub returns : goal.returns
 returns g t c =
-    let shows = c.args.crew.now.frames_shown in
+    let shows = c.args.division.now.frames_shown in
     let front = c.in_halves.result.0.now in
     let back = c.in_halves.result.1.now in
     subst (λ all. IfOk c.both_shown.result (λ found. AreShown shows all found.items)) c.in_halves.ensures.whole

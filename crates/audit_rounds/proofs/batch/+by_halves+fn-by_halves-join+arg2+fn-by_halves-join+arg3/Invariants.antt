@@ -2,10 +2,10 @@ use Rattle.std.proofs.Common.{◌+◌, ◌*◌}
 use Rattle.audit_rounds.proofs.batch.+by_halves+fn-by_halves-join+arg2+fn-by_halves-join+arg3.Given as goal
 
 abbrev pub decreases-join+arg2 : goal.decreases-join+arg2
-decreases-join+arg2 g l = 2 * l.few.workers + 1
+decreases-join+arg2 g l = 2 * l.few + 1
 
 abbrev pub decreases-join+arg3 : goal.decreases-join+arg3
-decreases-join+arg3 g l = 2 * l.others.workers + 1
+decreases-join+arg3 g l = 2 * l.others + 1
 
 abbrev pub decreases-by_halves : goal.decreases-by_halves
-decreases-by_halves g l = 2 * l.crew.now.division.workers
+decreases-by_halves g l = 2 * l.team.now.workers

@@ -11,13 +11,13 @@ pub plan_of-requires-clause-fits : goal.plan_of-requires-clause-fits
 plan_of-requires-clause-fits g c =
     let same = c.as_slice-blocks.ensures.value in
     let little = little-each c.as_slice-blocks.result.now c.in_ok-sums.sums.items c.in_ok-sums.ensures in
-    rw same (cut-walk c.args.crew.now.frames_shown (wholes c.args.connections.now) c.in_ok-blocks.blocks.items
+    rw same (cut-walk c.args.division.now.frames_shown (wholes c.args.connections.now) c.in_ok-blocks.blocks.items
     c.in_ok-blocks.ensures.of c.requires.fits (rw same at little)).fits
 
 pub returns-clause-plan : goal.returns-clause-plan
 returns-clause-plan g c =
     let same = c.as_slice-blocks.ensures.value in
-    let shows = c.args.crew.now.frames_shown in
+    let shows = c.args.division.now.frames_shown in
     let connections = c.args.connections.now in
     let blocks = c.in_ok-blocks.blocks.items in
     let of = c.in_ok-blocks.ensures.of in

@@ -16,12 +16,12 @@ settle-requires-clause-places g c κs inside = each-place _ _ _ c.requires.remai
 
 pub settle-requires-clause-connections : goal.settle-requires-clause-connections
 settle-requires-clause-connections g c κs inside =
-    rw c.as_slice.ensures.value (jobs-inside c.args.crew.now.frames_shown _ _ _ _
+    rw c.as_slice.ensures.value (jobs-inside c.args.division.now.frames_shown _ _ _ _
     (sym c.requires.remaining.number) c.in_ok-plan.ensures.plan)
 
 pub gathered-requires : goal.gathered-requires
 gathered-requires g c =
-    let shows = c.args.crew.now.frames_shown in
+    let shows = c.args.division.now.frames_shown in
     parts-within (map (block_job shows) c.as_slice.result.now) c.args.stops.now c.in_ok-settled.settled _
     c.in_ok-settled.ensures.settled
     (rw c.as_slice.ensures.value (jobs-inside shows _ _ _ _ (sym c.in_ok-none.ensures.number)
@@ -34,7 +34,7 @@ returns g c =
     let rest = c.requires.remaining in
     let number = own.number in
     IfOk-weaker c.merged_each.result _ _ (λ last is.
-    gone-through _ _ _ rest c.args.crew.now.frames_shown c.as_slice.result.now c.in_ok-settled.settled
+    gone-through _ _ _ rest c.args.division.now.frames_shown c.as_slice.result.now c.in_ok-settled.settled
     c.in_ok-own.own.items last.items (rw c.as_slice.ensures.value c.in_ok-plan.ensures.plan)
     c.in_ok-settled.ensures.settled (number ∙ none.number ∙ rest.founds) (λ n list l.
     let inside : n < length c.in_ok-none.none.items = omega (arith, number, l) in

@@ -1,6 +1,6 @@
 use Rattle.audit_rounds.proofs.Words.{◌<◌, ◌++◌, [], ◌∷◌, map, length, get_or, sym, ap, ◌∙◌, arith, length-set, Vec}
 use Rattle.audit_rounds.proofs.Words.{Global, Finding, map-append, into_iter_items, findings_of_parts, part_of}
-use Rattle.stop_desk.specs.code.Board.{Part as BoardPart}
+use Rattle.stop_desk.specs.code.Board.{PartView}
 use Rattle.audit_rounds.proofs.Lists.{part-more, taken-all, taken-holds, taken-more}
 use Rattle.audit_rounds.proofs.gathering.gathered.Goals as goal
 
@@ -26,7 +26,7 @@ loop-part-preserved g c =
       number = length-set at.all.items part.connection c.append.new.self ∙ at.invariant.number;
       each = λ n list list' l.
           rw (map-append part_of at.yielded (part ∷ [])) (part-more at.all.items
-          (λ (one : BoardPart). one.connection) (λ (one : BoardPart). one.findings)
+          (λ (one : PartView). one.connection) (λ (one : PartView). one.findings)
           (get_or c.args.found.items n list').items n list c.index_mut.result.now c.append.new.self
           (map part_of at.yielded) (part_of part) (rw at.invariant.number inside)
           (c.in_ok-append.ensures.items

@@ -4,7 +4,7 @@ use Rattle.audit_rounds.proofs.prepared.+fn-prepare_each-join+arg2+fn-prepare_ea
 
 pub returns : goal.returns
 returns g t c =
-    let shows = c.args.crew.now.frames_shown in
+    let shows = c.args.division.now.frames_shown in
     let front = c.in_halves.result.0.now in
     let back = c.in_halves.result.1.now in
     subst (λ all. IfOk c.both_ready.result (AreMadeReady shows all)) c.in_halves.ensures.whole

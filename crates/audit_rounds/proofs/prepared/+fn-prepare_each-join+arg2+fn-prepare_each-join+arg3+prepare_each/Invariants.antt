@@ -3,10 +3,10 @@ use Rattle.audit_rounds.proofs.prepared.+fn-prepare_each-join+arg2+fn-prepare_ea
     goal
 
 abbrev pub decreases-join+arg2 : goal.decreases-join+arg2
-decreases-join+arg2 g l = 2 * l.few.workers + 1
+decreases-join+arg2 g l = 2 * l.few + 1
 
 abbrev pub decreases-join+arg3 : goal.decreases-join+arg3
-decreases-join+arg3 g l = 2 * l.others.workers + 1
+decreases-join+arg3 g l = 2 * l.others + 1
 
 abbrev pub decreases-prepare_each : goal.decreases-prepare_each
-decreases-prepare_each g l = 2 * l.crew.now.division.workers
+decreases-prepare_each g l = 2 * l.team.now.workers

@@ -16,17 +16,17 @@ faults_and_split-found-requires-clause-frames g c κs within =
 
 pub returns : goal.returns
 returns g c =
-    let shows = c.args.crew.now.frames_shown in
+    let shows = c.args.division.now.frames_shown in
     let frames = c.args.frames.now in
     let pairs = c.in_ok-pairs.ensures in
     let said = c.faults_and_split-found.ensures in
     let found = IfOk-at_ok (λ found. found.items ≡ local_run frames) c.in_ok-found.was said.faults in
     let split = IfOk-at_ok (IsSplit shows _ frames) c.in_ok-split.was said.split in
-    on_ok_weaker c.add.result (λ more all are. made-more shows all c.args.frames _ c.args.made.now _ more.0
+    on_ok_weaker c.add_ready.result (λ more all are. made-more shows all c.args.frames _ c.args.made.now _ more.0
     (rw (found, pairs.findings) at more.1) refl (record {
       orderly = c.requires;
       changes = pairs.changes;
       changes_orderly = pairs.orderly;
       acknowledged = pairs.acknowledged;
       split = rw c.as_slice.ensures.value at split;
-    }) are) c.add.ensures
+    }) are) c.add_ready.ensures

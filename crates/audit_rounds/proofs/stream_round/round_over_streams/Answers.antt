@@ -5,22 +5,22 @@ use Rattle.audit_rounds.proofs.stream_round.round_over_streams.Goals as goal
 
 pub opened_each-requires : goal.opened_each-requires
 opened_each-requires g c =
-    let crew = c.args.crew.now in
-    rw (c.as_slice-2.ensures.value) (parts-inside crew.frames_shown crew.division.groups crew.division.some_groups
+    let division = c.args.division.now in
+    rw (c.as_slice-2.ensures.value) (parts-inside division.frames_shown division.groups division.some_groups
     c.args.connections.now c.args.found.items c.requires c.in_ok-settled.settled
     (rw c.as_slice.ensures.value at c.in_ok-settled.ensures))
 
 pub gathered-requires : goal.gathered-requires
 gathered-requires g c =
-    let crew = c.args.crew.now in
+    let division = c.args.division.now in
     rw (as-many items_in found_before c.args.found.items c.args.connections.now c.requires.before)
-    (parts-inside crew.frames_shown crew.division.groups crew.division.some_groups c.args.connections.now
+    (parts-inside division.frames_shown division.groups division.some_groups c.args.connections.now
     c.args.found.items c.requires c.in_ok-settled.settled (rw c.as_slice.ensures.value at c.in_ok-settled.ensures))
 
 pub returns : goal.returns
 returns g c =
-    let crew = c.args.crew.now in
-    are-after crew.frames_shown crew.division.groups crew.division.some_groups c.args.connections.now
+    let division = c.args.division.now in
+    are-after division.frames_shown division.groups division.some_groups c.args.connections.now
     c.args.found.items c.requires c.in_ok-settled.settled (rw c.as_slice.ensures.value at c.in_ok-settled.ensures)
     c.in_ok-found.found.items c.in_ok-opened.opened.items c.in_ok-found.ensures.number c.in_ok-found.ensures.each
     c.in_ok-opened.ensures.number

@@ -6,12 +6,12 @@ use Rattle.audit_rounds.proofs.stream_round.settled_over.Goals as goal
 
 pub settled_streams-requires-clause-ready : goal.settled_streams-requires-clause-ready
 settled_streams-requires-clause-ready g c κs within =
-    rw c.as_slice.ensures.value (ready-each c.args.crew.now.frames_shown c.args.connections.now
+    rw c.as_slice.ensures.value (ready-each c.args.division.now.frames_shown c.args.connections.now
     c.in_ok-streams.streams.items c.requires.prepared c.in_ok-streams.ensures)
 
 pub settled_streams-requires-clause-few : goal.settled_streams-requires-clause-few
 settled_streams-requires-clause-few g c κs within =
-    rw c.as_slice.ensures.value (few-rows c.args.crew.now.frames_shown c.args.connections.now
+    rw c.as_slice.ensures.value (few-rows c.args.division.now.frames_shown c.args.connections.now
     c.in_ok-streams.streams.items c.requires.prepared c.in_ok-streams.ensures c.requires.few)
 
 pub settled_streams-requires-clause-number : goal.settled_streams-requires-clause-number
@@ -23,7 +23,7 @@ settled_streams-requires-clause-number g c κs within =
 
 pub settled_streams-requires-clause-places : goal.settled_streams-requires-clause-places
 settled_streams-requires-clause-places g c κs within =
-    rw c.as_slice-2.ensures.value (stops-are-places c.args.crew.now.frames_shown c.args.connections.now
+    rw c.as_slice-2.ensures.value (stops-are-places c.args.division.now.frames_shown c.args.connections.now
     c.args.found.now c.in_ok-stops.stops.items c.requires.prepared c.requires.before c.in_ok-stops.ensures)
 
 pub returns : goal.returns

@@ -7,13 +7,13 @@ use Rattle.audit_rounds.proofs.stream_round.settled_streams.Goals as goal
 
 pub invariant_of-round-clause-planned : goal.invariant_of-round-clause-planned
 invariant_of-round-clause-planned g c =
-    let division = c.args.crew.now.division in
+    let division = c.args.division.now in
     rw (c.as_slice.ensures.value, c.in_ok-plan.ensures.plan)
     (planned division.groups division.some_groups c.args.streams.now)
 
 pub settle-requires-clause-connections : goal.settle-requires-clause-connections
 settle-requires-clause-connections g c κs within =
-    let division = c.args.crew.now.division in
+    let division = c.args.division.now in
     let streams = c.args.streams.now in
     let number = c.requires.number in
     rw (c.as_slice.ensures.value, c.in_ok-plan.ensures.plan)

@@ -20,7 +20,7 @@ pub returns : goal.returns
 returns g c =
     IfOk-weaker c.report_told.result _ _ (λ r is. record {
       told = c.in_ok-told.told.items;
-      audits = λ capture packets opened flows. found-audits c.args.frames_shown capture packets opened
+      audits = λ capture packets opened flows. found-audits c.args.division.now.frames_shown capture packets opened
           c.args.parts.items
           c.in_ok-told.told.items flows c.in_ok-told.ensures;
       behind = λ connections audited headed stand. is connections audited headed

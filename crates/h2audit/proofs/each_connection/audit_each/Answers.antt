@@ -19,7 +19,7 @@ findings_of_each-requires-after_bounds g c κs within =
 
 pub returns : goal.returns
 returns g c =
-    let credits = c.args.frames_shown in
+    let credits = c.args.division.now.frames_shown in
     let kept = c.in_ok-kept.ensures ∙ ap kept_frames c.as_slice.ensures.value in
     let are = c.in_ok-found.ensures
     ∙ ap (map (λ (frames : Bor (List Frame)). shown credits (pass frames.now))) c.as_slice-2.ensures.value

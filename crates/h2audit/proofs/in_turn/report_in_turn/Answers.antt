@@ -17,7 +17,7 @@ pub loop-part-preserved : goal.loop-part-preserved
 loop-part-preserved g c =
     let now = c.loop-part.invariant in
     let at = c.loop-part.at in
-    let credits = c.args.frames_shown in
+    let credits = c.args.division.now.frames_shown in
     let headings = c.args.headings.now in
     let part = c.in-Some.part in
     let rest = into_iter_items c.next.new.self in
@@ -43,7 +43,7 @@ pub returns : goal.returns
 returns g c =
     let now = c.loop-part.invariant in
     let at = c.loop-part.at in
-    let credits = c.args.frames_shown in
+    let credits = c.args.division.now.frames_shown in
     let headings = c.args.headings.now in
     let left : into_iter_items c.loop-part.part-iterator ≡ [] =
     nil_from_length _ (sym c.loop-part.part-iterator.rest.ok.0 ∙ c.in-None.ensures.steps.0) in

@@ -16,7 +16,7 @@ invariant-loop-part g l = record {
   told : List Told;
   whole : before ++ into_iter_items l.part-iterator ≡ l.fn.parts.items;
   count : length before ≡ l.at;
-  each : AreFoundIn l.frames_shown before told;
-  text : l.text.items ≡ l.fn.lines.items ++ told_text l.frames_shown 1 (take l.at l.headings) told;
+  each : AreFoundIn l.division.frames_shown before told;
+  text : l.text.items ≡ l.fn.lines.items ++ told_text l.division.frames_shown 1 (take l.at l.headings) told;
   verdict : l.verdict ≡ (if list_any (λ (one : Told). has_fault_in one.outcome) told then Faults else Clean);
 }

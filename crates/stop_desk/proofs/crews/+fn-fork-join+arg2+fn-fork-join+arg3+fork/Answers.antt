@@ -7,12 +7,12 @@ both-groups : (half workers each : ℕ) → half ≤ workers → half * each + (
 both-groups half workers each le =
     let all : workers ≡ half + (workers - half) = omega arith in omega (arith, ap (λ n. n * each) all)
 
-pub together-requires-clause-mine : goal.together-requires-clause-mine
-together-requires-clause-mine g t c =
+pub both_worked-requires-clause-mine : goal.both_worked-requires-clause-mine
+both_worked-requires-clause-mine g t c =
     IfOk-weaker c.join-mine.result.0 _ _ (λ r worked. worked.0.desk_is) c.join-mine.ensures.first
 
-pub together-requires-clause-theirs : goal.together-requires-clause-theirs
-together-requires-clause-theirs g t c =
+pub both_worked-requires-clause-theirs : goal.both_worked-requires-clause-theirs
+both_worked-requires-clause-theirs g t c =
     IfOk-weaker c.join-mine.result.1 _ _ (λ r worked. worked.0.desk_is) c.join-mine.ensures.second
 
 pub returns : goal.returns
@@ -22,8 +22,8 @@ returns g t c =
     let each = shift.desk.now.jobs + 1 in
     worked-together (g.P.Round.makes shift.plan.now) (g.P.Round.jobs shift.plan.now) shift.round shift.desk.now.id
     (workers / 2 * each) ((workers - workers / 2) * each) (workers * each) c.join-mine.result.0 c.join-mine.result.1
-    c.together.result (both-groups (workers / 2) workers each (omega arith)) c.join-mine.ensures.first
-    c.join-mine.ensures.second c.together.ensures
+    c.both_worked.result (both-groups (workers / 2) workers each (omega arith)) c.join-mine.ensures.first
+    c.join-mine.ensures.second c.both_worked.ensures
 
 pub join+arg2-fork-requires : goal.join+arg2-fork-requires
 join+arg2-fork-requires g t c = λ κs (rt, (gate, (plan, made))).

@@ -1,4 +1,4 @@
 use Rattle.stop_desk.proofs.passes.Pass.split.Given as goal
 
-abbrev pub ghosts-divide : goal.ghosts-divide
-ghosts-divide a = record { amount = a.allowance }
+abbrev pub ghosts-split_seat : goal.ghosts-split_seat
+ghosts-split_seat a = record { amount = a.allowance }

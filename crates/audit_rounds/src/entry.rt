@@ -1,0 +1,34 @@
+ghost use Rattle.std.specs.Prelude.{◌≡◌, All, IfOk, map};
+ghost use Rattle.audit_terms.specs.code.runs.Orderly.{IsOrderly};
+ghost use Rattle.audit_terms.specs.Finding.{shown};
+ghost use Rattle.audit_terms.specs.Pass.{pass};
+
+use crate::batch::{by_halves, next_batch};
+use crate::division::Division;
+use audit_terms::{Finding, Frame};
+use std::alloc::AllocError;
+use std::thread::Threads;
+use stop_desk::{Gate, Team};
+
+/// What is shown of each connection, from its frames: what one pass over them says up to the first connection error
+/// (RFC 9113, 5.4.1), with or without credits. Without memory there is no answer.
+pub fn findings_of_each<R: Threads + Sync, G: Gate>(
+    team: &Team<'_, R, G>,
+    division: &Division,
+    connections: &[&[Frame]],
+) -> Result<Vec<Vec<Finding>>, AllocError>
+    requires { All (λ frames. IsOrderly frames.now) connections.now }
+    ensures { IfOk result (λ found. map (λ one. one.items) found.items
+        ≡ map (λ frames. shown division.now.frames_shown (pass frames.now)) connections.now) }
+{
+    let mut all = Vec::with_capacity(team.alloc, connections.len())?;
+    let mut done = 0;
+    while done < connections.len() {
+        let (_, rest) = connections.split_at(done);
+        let batch = next_batch(rest);
+        let mut found = by_halves(team, division, batch)?;
+        all.append(&mut found)?;
+        done += batch.len();
+    }
+    Ok(all)
+}

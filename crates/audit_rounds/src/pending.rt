@@ -1,0 +1,71 @@
+//! The connections of a batch that are still to be gone through: those that have frames, and that nothing stops which
+//! was found of them so far. Any TCP connection may have no frame, and a SYN is enough to open one.
+
+ghost use Rattle.std.specs.Prelude.{◌≡◌, IfOk, length, map};
+ghost use Rattle.std.specs.Vec.Iter.{into_iter_items};
+ghost use Rattle.audit_rounds.specs.code.Pending.{IsPutNext, has_stopped, is_pending, pending_of, put_back};
+
+use audit_terms::{Finding, Frame};
+use std::alloc::{AllocError, Global};
+use std::vec::IntoIter;
+
+/// Does one of these findings stop the connection?
+fn has_stopped(found: &[Finding]) -> bool
+    ensures { result ≡ has_stopped found.now }
+{
+    found.iter().any(|one| one.stops())
+}
+
+/// Is a connection of which this was found still to be gone through?
+fn is_pending(frames: &[Frame], found: &[Finding]) -> bool
+    ensures { result ≡ is_pending frames.now found.now }
+{
+    !frames.is_empty() && !has_stopped(found)
+}
+
+/// Of connections, with what was found of each, those that are still to be gone through.
+pub(crate) fn pending_of<'a>(
+    alloc: Global,
+    connections: &[&'a [Frame]],
+    found: &[Vec<Finding>],
+) -> Result<Vec<&'a [Frame]>, AllocError>
+    requires { length found.now ≡ length connections.now }
+    ensures { IfOk result (λ pending. pending.items ≡ pending_of connections.now found.now) }
+{
+    let mut pending = Vec::new(alloc);
+    for n in 0..connections.len() {
+        if is_pending(connections[n], found[n].as_slice()) {
+            pending.extend_from_slice(&[connections[n]])?;
+        }
+    }
+    Ok(pending)
+}
+
+/// What was found of each connection; for each that was still to be gone through, the next of the later lists in place
+/// of it.
+pub(crate) fn put_back(
+    connections: &[&[Frame]],
+    found: Vec<Vec<Finding>>,
+    later: Vec<Vec<Finding>>,
+) -> Vec<Vec<Finding>>
+    requires { length found.items ≡ length connections.now }
+    ensures { map (λ one. one.items) result.items ≡ put_back connections.now found.items later.items }
+{
+    let mut all = found;
+    let mut rest = later.into_iter();
+    for n in 0..connections.len() {
+        put_next(connections[n], &mut all[n], &mut rest);
+    }
+    all
+}
+
+/// The next of these lists in place of what was found of a connection, if it was still to be gone through.
+fn put_next(frames: &[Frame], found: &mut Vec<Finding>, later: &mut IntoIter<Vec<Finding>>)
+    ensures { IsPutNext frames.entry found.old found.new (into_iter_items later.old) (into_iter_items later.new) }
+{
+    if is_pending(frames, found.as_slice()) {
+        if let Some(list) = later.next() {
+            *found = list;
+        }
+    }
+}
