@@ -4,7 +4,6 @@ mod OneReport
 mod Flows
 mod Found
 mod Opened
-mod Walked
 mod OptionReads
 mod Added
 mod InTurn

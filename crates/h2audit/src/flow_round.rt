@@ -9,7 +9,7 @@ ghost use Rattle.tcp_streams.specs.code.Orderly.{AreFlowsOfOne};
 use crate::quiet::quiet_connection;
 use audit_report::{AuditedFrames, Outcome, Reach, Told};
 use audit_terms::{Look, Side};
-use h2_frames::{Cut, cut};
+use h2_frames::{Cut, cut_by};
 use input_output::Capture;
 use packet_heads::Packets;
 use std::alloc::{AllocError, Global};
@@ -200,7 +200,7 @@ fn outcome_of<R: Threads>(
             return Ok(Outcome::Quiet(quiet));
         }
     }
-    let cut = cut(alloc, client, server)?;
+    let cut = cut_by(rt, alloc, threads, client, server)?;
     outcome_in(alloc, cut)
 }
 
