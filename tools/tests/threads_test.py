@@ -108,6 +108,22 @@ ROWS: list[tuple[str, bytes, Ways]] = [
             "each is met while the next one is taken": 6,
         },
     ),
+    (
+        "--workers 4 --block 100000",
+        pings(70_000, AT_ONCE),
+        {
+            "chunks ahead": 4,
+            "one more at each MiB from the second on": 4,
+            "packets of five MiB": 5,
+            "one side's flow": 1,
+            "two batches are taken by two, and the first is met beside the second: then a line may be shown": 3,
+            "each of six batches for the list is taken by two": 6,
+            "each is appended while the next one is taken": 6,
+            "faults beside the split": 1,
+            "faults in three pieces": 2,
+            "one block, so none is summed": 0,
+        },
+    ),
     ("--workers 2", connections(2), {"flows of one": 1, "nothing is shown, so there is no round": 0}),
     (
         "--workers 2",

@@ -2,8 +2,9 @@
 use Rattle.std.proofs.Common.{◌≡◌, ℕ, ◌+◌, ◌*◌, ◌^◌, ◌<◌, ◌≤◌, List, [], ◌∷◌, ◌++◌, length, refl, ap, ◌∙◌, sym}
 use Rattle.std.proofs.Common.{arith, append_assoc, length-append}
 use Rattle.h2_frames.proofs.Words.{AllByRecursion, Flow, Frame, IsInRange, IsOrderlyFrom, FrameWalk, HaveNumbersFrom}
-use Rattle.h2_frames.proofs.Words.{numbered, merged, append-nil, bytes_left, AreLeft, AreTakenUpTo, IsHttp2, IsReadable}
-use Rattle.h2_frames.proofs.Words.{IsReady, IsWalkAfter, Limit, Over, SideFrame, Unread, taken_of, tails_of, weight_of}
+use Rattle.h2_frames.proofs.Words.{numbered, merged, append-nil, bytes_left, AreLeft, AreTakenUpTo, IsReadable}
+use Rattle.h2_frames.proofs.Words.{IsReady, IsWalkAfter, IsWholeWalk, Limit, Over, SideFrame, Unread, taken_of}
+use Rattle.h2_frames.proofs.Words.{weight_of}
 use Rattle.h2_frames.proofs.Splitting.{merged-split, merged-all, length-merged, left-past}
 
 pub numbered-append : (k : ℕ) (xs ys : List SideFrame) →
@@ -103,14 +104,17 @@ over-left unread ready over = rw over (refl, (refl, rw over at ready.next))
 -- the walk is over
 pub walk-over : (client server : Flow) (walk : FrameWalk) (frames : List Frame) → IsReady walk.client →
     IsReady walk.server → (walk.client.next ≡ Over) × (walk.server.next ≡ Over) →
-    IsWalkAfter client server frames walk → IsHttp2 client server frames (tails_of walk)
-walk-over client server walk frames client_ready server_ready over before =
-    rw append-nil at (before.whole [] _ _ (record {
-      client_frames = [];
-      server_frames = [];
-      client_left = over-left walk.client client_ready over.0;
-      server_left = over-left walk.server server_ready over.1;
-      merged_are = refl;
-    }))
+    IsWalkAfter client server frames walk → IsWholeWalk client server frames walk
+walk-over client server walk frames client_ready server_ready over before = record {
+  http2 = rw append-nil at (before.whole [] _ _ (record {
+    client_frames = [];
+    server_frames = [];
+    client_left = over-left walk.client client_ready over.0;
+    server_left = over-left walk.server server_ready over.1;
+    merged_are = refl;
+  }));
+  orderly = before.orderly;
+  count = before.count;
+}
 
 pub ruleset batch_lengths = (length-numbered, length-merged)

@@ -1,12 +1,12 @@
 -- Bytes have one spelling, flows one cut.
 use Rattle.std.proofs.Common.{◌≡◌, ℕ, List, [], ◌∷◌, ◌++◌, length, take, drop, refl, ap, sym, ◌∙◌, arith, length-append}
 use Rattle.std.proofs.Common.{append_assoc, inl, inr}
-use Rattle.std.{specs.Prelude.IfOk, specs.declared.alloc.AllocError.AllocError, proofs.lemmas.Bool.false≢true}
+use Rattle.std.{specs.declared.alloc.AllocError.AllocError, proofs.lemmas.Bool.false≢true}
 use Rattle.std.proofs.lemmas.List.{append_cancel_left, take_at, drop_at}
 use Rattle.h2_frames.proofs.Words.{Result, Ok, Err, Cut, Flow, Frame, Sides, Http2, NotHttp2, NoPreface, NoHandshake}
 use Rattle.h2_frames.proofs.Words.{Header, Spelled, header_of, HoldsNoFrame, Makes, Spells, preface, IsPrefaceCutShort}
 use Rattle.h2_frames.proofs.Words.{BeginsWithPreface, IsCut, IsHttp2, SpellingIsUnique, IsSameFlow, CutIsUnique}
-use Rattle.h2_frames.proofs.Words.{IsSameCut}
+use Rattle.h2_frames.proofs.Words.{IsSameCut, FrameWalk, HasOrderlyFrames, IsAllOf, IsFoundCut, IsFreshWalk}
 
 -- two fronts of one length are one front, and so are the rests
 same_parts : (a b x y : List ℕ) → a ++ x ≡ b ++ y → length a ≡ length b → (a ≡ b) × (x ≡ y)
@@ -124,12 +124,23 @@ only-cut client server cut other first second =
     same : (flow : Flow) → IsSameFlow flow flow
     same flow = record { started = refl; bytes = refl; arrivals = refl }
 
--- the same of a cut that is found
-pub only-found : (client server : Flow) (result : Result Cut AllocError) → IfOk result (IsCut client server) →
-    IfOk result (λ found. (other : Cut) → IsCut client server other → IsSameCut found other)
-only-found client server (Ok cut) is = λ other second. only-cut client server cut other is second
-only-found client server (Err e) is = tt
+-- a cut that is found
+pub found-cut : (client server : Flow) (cut : Cut) → IsCut client server cut → HasOrderlyFrames cut
+    → IsFoundCut client server (Ok cut)
+found-cut client server cut is orderly = record {
+  is = is;
+  only = λ other second. only-cut client server cut other is second;
+  orderly = orderly;
+  memory = tt;
+}
+
+-- what a walk over all frames finds
+pub found-all : (client server : Flow) (walk : FrameWalk) (found : Result Cut AllocError) →
+    IsFreshWalk client server walk → IsAllOf walk found → IsFoundCut client server found
+found-all client server walk (Ok cut) fresh all =
+    let both = all client server fresh in
+    found-cut client server cut both.0 both.1
+found-all client server walk (Err e) fresh all =
+    record { is = tt; only = tt; orderly = tt; memory = (fresh.started, fresh.after_preface, fresh.begins) }
 
 pub ruleset uniqueness = (spelling-unique, cut-unique)
-
-pub ruleset only_cuts = (only-cut, only-found)

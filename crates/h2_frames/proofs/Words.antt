@@ -9,7 +9,8 @@ pub use Rattle.h2_frames.specs.Settings.{first_bad, last_value, setting_at, sett
 pub use Rattle.h2_frames.specs.Spelling.{HoldsNoFrame, Makes, Spells}
 pub use Rattle.h2_frames.specs.code.Unread.{AreAhead, AreLeft, AreLeftAfter, AreMerged, IsKnown, IsPlaced, IsReadOn}
 pub use Rattle.h2_frames.specs.code.Walk.{HaveNumbersFrom, IsReadyWalk, IsWalkAfter, IsWalkOn, tails_of, taken_of}
-pub use Rattle.h2_frames.specs.code.Walk.{weight_of}
+pub use Rattle.h2_frames.specs.code.Walk.{IsFreshWalk, IsWholeWalk, weight_of}
+pub use Rattle.h2_frames.specs.code.{Cutting.IsAllOf, Cutting.IsFoundCut, Orderly.HasOrderlyFrames}
 pub use Rattle.h2_frames.specs.code.{Limit.AreTakenUpTo, Limit.IsPassed, Limit.is_past, Merge.merged, Pieces.IsMeasured}
 pub use Rattle.h2_frames.specs.code.{Pieces.IsOneTaken, Pieces.bytes_left, SameCut.IsSameCut}
 pub use Rattle.h2_frames.specs.code.{Steps.IsReadable, Steps.arrivals_from, Steps.with_setting, Unread.IsReady}

@@ -8,3 +8,4 @@ pub mod Batch
 pub mod Walk
 pub mod Orderly
 pub mod SameCut
+pub mod Cutting

@@ -1,4 +1,4 @@
-ghost use Rattle.std.specs.Prelude.{◌≡◌, ◌+◌, ◌<◌, ◌^◌, [], ◌∷◌, length, IfSome, IfNone, OnOk};
+ghost use Rattle.std.specs.Prelude.{◌≡◌, ◌+◌, ◌<◌, ◌^◌, [], ◌∷◌, ◌++◌, length, IfOk, IfSome, IfNone, OnOk};
 ghost use Rattle.h2_frames.specs.code.Batch.{IsNumbered, IsReadyMerge, frames_of, left_of};
 ghost use Rattle.h2_frames.specs.code.Limit.{AreBothTaken};
 ghost use Rattle.h2_frames.specs.code.Merge.{is_first_of_server};
@@ -9,6 +9,7 @@ use crate::side_frames::SideFrame;
 use crate::unread::Unread;
 use audit_terms::Frame;
 use std::alloc::{AllocError, Global};
+use std::mem;
 use std::thread::{Threads, join_mut};
 
 /// With fewer frames than these in a batch, the next one reads twice as far: to start threads costs as much as to read
@@ -19,6 +20,9 @@ const FEW_FRAMES: u64 = 8_192;
 /// With more frames than these in a batch, the next one reads half as far: they are to stay in the cache of a
 /// processor.
 const MANY_FRAMES: u64 = 32_768;
+
+/// With fewer frames than these in a batch no thread is started for the work on it.
+const SHORT_FRAMES: u64 = 1_024;
 
 /// How many bytes of a side are read for a batch at least.
 const LEAST_REACH_BYTES: u32 = 131_072;
@@ -57,13 +61,23 @@ impl FrameBatch {
         self.alloc
     }
 
+    /// How many frames it has, whatever their numbers are.
+    fn count(&self) -> u64 {
+        self.client.len() as u64 + self.server.len() as u64
+    }
+
+    /// Has it too few frames to start a thread for the work on them?
+    pub(crate) fn is_short(&self) -> bool {
+        self.count() < SHORT_FRAMES
+    }
+
     /// How many bytes of each side to read for the frames that come in place of these: twice as many as before where
     /// these are few, and half as many where they are many.
     pub(crate) fn next_reach(&mut self) -> u32
         ensures client { self.new.client ≡ self.old.client }
         ensures server { self.new.server ≡ self.old.server }
     {
-        let frames = self.client.len() as u64 + self.server.len() as u64;
+        let frames = self.count();
         if frames < FEW_FRAMES && self.reach < MOST_REACH_BYTES {
             self.reach *= 2;
         } else if MANY_FRAMES < frames && LEAST_REACH_BYTES < self.reach {
@@ -91,6 +105,32 @@ impl FrameBatch {
         ensures { result ≡ length (frames_of self.now) }
     {
         self.client.len() + self.server.len()
+    }
+
+    /// Appends its frames in capture order. Where memory is wanting the list is left empty.
+    ///
+    /// The list stands with this thread alone meanwhile: in its place it lies beside what others write.
+    pub(crate) fn append_to(&self, frames: &mut Vec<Frame>) -> Result<(), AllocError>
+        requires { IsNumbered self.now }
+        ensures { OnOk result (frames.new.items ≡ frames.old.items ++ frames_of self.now) }
+    {
+        let own = mem::replace(frames, Vec::new(self.alloc));
+        *frames = self.appended_to(own)?;
+        Ok(())
+    }
+
+    /// A list with its frames appended.
+    fn appended_to(&self, frames: Vec<Frame>) -> Result<Vec<Frame>, AllocError>
+        requires { IsNumbered self.now }
+        ensures { IfOk result (λ all. all.items ≡ frames.items ++ frames_of self.now) }
+    {
+        let mut frames = frames;
+        frames.reserve(self.len())?;
+        let mut merge = self.merge();
+        while let Some(frame) = merge.take_next() {
+            frames.extend_from_slice(&[frame])?;
+        }
+        Ok(frames)
     }
 
     /// Goes over its frames in capture order.

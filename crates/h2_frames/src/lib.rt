@@ -9,17 +9,19 @@
 //! - The contract of [`cut`] is exactly this: `specs/Spelling.antt` defines which bytes spell a frame,
 //!   `specs/Body.antt` what its payload says, `specs/CaptureOrder.antt` the order, and `specs/Cut.antt` puts them
 //!   together.
-//! - No other answer meets the contract for the same flows (clause `only`). [`laws`] say so without the code: one list
-//!   of bytes has one spelling, two flows have one cut.
+//! - No other answer meets the contract for the same flows (`only` in `specs/code/Cutting.antt`). [`laws`] say so
+//!   without the code: one list of bytes has one spelling, two flows have one cut.
+//! - [`cut_by`] has the same contract. With several threads it reads long flows in batches.
 //! - [`begin`] decides the same, and returns a [`FrameWalk`], an iterator over the frames, in place of a list:
 //!   [`FrameWalk::take_next`] takes the next frame. Its contract holds for whichever flows the walk began with
 //!   (`specs/code/Walk.antt`): the frames that were taken, followed by those that are left, are the connection's. Where
 //!   none is left, those that were taken are all, and [`FrameWalk::tails`] are the lengths of the tails.
 //! - [`FrameWalk::take_batch`] takes the frames of both sides up to a limit, a record and a number within it, each side
-//!   on a thread of its own; the result is that of taking one side after the other. No other call of this crate starts
-//!   threads. [`Merge::take_next`] takes the frames of a [`FrameBatch`] in capture order (`specs/code/Batch.antt`).
-//!   That order compares record and number first, so all frames up to the limit come before all others. No contract
-//!   says which limit it is, only that at least one frame is up to it.
+//!   on a thread of its own; the result is that of taking one side after the other. [`FrameWalk::take_beside`] does so
+//!   while another thread works on the batch before it. No other call of this crate but [`cut_by`] starts threads.
+//!   [`Merge::take_next`] takes the frames of a [`FrameBatch`] in capture order (`specs/code/Batch.antt`). That order
+//!   compares record and number first, so all frames up to the limit come before all others. No contract says which
+//!   limit it is, only that at least one frame is up to it.
 //! - A frame that is numbered within its side has a type of its own (`SideFrame`), and becomes a frame of the
 //!   connection where it gets its number there.
 //! - Frames are orderly, as calls on frames require: numbers rise, streams have 31 bits and lengths 24, times are below
@@ -28,12 +30,13 @@
 //!   2^31 bytes, so frame numbers stay below 2^28 - 1.
 //! - The definition of a spelling is a grammar by cases on the list of frames, and that of the order an insertion sort.
 //!   The code is different: a cursor in each flow reads one frame ahead, and the earlier of the two frames is taken.
-//!   [`cut`] is a loop over that. A frame in one piece of its flow is read in place; otherwise header and payload are
-//!   first copied into a buffer, except the payload of DATA without padding, which nobody reads.
+//!   [`cut`] is a loop over that, [`cut_by`] one over batches. A frame in one piece of its flow is read in place;
+//!   otherwise header and payload are first copied into a buffer, except the payload of DATA without padding, which
+//!   nobody reads.
 //! - [`worked_examples`] compute bodies, headers and order on small inputs, by proof: each type's payload at the
 //!   lengths where its answer changes, padding, settings at the ends of their ranges.
 //! - The prover refuses: a value out of range left out, an order by first bytes, exchanged tails, batches merged by
-//!   records alone, a batch numbered from one too high.
+//!   records alone, a batch numbered from one too high, a list that keeps the last batch alone.
 //! - Whole reports test that `cut` succeeds where there is memory, on connections of each of the four kinds;
 //!   `threads_test.py` tests how many threads batches start.
 #![tactic(auto)]
@@ -57,5 +60,5 @@ pub mod worked_examples;
 
 pub use batches::{FrameBatch, Merge};
 pub use cuts::Cut;
-pub use cutting::cut;
+pub use cutting::{cut, cut_by};
 pub use walk::{Begun, FrameWalk, begin};

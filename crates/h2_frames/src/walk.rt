@@ -1,18 +1,17 @@
 ghost use Rattle.std.specs.Prelude.{◌≡◌, ◌+◌, ◌<◌, ◌^◌, ◌++◌, ◌∷◌, [], List, length, IfOk, IfSome, IfNone};
 ghost use Rattle.std.specs.Prelude.{OnOk};
-ghost use Rattle.std.specs.Bool.{OnFalse, OnTrue};
 ghost use Rattle.tcp_streams.specs.declared.flows.Flow.{Flow};
 ghost use Rattle.tcp_streams.specs.code.Orderly.{AreFlowsOfOne};
 ghost use Rattle.tcp_streams.specs.Bytes.{bytes_of};
 ghost use Rattle.audit_terms.specs.declared.frames.Frame.{Frame};
 ghost use Rattle.audit_terms.specs.code.runs.Orderly.{IsInRange};
-ghost use Rattle.h2_frames.specs.Cut.{IsHttp2};
 ghost use Rattle.h2_frames.specs.Preface.{BeginsWithPreface};
 ghost use Rattle.h2_frames.specs.code.Pieces.{bytes_left, IsMeasured};
-ghost use Rattle.h2_frames.specs.code.Batch.{IsNumbered, frames_of};
+ghost use Rattle.h2_frames.specs.code.Batch.{HasTaken};
 ghost use Rattle.h2_frames.specs.code.Limit.{AreBothTaken, IsLimitOf};
 ghost use Rattle.h2_frames.specs.code.Unread.{IsReadAhead};
-ghost use Rattle.h2_frames.specs.code.Walk.{IsBegun, IsReadyWalk, IsWalkAfter, IsWalkOn, taken_of, tails_of, weight_of};
+ghost use Rattle.h2_frames.specs.code.Walk.{IsBegun, IsReadyWalk, IsWalkAfter, IsWalkOn, IsWholeWalk};
+ghost use Rattle.h2_frames.specs.code.Walk.{taken_of, tails_of, weight_of};
 
 use crate::batches::{FrameBatch, take_side_by_side};
 use crate::beginning::{Beginning, PREFACE, beginning_of};
@@ -22,8 +21,11 @@ use crate::pieces::Pieces;
 use crate::unread::Unread;
 use audit_terms::{Frame, Side, Sides};
 use std::alloc::{AllocError, Global};
-use std::thread::Threads;
+use std::thread::{Threads, join_mut};
 use tcp_streams::Flow;
+
+/// With so many bytes of both sides two threads work on them: fewer are gone through before a second one has begun.
+const LONG_BYTES: usize = 1_048_576;
 
 /// The frames of both sides of a connection, taken out one by one in capture order.
 #[derive(Drop)]
@@ -98,14 +100,13 @@ impl<'a> FrameWalk<'a> {
         ensures weight { IfOk result (λ taken. IfSome taken (λ frame. weight_of self.new < weight_of self.old)) }
         ensures range { IfOk result (λ taken. IfSome taken IsInRange) }
         ensures number { IfOk result (λ taken. IfSome taken (λ frame. frame.number ≡ taken_of self.old + 1)) }
-        ensures same { IfOk result (λ taken. IfNone taken (taken_of self.new ≡ taken_of self.old)) }
         ensures next { IfOk result (λ taken. IfSome taken (λ frame.
             (client server : Flow) → (frames : List Frame) →
             IsWalkAfter client server frames self.old →
             IsWalkAfter client server (frames ++ frame ∷ []) self.new)) }
         ensures over { IfOk result (λ taken. IfNone taken
             ((client server : Flow) → (frames : List Frame) →
-            IsWalkAfter client server frames self.old → IsHttp2 client server frames (tails_of self.new))) }
+            IsWalkAfter client server frames self.old → IsWholeWalk client server frames self.new)) }
     {
         self.read_ahead()?;
         let Some(first) = take_first(&mut self.client, &mut self.server) else {
@@ -163,15 +164,7 @@ impl<'a> FrameWalk<'a> {
         batch: &mut FrameBatch,
     ) -> Result<bool, AllocError>
         requires { IsReadyWalk self.old }
-        ensures ready { IfOk result (λ more. IsReadyWalk self.new) }
-        ensures weight { IfOk result (λ more. OnTrue more (weight_of self.new < weight_of self.old)) }
-        ensures numbered { IfOk result (λ more. OnTrue more (IsNumbered batch.new)) }
-        ensures same { IfOk result (λ more. OnFalse more (taken_of self.new ≡ taken_of self.old)) }
-        ensures next { IfOk result (λ more. OnTrue more ((client server : Flow) → (frames : List Frame) →
-            IsWalkAfter client server frames self.old →
-            IsWalkAfter client server (frames ++ frames_of batch.new) self.new)) }
-        ensures over { IfOk result (λ more. OnFalse more ((client server : Flow) → (frames : List Frame) →
-            IsWalkAfter client server frames self.old → IsHttp2 client server frames (tails_of self.new))) }
+        ensures { IfOk result (HasTaken self.old self.new batch.new) }
     {
         let Some(limit) = self.limit_ahead(batch)? else {
             return Ok(false);
@@ -179,6 +172,35 @@ impl<'a> FrameWalk<'a> {
         self.take_up_to(rt, threads, limit, batch)?;
         self.taken = batch.number_on(self.taken);
         Ok(true)
+    }
+
+    /// Takes the next batch out while some work is done on `batch`, which was taken before it: by two threads at once
+    /// where there are as many and the batch is not short.
+    pub fn take_beside<R: Threads, F: FnMut() -> T + Send, T: Send>(
+        &mut self,
+        rt: &R,
+        threads: usize,
+        batch: &FrameBatch,
+        work: &mut F,
+        next: &mut FrameBatch,
+    ) -> (T, Result<bool, AllocError>)
+        requires ready { IsReadyWalk self.old }
+        requires work { F.pre work.old }
+        ensures done { F.step work.old result.0 work.new }
+        ensures taken { IfOk result.1 (HasTaken self.old self.new next.new) }
+    {
+        if threads < 2 || batch.is_short() {
+            let done = work();
+            return (done, self.take_batch(rt, 1, next));
+        }
+        join_mut(rt, work, &mut || self.take_batch(rt, threads, next))
+    }
+
+    /// Are there so many bytes to come that two threads are worth their start?
+    pub fn is_long(&self) -> bool
+        requires { IsReadyWalk self.now }
+    {
+        LONG_BYTES <= self.client.bytes.len() + self.server.bytes.len()
     }
 
     /// How many frames were taken.

@@ -9,7 +9,7 @@ ghost use Rattle.tcp_streams.specs.code.Orderly.{AreFlowsOfOne};
 use crate::reach::Reach;
 use crate::told::{AuditedFrames, Outcome, Told};
 use audit_terms::{Look, Side};
-use h2_frames::{Cut, cut};
+use h2_frames::{Cut, cut_by};
 use input_output::Capture;
 use packet_heads::Packets;
 use quiet_pass::quiet_connection;
@@ -201,7 +201,7 @@ fn outcome_of<R: Threads>(
             return Ok(Outcome::Quiet(quiet));
         }
     }
-    let cut = cut(alloc, client, server)?;
+    let cut = cut_by(rt, alloc, threads, client, server)?;
     outcome_in(alloc, cut)
 }
 

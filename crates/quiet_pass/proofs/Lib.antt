@@ -3,4 +3,3 @@ mod RowLists
 mod ConnectionLemmas
 mod StreamLemmas
 mod PassLemmas
-mod Walked

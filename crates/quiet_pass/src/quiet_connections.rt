@@ -2,9 +2,9 @@
 
 ghost use Rattle.std.specs.Prelude.{IfOk, IfSome, IsTrue, List};
 ghost use Rattle.audit_terms.specs.declared.frames.Frame.{Frame as FrameTerm};
-ghost use Rattle.h2_frames.specs.code.Batch.{IsNumbered};
-ghost use Rattle.h2_frames.specs.code.Walk.{IsReadyWalk};
-ghost use Rattle.quiet_pass.specs.code.QuietConnections.{HasMet, HasTaken, IsFoundQuiet, IsQuietOf, IsWholeWalk};
+ghost use Rattle.h2_frames.specs.code.Batch.{HasTaken, IsNumbered};
+ghost use Rattle.h2_frames.specs.code.Walk.{IsReadyWalk, IsWholeWalk};
+ghost use Rattle.quiet_pass.specs.code.QuietConnections.{HasMet, IsFoundQuiet, IsQuietOf};
 ghost use Rattle.quiet_pass.specs.code.QuietPass.{IsQuietAfter};
 ghost use Rattle.quiet_pass.specs.declared.passes.QuietPass.{QuietPass as PassTerm};
 ghost use Rattle.tcp_streams.specs.code.Orderly.{AreFlowsOfOne};
@@ -16,14 +16,8 @@ use audit_terms::Sides;
 use h2_frames::{Begun, FrameBatch, FrameWalk, begin};
 use std::alloc::{AllocError, Global};
 use std::mem;
-use std::thread::{Threads, join_mut};
+use std::thread::Threads;
 use tcp_streams::Flow;
-
-/// How many frames a batch has at least for which threads are started.
-const FEW_FRAMES: usize = 1_024;
-
-/// With so many bytes in both flows two threads work on them: fewer are met before a second one has begun.
-const LONG_BYTES: u64 = 1_048_576;
 
 /// What is known of a connection of HTTP/2 of which nothing is shown.
 #[derive(Clone, Copy)]
@@ -51,7 +45,7 @@ pub fn quiet_connection<R: Threads>(
     let Begun::Http2(walk) = begin(alloc, client, server) else {
         return Ok(None);
     };
-    if 2 <= threads && LONG_BYTES <= client.length() + server.length() {
+    if 2 <= threads && walk.is_long() {
         quiet_batch_by_batch(rt, alloc, threads, walk)
     } else {
         quiet_frame_by_frame(alloc, walk)
@@ -87,7 +81,7 @@ fn quiet_batch_by_batch<R: Threads>(
     ensures { IsFoundQuiet walk.entry result }
 {
     let mut batch = FrameBatch::new(alloc);
-    let mut more = take_batch(rt, threads, &mut walk, &mut batch)?;
+    let mut more = walk.take_batch(rt, threads, &mut batch)?;
     let mut next = FrameBatch::new(alloc);
     let mut pass = QuietPass::begin(alloc);
     while more {
@@ -101,7 +95,7 @@ fn quiet_batch_by_batch<R: Threads>(
     Ok(Some(quiet_after(&walk)))
 }
 
-/// Meets a batch, on a thread of its own where one can be had and the batch is not short, and takes the next one.
+/// Meets a batch, and takes the next one.
 fn meet_and_take<R: Threads>(
     rt: &R,
     threads: usize,
@@ -115,29 +109,7 @@ fn meet_and_take<R: Threads>(
     ensures met { IfOk result.0 (HasMet batch.now pass.old pass.new) }
     ensures taken { IfOk result.1 (HasTaken walk.old walk.new next.new) }
 {
-    if batch.len() < FEW_FRAMES {
-        let met = meet_batch(pass, batch);
-        return (met, take_batch(rt, 1, walk, next));
-    }
-    join_mut(
-        rt,
-        &mut || meet_batch(pass, batch),
-        &mut || take_batch(rt, threads, walk, next),
-    )
-}
-
-/// Takes the next batch out. Is there one? Else all frames were taken before.
-fn take_batch<R: Threads>(
-    rt: &R,
-    threads: usize,
-    walk: &mut FrameWalk<'_>,
-    batch: &mut FrameBatch,
-) -> Result<bool, AllocError>
-    requires { IsReadyWalk walk.old }
-    ensures { IfOk result (HasTaken walk.old walk.new batch.new) }
-{
-    let more = walk.take_batch(rt, threads, batch)?;
-    Ok(more)
+    walk.take_beside(rt, threads, batch, &mut || meet_batch(pass, batch), next)
 }
 
 /// Meets a batch of frames. Is nothing of them shown? The pass stands with this thread alone meanwhile: in its place

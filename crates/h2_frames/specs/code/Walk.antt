@@ -60,6 +60,12 @@ pub record IsWalkAfter (client server : Flow) (taken : List Frame) (walk : Frame
       IsHttp2 client server (taken ++ numbered (length taken + 1) later)
       (record { client = length client_tail; server = length server_tail })
 
+-- these are all frames of the connection, and the walk tells how many they are, and the tails
+pub record IsWholeWalk (client server : Flow) (frames : List Frame) (walk : FrameWalk) : Type 0 where
+  pub http2 : IsHttp2 client server frames (tails_of walk)
+  pub orderly : IsOrderly frames
+  pub count : taken_of walk ≡ length frames
+
 -- a walk that no frame was taken of, where the client's bytes begin with the preface
 pub record IsFreshWalk (client server : Flow) (walk : FrameWalk) : Type 0 where
   pub started : IsTrue server.started

@@ -1,14 +1,14 @@
 -- A connection of which nothing is shown.
 use Rattle.std.specs.Bool.{OnTrue}
-use Rattle.std.specs.Prelude.{◌≡◌, ◌<◌, Bool, true, false, List, [], ◌++◌, length, IsTrue, Option, Result, IfOk, IfSome}
+use Rattle.std.specs.Prelude.{◌≡◌, Bool, false, List, [], ◌++◌, length, IsTrue, Option, Result, IfOk, IfSome}
 use Rattle.quiet_pass.specs.declared.quiet_connections.QuietConnection.{QuietConnection}
 use Rattle.audit_terms.specs.Finding.{shown}
 use Rattle.audit_terms.specs.Pass.{pass}
 use Rattle.audit_terms.specs.code.runs.Orderly as runs
 use Rattle.audit_terms.specs.declared.frames.Frame.{Frame}
 use Rattle.h2_frames.specs.Cut.{IsHttp2}
-use Rattle.h2_frames.specs.code.Batch.{IsNumbered, frames_of}
-use Rattle.h2_frames.specs.code.Walk.{IsFreshWalk, IsReadyWalk, IsWalkAfter, tails_of, taken_of, weight_of}
+use Rattle.h2_frames.specs.code.Batch.{AreTaken, frames_of}
+use Rattle.h2_frames.specs.code.Walk.{IsFreshWalk, IsWalkAfter}
 use Rattle.h2_frames.specs.declared.batches.FrameBatch.{FrameBatch}
 use Rattle.h2_frames.specs.declared.walk.FrameWalk.{FrameWalk}
 use Rattle.quiet_pass.specs.code.QuietPass.{IsQuietAfter}
@@ -34,25 +34,6 @@ pub record IsMetUpTo (client server : Flow) (walk : FrameWalk) (machine : QuietP
   pub frames : List Frame
   pub taken : IsWalkAfter client server frames walk
   pub quiet : IsQuietAfter frames machine
-
--- these are all frames of the connection, and the walk tells how many they are, and the tails
-pub record IsWholeWalk (client server : Flow) (frames : List Frame) (walk : FrameWalk) : Type 0 where
-  pub http2 : IsHttp2 client server frames (tails_of walk)
-  pub orderly : runs.IsOrderly frames
-  pub count : taken_of walk ≡ length frames
-
--- with those of a batch, frames are the connection's first ones; where there was no batch left, they are all of them
-abbrev pub AreTaken : (more : Bool) → (client server : Flow) → List Frame → FrameBatch → FrameWalk → Type 0
-AreTaken true client server frames batch walk = IsWalkAfter client server (frames ++ frames_of batch) walk
-AreTaken false client server frames batch walk = IsWholeWalk client server frames walk
-
--- a batch was taken, or there was none left; after one the walk goes on
-pub record HasTaken (old new : FrameWalk) (batch : FrameBatch) (more : Bool) : Type 0 where
-  pub ready : IsReadyWalk new
-  pub numbered : OnTrue more (IsNumbered batch)
-  pub weight : OnTrue more (weight_of new < weight_of old)
-  pub taken : (client server : Flow) → (frames : List Frame) → IsWalkAfter client server frames old
-      → AreTaken more client server frames batch new
 
 -- the frames of a batch were met after others, and show nothing
 abbrev pub HasMet : FrameBatch → (old new : QuietPass) → (met : Bool) → Type 0

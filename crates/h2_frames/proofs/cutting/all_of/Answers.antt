@@ -9,13 +9,8 @@ loop-frames-preserved c = record {
       (next client server _ (c.loop-frames.invariant.whole client server before));
 }
 
-pub returns-clause-is : goal.returns-clause-is
-returns-clause-is c = λ client server fresh.
-    let over = rw c.in_default.is at c.in_ok-frame.ensures.over in (
-      fresh.started,
-      rw c.tails-tails.ensures
-          (over client server _ (c.loop-frames.invariant.whole client server fresh.whole)),
-    )
-
-pub returns-clause-orderly : goal.returns-clause-orderly
-returns-clause-orderly c = λ client server fresh. (c.loop-frames.invariant.whole client server fresh.whole).orderly
+pub returns : goal.returns
+returns c = λ client server fresh.
+    let over = rw c.in_default.is at c.in_ok-frame.ensures.over in
+    let whole = over client server _ (c.loop-frames.invariant.whole client server fresh.whole) in
+    ((fresh.started, rw c.tails-tails.ensures whole.http2), whole.orderly)

@@ -1,5 +1,4 @@
 use Rattle.std.proofs.Common.{[], ◌∷◌, ◌++◌}
-use Rattle.quiet_pass.proofs.Walked.{whole-at_end}
 use Rattle.quiet_pass.proofs.quiet_connections.quiet_frame_by_frame.Goals as goal
 
 pub loop-pass-preserved : goal.loop-pass-preserved
@@ -18,8 +17,5 @@ loop-pass-preserved c = record {
 pub returns : goal.returns
 returns c = λ client server fresh.
     let met = c.loop-pass.invariant.met client server fresh.whole in
-    let same = rw c.in_default.is at c.in_ok-frame.ensures.same in
     let over = rw c.in_default.is at c.in_ok-frame.ensures.over in
-    c.quiet_after.ensures client server met.frames _ fresh.started
-    (whole-at_end _ _ client server met.frames met.taken same (over client server met.frames met.taken))
-    met.quiet
+    c.quiet_after.ensures client server met.frames _ fresh.started (over client server met.frames met.taken) met.quiet
