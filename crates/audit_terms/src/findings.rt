@@ -63,7 +63,7 @@ impl Finding {
         }
     }
 
-    /// The order of two findings at one place: the client before the server, then by kind and value.
+    /// The order of two findings at one place: the client's before the server's, then by kind and value.
     fn compare_at_place(&self, other: &Self) -> Ordering
         ensures { result ≡ then_cmp (on (λ (found : FindingTerm). side_order found.side) nat_cmp)
             (then_cmp (on (λ (found : FindingTerm). rank_of found.kind) nat_cmp)
