@@ -56,7 +56,7 @@ fn random_kind(rng: &mut Pcg32, number: u32) -> Frame {
     }
 }
 
-/// A frame of a side on a stream, with END_STREAM in one of eight.
+/// A random frame, with END_STREAM in one of eight.
 fn random_frame(rng: &mut Pcg32, number: u32) -> Frame {
     let made = random_kind(rng, number);
     let end = END_STREAM_FLAG * u8::from(rng.next_u32() % 8 == 0);
