@@ -108,9 +108,24 @@ pub fn cut_by<R: Threads>(
     requires { AreFlowsOfOne client.now server.now }
     ensures { IsFoundCut client.now server.now result }
 {
-    let Begun::Http2(walk) = begin(alloc, client, server) else {
-        return cut(alloc, client, server);
-    };
+    match begin(alloc, client, server) {
+        Begun::NoHandshake => Ok(Cut::NoHandshake),
+        Begun::NoPreface => Ok(Cut::NoPreface),
+        Begun::NotHttp2 => Ok(Cut::NotHttp2),
+        Begun::Http2(walk) => all_by(rt, alloc, threads, walk),
+    }
+}
+
+/// All frames of a walk that none was taken of, and the tails. Several threads take those of long flows.
+fn all_by<R: Threads>(
+    rt: &R,
+    alloc: Global,
+    threads: usize,
+    walk: FrameWalk<'_>,
+) -> Result<Cut, AllocError>
+    requires { IsReadyWalk walk }
+    ensures { IsAllOf walk.entry result }
+{
     if 2 <= threads && walk.is_long() {
         all_in_batches(rt, alloc, threads, walk)
     } else {

@@ -113,7 +113,7 @@ fn audit_records<R: Threads + Sync, G: Gate>(
     requires members { All (λ c. AreMembers 0 (packets_in found) c.members.items) connections.opened.items }
     ensures { IfOk result (λ r. IsReport capture.now options.now.frames_shown r.0.items r.1) }
 {
-    // `--frames` asks for credit lines. From here on the word is what they are.
+    // `--frames` asks for credit lines.
     let frames_shown = options.frames_shown();
     let Connections { opened, strays } = connections;
     // From here on there are no packets and strays, whose memory frames may take.

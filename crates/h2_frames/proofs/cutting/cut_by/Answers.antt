@@ -1,8 +1,15 @@
-use Rattle.h2_frames.proofs.Uniqueness.{found-all}
+use Rattle.h2_frames.proofs.Words.{NoHandshake, NoPreface, NotHttp2}
+use Rattle.h2_frames.proofs.Uniqueness.{found-all, found-cut}
 use Rattle.h2_frames.proofs.cutting.cut_by.Goals as goal
 
-pub returns-then-is_long : goal.returns-then-is_long
-returns-then-is_long g c = found-all _ _ _ _ c.in-Http2.ensures c.all_in_batches.ensures
+pub returns-in-NoHandshake : goal.returns-in-NoHandshake
+returns-in-NoHandshake g c = found-cut c.args.client.now c.args.server.now NoHandshake c.in-NoHandshake.ensures tt
 
-pub returns-else-threads-ge2 : goal.returns-else-threads-ge2
-returns-else-threads-ge2 g c = found-all _ _ _ _ c.in-Http2.ensures c.all_of.ensures
+pub returns-in-NoPreface : goal.returns-in-NoPreface
+returns-in-NoPreface g c = found-cut c.args.client.now c.args.server.now NoPreface c.in-NoPreface.ensures tt
+
+pub returns-in-NotHttp2 : goal.returns-in-NotHttp2
+returns-in-NotHttp2 g c = found-cut c.args.client.now c.args.server.now NotHttp2 c.in-NotHttp2.ensures tt
+
+pub returns-in-Http2 : goal.returns-in-Http2
+returns-in-Http2 g c = found-all _ _ _ _ c.in-Http2.ensures c.all_by.ensures
