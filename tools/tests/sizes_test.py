@@ -182,7 +182,8 @@ class Sizes(unittest.TestCase):
 
     def test_many_streams(self) -> None:
         """A call for each stream that meets an acknowledgement would not have room on the stack."""
-        self.audit(streams(), report_of_streams(), 6 * MIB, 200_000_000, "--frames")
+        # 172,396,840 bytes were counted, and with several workers 253,666,856: lists that double are counted whole.
+        self.audit(streams(), report_of_streams(), 6 * MIB, 208_000_000, "--frames")
 
 
 if __name__ == "__main__":
