@@ -20,7 +20,10 @@ impl<'a, R: Threads + Sync, G: Gate> Team<'a, R, G> {
     /// A team of so many workers, beside which all else stays.
     pub fn with_workers(&self, workers: u32) -> Team<'a, R, G>
         requires { 0 < workers }
-        ensures { result.workers ≡ workers }
+        ensures workers { result.workers ≡ workers }
+        ensures rt { result.rt ≡ self.now.rt }
+        ensures alloc { result.alloc ≡ self.now.alloc }
+        ensures gate { result.gate ≡ self.now.gate }
     {
         Team {
             rt: self.rt,
