@@ -70,6 +70,22 @@ impl<T: Copy> Sides<T> {
             Side::Server => self.server,
         }
     }
+}
+
+impl<T> Sides<T> {
+    ghost use Rattle.audit_terms.specs.Sides.{side_of};
+    ghost use Rattle.audit_terms.specs.code.Sides.{lends_side};
+    ghost use Rattle.std.specs.Borrow.{sem};
+
+    /// The value of one endpoint, lent.
+    pub fn of_ref(&self, side: Side) -> &T
+        ensures { result.now ≡ side_of side self.now }
+    {
+        match side {
+            Side::Client => &self.client,
+            Side::Server => &self.server,
+        }
+    }
 
     /// The value of one endpoint, to be changed.
     pub fn of_mut(&mut self, side: Side) -> &mut T

@@ -1,12 +1,11 @@
 //! The SETTINGS that each side sent, and how many of them are acknowledged (RFC 9113, 6.5.3).
 
-ghost use Rattle.std.specs.Prelude.{◌≡◌, true, [], slice_get, IfOk};
-ghost use Rattle.audit_terms.specs.declared.sides.Side.{Side as SideTerm};
+ghost use Rattle.std.specs.Prelude.{◌≡◌, true, slice_get, IfOk};
 ghost use Rattle.audit_terms.specs.Side.{other};
 ghost use Rattle.audit_terms.specs.Sides.{side_of};
 ghost use Rattle.audit_terms.specs.Frame.{is_ack};
-ghost use Rattle.audit_terms.specs.InForce.{InForce};
-ghost use Rattle.settings_pair.specs.code.Pending.{sent_by, IsPending, IsBrought};
+ghost use Rattle.audit_terms.specs.InForce.{InForce, initial_in_force};
+ghost use Rattle.settings_pair.specs.code.Pending.{IsPending, IsBrought};
 
 use audit_terms::{Body, Change, Frame, PackedSettings, Settings, Side, Sides, change_by};
 use std::alloc::{AllocError, Global};
@@ -14,36 +13,31 @@ use std::alloc::{AllocError, Global};
 /// The SETTINGS of a connection so far: a few, as connections go.
 #[derive(Drop)]
 pub struct Pending {
-    /// All that the client sent.
-    pub client: Vec<PackedSettings>,
-    /// All that the server sent.
-    pub server: Vec<PackedSettings>,
+    /// All that each side sent.
+    sent: Sides<Vec<PackedSettings>>,
     /// How many acknowledgements of each side took one of the other side's.
-    pub taken: Sides<usize>,
+    taken: Sides<usize>,
 }
 
 impl Pending {
     /// The SETTINGS before any frame: none.
     pub fn new(alloc: Global) -> Self
-        ensures client { result.client.items ≡ [] }
-        ensures server { result.server.items ≡ [] }
-        ensures taken { (d : SideTerm) → side_of d result.taken ≡ 0 }
+        ensures { IsPending initial_in_force result }
     {
         Pending {
-            client: Vec::new(alloc),
-            server: Vec::new(alloc),
+            sent: Sides {
+                client: Vec::new(alloc),
+                server: Vec::new(alloc),
+            },
             taken: Sides::both(0),
         }
     }
 
     /// What the next acknowledgement of a side takes.
     fn next(&self, side: Side) -> Option<Settings>
-        ensures { result ≡ slice_get (sent_by (other side) self.now) (side_of side self.now.taken) }
+        ensures { result ≡ slice_get (side_of (other side) self.now.sent).items (side_of side self.now.taken) }
     {
-        let sent = match side {
-            Side::Client => &self.server,
-            Side::Server => &self.client,
-        };
+        let sent = self.sent.of_ref(side.other());
         match sent.get(self.taken.of(side)) {
             Some(settings) => Some(settings.settings()),
             None => None,
@@ -64,10 +58,7 @@ impl Pending {
     {
         match frame.body {
             Body::Settings(settings) => {
-                match frame.side {
-                    Side::Client => self.client.push(settings)?,
-                    Side::Server => self.server.push(settings)?,
-                }
+                self.sent.of_mut(frame.side).push(settings)?;
                 Ok(None)
             }
             Body::SettingsAck => Ok(self.take(frame)),

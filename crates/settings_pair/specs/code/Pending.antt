@@ -1,22 +1,14 @@
 -- The SETTINGS that each side sent, as they are kept.
-use Rattle.std.specs.Prelude.{◌≡◌, List, Option}
-use Rattle.audit_terms.specs.declared.sides.Side.{Side}
-use Rattle.audit_terms.specs.declared.sides.Side.TheVariants.{Client, Server}
-use Rattle.audit_terms.specs.declared.settings.Settings.{Settings}
+use Rattle.std.specs.Prelude.{◌≡◌, Option}
 use Rattle.audit_terms.specs.declared.frames.Frame.{Frame}
 use Rattle.audit_terms.specs.declared.items.Change.{Change}
 use Rattle.audit_terms.specs.InForce.{InForce, change_of, in_force_after}
 use Rattle.settings_pair.specs.declared.pending_settings.Pending.{Pending}
 
--- all SETTINGS that a side sent
-abbrev pub sent_by : Side → Pending → List Settings
-sent_by Client pending = pending.client.items
-sent_by Server pending = pending.server.items
-
 -- what is kept of the settings that stand
 pub record IsPending (now : InForce) (pending : Pending) : Type 0 where
-  pub client : pending.client.items ≡ now.sent.client
-  pub server : pending.server.items ≡ now.sent.server
+  pub client : pending.sent.client.items ≡ now.sent.client
+  pub server : pending.sent.server.items ≡ now.sent.server
   pub by_client : pending.taken.client ≡ now.paired.client
   pub by_server : pending.taken.server ≡ now.paired.server
 

@@ -1,15 +1,14 @@
 use Rattle.audit_terms.proofs.OrderlyFrames.{drop-at}
 use Rattle.settings_pair.proofs.OrderLemmas.{changes_from-orderly, changes_of-acknowledged}
 use Rattle.settings_pair.proofs.Words.{append-nil, changes_of, drop_all, in_force_after, initial_in_force}
-use Rattle.std.proofs.Common.{append_assoc, arith, refl, ◌+◌, ◌≡◌}
-use Rattle.audit_terms.specs.declared.sides.Side.TheVariants.{Client, Server}
+use Rattle.std.proofs.Common.{append_assoc, refl, ◌+◌, ◌≡◌}
 use Rattle.settings_pair.proofs.pairing.pair.Goals as goal
 
 pub loop-frame-init : goal.loop-frame-init
 loop-frame-init c = record {
   now = initial_in_force;
   low = 0;
-  pending = let new = c.new-pending.ensures in grind (arith, new, new.taken Client, new.taken Server);
+  pending = c.new-pending.ensures;
   orderly = c.requires;
   changes = rw c.new.ensures.items refl;
   findings = rw c.new-2.ensures.items refl;
