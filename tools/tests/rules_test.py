@@ -4,10 +4,12 @@
 
 Each rule of docs/AUDIT_RULES.md has a row there with its definitions, and each function of a row is tied to one of
 them. Each rule of a section of RFC 9113 has a sentence of it beside one of its definitions, in the form that duvet
-reads (.duvet/config.toml).
+reads (.duvet/config.toml). Where Debian's doc-rfc-std-proposed (non-free) is installed, each sentence is looked for in
+the section that it names.
 """
 
 import functools
+import gzip
 import pathlib
 import re
 import unittest
@@ -26,6 +28,7 @@ FUNCTION = re.compile(
     r"`(?P<file>[\w/]+\.rt)` `(?P<name>[\w:]+)`(?:: (?P<words>`.+`)| (?P<way>in|by) `(?P<other>[\w:]+)`)"
 )
 SECTION = re.compile(r"^## (\d+)\. .*\n((?:(?!^## ).*\n)*)", re.M)
+RFC, HEAD = pathlib.Path("/usr/share/doc/RFC/proposed-standard/rfc9113.txt.gz"), re.compile(r"(\d+(?:\.\d+)*)\.  \S")
 MARK, WORDS = re.compile(re.escape(f"-- //= {URL}") + r"\d+(\.\d+)+"), re.compile(r"-- //# \S.*")
 
 
@@ -271,6 +274,21 @@ def quotes_in(comment: list[str]) -> list[tuple[str, str]]:
     return found
 
 
+def without_spaces(text: str) -> str:
+    return "".join(text.split())
+
+
+def rfc_sections() -> dict[str, str]:
+    """The text of each section of RFC 9113, without spaces, since its lines are broken within words too."""
+    found: dict[str, str] = {}
+    section = ""
+    for line in gzip.decompress(RFC.read_bytes()).decode("utf-8-sig").splitlines():
+        head = HEAD.match(line)
+        section = URL + head[1] if head else section
+        found[section] = found.get(section, "") + without_spaces(line)
+    return found
+
+
 def definitions_of(rule: Rule, rooms: list[str]) -> list[Definition]:
     found = []
     for room in rooms:
@@ -323,6 +341,16 @@ class Table(unittest.TestCase):
             self.assertRegex(kinds, r"^(=#+)*$", file.relative_to(TOP).as_posix())
             count += kinds.count("=")
         self.assertGreater(count, 30)
+
+    def test_quotes_stand_in_the_rfc(self) -> None:
+        """Word for word, each in the section that it names."""
+        if not RFC.exists():
+            self.skipTest("doc-rfc-std-proposed is not installed")
+        sections = rfc_sections()
+        for file in sorted((TOP / "crates").glob("*/specs/**/*.antt")):
+            for where, words in quotes_in(file.read_text(encoding="utf-8").splitlines()):
+                stands = without_spaces(words) in sections.get(where, "")
+                self.assertTrue(stands, f"{file.relative_to(TOP)}: {where}: {words}")
 
 
 class Refused(unittest.TestCase):

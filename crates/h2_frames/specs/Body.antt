@@ -39,9 +39,11 @@ of_length n payload body = if length payload == n then body else wrong_size payl
 -- //# If the length of the padding is the length of the frame payload or greater, the recipient MUST treat this as a
 -- //# connection error (Section 5.4.1) of type PROTOCOL_ERROR.
 -- //= https://www.rfc-editor.org/rfc/rfc9113#section-6.2
--- //# Padding fields and flags are identical to those defined for DATA frames (Section 6.1).
+-- //# If the length of the padding is the length of the frame payload or greater, the recipient MUST treat this as a
+-- //# connection error (Section 5.4.1) of type PROTOCOL_ERROR.
 -- //= https://www.rfc-editor.org/rfc/rfc9113#section-6.6
--- //# Padding fields and flags are identical to those defined for DATA frames (Section 6.1).
+-- //# If the length of the padding is the length of the frame payload or greater, the recipient MUST treat this as a
+-- //# connection error (Section 5.4.1) of type PROTOCOL_ERROR.
 abbrev pub padded_body : ℕ → List ℕ → ℕ → Body → Body
 padded_body flags payload fields body =
     let needed = (if is_padded flags then 1 else 0) + fields in
