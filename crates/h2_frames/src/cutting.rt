@@ -83,21 +83,8 @@ fn append_and_take<R: Threads>(
 /// preface (RFC 9113, 3.4): [`Cut::NoPreface`] where they end within it, [`Cut::NotHttp2`] where they do not begin with
 /// it. The frames of [`Cut::Http2`] are numbered from 1 in capture order. Each flow is read once; a frame is copied
 /// only where it lies in several pieces and its payload matters, into a buffer that the next one uses again. Memory can
-/// be wanting only where there are bytes to cut into frames.
-pub fn cut(alloc: Global, client: &Flow, server: &Flow) -> Result<Cut, AllocError>
-    requires { AreFlowsOfOne client.now server.now }
-    ensures { IsFoundCut client.now server.now result }
-{
-    match begin(alloc, client, server) {
-        Begun::NoHandshake => Ok(Cut::NoHandshake),
-        Begun::NoPreface => Ok(Cut::NoPreface),
-        Begun::NotHttp2 => Ok(Cut::NotHttp2),
-        Begun::Http2(walk) => all_of(alloc, walk),
-    }
-}
-
-/// What [`cut`] returns. With two `threads` or more, several cut long flows, in batches: memory has two of these beside
-/// the list.
+/// be wanting only where there are bytes to cut into frames. With two `threads` or more, several cut long flows, in
+/// batches: memory has two of these beside the list.
 pub fn cut_by<R: Threads>(
     rt: &R,
     alloc: Global,

@@ -1,17 +1,17 @@
 //! The HTTP/2 frames of the two flows of a connection (RFC 9113): whether it is HTTP/2, by the client's connection
 //! preface (3.4), and which frames each side sent: nine header bytes, and the payload whose length they give (4.1).
 //!
-//! - [`cut`] returns the frames of both sides in one list, in capture order and numbered from 1: a frame is there when
-//!   its last byte arrives. Type and flags decide how a frame's body is read (6.1 to 6.10): padding, the fields before
-//!   a field block, settings with the first value out of range, increments, promised streams. A payload of a wrong size
-//!   or with bad padding makes a frame with an unreadable body. The bytes at the end of a flow that hold no whole frame
-//!   are its tail.
-//! - The contract of [`cut`] is exactly this: `specs/Spelling.antt` defines which bytes spell a frame,
+//! - [`cut_by`] returns the frames of both sides in one list, in capture order and numbered from 1: a frame is there
+//!   when its last byte arrives. Type and flags decide how a frame's body is read (6.1 to 6.10): padding, the fields
+//!   before a field block, settings with the first value out of range, increments, promised streams. A payload of a
+//!   wrong size or with bad padding makes a frame with an unreadable body. The bytes at the end of a flow that hold no
+//!   whole frame are its tail.
+//! - The contract of [`cut_by`] is exactly this: `specs/Spelling.antt` defines which bytes spell a frame,
 //!   `specs/Body.antt` what its payload says, `specs/CaptureOrder.antt` the order, and `specs/Cut.antt` puts them
 //!   together.
 //! - No other answer meets the contract for the same flows (`only` in `specs/code/Cutting.antt`). [`laws`] say so
 //!   without the code: one list of bytes has one spelling, two flows have one cut.
-//! - [`cut_by`] has the same contract. With several threads it reads long flows in batches.
+//! - With several threads it reads long flows in batches, with one frame by frame.
 //! - [`begin`] decides the same, and returns a [`FrameWalk`], an iterator over the frames, in place of a list:
 //!   [`FrameWalk::take_next`] takes the next frame. Its contract holds for whichever flows the walk began with
 //!   (`specs/code/Walk.antt`): the frames that were taken, followed by those that are left, are the connection's. Where
@@ -30,14 +30,13 @@
 //!   2^31 bytes, so frame numbers stay below 2^28 - 1.
 //! - The definition of a spelling is a grammar by cases on the list of frames, and that of the order an insertion sort.
 //!   The code is different: a cursor in each flow reads one frame ahead, and the earlier of the two frames is taken.
-//!   [`cut`] is a loop over that, [`cut_by`] one over batches. A frame in one piece of its flow is read in place;
-//!   otherwise header and payload are first copied into a buffer, except the payload of DATA without padding, which
-//!   nobody reads.
+//!   [`cut_by`] is a loop over that, or over batches. A frame in one piece of its flow is read in place; otherwise
+//!   header and payload are first copied into a buffer, except the payload of DATA without padding, which nobody reads.
 //! - [`worked_examples`] compute bodies, headers and order on small inputs, by proof: each type's payload at the
 //!   lengths where its answer changes, padding, settings at the ends of their ranges.
 //! - The prover refuses: a value out of range left out, an order by first bytes, exchanged tails, batches merged by
 //!   records alone, a batch numbered from one too high, a list that keeps the last batch alone.
-//! - Whole reports test that `cut` succeeds where there is memory, on connections of each of the four kinds;
+//! - Whole reports test that `cut_by` succeeds where there is memory, on connections of each of the four kinds;
 //!   `threads_test.py` tests how many threads batches start.
 #![tactic(auto)]
 
@@ -60,5 +59,5 @@ pub mod worked_examples;
 
 pub use batches::{FrameBatch, Merge};
 pub use cuts::Cut;
-pub use cutting::{cut, cut_by};
+pub use cutting::cut_by;
 pub use walk::{Begun, FrameWalk, begin};
