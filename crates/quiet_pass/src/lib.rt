@@ -17,7 +17,7 @@
 //! - One rule brings a row to its state after a frame of any type, ends and resets too.
 //! - Frames cost no memory, but for a new stream and SETTINGS. No sum wraps, and nothing is asked of the caller:
 //!   credits are kept in 32 bits, and each sum is made in 64.
-//! - Refused by the prover: content of a reset stream that the connection does not count (5.1).
+//! - Refused by the prover: content of a reset stream that the connection does not count (5.1); exchanged tails.
 //! - Tested, in `threads_test.py`: that connections of which nothing is shown go through no round, so that it does not
 //!   give up there. By whole reports: that it succeeds where there is memory.
 //! - Tested, in `crate_tests`, over random frames, and not proved: that it gives up only where something is shown.
