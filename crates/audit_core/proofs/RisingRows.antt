@@ -1,7 +1,7 @@
 -- Rows that are made as streams first come, and the one row that meets an item which no other meets.
 use Rattle.std.specs.Option.{ForSome}
-use Rattle.std.proofs.Common.{List, None, Option, Some, [], ap, append-nil, append_assoc, arith, false, filter}
-use Rattle.std.proofs.Common.{is_some, map, not}
+use Rattle.std.proofs.Common.{List, None, Option, Some, [], ap, append-nil, arith, false}
+use Rattle.std.proofs.Common.{is_some, map}
 use Rattle.std.proofs.lemmas.Option.{get_or_from_slice_get}
 use Rattle.std.proofs.Common.{get_or, refl, slice_get, slice_set, suc, sym, true, zero, ℕ, ◌++◌, ◌+◌, ◌<◌, ◌==◌, ◌^◌}
 use Rattle.std.proofs.Common.{◌||◌}
@@ -17,8 +17,9 @@ use Rattle.audit_core.proofs.Words.{meets}
 use Rattle.audit_terms.specs.Frame.{is_headers}
 use Rattle.audit_core.proofs.Words.{nat_tests, promised_by, room-wider, row_after, row_opens, row_said, rows_in}
 use Rattle.audit_core.proofs.Words.{step_at, stream_after, stream_said, streams_of}
-use Rattle.audit_core.specs.code.StreamRows.{AreDistinct, AreRowsBefore, AreRowsOf, IsAlone, IsRowOf, is_among}
-use Rattle.audit_core.specs.code.StreamRows.{with_stream, without}
+use Rattle.audit_core.specs.code.StreamRows.{AreDistinctRows, AreRowsBefore, AreRowsOf, IsAlone, IsRowOf}
+use Rattle.audit_terms.proofs.SeenStreams.{named-more, without-none}
+use Rattle.audit_terms.specs.code.SeenStreams.{is_among, with_stream}
 use Rattle.audit_core.specs.declared.rows.RisingRows.{RisingRows}
 
 -- ---- which streams have rows
@@ -64,30 +65,7 @@ rows-more stream streams old new h some above pushed last =
           (omega arith, tt);
     })
 
--- ---- one more stream, of those still to come
-
-among-push : (one stream : ℕ) (seen : List ℕ) →
-    is_among one (seen ++ stream ∷ []) ≡ (is_among one seen || (stream == one))
-among-push one stream [] = grind arith
-among-push one stream (x ∷ seen) = grind (arith, among-push one stream seen)
-
-without-seen : (stream : ℕ) (seen later : List ℕ) → is_among stream seen ≡ true →
-    without seen (filter (λ other. not (other == stream)) later) ≡ without seen later
-without-seen stream seen [] h = refl
-without-seen stream seen (x ∷ later) h = grind (arith, nat_tests, without-seen stream seen later h)
-
-without-new : (stream : ℕ) (seen later : List ℕ) →
-    without seen (filter (λ other. not (other == stream)) later) ≡ without (seen ++ stream ∷ []) later
-without-new stream seen [] = refl
-without-new stream seen (x ∷ later) = grind (arith, nat_tests, among-push x stream seen, without-new stream seen later)
-
-named-more : (stream : ℕ) (seen later : List ℕ) →
-    with_stream stream seen ++ without (with_stream stream seen) later ≡ seen ++ without seen (first_of stream later)
-named-more stream seen later = grind (arith, nat_tests, append_assoc, without-seen, without-new)
-
-without-none : (streams : List ℕ) → without [] streams ≡ streams
-without-none [] = refl
-without-none (x ∷ streams) = ap (λ l. x ∷ l) (without-none streams)
+-- ---- the rows before some frames
 
 pub rows-begin : (all : List Frame) (made : RisingRows) → made.rows.items ≡ [] → AreRowsBefore all all made
 rows-begin all made e = record {
@@ -128,12 +106,12 @@ mapped entries stream [] h = tt
 mapped entries stream (one ∷ streams) h = ((λ e. h.0 (sym e)), mapped entries stream streams h.1)
 
 distinct-in : (entries : ℕ → Stream) (streams : List ℕ) → EachPair ◌≢◌ streams →
-    AllByRecursion (λ other. other ≢ 0) streams → AreDistinct (rows_in entries streams)
+    AllByRecursion (λ other. other ≢ 0) streams → AreDistinctRows (rows_in entries streams)
 distinct-in entries [] h n = tt
 distinct-in entries (one ∷ streams) h n =
     (n.0, mapped entries one streams h.0, distinct-in entries streams h.1 n.1)
 
-pub distinct-rows : (entries : ℕ → Stream) (frames : List Frame) → AreDistinct (rows_in entries (streams_of frames))
+pub distinct-rows : (entries : ℕ → Stream) (frames : List Frame) → AreDistinctRows (rows_in entries (streams_of frames))
 distinct-rows entries frames =
     distinct-in entries (streams_of frames) (distinct-streams_of frames)
     (nonzero (streams_of frames) (streams_met_lem 0 frames))
@@ -151,7 +129,7 @@ opens-none : (frame : Frame) (rows : List StreamRow) →
 opens-none frame [] h = refl
 opens-none frame (row ∷ rows) h = grind (arith, nat_tests, opens-none frame rows h.1)
 
-pub opens-zero : (frame : Frame) (rows : List StreamRow) → frame.stream ≡ 0 → AreDistinct rows →
+pub opens-zero : (frame : Frame) (rows : List StreamRow) → frame.stream ≡ 0 → AreDistinctRows rows →
     list_any (row_opens frame) rows ≡ false
 opens-zero frame [] e h = refl
 opens-zero frame (row ∷ rows) e h = grind (arith, nat_tests, opens-zero frame rows e h.2)
@@ -163,7 +141,7 @@ opens-unheaded frame [] e = refl
 opens-unheaded frame (row ∷ rows) e = grind (arith, nat_tests, opens-unheaded frame rows e)
 
 pub opens-at : (frame : Frame) (rows : List StreamRow) (at : ℕ) (row : StreamRow) → slice_get rows at ≡ Some row →
-    row.stream ≡ frame.stream → AreDistinct rows →
+    row.stream ≡ frame.stream → AreDistinctRows rows →
     list_any (row_opens frame) rows ≡ is_opening frame.stream row.entry.life frame
 opens-at frame [] at row e same h = cc
 opens-at frame (one ∷ rows) zero row e same h =
@@ -200,7 +178,7 @@ module _ (initial : Sides ℕ) (item : Item) (alone : IsAlone item) where
       )
 
   pub rows-unmet : (rows : List StreamRow) →
-      AllByRecursion (λ (row : StreamRow). row.stream ≢ item.frame.stream) rows → AreDistinct rows →
+      AllByRecursion (λ (row : StreamRow). row.stream ≢ item.frame.stream) rows → AreDistinctRows rows →
       (flat_map (row_said initial item) rows ≡ []) × (map (row_after initial item) rows ≡ rows)
   rows-unmet [] n h = (refl, refl)
   rows-unmet (row ∷ rows) n h =
@@ -208,7 +186,7 @@ module _ (initial : Sides ℕ) (item : Item) (alone : IsAlone item) where
       let others = rows-unmet rows n.1 h.2 in (rw (one.0, others.0) refl, rw (one.1, others.1) refl)
 
   pub rows-met : (rows : List StreamRow) (at : ℕ) (row : StreamRow) → slice_get rows at ≡ Some row →
-      row.stream ≡ item.frame.stream → AreDistinct rows →
+      row.stream ≡ item.frame.stream → AreDistinctRows rows →
       (flat_map (row_said initial item) rows ≡ row_said initial item row)
       × (map (row_after initial item) rows ≡ slice_set rows at (row_after initial item row))
   rows-met [] at row e same h = cc
@@ -221,10 +199,10 @@ module _ (initial : Sides ℕ) (item : Item) (alone : IsAlone item) where
       let first = row-unmet one h.0 (λ k. apart (same ∙ sym k)) in
       let others = rows-met rows at row e same h.2 in (rw (first.0, others.0) refl, rw (first.1, others.1) refl)
 
-  pub rows-still : (rows : List StreamRow) → item.frame.stream ≡ 0 → AreDistinct rows →
+  pub rows-still : (rows : List StreamRow) → item.frame.stream ≡ 0 → AreDistinctRows rows →
       (flat_map (row_said initial item) rows ≡ []) × (map (row_after initial item) rows ≡ rows)
   rows-still rows zero_is h = rows-unmet rows (apart rows h) h where
-    apart : (rows : List StreamRow) → AreDistinct rows →
+    apart : (rows : List StreamRow) → AreDistinctRows rows →
         AllByRecursion (λ (row : StreamRow). row.stream ≢ item.frame.stream) rows
     apart [] h = tt
     apart (row ∷ rows) h = ((λ k. h.0 (k ∙ zero_is)), apart rows h.2)

@@ -5,7 +5,7 @@ ghost use Rattle.std.specs.List.{flat_map, list_any, AllByRecursion};
 ghost use Rattle.audit_terms.specs.Pass.{first_of, streams_of};
 ghost use Rattle.audit_terms.specs.code.runs.Streams.{IsAcknowledged, step_at};
 ghost use Rattle.audit_terms.specs.declared.frames.Frame.{Frame as FrameTerm};
-ghost use Rattle.audit_core.specs.code.StreamRows.{idle_rows, row_opens, row_said, row_after, AreDistinct, IsAlone};
+ghost use Rattle.audit_core.specs.code.StreamRows.{idle_rows, row_opens, row_said, row_after, AreDistinctRows, IsAlone};
 ghost use Rattle.audit_core.specs.code.StreamRows.{IsRowOf, RowFits};
 
 use audit_terms::{Finding, Frame, Item, Sides, Stream};
@@ -89,7 +89,8 @@ pub(crate) struct RisingRows {
 }
 
 impl RisingRows {
-    ghost use Rattle.audit_core.specs.code.StreamRows.{AreRowsBefore, AreRowsOf, with_stream};
+    ghost use Rattle.audit_core.specs.code.StreamRows.{AreRowsBefore, AreRowsOf};
+    ghost use Rattle.audit_terms.specs.code.SeenStreams.{with_stream};
 
     /// Puts the rows of the streams that a frame meets behind the others, where they have none, if the streams are past
     /// them.
@@ -160,7 +161,7 @@ fn is_row_of(rows: &[StreamRow], at: usize, stream: u32) -> bool
 
 /// Does a frame open its stream (RFC 9113, 5.1.1)?
 pub(crate) fn opens(rows: &[StreamRow], frame: &Frame) -> bool
-    requires { AreDistinct rows.now }
+    requires { AreDistinctRows rows.now }
     ensures { result ≡ list_any (row_opens frame.now) rows.now }
 {
     // Most frames are no HEADERS, and for these no row is looked for.
@@ -192,7 +193,7 @@ pub(crate) fn meet(
     initial: &Sides<u32>,
     item: &Item,
 ) -> Result<(), AllocError>
-    requires distinct { AreDistinct rows.old }
+    requires distinct { AreDistinctRows rows.old }
     requires numbered { item.now.frame.number ≤ 2 ^ 28 - 2 }
     requires acknowledged { (stream : ℕ) → IsAcknowledged (step_at item.now stream) }
     requires fits { AllByRecursion (RowFits (2 ^ 60)) rows.old }
@@ -222,7 +223,7 @@ fn meet_at(
     initial: &Sides<u32>,
     item: &Item,
 ) -> Result<(), AllocError>
-    requires distinct { AreDistinct rows.old }
+    requires distinct { AreDistinctRows rows.old }
     requires alone { IsAlone item.now }
     requires there { IsRowOf rows.old item.now.frame.stream at }
     requires numbered { item.now.frame.number ≤ 2 ^ 28 - 2 }

@@ -7,4 +7,5 @@ pub mod FindingLists
 pub mod SaidPlaces
 mod Packing
 pub mod OrderlyFrames
+pub mod SeenStreams
 pub mod LeastPlaces

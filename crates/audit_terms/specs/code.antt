@@ -1,6 +1,7 @@
 pub mod Packing
 pub mod Room
 pub mod Sides
+pub mod SeenStreams
 pub mod Standing
 pub mod Stops
 pub mod LastFrame

@@ -1,8 +1,7 @@
 -- The streams that `one_pass` keeps, a row for each.
-use Rattle.std.specs.Prelude.{◌≡◌, ◌≢◌, ℕ, ◌^◌, ◌<◌, ◌≤◌, ◌==◌, ◌&&◌, ◌||◌, Bool, not, if◌then◌else◌, List, [], ◌∷◌}
-use Rattle.std.specs.Prelude.{◌++◌}
-use Rattle.std.specs.Prelude.{filter, map, slice_get, None, Some}
-use Rattle.std.specs.List.{list_any, AllByRecursion}
+use Rattle.std.specs.Prelude.{◌≡◌, ◌≢◌, ℕ, ◌^◌, ◌<◌, ◌≤◌, ◌==◌, ◌&&◌, Bool, List, [], ◌∷◌, ◌++◌, map, slice_get, None}
+use Rattle.std.specs.Prelude.{Some}
+use Rattle.std.specs.List.{AllByRecursion}
 use Rattle.audit_terms.specs.declared.sides.Sides.{Sides}
 use Rattle.audit_terms.specs.declared.frames.Frame.{Frame}
 use Rattle.audit_terms.specs.declared.items.Item.{Item}
@@ -13,6 +12,7 @@ use Rattle.audit_terms.specs.Life.{is_opening}
 use Rattle.audit_terms.specs.Pass.{streams_of}
 use Rattle.audit_terms.specs.Stream.{idle_stream, stream_after, stream_said}
 use Rattle.audit_terms.specs.code.Room.{WindowHasRoom}
+use Rattle.audit_terms.specs.code.SeenStreams.{without}
 use Rattle.audit_terms.specs.code.runs.Streams.{step_at}
 use Rattle.audit_core.specs.declared.rows.RisingRows.{RisingRows}
 use Rattle.audit_core.specs.declared.rows.StreamRow.{StreamRow}
@@ -47,10 +47,10 @@ pub record RowFits (bound : ℕ) (row : StreamRow) : Type 0 where
   pub server : WindowHasRoom bound row.entry.window.server
 
 -- no row is of stream 0, and no two are of one stream
-abbrev pub AreDistinct : List StreamRow → Type 0
-AreDistinct [] = Unit {0}
-AreDistinct (row ∷ rows) =
-    (row.stream ≢ 0) × AllByRecursion (λ (other : StreamRow). other.stream ≢ row.stream) rows × AreDistinct rows
+abbrev pub AreDistinctRows : List StreamRow → Type 0
+AreDistinctRows [] = Unit {0}
+AreDistinctRows (row ∷ rows) =
+    (row.stream ≢ 0) × AllByRecursion (λ (other : StreamRow). other.stream ≢ row.stream) rows × AreDistinctRows rows
 
 -- no stream but that of its frame meets the item
 pub record IsAlone (item : Item) : Type 0 where
@@ -62,18 +62,6 @@ pub record IsRowOf (rows : List StreamRow) (stream at : ℕ) : Type 0 where
   pub row : StreamRow
   pub there : slice_get rows at ≡ Some row
   pub same : row.stream ≡ stream
-
--- is the stream one of these?
-abbrev pub is_among : (stream : ℕ) → List ℕ → Bool
-is_among stream streams = list_any (λ other. other == stream) streams
-
--- these streams, and behind them this one, if it is none of them and not 0
-abbrev pub with_stream : (stream : ℕ) → List ℕ → List ℕ
-with_stream stream seen = if (stream == 0) || is_among stream seen then seen else seen ++ stream ∷ []
-
--- the streams that are not among those seen
-abbrev pub without : (seen : List ℕ) → List ℕ → List ℕ
-without seen streams = filter (λ stream. not (is_among stream seen)) streams
 
 -- the rows are those of these streams, none of them opened
 pub record AreRowsOf (streams : List ℕ) (made : RisingRows) : Type 0 where
