@@ -252,7 +252,7 @@ class Definitions(unittest.TestCase):
         use all that it says."""
         rows = believed.read(TOP / "crates", believed.CALLS | believed.VIEWS).by_crate()
         names = {believed.name_of(module) for _, modules in rows for module, _, _ in modules}
-        never = {name for name in names if name.startswith("input_output/")} | self.NEVER_RUN
+        never = {name for name in names if name.startswith(("input_output/", "report_pages/"))} | self.NEVER_RUN
         (row,) = [row for name, row in reports_test.rows() if name == "short_ethernet"]
         script = row.partition("-- ")[0].encode()
         used = self.used("examples/negative_window.pcap") | self.used("--script", given=script)

@@ -157,10 +157,8 @@ class Depth(unittest.TestCase):
     BOUNDS = {
         "audit_core/rows/+idle_rows": "as there are frames: one_pass, which tests alone call",
         "audit_core/rows/+meet_all": "halves of the streams",
-        "audit_report/finding_shares/+dealing": "halves of the workers",
         "audit_rounds/batch/+by_halves+fn-by_halves-join+arg2+fn-by_halves-join+arg3": "halves of the workers",
         "audit_rounds/prepared/+fn-prepare_each-join+arg2+fn-prepare_each-join+arg3+prepare_each": "halves of workers",
-        "h2audit/section_shares/+halving": "halves of the connections, by workers",
         "split_merge/ranges/+fn-in_ranges-join+arg2+fn-in_ranges-join+arg3+in_ranges": "halves of the workers",
         "stop_desk/crews/+fn-fork-join+arg2+fn-fork-join+arg3+fork": "halves of the workers",
         "tcp_streams/overlay/+set_apart_halves": "halves of the segments",

@@ -1,5 +1,3 @@
 mod Joins
-mod Pairs
 mod FrameNumbers
 mod Sweep
-mod FreedLines

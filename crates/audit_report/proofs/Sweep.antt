@@ -1,20 +1,14 @@
 -- The sweep from the back meets the stalls in reverse.
 use Rattle.audit_report.specs.{Stalls.first_end, Stalls.is_end_of, Stalls.stall_of, Stalls.stalls, code.Ends.begun_by}
-use Rattle.audit_report.specs.{code.Ends.end_in, declared.ends.Ends.Ends, declared.stalls.Stall.Stall}
+use Rattle.audit_report.specs.{code.Ends.HasSweptTo, code.Ends.end_in, declared.ends.Ends.Ends}
+use Rattle.audit_report.specs.declared.stalls.Stall.{Stall}
 use Rattle.audit_terms.specs.{Kind.begins_stall, Place.place_stream}
 use Rattle.audit_terms.specs.declared.{findings.Finding.Finding, frames.Frame.Frame, sides.Side.Side}
-use Rattle.std.proofs.Common.{Bool, List, Option, Some, [], ap, arith, drop, false, get_or, if◌then◌else◌, length}
+use Rattle.std.specs.Global.{Global}
+use Rattle.std.specs.List.{flat_map}
+use Rattle.std.proofs.Common.{Bool, List, Option, Some, Vec, [], ap, arith, drop, false, get_or, if◌then◌else◌, length}
 use Rattle.std.proofs.Common.{reverse, subst, sym, true, ℕ, ◌++◌, ◌-◌, ◌<◌, ◌∙◌, ◌∷◌, ◌≡◌, ◌≤◌}
 use Rattle.std.proofs.lemmas.List.{drop_more, reverse-append}
-
--- the table has the first end of each window among the findings
-pub record HasFirstEnds (ends : Ends) (later : List Finding) : Type 0 where
-  pub at : (side : Side) (stream : ℕ) → end_in ends side stream ≡ first_end side stream later
-
--- the sweep has come down to the findings that are later
-pub record HasSweptTo (frames : List Frame) (later : List Finding) (ends : Ends) (met : List Stall) : Type 0 where
-  pub first : HasFirstEnds ends later
-  pub reversed : reverse met ≡ stalls frames later
 
 put_before : (begins : Bool) (stall : Stall) (met rest : List Stall) → reverse met ≡ rest
     → reverse (if begins then stall ∷ [] else []) ++ reverse met ≡ (if begins then stall ∷ rest else rest)
@@ -42,22 +36,30 @@ swept_more frames found later ends ends' met swept ended = record {
 }
 
 -- what is left of a list from one place before
-drop_one_less : (findings : List Finding) (left : ℕ) (found : Finding) → 0 < left → left ≤ length findings
-    → found ≡ get_or findings (left - 1) found → drop (left - 1) findings ≡ found ∷ drop left findings
-drop_one_less findings left found positive within here = grind (arith, drop_more)
+drop_one_less : {A : Type 0} (list : List A) (left : ℕ) (here : A) → 0 < left → left ≤ length list
+    → here ≡ get_or list (left - 1) here → drop (left - 1) list ≡ here ∷ drop left list
+drop_one_less list left here positive within is = grind (arith, drop_more)
 
--- one step down the list
-pub swept_down : (frames : List Frame) (findings : List Finding) (left : ℕ) (found : Finding) (ends ends' : Ends)
+-- one step down the list, before those that are later
+pub swept_down : (frames : List Frame) (findings later : List Finding) (left : ℕ) (found : Finding) (ends ends' : Ends)
     (met met' : List Stall)
     → 0 < left → left ≤ length findings → found ≡ get_or findings (left - 1) found
-    → HasSweptTo frames (drop left findings) ends met
+    → HasSweptTo frames (drop left findings ++ later) ends met
     → ((side : Side) (stream : ℕ)
     → end_in ends' side stream ≡ (if is_end_of side stream found then Some found else end_in ends side stream))
     → met' ≡ met ++ begun_by frames ends found
-    → HasSweptTo frames (drop (left - 1) findings) ends' met'
-swept_down frames findings left found ends ends' met met' positive within here swept ended begun =
-    let P : List Finding → List Stall → Type 0 = λ later m. HasSweptTo frames later ends' m in
-    let stepped : P (found ∷ drop left findings) (met ++ begun_by frames ends found) =
-    swept_more frames found (drop left findings) ends ends' met swept ended in
-    subst (λ (l : List Finding). P l met') (sym (drop_one_less findings left found positive within here))
-    (subst (λ (m : List Stall). P (found ∷ drop left findings) m) (sym begun) stepped)
+    → HasSweptTo frames (drop (left - 1) findings ++ later) ends' met'
+swept_down frames findings later left found ends ends' met met' positive within here swept ended begun =
+    let P : List Finding → List Stall → Type 0 = λ l m. HasSweptTo frames l ends' m in
+    let stepped : P (found ∷ (drop left findings ++ later)) (met ++ begun_by frames ends found) =
+    swept_more frames found (drop left findings ++ later) ends ends' met swept ended in
+    subst (λ (l : List Finding). P (l ++ later) met') (sym (drop_one_less findings left found positive within here))
+    (subst (λ (m : List Stall). P (found ∷ (drop left findings ++ later)) m) (sym begun) stepped)
+
+-- the findings of the lists from one place before
+pub lists_one_less : (lists : List (Vec Finding Global)) (left : ℕ) (list : Vec Finding Global) → 0 < left
+    → left ≤ length lists → list ≡ get_or lists (left - 1) list
+    → flat_map (λ (l : Vec Finding Global). l.items) (drop (left - 1) lists)
+    ≡ list.items ++ flat_map (λ (l : Vec Finding Global). l.items) (drop left lists)
+lists_one_less lists left list positive within is =
+    ap (flat_map (λ (l : Vec Finding Global). l.items)) (drop_one_less lists left list positive within is)

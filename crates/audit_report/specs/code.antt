@@ -1,10 +1,8 @@
-pub mod Audits
 pub mod Contents
 pub mod Ends
 pub mod Findings
 pub mod Heading
 pub mod Packets
+pub mod Pages
 pub mod Roles
-pub mod Shares
 pub mod Tally
-pub mod Freeing

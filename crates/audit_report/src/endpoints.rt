@@ -1,26 +1,28 @@
-ghost use Rattle.std.specs.Prelude.{◌≡◌, ◌++◌, OnOk};
+ghost use Rattle.std.specs.Prelude.{◌≡◌, ◌+◌, ◌≤◌, ◌++◌, drop};
 ghost use Rattle.audit_report.specs.Endpoint.{address_text, endpoint_text};
 
-use crate::words::{push_field, push_number};
+use crate::lines::{LINE_ROOM, put_field, put_number};
 use packet_heads::Endpoint;
-use std::alloc::AllocError;
 
-/// Adds the four bytes of an IPv4 address, with dots between them.
-#[tactic(auto, using(crate::proofs::Joins::joins))]
-fn push_address(out: &mut Vec<u8>, address: u32) -> Result<(), AllocError>
-    ensures { OnOk result (out.new.items ≡ out.old.items ++ address_text address) }
+/// Puts the four bytes of an IPv4 address, with dots between them, before what stands from `end` on, and answers where
+/// they begin.
+fn put_address(line: &mut [u8; LINE_ROOM], end: usize, address: u32) -> usize
+    requires { (83 ≤ end) × (end ≤ 512) }
+    ensures begins { (result ≤ end) × (end ≤ result + 83) }
+    ensures put { drop result line.new ≡ address_text address ++ drop end line.old }
 {
-    push_number(out, (address / 16777216) as u64)?;
-    push_field(out, ".", (address / 65536 % 256) as u64)?;
-    push_field(out, ".", (address / 256 % 256) as u64)?;
-    push_field(out, ".", (address % 256) as u64)
+    let end = put_field(line, end, ".", (address % 256) as u64);
+    let end = put_field(line, end, ".", (address / 256 % 256) as u64);
+    let end = put_field(line, end, ".", (address / 65536 % 256) as u64);
+    put_number(line, end, (address / 16777216) as u64)
 }
 
-/// Adds `address:port`.
-#[tactic(auto, using(crate::proofs::Joins::joins))]
-pub(crate) fn push_endpoint(out: &mut Vec<u8>, endpoint: Endpoint) -> Result<(), AllocError>
-    ensures { OnOk result (out.new.items ≡ out.old.items ++ endpoint_text endpoint) }
+/// Puts `address:port` before what stands from `end` on, and answers where it begins.
+pub(crate) fn put_endpoint(line: &mut [u8; LINE_ROOM], end: usize, endpoint: Endpoint) -> usize
+    requires { (104 ≤ end) × (end ≤ 512) }
+    ensures begins { (result ≤ end) × (end ≤ result + 104) }
+    ensures put { drop result line.new ≡ endpoint_text endpoint ++ drop end line.old }
 {
-    push_address(out, endpoint.address)?;
-    push_field(out, ":", endpoint.port as u64)
+    let end = put_field(line, end, ":", endpoint.port as u64);
+    put_address(line, end, endpoint.address)
 }

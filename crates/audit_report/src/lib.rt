@@ -4,40 +4,40 @@
 //!   connection, with its findings, the stalls that they tell of, and how its audit ended. Each kind of line has a
 //!   definition of its own in `specs/`; `specs/Line.antt` and `specs/Endpoint.antt` say how a line is spelled.
 //! - [`capture_lines`] begins it, from the packets and the strays.
-//! - Each other call adds to a text what it is to print of one connection. [`push_opening`] begins its section, by a
-//!   [`SectionHeading`], the [`Extent`]s of both flows and their [`Contents`]. Of HTTP/2, [`push_audit`] ends it, by
-//!   the frames and what was found in them; [`push_audit_freeing`] frees these meanwhile. Where nothing was found,
-//!   [`push_end_line`] alone is left to say, and no frames are needed.
+//! - Sections are written page by page. A page is a `Vec` whose room the caller reserves, [`LINE_ROOM`] bytes a line;
+//!   it is filled, written, cleared and filled again. Each call that fills it asks for room for so many lines, says
+//!   what it added and how much of that room it took (`specs/code/Pages.antt`), and cannot fail.
+//! - [`add_opening`] begins a section, by a [`SectionHeading`], the [`Extent`]s of both flows and their [`Contents`].
+//!   Of HTTP/2, [`add_finding_lines`] goes on, page after page, by the frames and what was found in them; then come
+//!   [`add_stall_lines`] and [`add_end_line`]. Where nothing was found, the last alone is left to say, and no frames
+//!   are needed.
 //! - Definitions of whole reports are over a list of [`Audited`], one for each connection.
 //! - Which stalls findings tell of, the definition (`specs/Stalls.antt`) says by looking forward from each beginning
-//!   for the first end of the same side and stream; the code goes over the list once, from the back, with the nearest
-//!   end of each window in a table.
-//! - Several workers write the lines of one connection's findings in shares. No contract knows workers.
+//!   for the first end of the same side and stream; [`stall_pairs`] goes over the findings once, from the back, with
+//!   the nearest end of each window in a table.
 //! - Every word, number, sign, space and line end is in the contracts, the order of lines, and which findings are
 //!   shown: credits are left out by their kind, unless they are asked for. Counts are over packets, one for each
-//!   record, so they add up. The last finding alone decides how an audit ended. Want of memory is the one error.
-//! - Asked of the caller: orderly frames; nothing of the findings. A finding whose frame is not there would have record
-//!   0 and time 0, which no report meets. A finding's frame is looked for at its own number first, since frame n stands
-//!   at n - 1, then by halving. Lines go onto one growing text, or a worker's own; that of a finding is first made from
-//!   its end on, in a few bytes that serve all (`lines`).
+//!   record, so they add up. The last finding alone decides how an audit ended. Want of memory is the one error, and
+//!   only of the calls that take an allocator.
+//! - Asked of the caller: orderly frames, and room; nothing of the findings. A finding whose frame is not there would
+//!   have record 0 and time 0, which no report meets. A finding's frame is looked for at its own number first, since
+//!   frame n stands at n - 1, then by halving. A line is made from its end on, in a few bytes that serve all (`lines`),
+//!   and then added to the page at once.
 //! - [`worked_examples`] shows stalls: of both sides, of several windows, without an end, by a clock that went back.
 //! - Refused by the prover: the cut record left out, a sign left out, an end of a stall that has none.
 //! - Tested: in `crate_tests` the lines on one packet of each kind, and by whole reports that the calls succeed where
-//!   there is memory; by `threads_test.py` that several workers write.
-//! - Trusted: what `itoa` states of the digits that it writes of a number, and std of `join`.
+//!   there is memory.
+//! - Trusted: what `itoa` states of the digits that it writes of a number.
 #![tactic(auto)]
 
 mod audited;
-mod audits;
 mod capture;
 mod contents;
 mod endings;
 mod endpoints;
 mod ends;
 mod extents;
-mod finding_shares;
 mod findings;
-mod freeing;
 mod headings;
 mod lines;
 mod lookup;
@@ -51,11 +51,12 @@ mod words;
 pub mod worked_examples;
 
 pub use audited::Audited;
-pub use audits::push_audit;
 pub use capture::capture_lines;
 pub use contents::Contents;
-pub use endings::push_end_line;
+pub use endings::{add_end_line, add_stall_lines};
 pub use extents::Extent;
-pub use freeing::push_audit_freeing;
+pub use findings::add_finding_lines;
 pub use headings::SectionHeading;
-pub use opening_lines::push_opening;
+pub use lines::LINE_ROOM;
+pub use opening_lines::add_opening;
+pub use stalls::{Stall, stall_pairs};

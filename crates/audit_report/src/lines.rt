@@ -4,19 +4,30 @@
 //! Measured, that takes 0.4 times the instructions of a line that is pushed piece by piece; and numbers by `itoa` take
 //! 12 % fewer than by `write!`.
 
-ghost use Rattle.std.specs.Prelude.{◌≡◌, ◌+◌, ◌≤◌, ◌++◌, drop, length};
+ghost use Rattle.std.specs.Prelude.{◌≡◌, ◌+◌, ◌≤◌, ◌++◌, codes, drop, length};
 ghost use Rattle.std.specs.Fmt.{decimal, signed_decimal};
 ghost use Rattle.audit_report.specs.Line.{field};
+ghost use Rattle.audit_report.specs.code.Pages.{Adds, HasRoom};
 
 use itoa::{Buffer, write_digits};
 
-/// No line of a finding is longer.
-pub(crate) const LONGEST: usize = 192;
+/// So many bytes are room for each line on a connection, and for the first three of its section together: these have
+/// 498 at most, with 20 digits for each number.
+pub const LINE_ROOM: usize = 512;
+
+/// Adds to a page what stands in a line from `begin` on.
+pub(crate) fn add_line(page: &mut Vec<u8>, line: &[u8; LINE_ROOM], begin: usize)
+    requires room { HasRoom 1 page.old }
+    requires begins { begin ≤ 512 }
+    ensures { Adds 1 (drop begin line.now) page.old page.new }
+{
+    page.extend_from_slice(&line[begin..]).unwrap();
+}
 
 /// Puts a text before what stands from `end` on, and answers where it begins.
 #[inline]
-pub(crate) fn put_text(line: &mut [u8; LONGEST], end: usize, text: &[u8]) -> usize
-    requires { (length text.now ≤ end) × (end ≤ 192) }
+pub(crate) fn put_text(line: &mut [u8; LINE_ROOM], end: usize, text: &[u8]) -> usize
+    requires { (length text.now ≤ end) × (end ≤ 512) }
     ensures begins { result + length text.now ≡ end }
     ensures put { drop result line.new ≡ text.now ++ drop end line.old }
 {
@@ -27,18 +38,28 @@ pub(crate) fn put_text(line: &mut [u8; LONGEST], end: usize, text: &[u8]) -> usi
 
 /// Puts a word before what stands from `end` on, and answers where it begins.
 #[inline]
-pub(crate) fn put_word(line: &mut [u8; LONGEST], end: usize, word: &str) -> usize
-    requires { (length word.now ≤ end) × (end ≤ 192) }
+pub(crate) fn put_word(line: &mut [u8; LINE_ROOM], end: usize, word: &str) -> usize
+    requires { (length word.now ≤ end) × (end ≤ 512) }
     ensures begins { result + length word.now ≡ end }
     ensures put { drop result line.new ≡ word.now ++ drop end line.old }
 {
     put_text(line, end, word.as_bytes())
 }
 
+/// Puts a word at the end of all, and answers where it begins.
+#[inline]
+pub(crate) fn put_last(line: &mut [u8; LINE_ROOM], word: &str) -> usize
+    requires { length word.now ≤ 512 }
+    ensures begins { result + length word.now ≡ 512 }
+    ensures put { drop result line.new ≡ word.now }
+{
+    put_word(line, LINE_ROOM, word)
+}
+
 /// Puts two words before what stands from `end` on, and answers where the first begins.
 #[inline]
-pub(crate) fn put_words(line: &mut [u8; LONGEST], end: usize, first: &str, second: &str) -> usize
-    requires { (length first.now + length second.now ≤ end) × (end ≤ 192) }
+pub(crate) fn put_words(line: &mut [u8; LINE_ROOM], end: usize, first: &str, second: &str) -> usize
+    requires { (length first.now + length second.now ≤ end) × (end ≤ 512) }
     ensures begins { result + (length first.now + length second.now) ≡ end }
     ensures put { drop result line.new ≡ (first.now ++ second.now) ++ drop end line.old }
 {
@@ -46,10 +67,20 @@ pub(crate) fn put_words(line: &mut [u8; LONGEST], end: usize, first: &str, secon
     put_word(line, begin, first)
 }
 
+/// Puts a number in decimal before what stands from `end` on, and answers where it begins.
+#[inline]
+pub(crate) fn put_number(line: &mut [u8; LINE_ROOM], end: usize, n: u64) -> usize
+    requires { (20 ≤ end) × (end ≤ 512) }
+    ensures begins { (result ≤ end) × (end ≤ result + 20) }
+    ensures put { drop result line.new ≡ decimal n ++ drop end line.old }
+{
+    write_digits(n, line, end)
+}
+
 /// Puts a number in decimal before what stands from `end` on, with `-` before it where it is below zero, and answers
 /// where it begins.
-pub(crate) fn put_signed(line: &mut [u8; LONGEST], end: usize, n: i64) -> usize
-    requires { (20 ≤ end) × (end ≤ 192) }
+pub(crate) fn put_signed(line: &mut [u8; LINE_ROOM], end: usize, n: i64) -> usize
+    requires { (20 ≤ end) × (end ≤ 512) }
     ensures begins { (result ≤ end) × (end ≤ result + 20) }
     ensures put { drop result line.new ≡ signed_decimal n ++ drop end line.old }
 {
@@ -59,11 +90,11 @@ pub(crate) fn put_signed(line: &mut [u8; LONGEST], end: usize, n: i64) -> usize
 
 /// Puts a name and the number that it names before what stands from `end` on, and answers where the name begins.
 #[inline]
-pub(crate) fn put_field(line: &mut [u8; LONGEST], end: usize, name: &str, n: u64) -> usize
-    requires { (length name.now + 20 ≤ end) × (end ≤ 192) }
+pub(crate) fn put_field(line: &mut [u8; LINE_ROOM], end: usize, name: &str, n: u64) -> usize
+    requires { (length name.now + 20 ≤ end) × (end ≤ 512) }
     ensures begins { (result ≤ end) × (end ≤ result + length name.now + 20) }
     ensures put { drop result line.new ≡ field name.now n ++ drop end line.old }
 {
-    let begin = write_digits(n, line, end);
+    let begin = put_number(line, end, n);
     put_word(line, begin, name)
 }

@@ -30,7 +30,7 @@ pub(crate) fn frame_of(frames: &[Frame], number: u32) -> Option<Frame>
 
 /// How far behind the first frame the one of this number stands, where frames are numbered without a gap.
 #[inline]
-pub(crate) fn offset_of(frames: &[Frame], number: u32) -> usize {
+fn offset_of(frames: &[Frame], number: u32) -> usize {
     match frames.first() {
         Some(first) => number.wrapping_sub(first.number) as usize,
         None => 0,

@@ -7,7 +7,7 @@ ghost use Rattle.audit_report.specs.FindingLine.{record_at};
 ghost use Rattle.audit_report.specs.FrameLookup.{nanos_at};
 ghost use Rattle.audit_report.specs.code.Findings.{IsSpelled, moment_text};
 
-use crate::lines::{LONGEST, put_field};
+use crate::lines::{LINE_ROOM, put_field};
 use crate::lookup::frame_of;
 use audit_terms::Frame;
 
@@ -17,7 +17,7 @@ pub(crate) struct Moment {
     pub(crate) rec: u32,
     pub(crate) nanos: u64,
     /// What stands here from `begin` on.
-    pub(crate) spelled: [u8; LONGEST],
+    pub(crate) spelled: [u8; LINE_ROOM],
     pub(crate) begin: usize,
 }
 
@@ -26,7 +26,7 @@ impl Moment {
     pub(crate) fn first() -> Moment
         ensures { IsSpelled result }
     {
-        let mut spelled = [0; LONGEST];
+        let mut spelled = [0; LINE_ROOM];
         let begin = spell(&mut spelled, 0, 0);
         Moment {
             rec: 0,
@@ -66,10 +66,10 @@ impl Moment {
 }
 
 /// Puts a record and a time at the end of a line, and answers where they begin.
-fn spell(line: &mut [u8; LONGEST], rec: u32, nanos: u64) -> usize
-    ensures begins { (result ≤ 192) × (192 ≤ result + 54) }
+fn spell(line: &mut [u8; LINE_ROOM], rec: u32, nanos: u64) -> usize
+    ensures begins { (result ≤ 512) × (512 ≤ result + 54) }
     ensures put { drop result line.new ≡ moment_text rec nanos }
 {
-    let end = put_field(line, LONGEST, " time ", nanos);
+    let end = put_field(line, LINE_ROOM, " time ", nanos);
     put_field(line, end, " record ", rec as u64)
 }

@@ -1,9 +1,11 @@
-ghost use Rattle.std.specs.Prelude.{◌≡◌, ℕ, ◌++◌, if◌then◌else◌, IfOk, OnOk, pos, Some};
+ghost use Rattle.std.specs.Prelude.{◌≡◌, ℕ, ◌++◌, if◌then◌else◌, IfOk, List, OnOk, pos, Some};
+ghost use Rattle.std.specs.List.{flat_map};
 ghost use Rattle.audit_terms.specs.code.runs.Orderly.{IsOrderly};
 ghost use Rattle.audit_terms.specs.Place.{place_stream};
 ghost use Rattle.audit_report.specs.FrameLookup.{nanos_at};
 ghost use Rattle.audit_report.specs.Stalls.{is_end_of, stall_of, stalls};
-ghost use Rattle.audit_report.specs.code.Ends.{end_in, begun_by};
+ghost use Rattle.audit_report.specs.code.Ends.{HasSweptTo, end_in, begun_by};
+ghost use Rattle.audit_terms.specs.declared.findings.Finding.{Finding as FindingTerm};
 ghost use Rattle.audit_terms.specs.declared.sides.Side.{Side};
 
 use crate::ends::Ends;
@@ -13,7 +15,7 @@ use std::alloc::{AllocError, Global};
 
 /// A time during which a window had no credit.
 #[derive(Clone, Copy)]
-pub(crate) struct Stall {
+pub struct Stall {
     /// The side that sends through the window.
     pub(crate) side: Side,
     /// The window's stream; 0 is the connection.
@@ -27,25 +29,45 @@ pub(crate) struct Stall {
     pub(crate) nanos: i64,
 }
 
-/// The stalls that these findings of one connection tell of, in the order in which they begin. Each ends with the first
-/// end of its window that stands after it. `frames` has the times; a frame that is not there counts as time 0.
-pub(crate) fn stall_pairs(
+/// The stalls that findings of one connection tell of, in the order in which they begin. The findings stand in lists,
+/// one after the other. Each stall ends with the first end of its window that stands after it. `frames` has the times;
+/// a frame that is not there counts as time 0.
+pub fn stall_pairs(
     alloc: Global,
-    findings: &[Finding],
+    findings: &[Vec<Finding>],
     frames: &[Frame],
 ) -> Result<Vec<Stall>, AllocError>
     requires { IsOrderly frames.now }
-    ensures { IfOk result (λ v. v.items ≡ stalls frames.now findings.now) }
+    ensures { IfOk result (λ v. v.items ≡ stalls frames.now (flat_map (λ list. list.items) findings.now)) }
 {
     let mut ends = Ends::new(alloc);
     let mut stalls = Vec::new(alloc);
     let mut left = findings.len();
     while left > 0 {
         left -= 1;
-        take_in(&findings[left], frames, &mut ends, &mut stalls)?;
+        sweep(findings[left].as_slice(), frames, &mut ends, &mut stalls)?;
     }
     stalls.reverse();
     Ok(stalls)
+}
+
+/// Sweeps one list more, from the back. `ends` has the first end of each window among the findings after it.
+fn sweep(
+    findings: &[Finding],
+    frames: &[Frame],
+    ends: &mut Ends,
+    stalls: &mut Vec<Stall>,
+) -> Result<(), AllocError>
+    requires { IsOrderly frames.now }
+    ensures { OnOk result ((later : List FindingTerm) → HasSweptTo frames.now later ends.old stalls.old.items
+        → HasSweptTo frames.now (findings.now ++ later) ends.new stalls.new.items) }
+{
+    let mut left = findings.len();
+    while left > 0 {
+        left -= 1;
+        take_in(&findings[left], frames, ends, stalls)?;
+    }
+    Ok(())
 }
 
 /// One step of the sweep from the back: `ends` has the first end of each window among the findings after this one.

@@ -4,6 +4,7 @@ use Rattle.audit_rounds.proofs.Words.{◌≡◌, ℕ, zero, suc, ◌+◌, ◌*�
 use Rattle.audit_rounds.proofs.Words.{nat_lt}
 use Rattle.audit_rounds.proofs.Words.{if◌then◌else◌, List, [], ◌∷◌, map, take, drop, filter, length, get_or, All, refl}
 use Rattle.audit_rounds.proofs.Words.{sym, ap, ◌∙◌, arith, Option, None, Vec, Global, Bor, AllZip, sum_by, zip}
+use Rattle.audit_rounds.proofs.Words.{Findings, findings_in}
 use Rattle.audit_rounds.proofs.Words.{list_any, length-map, length-append, map-append, take-append-drop, sum_by-cons}
 use Rattle.audit_rounds.proofs.Words.{nil_from_length, All-take, All-drop, All-append, All-head, All-tail, All-nil}
 use Rattle.audit_rounds.proofs.Words.{eqb-true, Frame, Finding, Change, stops, shown, is_past}
@@ -23,7 +24,7 @@ use Rattle.audit_rounds.specs.code.Batch.{AreShownAfter, shown_after}
 use Rattle.audit_rounds.specs.code.Few.{PreparedAreFew, RestsAreFew}
 use Rattle.audit_rounds.specs.code.Pending.{is_pending, pending_of, put_back}
 use Rattle.audit_rounds.proofs.EarlyStop.{fronts_settle_lem}
-use Rattle.audit_rounds.proofs.Lists.{items_in, frames_in, some_of, all-alike, sums-alike}
+use Rattle.audit_rounds.proofs.Lists.{frames_in, some_of, all-alike, sums-alike}
 use Rattle.audit_rounds.proofs.Parts.{orderly-take}
 
 abbrev pub lent : Bor (List Frame) → ℕ
@@ -51,7 +52,7 @@ batch-parts all at batch =
 
 -- ---- those that are still to be gone through
 
-pending-few : (all : List (Bor (List Frame))) (found : List (Vec Finding Global))
+pending-few : (all : List (Bor (List Frame))) (found : List Findings)
     → sum_by lent (pending_of all found) ≤ sum_by lent all
 pending-few [] found = omega arith
 pending-few (frames ∷ all) [] = omega arith
@@ -63,15 +64,15 @@ lent-or-not : (pending : Bool) (frames : Bor (List Frame)) (all : List (Bor (Lis
 lent-or-not true frames all one h = All-cons IsLent frames all one h
 lent-or-not false frames all one h = h
 
-pending-lent : (all : List (Bor (List Frame))) (found : List (Vec Finding Global)) → All IsLent all
+pending-lent : (all : List (Bor (List Frame))) (found : List Findings) → All IsLent all
     → All IsLent (pending_of all found)
 pending-lent [] found h = All-nil IsLent
 pending-lent (frames ∷ all) [] h = All-nil IsLent
 pending-lent (frames ∷ all) (one ∷ found) h =
-    lent-or-not (is_pending frames.now one.items) frames (pending_of all found) (All-head IsLent frames all h)
+    lent-or-not (is_pending frames.now (findings_in one)) frames (pending_of all found) (All-head IsLent frames all h)
     (pending-lent all found (All-tail IsLent frames all h))
 
-pub pending-batch : (all : List (Bor (List Frame))) (found : List (Vec Finding Global)) → IsBatch all
+pub pending-batch : (all : List (Bor (List Frame))) (found : List Findings) → IsBatch all
     → IsBatch (pending_of all found)
 pending-batch all found batch = record {
   orderly = pending-lent all found batch.orderly;
@@ -79,9 +80,9 @@ pending-batch all found batch = record {
 }
 
 -- once all are gone over, that is what stands there
-pub back-all : (all : List (Bor (List Frame))) (found : List (Vec Finding Global)) (n : ℕ)
-    (rest : List (Vec Finding Global)) → n ≡ length all → length found ≡ length all
-    → map items_in (take n found) ++ put_back (drop n all) (drop n found) rest ≡ map items_in found
+pub back-all : (all : List (Bor (List Frame))) (found : List Findings) (n : ℕ)
+    (rest : List Findings) → n ≡ length all → length found ≡ length all
+    → map findings_in (take n found) ++ put_back (drop n all) (drop n found) rest ≡ map findings_in found
 back-all [] [] zero rest l e = refl
 back-all [] [] (suc n) rest l e = absurd (omega arith)
 back-all [] (y ∷ found) n rest l e = absurd (omega arith)
@@ -90,11 +91,11 @@ back-all (x ∷ all) (y ∷ found) zero rest l e = absurd (omega arith)
 back-all (x ∷ all) (y ∷ found) (suc n) rest l e = grind (arith, back-all all found n rest (omega arith) (omega arith))
 
 -- what is found of them later, put back, is what is shown after what was found of all
-pub back-shown : (frames_shown : Bool) (all : List (Bor (List Frame))) (found later : List (Vec Finding Global))
-    → map items_in later
+pub back-shown : (frames_shown : Bool) (all : List (Bor (List Frame))) (found later : List Findings)
+    → map findings_in later
     ≡ map (λ (frames : Bor (List Frame)). shown frames_shown (pass frames.now)) (pending_of all found)
     → put_back all found later
-    ≡ map (λ (one : Bor (List Frame) × Vec Finding Global). shown_after frames_shown one.0.now one.1.items)
+    ≡ map (λ (one : Bor (List Frame) × Findings). shown_after frames_shown one.0.now (findings_in one.1))
     (zip all found)
 back-shown frames_shown [] found later h = refl
 back-shown frames_shown (frames ∷ all) [] later h = refl
@@ -107,7 +108,7 @@ back-shown frames_shown (frames ∷ all) (one ∷ found) (list ∷ later) h =
 -- one more
 pub made-more : (frames_shown : Bool) (all : List (Bor (List Frame))) (frames : Bor (List Frame)) (ready : Prepared)
     (before after : MadeReady) → after.prepared.items ≡ before.prepared.items ++ ready ∷ []
-    → map items_in after.found.items ≡ map items_in before.found.items ++ found_before ready ∷ []
+    → map findings_in after.found.items ≡ map findings_in before.found.items ++ found_before ready ∷ []
     → ready.frames.now ≡ frames.now → IsPrepared frames_shown ready → AreMadeReady frames_shown all before
     → AreMadeReady frames_shown (all ++ frames ∷ []) after
 made-more frames_shown all frames ready before after e f is p h = record {
@@ -250,16 +251,20 @@ module _ (frames_shown : Bool) where
   abbrev passed : List Frame → List Finding
   passed frames = shown frames_shown (pass frames)
 
+  -- nothing was found
+  abbrev HasNone : Findings → Type 0
+  HasNone found = findings_in found ≡ []
+
   -- where nothing was found, that is what is shown of none of the frames
-  pub early-none : (connections : List (Bor (List Frame))) (none : List (Vec Finding Global))
-      → length none ≡ length connections → All (λ list. list.items ≡ []) none
+  pub early-none : (connections : List (Bor (List Frame))) (none : List Findings)
+      → length none ≡ length connections → All HasNone none
       → AllZip (IsEarly frames_shown) connections none
   early-none [] [] l h = tt
   early-none [] (list ∷ none) l h = absurd (omega arith)
   early-none (frames ∷ connections) [] l h = absurd (omega arith)
   early-none (frames ∷ connections) (list ∷ none) l h = (
-    (0, All-head (λ list. list.items ≡ []) list none h),
-    early-none connections none (omega arith) (All-tail (λ list. list.items ≡ []) list none h),
+    (0, All-head HasNone list none h),
+    early-none connections none (omega arith) (All-tail HasNone list none h),
   )
 
   after-none : (frames : List Frame) → shown_after frames_shown frames [] ≡ passed frames
@@ -270,8 +275,8 @@ module _ (frames_shown : Bool) where
     by_test false e = refl
 
   -- what is shown of fronts
-  pub early-fronts : (connections fronts : List (Bor (List Frame))) (none all : List (Vec Finding Global))
-      → length none ≡ length connections → All (λ list. list.items ≡ []) none
+  pub early-fronts : (connections fronts : List (Bor (List Frame))) (none all : List Findings)
+      → length none ≡ length connections → All HasNone none
       → map frames_in fronts ≡ map front_in connections → AreShownAfter frames_shown fronts none all
       → AllZip (IsEarly frames_shown) connections all
   early-fronts [] [] none [] l h e s = tt
@@ -282,14 +287,13 @@ module _ (frames_shown : Bool) where
   early-fronts (frames ∷ connections) (front ∷ fronts) (list ∷ none) [] l h e s = cc
   early-fronts (frames ∷ connections) (front ∷ fronts) (list ∷ none) (one ∷ all) l h e s =
       let same : front.now ≡ front_in frames = cc in
-      let nothing = All-head (λ list. list.items ≡ []) list none h in
-      let said : one.items ≡ shown_after frames_shown front.now list.items = cc in (
+      let nothing = All-head HasNone list none h in
+      let said : findings_in one ≡ shown_after frames_shown front.now (findings_in list) = cc in (
         (
           if nat_lt (length frames.now) 4096 then 0 else length frames.now / 32,
           (rw nothing at said) ∙ after-none front.now ∙ ap passed same,
         ),
-        early-fronts connections fronts none all (omega arith) (All-tail (λ list. list.items ≡ []) list none h) (cc)
-            (cc),
+        early-fronts connections fronts none all (omega arith) (All-tail HasNone list none h) (cc) (cc),
       )
 
   whole : (n : ℕ) (frames : List Frame) → list_any stops (passed (take n frames)) ≡ true →
@@ -309,17 +313,17 @@ module _ (frames_shown : Bool) where
     by_tests false true f h = e ∙ whole n frames (ap (list_any stops) (sym e) ∙ h)
     by_tests false false f h = refl
 
-  pub early-shown : (connections : List (Bor (List Frame))) (early all : List (Vec Finding Global))
+  pub early-shown : (connections : List (Bor (List Frame))) (early all : List Findings)
       → AllZip (IsEarly frames_shown) connections early → AreShownAfter frames_shown connections early all
-      → map items_in all ≡ map (λ (frames : Bor (List Frame)). passed frames.now) connections
+      → map findings_in all ≡ map (λ (frames : Bor (List Frame)). passed frames.now) connections
   early-shown connections early all h s = s ∙ each connections early h where
-    each : (connections : List (Bor (List Frame))) (early : List (Vec Finding Global))
+    each : (connections : List (Bor (List Frame))) (early : List Findings)
         → AllZip (IsEarly frames_shown) connections early
-        → map (λ (one : Bor (List Frame) × Vec Finding Global). shown_after frames_shown one.0.now one.1.items)
+        → map (λ (one : Bor (List Frame) × Findings). shown_after frames_shown one.0.now (findings_in one.1))
         (zip connections early) ≡ map (λ (frames : Bor (List Frame)). passed frames.now) connections
     each [] early h = refl
     each (frames ∷ connections) [] h = absurd h
     each (frames ∷ connections) (one ∷ early) h =
-        ap (λ l. l ∷ map (λ (one : Bor (List Frame) × Vec Finding Global). shown_after frames_shown one.0.now
-        one.1.items) (zip connections early)) (after-early frames.now one.items h.0.0 h.0.1)
+        ap (λ l. l ∷ map (λ (one : Bor (List Frame) × Findings). shown_after frames_shown one.0.now
+        (findings_in one.1)) (zip connections early)) (after-early frames.now (findings_in one) h.0.0 h.0.1)
         ∙ ap (λ l. passed frames.now ∷ l) (each connections early h.1)

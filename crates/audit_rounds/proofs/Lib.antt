@@ -9,6 +9,7 @@ mod Batches
 mod Plans
 mod Jobs
 mod Settles
+mod Stopping
 mod StreamOrder
 mod StreamWork
 mod StreamRounds

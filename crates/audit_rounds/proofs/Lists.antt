@@ -1,10 +1,10 @@
 -- Lists whose elements are the same, each list's by a reading of its own; lists that go side by side; lists to which
 -- loops add.
 use Rattle.audit_rounds.proofs.Words.{◌≡◌, ℕ, zero, suc, ◌+◌, ◌<◌, ◌==◌, if◌then◌else◌, List, [], ◌∷◌, ◌++◌, All}
-use Rattle.audit_rounds.proofs.Words.{AllZip, Bor, Vec, Global, Some, get_or, slice_get, length, map, take, drop, set}
+use Rattle.audit_rounds.proofs.Words.{AllZip, Bor, Some, get_or, slice_get, length, map, take, drop, set}
 use Rattle.audit_rounds.proofs.Words.{sum_by, refl, sym, ap, ◌∙◌, subst, arith, nat_tests, append_assoc, append-nil}
 use Rattle.audit_rounds.proofs.Words.{length-map, length-append, get_or-map, map-append, nil_from_length, take_more}
-use Rattle.audit_rounds.proofs.Words.{get_or-append_seam, All-map, All-nil, All-head, All-tail, Finding, Frame}
+use Rattle.audit_rounds.proofs.Words.{get_or-append_seam, All-map, All-nil, All-head, All-tail, Frame}
 use Rattle.audit_rounds.proofs.Words.{flat_map, slice_get-get_or, get_or_from_slice_get, NeverFallFrom}
 use Rattle.std.specs.Ordering.{nat_cmp}
 use Rattle.std.specs.List.Sorted.{IsSorted}
@@ -17,10 +17,7 @@ use Rattle.std.proofs.lemmas.List.Sums.{sum-map}
 use Rattle.std.proofs.lemmas.Simd.{map-map}
 use Rattle.std.proofs.lemmas.Slice.Zip.{all_zipped_more}
 
--- the readings that proofs of this crate need most
-abbrev pub items_in : Vec Finding Global → List Finding
-items_in list = list.items
-
+-- the reading that proofs of this crate need most
 abbrev pub frames_in : Bor (List Frame) → List Frame
 frames_in frames = frames.now
 
@@ -117,23 +114,24 @@ each-set P (y ∷ xs) (suc k) x p (suc n) d l h =
 
 -- ---- lists to one of which something is added
 
-added-at : {X : Type 0} (all : List (Vec X Global)) (k n : ℕ) (list d new : Vec X Global) (said before : List X)
-    → k < length all → new.items ≡ (get_or all k d).items ++ said
-    → ((list : Vec X Global) → (get_or all n list).items ≡ before)
-    → (get_or (set all k new) n list).items ≡ before ++ (if k == n then said else [])
-added-at all k n list d new said before l is held = grind (arith, elements, nat_tests, append-nil, held d, held list)
+module _ {A X : Type 0} (read : A → List X) where
+  added-at : (all : List A) (k n : ℕ) (one d new : A) (said before : List X) → k < length all
+      → read new ≡ read (get_or all k d) ++ said → ((one : A) → read (get_or all n one) ≡ before)
+      → read (get_or (set all k new) n one) ≡ before ++ (if k == n then said else [])
+  added-at all k n one d new said before l is held =
+      grind (arith, elements, nat_tests, append-nil, held d, held one)
 
--- what a part says is appended to the list of its connection
-pub part-more : {X P : Type 0} (all : List (Vec X Global)) (connection : P → ℕ) (says : P → List X) (before : List X)
-    (n : ℕ) (list d new : Vec X Global) (parts : List P) (part : P) → connection part < length all
-    → new.items ≡ (get_or all (connection part) d).items ++ says part
-    → ((list : Vec X Global) → (get_or all n list).items
-    ≡ before ++ flat_map (λ (one : P). if connection one == n then says one else []) parts)
-    → (get_or (set all (connection part) new) n list).items
-    ≡ before ++ flat_map (λ (one : P). if connection one == n then says one else []) (parts ++ part ∷ [])
-part-more all connection says before n list d new parts part l is held =
-    added-at all (connection part) n list d new (says part) _ l is held
-    ∙ flat_map_more (λ one. if connection one == n then says one else []) before parts part
+  -- what a part says is added to that of its connection
+  pub part-more : {P : Type 0} (all : List A) (connection : P → ℕ) (says : P → List X) (before : List X) (n : ℕ)
+      (one d new : A) (parts : List P) (part : P) → connection part < length all
+      → read new ≡ read (get_or all (connection part) d) ++ says part
+      → ((one : A) → read (get_or all n one)
+      ≡ before ++ flat_map (λ (other : P). if connection other == n then says other else []) parts)
+      → read (get_or (set all (connection part) new) n one)
+      ≡ before ++ flat_map (λ (other : P). if connection other == n then says other else []) (parts ++ part ∷ [])
+  part-more all connection says before n one d new parts part l is held =
+      added-at all (connection part) n one d new (says part) _ l is held
+      ∙ flat_map_more (λ other. if connection other == n then says other else []) before parts part
 
 -- ---- sorted numbers
 

@@ -1,23 +1,18 @@
 -- What settled rounds give, and what is merged of it.
-use Rattle.audit_rounds.proofs.Words.{◌≡◌, ℕ, ◌+◌, ◌<◌, Bool, List, [], ◌∷◌, ◌++◌, map, length, get_or, All, Option}
-use Rattle.audit_rounds.proofs.Words.{None, refl, sym, ap, ◌∙◌, arith, Vec, Global, zip, length-map, get_or-map}
-use Rattle.audit_rounds.proofs.Words.{get_or-zip, length-zip, slice_get_within, get_or_from_slice_get, slice_get-get_or}
+use Rattle.audit_rounds.proofs.Words.{◌≡◌, ℕ, ◌+◌, ◌<◌, Bool, List, [], ◌++◌, map, length, get_or, All, Option}
+use Rattle.audit_rounds.proofs.Words.{None, sym, ap, ◌∙◌, arith, Findings, findings_in, length-map, get_or-map}
+use Rattle.audit_rounds.proofs.Words.{slice_get_within, get_or_from_slice_get, slice_get-get_or}
 use Rattle.audit_rounds.proofs.Words.{All-map, Finding, in_order, upto_stop, connection_start, Block, items_in, IsBlock}
 use Rattle.audit_rounds.proofs.Words.{BlockFits, ConnSum, IsStop, Job, findings_of_parts, HasSettled, board_merges_lem}
 use Rattle.audit_rounds.proofs.Words.{Part, Settled, part_of, ConnectionBlock, ReadyBlock, IsSum, AreSums, wholes}
 use Rattle.audit_rounds.proofs.Words.{sum_job, block_job, whole_shown, shown_at, IsPlan, IsRemaining, AreRemaining}
 use Rattle.audit_rounds.proofs.Words.{AreGoneThrough}
-use Rattle.audit_rounds.proofs.Lists.{items_in as list_items, as-many, some_of}
+use Rattle.audit_rounds.proofs.Lists.{as-many, some_of}
 use Rattle.audit_rounds.proofs.Plans.{shown-at}
 
--- what two lists of a connection are merged to
-abbrev pub both_in : Vec Finding Global × Vec Finding Global → List Finding
-both_in pair = upto_stop (in_order (pair.0.items ++ pair.1.items))
-
--- nothing goes side by side with none
-pub zip-none : {X Y : Type 0} (xs : List X) → zip {X = Y} xs [] ≡ []
-zip-none [] = refl
-zip-none (x ∷ xs) = refl
+-- what the findings of a connection are merged to
+abbrev pub merged : Findings → List Finding
+merged found = upto_stop (in_order (findings_in found))
 
 -- ---- the parts of settled rounds
 
@@ -62,10 +57,11 @@ jobs-inside c connections bound finds plan same planned =
 
 -- ---- what is left to do of each connection
 
-module _ (connections : List Block) (stops : List (Option ℕ)) (found : List (Vec Finding Global))
+module _ (connections : List Block) (stops : List (Option ℕ)) (found : List Findings)
     (h : AreRemaining connections stops found) where
   one-remains : (n : ℕ) (whole : Block) (stop : Option ℕ) (l : n < length connections) (m : n < length found)
-      → IsRemaining (get_or connections n whole) (get_or stops n stop) (get_or found n (some_of found n m)).items
+      → IsRemaining (get_or connections n whole) (get_or stops n stop)
+      (findings_in (get_or found n (some_of found n m)))
   one-remains n whole stop l m = h.each n whole stop (some_of found n m) l
 
   pub each-block : All IsBlock connections
@@ -83,29 +79,28 @@ module _ (connections : List Block) (stops : List (Option ℕ)) (found : List (V
 
   -- and what is found of it, when its blocks are gone through
   pub gone-through : {M : Type 0} {makes : ℕ → Option ℕ → M → Type 0} (c : Bool) (plan : List ReadyBlock)
-      (settled : Settled M) (own last : List (Vec Finding Global))
+      (settled : Settled M) (all last : List Findings)
       → IsPlan c (length connections) (shown_at c 0 (wholes connections)) plan
-      → HasSettled makes (map (block_job c) plan) stops settled → length own ≡ length found
-      → ((n : ℕ) (list : Vec Finding Global) → n < length own
-      → (get_or own n list).items ≡ findings_of_parts n (map part_of settled.parts.items))
-      → map list_items last ≡ map both_in (zip found own) → AreGoneThrough c connections found last
-  gone-through c plan settled own last planned done owns keeps is =
+      → HasSettled makes (map (block_job c) plan) stops settled → length all ≡ length found
+      → ((n : ℕ) (one one' : Findings) → n < length found
+      → findings_in (get_or all n one)
+      ≡ findings_in (get_or found n one') ++ findings_of_parts n (map part_of settled.parts.items))
+      → map findings_in last ≡ map merged all → AreGoneThrough c connections found last
+  gone-through c plan settled all last planned done alls keeps is =
       let as_many = h.founds in
-      let zipped = length-zip found own in
-      let long = as-many list_items both_in last (zip found own) is in
+      let long = as-many findings_in merged last all is in
       record {
         number = omega arith;
         each = λ n whole list list' l.
-            let before = (get_or found n list').items in
+            let before = findings_in (get_or found n list') in
             let shows = findings_of_parts n (map part_of settled.parts.items) in
-            let merged : (get_or last n list).items ≡ upto_stop (in_order (before ++ shows)) =
-            sym (get_or-map list_items last n list [] (omega arith)) ∙ ap (λ l. get_or l n []) is
-            ∙ get_or-map both_in (zip found own) n (list', list') [] (omega arith)
-            ∙ ap both_in (get_or-zip found own n (list', list') (omega arith) (omega arith))
-            ∙ ap (λ l. upto_stop (in_order (before ++ l))) (keeps n list' (omega arith)) in
+            let together : findings_in (get_or last n list) ≡ upto_stop (in_order (before ++ shows)) =
+            sym (get_or-map findings_in last n list [] (omega arith)) ∙ ap (λ l. get_or l n []) is
+            ∙ get_or-map merged all n list' [] (omega arith)
+            ∙ ap (λ l. upto_stop (in_order l)) (keeps n list' list' (omega arith)) in
             let number : length (wholes connections) ≡ length connections = length-map connections items_in in
             let at : n ≡ 0 + n = omega arith in
-            merged
+            together
             ∙ (board_merges_lem (record { jobs = map (block_job c) plan; opening_stops = stops }) _ done.board n before
             (h.each n whole None list' l).least).findings
             ∙ ap (λ l. upto_stop (in_order (before ++ l)))

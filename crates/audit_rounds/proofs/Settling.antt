@@ -4,6 +4,7 @@ use Rattle.audit_rounds.proofs.Words.{All, AreGoneThrough, IsAfterStreams, IsOrd
 use Rattle.audit_rounds.proofs.Words.{AreAfterStreams, AreFrom, ConnectionState, connection_after_all, connection_start}
 use Rattle.audit_rounds.proofs.Words.{AreRemaining, BlockFits, append_assoc, blocks_shown, frames_within, streams_shown}
 use Rattle.audit_rounds.proofs.Words.{AreRests, Contains, Finding, Prepared, ap, in_order, is_shown, items_in, ltb-true}
+use Rattle.audit_rounds.proofs.Words.{Findings, findings_in}
 use Rattle.audit_rounds.proofs.Words.{Block, Bool, Frame, Item, arith, false, get_or, joined, length, nat_lt, shown, ℕ}
 use Rattle.audit_rounds.proofs.Words.{Change, Global, IsLeast, IsPast, IsRest, IsStop, Option, StopsAt, filter, is_past}
 use Rattle.audit_rounds.proofs.Words.{IsOrderly, IsPrepared, append-nil, changes_of, get_or-map, items_with, length-map}
@@ -234,7 +235,7 @@ module _ (frames_shown : Bool) (connection : Prepared) (stop : Option ℕ) (open
 
 -- ---- all connections of a batch
 
-module _ (frames_shown : Bool) (connections : List Prepared) (found : List (Vec Finding Global))
+module _ (frames_shown : Bool) (connections : List Prepared) (found : List Findings)
     (stops : List (Option ℕ)) (opened : List (Vec ℕ Global)) (rests : List Block)
     (prepared : All (IsPrepared frames_shown) connections)
     (after : AreAfterStreams frames_shown connections found stops opened)
@@ -253,33 +254,32 @@ module _ (frames_shown : Bool) (connections : List Prepared) (found : List (Vec 
             let connection = some_of connections 0 (omega arith) in
             let numbers = some_of opened 0 (omega arith) in
             one-remains frames_shown (get_or connections n connection) (get_or stops n stop)
-            (get_or opened n numbers).items (get_or rests n rest) (get_or found n list).items
+            (get_or opened n numbers).items (get_or rests n rest) (findings_in (get_or found n list))
             (prepared n connection inside) (are.each n connection stop numbers rest inside)
             (after.each n connection list stop numbers inside) (after.places n stop (omega arith));
       }
 
-  pub all-settle : (last : List (Vec Finding Global)) → AreGoneThrough frames_shown rests found last
-      → map (λ (list : Vec Finding Global). list.items) last
+  pub all-settle : (last : List Findings) → AreGoneThrough frames_shown rests found last
+      → map findings_in last
       ≡ map (λ (connection : Prepared). shown frames_shown (pass connection.frames.now)) connections
   all-settle last gone =
       let number = are.number in
       let founds = after.founds in
       let opens = after.opens in
       let lasts = gone.number in
-      let settled = λ (list : Vec Finding Global). list.items in
       let passed = λ (connection : Prepared). shown frames_shown (pass connection.frames.now) in
-      let long = length-map last settled in
+      let long = length-map last findings_in in
       let many = length-map connections passed in
-      ext_get_or [] (map settled last) (map passed connections) (omega arith) (λ n l.
+      ext_get_or [] (map findings_in last) (map passed connections) (omega arith) (λ n l.
       let inside : n < length connections = omega arith in
       let connection = some_of connections 0 (omega arith) in
       let rest = some_of rests 0 (omega arith) in
       let list = some_of last 0 (omega arith) in
       let numbers = some_of opened 0 (omega arith) in
-      get_or-map settled last n list [] (omega arith)
+      get_or-map findings_in last n list [] (omega arith)
       ∙ gone.each n rest list list (omega arith)
       ∙ one-settles frames_shown (get_or connections n connection) (get_or stops n None)
-      (get_or opened n numbers).items (get_or rests n rest) (get_or found n list).items
+      (get_or opened n numbers).items (get_or rests n rest) (findings_in (get_or found n list))
       (prepared n connection inside) (are.each n connection None numbers rest inside)
       (after.each n connection list None numbers inside)
       ∙ sym (get_or-map passed connections n connection [] inside))

@@ -13,7 +13,7 @@ use Rattle.audit_rounds.proofs.Words.{Change, shown, changes_of, frames_of, stre
 use Rattle.audit_rounds.proofs.Words.{frames_at, Job, StopsAt, IsLeast, findings_of_jobs, findings_of_parts}
 use Rattle.audit_rounds.proofs.Words.{board_merges_lem, Part, Settled, part_of, openings_of, streams_shown, Reaches}
 use Rattle.audit_rounds.proofs.Words.{AgreeWithin, IsAfterStreams, AreAfterStreams, numbers_told, IsInOrder, AreReady}
-use Rattle.audit_rounds.proofs.Words.{job_of, of_rows, rows_opened}
+use Rattle.audit_rounds.proofs.Words.{job_of, of_rows, rows_opened, Findings, findings_in}
 use Rattle.std.proofs.lemmas.List.{map-id}
 use Rattle.std.proofs.lemmas.List.Elements.{All-weaker, All-from_recursion}
 use Rattle.std.specs.List.{between}
@@ -29,7 +29,7 @@ use Rattle.stop_desk.specs.code.Board.{stop_of}
 use Rattle.stop_desk.specs.code.Laid.{board_with}
 use Rattle.audit_rounds.specs.code.AfterStreams.{HaveSettledOver}
 use Rattle.audit_rounds.specs.code.Streams.{row_frames, shown_of}
-use Rattle.audit_rounds.proofs.Lists.{items_in, all-alike, zip-all, as-many, zip-at, zip-get}
+use Rattle.audit_rounds.proofs.Lists.{all-alike, zip-all, as-many, zip-at, zip-get}
 use Rattle.audit_rounds.proofs.Batches.{length-rows}
 use Rattle.audit_rounds.proofs.Rounds.{local-each, settings-each}
 use Rattle.split_merge.proofs.Ahead.{orderly-of, acknowledged-of}
@@ -189,16 +189,16 @@ stop-place found None h is = tt
 stop-place found (Some place) h ((one, there, stopping, at), least) =
     rw at at (All-contains IsBelow found one h there)
 
-pub stops-are-places : (frames_shown : Bool) (connections : List Prepared) (found : List (Vec Finding Global))
+pub stops-are-places : (frames_shown : Bool) (connections : List Prepared) (found : List Findings)
     (stops : List (Option ℕ)) → All (IsPrepared frames_shown) connections
-    → map (λ (one : Vec Finding Global). one.items) found ≡ map found_before connections
-    → AllZip (λ (one : Vec Finding Global) (stop : Option ℕ). IsFirstStop one.items stop) found stops
+    → map findings_in found ≡ map found_before connections
+    → AllZip (λ (one : Findings) (stop : Option ℕ). IsFirstStop (findings_in one) stop) found stops
     → All IsStop stops
 stops-are-places frames_shown connections found stops p e is =
-    zip-all (λ (one : Vec Finding Global). All IsBelow one.items)
-    (λ (one : Vec Finding Global) (stop : Option ℕ). IsFirstStop one.items stop) IsStop
-    (λ one stop h first. stop-place one.items stop h first) found stops
-    (all-alike items_in found_before (All IsBelow) found connections e
+    zip-all (λ (one : Findings). All IsBelow (findings_in one))
+    (λ (one : Findings) (stop : Option ℕ). IsFirstStop (findings_in one) stop) IsStop
+    (λ one stop h first. stop-place (findings_in one) stop h first) found stops
+    (all-alike findings_in found_before (All IsBelow) found connections e
     (All-weaker (IsPrepared frames_shown) (λ connection. All IsBelow (found_before connection))
     (before-below frames_shown) connections p)) is
 
@@ -264,7 +264,7 @@ reaches (Some place) stop h = let (s, is, low) = h place refl in rw is low
 -- ---- a settled round over connections that are ready
 
 module _ (frames_shown : Bool) (count : ℕ) (some : 1 ≤ count) (connections : List Prepared)
-    (found : List (Vec Finding Global)) (ready : AreReady frames_shown connections found)
+    (found : List Findings) (ready : AreReady frames_shown connections found)
     (settled : Settled (Vec ℕ Global)) (h : HaveSettledOver frames_shown count connections found settled) where
   abbrev streams : List Streams
   streams = h.streams
@@ -404,18 +404,19 @@ module _ (frames_shown : Bool) (count : ℕ) (some : 1 ≤ count) (connections :
   -- ---- all connections
 
   as_many : length found ≡ length connections
-  as_many = as-many items_in found_before found connections ready.before
+  as_many = as-many findings_in found_before found connections ready.before
 
-  found-at : (n : ℕ) (list : Vec Finding Global) (connection : Prepared) → n < length connections
-      → (get_or found n list).items ≡ found_before (get_or connections n connection)
+  found-at : (n : ℕ) (list : Findings) (connection : Prepared) → n < length connections
+      → findings_in (get_or found n list) ≡ found_before (get_or connections n connection)
   found-at n list connection l =
       let a = as_many in
-      sym (get_or-map items_in found n list [] (omega arith)) ∙ ap (λ lists. get_or lists n []) ready.before
+      sym (get_or-map findings_in found n list [] (omega arith)) ∙ ap (λ lists. get_or lists n []) ready.before
       ∙ get_or-map found_before connections n connection [] l
 
-  pub are-after : (last : List (Vec Finding Global)) (opened : List (Vec ℕ Global)) → length last ≡ length found
-      → ((n : ℕ) (list list' : Vec Finding Global) → n < length found
-      → (get_or last n list).items ≡ (get_or found n list').items ++ findings_of_parts n (map part_of parts))
+  pub are-after : (last : List Findings) (opened : List (Vec ℕ Global)) → length last ≡ length found
+      → ((n : ℕ) (list list' : Findings) → n < length found
+      → findings_in (get_or last n list)
+      ≡ findings_in (get_or found n list') ++ findings_of_parts n (map part_of parts))
       → length opened ≡ length connections
       → ((n : ℕ) (list : Vec ℕ Global) (connection : Prepared) → n < length connections
       → IsInOrder (numbers_told n parts ++ (get_or connections n connection).split.opened.items)
@@ -431,10 +432,10 @@ module _ (frames_shown : Bool) (count : ℕ) (some : 1 ≤ count) (connections :
         each = λ n connection list stop numbers l.
             let m : n < length found = omega arith in
             let before = found-at n list connection l in
-            let first = zip-get (λ (one : Vec Finding Global) (stop : Option ℕ). IsFirstStop one.items stop) found
+            let first = zip-get (λ (one : Findings) (stop : Option ℕ). IsFirstStop (findings_in one) stop) found
             h.opening n list None h.first m in
             rw (get_or_default stops n stop None (omega arith)) (is-after n (get_or connections n connection)
-            (slice_get-get_or connections n connection l) (rw before at first) (get_or last n list).items
+            (slice_get-get_or connections n connection l) (rw before at first) (findings_in (get_or last n list))
             (get_or opened n numbers).items (rw before at (kept n list list m)) (orders n numbers connection l));
         places = h.done.places;
       }

@@ -88,8 +88,11 @@ pub use Rattle.stop_desk.specs.code.Laid.{part_of}
 pub use Rattle.stop_desk.specs.code.Settling.{HasSettled}
 pub use Rattle.stop_desk.specs.declared.{parts.Part.Part, settling.Settled.Settled}
 pub use Rattle.split_merge.proofs.ShownMerge.{shown-append, in_order-shown}
+pub use Rattle.split_merge.specs.code.Findings.{findings_in}
 pub use Rattle.split_merge.specs.code.Groups.{groups}
-pub use Rattle.split_merge.specs.code.Split.{IsSplit, frames_at}
+pub use Rattle.split_merge.specs.code.Split.{IsSplit}
+pub use Rattle.stream_credit.specs.code.StreamPart.{frames_at}
+pub use Rattle.split_merge.specs.declared.findings.Findings.{Findings}
 pub use Rattle.split_merge.specs.declared.{splits.SplitFrames.SplitFrames, splits.StreamRow.StreamRow}
 pub use Rattle.stop_desk.specs.code.Stop.{IsStop}
 pub use Rattle.stream_credit.specs.code.Looks.{opened_up_to}

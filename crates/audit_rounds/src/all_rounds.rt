@@ -4,6 +4,7 @@ ghost use Rattle.std.specs.Prelude.{◌≡◌, All, IfOk, length, map};
 ghost use Rattle.audit_terms.specs.code.runs.Orderly.{IsOrderly};
 ghost use Rattle.audit_terms.specs.Finding.{shown};
 ghost use Rattle.audit_terms.specs.Pass.{pass};
+ghost use Rattle.split_merge.specs.code.Findings.{findings_in};
 ghost use Rattle.audit_rounds.specs.code.Batch.{AreReady, AreShown, IsBatch};
 ghost use Rattle.audit_rounds.specs.code.Rests.{AreRests};
 ghost use Rattle.audit_rounds.specs.code.Within.{frames_within};
@@ -13,8 +14,9 @@ use crate::division::Division;
 use crate::prepared::{MadeReady, Prepared, prepare_each};
 use crate::stream_round::{AfterStreams, round_over_streams};
 use audit_core::shown_in_one_pass;
-use audit_terms::{Finding, Frame, Place};
+use audit_terms::{Frame, Place};
 use conn_scan::Block;
+use split_merge::Findings;
 use std::alloc::{AllocError, Global};
 use std::thread::Threads;
 use stop_desk::{Gate, Team};
@@ -25,13 +27,14 @@ pub(crate) fn shown_of_each<R: Threads + Sync, G: Gate>(
     team: &Team<'_, R, G>,
     division: &Division,
     connections: &[&[Frame]],
-) -> Result<Vec<Vec<Finding>>, AllocError>
+) -> Result<Vec<Findings>, AllocError>
     requires { IsBatch connections.now }
     ensures { IfOk result (λ found. AreShown division.now.frames_shown connections.now found.items) }
 {
     if connections.len() == 1 && division.is_undivided(connections[0]) {
         let frames = connections[0];
         if let Some(found) = shown_in_one_pass(team.alloc, division.frames_shown, frames)? {
+            let found = Findings::of(team.alloc, found)?;
             let all = vec![in team.alloc; found]?;
             return Ok(all);
         }
@@ -44,7 +47,7 @@ fn shown_in_rounds<R: Threads + Sync, G: Gate>(
     team: &Team<'_, R, G>,
     division: &Division,
     connections: &[&[Frame]],
-) -> Result<Vec<Vec<Finding>>, AllocError>
+) -> Result<Vec<Findings>, AllocError>
     requires { IsBatch connections.now }
     ensures { IfOk result (λ found. AreShown division.now.frames_shown connections.now found.items) }
 {
@@ -62,10 +65,10 @@ fn findings_of_prepared<R: Threads + Sync, G: Gate>(
     team: &Team<'_, R, G>,
     division: &Division,
     connections: &[Prepared<'_>],
-    found: Vec<Vec<Finding>>,
-) -> Result<Vec<Vec<Finding>>, AllocError>
+    found: Vec<Findings>,
+) -> Result<Vec<Findings>, AllocError>
     requires { AreReady division.now.frames_shown connections.now found.items }
-    ensures { IfOk result (λ found. map (λ one. one.items) found.items
+    ensures { IfOk result (λ found. map findings_in found.items
         ≡ map (λ one. shown division.now.frames_shown (pass one.frames.now)) connections.now) }
 {
     let after = round_over_streams(team, division, connections, found)?;

@@ -10,7 +10,8 @@ ghost use Rattle.audit_rounds.specs.code.Batch.{AreJoined, AreShown, IsBatch};
 use crate::division::{Division, LONG_FRAMES};
 use crate::fronts::fronts_first;
 use crate::halves::{in_halves, total_frames};
-use audit_terms::{Finding, Frame};
+use audit_terms::Frame;
+use split_merge::Findings;
 use std::alloc::AllocError;
 use std::thread::{Threads, join};
 use stop_desk::{Gate, Team};
@@ -74,7 +75,7 @@ fn one_by_one<R: Threads + Sync, G: Gate>(
     team: &Team<'_, R, G>,
     division: &Division,
     connections: &[&[Frame]],
-) -> Result<Vec<Vec<Finding>>, AllocError>
+) -> Result<Vec<Findings>, AllocError>
     requires { IsBatch connections.now }
     ensures { IfOk result (λ found. AreShown division.now.frames_shown connections.now found.items) }
 {
@@ -92,9 +93,9 @@ fn one_by_one<R: Threads + Sync, G: Gate>(
 
 /// What is shown of the connections of both halves.
 fn both_shown(
-    one: Result<Vec<Vec<Finding>>, AllocError>,
-    other: Result<Vec<Vec<Finding>>, AllocError>,
-) -> Result<Vec<Vec<Finding>>, AllocError>
+    one: Result<Vec<Findings>, AllocError>,
+    other: Result<Vec<Findings>, AllocError>,
+) -> Result<Vec<Findings>, AllocError>
     ensures { AreJoined (λ shows connections found. AreShown shows connections found.items) one other result }
 {
     let mut found = one?;
@@ -108,7 +109,7 @@ pub(crate) fn by_halves<R: Threads + Sync, G: Gate>(
     team: &Team<'_, R, G>,
     division: &Division,
     connections: &[&[Frame]],
-) -> Result<Vec<Vec<Finding>>, AllocError>
+) -> Result<Vec<Findings>, AllocError>
     requires { IsBatch connections.now }
     ensures { IfOk result (λ found. AreShown division.now.frames_shown connections.now found.items) }
 {
@@ -126,7 +127,7 @@ pub(crate) fn by_halves<R: Threads + Sync, G: Gate>(
     let others = team.workers - few;
     let (one, other) = join(
         rt,
-        || -> Result<Vec<Vec<Finding>>, AllocError>
+        || -> Result<Vec<Findings>, AllocError>
             requires { IsSync R.row × IsSync G.row × (0 < few) × IsBatch front.now }
             ensures { IfOk result (λ found. AreShown division.entry.now.frames_shown front.entry.now found.items) }
         {
@@ -138,7 +139,7 @@ pub(crate) fn by_halves<R: Threads + Sync, G: Gate>(
             };
             by_halves(&team, division, front)
         },
-        || -> Result<Vec<Vec<Finding>>, AllocError>
+        || -> Result<Vec<Findings>, AllocError>
             requires { IsSync R.row × IsSync G.row × (0 < others) × IsBatch back.now }
             ensures { IfOk result (λ found. AreShown division.entry.now.frames_shown back.entry.now found.items) }
         {

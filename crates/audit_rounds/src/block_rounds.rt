@@ -15,9 +15,10 @@ use crate::block_plans::{ReadyBlock, plan_of};
 use crate::block_round::{BlockRound, SumRound};
 use crate::connection_blocks::{ConnectionBlock, in_blocks};
 use crate::division::Division;
-use crate::gathering::{gathered, merged_each, none_of_each};
-use audit_terms::{Finding, Place};
+use crate::gathering::{gathered, merged_each};
+use audit_terms::Place;
 use conn_scan::{Block, ConnSum};
+use split_merge::Findings;
 use std::alloc::{AllocError, Global};
 use std::thread::Threads;
 use stop_desk::{AuditRound, Gate, Part, Team, settle};
@@ -79,8 +80,8 @@ pub(crate) fn rounds_over_blocks<R: Threads + Sync, G: Gate>(
     division: &Division,
     stops: &[Option<Place>],
     connections: &[Block<'_>],
-    found: Vec<Vec<Finding>>,
-) -> Result<Vec<Vec<Finding>>, AllocError>
+    found: Vec<Findings>,
+) -> Result<Vec<Findings>, AllocError>
     requires few { RestsAreFew connections.now }
     requires remaining { AreRemaining connections.now stops.now found.items }
     ensures { IfOk result (λ last. AreGoneThrough division.now.frames_shown connections.now found.items last.items) }
@@ -91,7 +92,6 @@ pub(crate) fn rounds_over_blocks<R: Threads + Sync, G: Gate>(
         frames_shown: division.frames_shown,
     };
     let settled = settle(team, AuditRound::Blocks, stops, &round)?;
-    let none = none_of_each(team.alloc, connections.len())?;
-    let own = gathered(none, settled.parts)?;
-    merged_each(team, found, own)
+    let found = gathered(found, settled.parts)?;
+    merged_each(team, found)
 }

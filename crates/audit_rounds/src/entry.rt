@@ -2,10 +2,12 @@ ghost use Rattle.std.specs.Prelude.{◌≡◌, All, IfOk, map};
 ghost use Rattle.audit_terms.specs.code.runs.Orderly.{IsOrderly};
 ghost use Rattle.audit_terms.specs.Finding.{shown};
 ghost use Rattle.audit_terms.specs.Pass.{pass};
+ghost use Rattle.split_merge.specs.code.Findings.{findings_in};
 
 use crate::batch::{by_halves, next_batch};
 use crate::division::Division;
-use audit_terms::{Finding, Frame};
+use audit_terms::Frame;
+use split_merge::Findings;
 use std::alloc::AllocError;
 use std::thread::Threads;
 use stop_desk::{Gate, Team};
@@ -16,9 +18,9 @@ pub fn findings_of_each<R: Threads + Sync, G: Gate>(
     team: &Team<'_, R, G>,
     division: &Division,
     connections: &[&[Frame]],
-) -> Result<Vec<Vec<Finding>>, AllocError>
+) -> Result<Vec<Findings>, AllocError>
     requires { All (λ frames. IsOrderly frames.now) connections.now }
-    ensures { IfOk result (λ found. map (λ one. one.items) found.items
+    ensures { IfOk result (λ found. map findings_in found.items
         ≡ map (λ frames. shown division.now.frames_shown (pass frames.now)) connections.now) }
 {
     let mut all = Vec::with_capacity(team.alloc, connections.len())?;

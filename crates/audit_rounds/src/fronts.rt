@@ -8,9 +8,10 @@ ghost use Rattle.audit_rounds.specs.code.EarlyStops.{IsEarly, front_of};
 
 use crate::all_rounds::shown_of_each;
 use crate::division::{Division, LONG_FRAMES};
-use crate::gathering::none_of_each;
+use crate::gathering::no_findings;
 use crate::pending::{pending_of, put_back};
-use audit_terms::{Finding, Frame};
+use audit_terms::Frame;
+use split_merge::Findings;
 use std::alloc::{AllocError, Global};
 use std::thread::Threads;
 use stop_desk::{Gate, Team};
@@ -49,8 +50,8 @@ fn found_after<R: Threads + Sync, G: Gate>(
     team: &Team<'_, R, G>,
     division: &Division,
     connections: &[&[Frame]],
-    found: Vec<Vec<Finding>>,
-) -> Result<Vec<Vec<Finding>>, AllocError>
+    found: Vec<Findings>,
+) -> Result<Vec<Findings>, AllocError>
     requires batch { IsBatch connections.now }
     requires number { length found.items ≡ length connections.now }
     ensures { IfOk result (λ all. AreShownAfter division.now.frames_shown connections.now found.items all.items) }
@@ -65,11 +66,11 @@ fn found_early<R: Threads + Sync, G: Gate>(
     team: &Team<'_, R, G>,
     division: &Division,
     connections: &[&[Frame]],
-) -> Result<Vec<Vec<Finding>>, AllocError>
+) -> Result<Vec<Findings>, AllocError>
     requires { IsBatch connections.now }
     ensures { IfOk result (λ early. AllZip (IsEarly division.now.frames_shown) connections.now early.items) }
 {
-    let none = none_of_each(team.alloc, connections.len())?;
+    let none = no_findings(team.alloc, connections.len())?;
     if connections.iter().all(|frames| frames.len() < LONG_FRAMES) {
         return Ok(none);
     }
@@ -82,7 +83,7 @@ pub(crate) fn fronts_first<R: Threads + Sync, G: Gate>(
     team: &Team<'_, R, G>,
     division: &Division,
     connections: &[&[Frame]],
-) -> Result<Vec<Vec<Finding>>, AllocError>
+) -> Result<Vec<Findings>, AllocError>
     requires { IsBatch connections.now }
     ensures { IfOk result (λ found. AreShown division.now.frames_shown connections.now found.items) }
 {

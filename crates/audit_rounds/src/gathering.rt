@@ -2,24 +2,51 @@
 //! streams, as the parts of the round over streams and the splits tell.
 
 ghost use Rattle.std.specs.Prelude.{◌≡◌, ℕ, [], ◌++◌, ◌<◌, All, IfOk, OnOk, map, length, slice_index_or};
-ghost use Rattle.std.specs.List.{zip};
 ghost use Rattle.audit_terms.specs.Finding.{in_order, upto_stop};
+ghost use Rattle.split_merge.specs.code.Findings.{findings_in};
 ghost use Rattle.stop_desk.specs.code.Board.{findings_of_parts};
 ghost use Rattle.stop_desk.specs.code.Laid.{part_of};
 ghost use Rattle.audit_rounds.specs.code.Opened.{numbers_told, IsInOrder};
 
 use crate::prepared::Prepared;
-use audit_terms::Finding;
-use split_merge::merge_by;
+use split_merge::{Findings, merge_by};
 use std::alloc::{AllocError, Global};
 use std::thread::Threads;
 use stop_desk::{Gate, Part, Team};
 
-/// So many empty lists.
-pub(crate) fn none_of_each<T: Drop>(
-    alloc: Global,
-    connections: usize,
-) -> Result<Vec<Vec<T>>, AllocError>
+/// No findings of each connection.
+pub(crate) fn no_findings(alloc: Global, connections: usize) -> Result<Vec<Findings>, AllocError>
+    ensures number { IfOk result (λ all. length all.items ≡ connections) }
+    ensures each { IfOk result (λ all. All (λ one. findings_in one ≡ []) all.items) }
+{
+    let mut all = Vec::with_capacity(alloc, connections)?;
+    for _ in 0..connections {
+        all.push(Findings::none(alloc))?;
+    }
+    Ok(all)
+}
+
+/// What was found of each connection, and after it what the parts of a round keep of it: the lists of the parts, of
+/// which none is copied.
+pub(crate) fn gathered<M: Drop>(
+    found: Vec<Findings>,
+    parts: Vec<Part<M>>,
+) -> Result<Vec<Findings>, AllocError>
+    requires { All (λ part. part.connection < length found.items) parts.items }
+    ensures number { IfOk result (λ all. length all.items ≡ length found.items) }
+    ensures each { IfOk result (λ all. (n : ℕ) (one one' : _) → n < length found.items
+        → findings_in (slice_index_or all.items n one)
+        ≡ findings_in (slice_index_or found.items n one') ++ findings_of_parts n (map part_of parts.items)) }
+{
+    let mut all = found;
+    for part in parts {
+        all[part.connection].add(part.findings)?;
+    }
+    Ok(all)
+}
+
+/// No numbers of each connection.
+fn no_numbers(alloc: Global, connections: usize) -> Result<Vec<Vec<u32>>, AllocError>
     ensures number { IfOk result (λ all. length all.items ≡ connections) }
     ensures each { IfOk result (λ all. All (λ list. list.items ≡ []) all.items) }
 {
@@ -30,30 +57,13 @@ pub(crate) fn none_of_each<T: Drop>(
     Ok(all)
 }
 
-/// What was found of each connection, and after it what the parts of a round keep of it.
-pub(crate) fn gathered<M: Drop>(
-    found: Vec<Vec<Finding>>,
-    parts: Vec<Part<M>>,
-) -> Result<Vec<Vec<Finding>>, AllocError>
-    requires { All (λ part. part.connection < length found.items) parts.items }
-    ensures number { IfOk result (λ all. length all.items ≡ length found.items) }
-    ensures each { IfOk result (λ all. (n : ℕ) (list list' : _) → n < length found.items
-        → (slice_index_or all.items n list).items
-        ≡ (slice_index_or found.items n list').items ++ findings_of_parts n (map part_of parts.items)) }
-{
-    let mut all = found;
-    for mut part in parts {
-        all[part.connection].append(&mut part.findings)?;
-    }
-    Ok(all)
-}
-
-/// Adds the numbers that a split tells, of the frames that open quiet streams, and puts all of them in order.
+/// Adds the numbers that a split tells, of the frames that open quiet streams, and puts all of them in order. They are
+/// few runs that rise, which this sort merges.
 fn with_quiet(told: &mut Vec<u32>, quiet: &[u32]) -> Result<(), AllocError>
     ensures { OnOk result (IsInOrder (told.old.items ++ quiet.now) told.new.items) }
 {
     told.extend_from_slice(quiet)?;
-    told.sort_unstable();
+    told.sort()?;
     Ok(())
 }
 
@@ -69,7 +79,7 @@ pub(crate) fn opened_each(
         → IsInOrder (numbers_told n parts.now ++ (slice_index_or connections.now n connection).split.opened.items)
         (slice_index_or all.items n list).items) }
 {
-    let mut all = none_of_each(alloc, connections.len())?;
+    let mut all = no_numbers(alloc, connections.len())?;
     for part in parts {
         all[part.connection].extend_from_slice(part.made.as_slice())?;
     }
@@ -79,21 +89,17 @@ pub(crate) fn opened_each(
     Ok(all)
 }
 
-/// The findings of each connection, of its two lists, in order, up to and including the first that stops.
+/// The findings of each connection in order, up to and including the first that stops.
 pub(crate) fn merged_each<R: Threads + Sync, G: Gate>(
     team: &Team<'_, R, G>,
-    found: Vec<Vec<Finding>>,
-    more: Vec<Vec<Finding>>,
-) -> Result<Vec<Vec<Finding>>, AllocError>
-    ensures { IfOk result (λ all. map (λ one. one.items) all.items
-        ≡ map (λ pair. upto_stop (in_order (pair.0.items ++ pair.1.items))) (zip found.items more.items)) }
+    found: Vec<Findings>,
+) -> Result<Vec<Findings>, AllocError>
+    ensures { IfOk result (λ all. map findings_in all.items
+        ≡ map (λ one. upto_stop (in_order (findings_in one))) found.items) }
 {
     let mut all = Vec::with_capacity(team.alloc, found.len())?;
-    let mut rest = more.into_iter();
     for one in found {
-        if let Some(other) = rest.next() {
-            all.push(merge_by(team.rt, team.alloc, team.workers, one, other)?)?;
-        }
+        all.push(merge_by(team.rt, team.alloc, team.workers, one.lists)?)?;
     }
     Ok(all)
 }

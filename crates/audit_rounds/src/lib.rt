@@ -10,7 +10,8 @@
 //!   and the sums carry the connection's state from block to block. The round `Blocks` goes through the blocks that are
 //!   not clear, each from the state before it; where credits are shown, through all of them.
 //! - What its blocks show is merged with all that was found of a connection before, the faults of single frames and the
-//!   acknowledgements that answer nothing among it. That is cut at the first error, and so makes the pass.
+//!   acknowledgements that answer nothing among it. That is cut at the first error, and so makes the pass. Until then
+//!   the findings of each job stay a list of their own, which is moved and not copied.
 //! - A batch of connections has 2^28 frames at most, whatever the connections, so each round has fewer than 2^32 jobs,
 //!   and want of memory is answered only where a growth was refused.
 //! - [`laws::rounds_make_the_pass`]: local faults, unmatched acknowledgements, what is shown of the streams and of the

@@ -4,6 +4,7 @@ ghost use Rattle.std.specs.Prelude.{◌≡◌, ◌<◌, Bool, [], ◌∷◌, ◌
 ghost use Rattle.std.specs.Thread.{IsSync};
 ghost use Rattle.audit_terms.specs.code.runs.Orderly.{IsOrderly};
 ghost use Rattle.audit_terms.specs.code.runs.LocalFaults.{local_run};
+ghost use Rattle.split_merge.specs.code.Findings.{findings_in};
 ghost use Rattle.split_merge.specs.code.Split.{IsSplit};
 ghost use Rattle.audit_rounds.specs.code.Batch.{AreJoined, IsBatch};
 ghost use Rattle.audit_rounds.specs.code.MadeReady.{AddsReady, AreMadeReady};
@@ -14,7 +15,7 @@ use crate::halves::in_halves;
 use audit_terms::{Change, Finding, Frame};
 use fault_rules::local_faults;
 use settings_pair::{Pairs, pair};
-use split_merge::{SplitFrames, split};
+use split_merge::{Findings, SplitFrames, split};
 use std::alloc::{AllocError, Global};
 use std::thread::{Threads, join};
 use stop_desk::{Gate, Team};
@@ -34,7 +35,7 @@ pub(crate) struct Prepared<'a> {
 #[derive(Drop)]
 pub(crate) struct MadeReady<'a> {
     pub(crate) prepared: Vec<Prepared<'a>>,
-    pub(crate) found: Vec<Vec<Finding>>,
+    pub(crate) found: Vec<Findings>,
 }
 
 impl<'a> MadeReady<'a> {
@@ -86,18 +87,20 @@ fn faults_and_split<R: Threads + Sync, G: Gate>(
 
 /// Adds a connection with what was made of it: these faults are found of it, and what its pairs show.
 fn add_ready<'a>(
+    alloc: Global,
     made: &mut MadeReady<'a>,
     frames: &'a [Frame],
-    mut pairs: Pairs,
-    mut found: Vec<Finding>,
+    pairs: Pairs,
+    faults: Vec<Finding>,
     split: SplitFrames,
 ) -> Result<(), AllocError>
     ensures { OnOk result ((made.new.prepared.items
         ≡ made.old.prepared.items ++ record { frames = frames.entry; changes = pairs.changes; split = split } ∷ [])
-        × (map (λ one. one.items) made.new.found.items
-        ≡ map (λ one. one.items) made.old.found.items ++ (found.items ++ pairs.findings.items) ∷ [])) }
+        × (map findings_in made.new.found.items
+        ≡ map findings_in made.old.found.items ++ (faults.items ++ pairs.findings.items) ∷ [])) }
 {
-    found.append(&mut pairs.findings)?;
+    let mut found = Findings::of(alloc, faults)?;
+    found.add(pairs.findings)?;
     made.found.push(found)?;
     made.prepared.push(Prepared {
         frames,
@@ -118,10 +121,10 @@ fn prepare<'a, R: Threads + Sync, G: Gate>(
     ensures { OnOk result (AddsReady division.now.frames_shown frames.entry made.old made.new) }
 {
     let pairs = pair(team.alloc, frames)?;
-    let (found, split) = faults_and_split(team, division, pairs.changes.as_slice(), frames);
-    let found = found?;
+    let (faults, split) = faults_and_split(team, division, pairs.changes.as_slice(), frames);
+    let faults = faults?;
     let split = split?;
-    add_ready(made, frames, pairs, found, split)
+    add_ready(team.alloc, made, frames, pairs, faults, split)
 }
 
 /// The connections of both halves, made ready.

@@ -3,6 +3,7 @@
 ghost use Rattle.std.specs.Prelude.{◌≡◌, All, IfOk, length};
 ghost use Rattle.std.specs.List.{AllZip};
 ghost use Rattle.audit_terms.specs.code.Stops.{IsFirstStop};
+ghost use Rattle.split_merge.specs.code.Findings.{findings_in};
 ghost use Rattle.stop_desk.specs.code.Stop.{IsStop};
 ghost use Rattle.audit_rounds.specs.code.Batch.{AreReady};
 ghost use Rattle.audit_rounds.specs.code.AfterStreams.{AreAfterStreams, HaveSettled, HaveSettledOver};
@@ -14,7 +15,8 @@ use crate::division::Division;
 use crate::gathering::{gathered, opened_each};
 use crate::prepared::Prepared;
 use crate::stream_jobs::{StreamsRound, stream_plan};
-use audit_terms::{Finding, Place, first_stop_place};
+use audit_terms::{Place, first_stop_place, lesser_place};
+use split_merge::Findings;
 use std::alloc::{AllocError, Global};
 use std::thread::Threads;
 use stop_desk::{AuditRound, Gate, Settled, Team, settle};
@@ -23,20 +25,31 @@ use stop_desk::{AuditRound, Gate, Settled, Team, settle};
 #[derive(Drop)]
 pub(crate) struct AfterStreams {
     /// What was found so far, of its streams at least what stands up to its stop.
-    pub(crate) found: Vec<Vec<Finding>>,
+    pub(crate) found: Vec<Findings>,
     /// Where the connection is known to stop.
     pub(crate) stops: Vec<Option<Place>>,
     /// The numbers of the frames that open streams, in order: those up to the stop's frame at least.
     pub(crate) opened: Vec<Vec<u32>>,
 }
 
+/// Where a connection stops of which this was found, in all lists.
+fn first_stop_in(found: &Findings) -> Option<Place>
+    ensures { IsFirstStop (findings_in found.now) result }
+{
+    let mut stop = None;
+    for list in &found.lists {
+        stop = lesser_place(&stop, &first_stop_place(list.as_slice()));
+    }
+    stop
+}
+
 /// Where each connection is known to stop, as the round opens.
-fn opening_stops(alloc: Global, found: &[Vec<Finding>]) -> Result<Vec<Option<Place>>, AllocError>
-    ensures { IfOk result (λ stops. AllZip (λ one stop. IsFirstStop one.items stop) found.now stops.items) }
+fn opening_stops(alloc: Global, found: &[Findings]) -> Result<Vec<Option<Place>>, AllocError>
+    ensures { IfOk result (λ stops. AllZip (λ one stop. IsFirstStop (findings_in one) stop) found.now stops.items) }
 {
     let mut stops = Vec::new(alloc);
     for one in found {
-        stops.push(first_stop_place(one.as_slice()))?;
+        stops.push(first_stop_in(one))?;
     }
     Ok(stops)
 }
@@ -68,7 +81,7 @@ fn settled_over<R: Threads + Sync, G: Gate>(
     team: &Team<'_, R, G>,
     division: &Division,
     connections: &[Prepared<'_>],
-    found: &[Vec<Finding>],
+    found: &[Findings],
 ) -> Result<Settled<Vec<u32>>, AllocError>
     requires { AreReady division.now.frames_shown connections.now found.now }
     ensures { IfOk result (λ settled. HaveSettledOver division.now.frames_shown division.now.groups connections.now
@@ -84,7 +97,7 @@ pub(crate) fn round_over_streams<R: Threads + Sync, G: Gate>(
     team: &Team<'_, R, G>,
     division: &Division,
     connections: &[Prepared<'_>],
-    found: Vec<Vec<Finding>>,
+    found: Vec<Findings>,
 ) -> Result<AfterStreams, AllocError>
     requires { AreReady division.now.frames_shown connections.now found.items }
     ensures { IfOk result (λ after. AreAfterStreams division.now.frames_shown connections.now after.found.items

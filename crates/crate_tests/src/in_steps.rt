@@ -1,6 +1,7 @@
 //! Runs over readers and writers that go in steps or fail: which calls they get, and what the accounts tell.
 
-ghost use Rattle.input_output.specs.Account.{IsUnread, IsUnwritten};
+ghost use Rattle.input_output.specs.Account.{IsUnread};
+ghost use Rattle.report_pages.specs.Account.{IsUnwritten};
 
 use crate::Answer;
 use crate::captures::FILE_HEADER;
@@ -65,10 +66,10 @@ fn has_kept(alloc: Global, reader: &CaptureReader<Pieces>, bytes: &[u8]) -> bool
     }
 }
 
-/// Whether the writer took this text, and its account says so, and tells too whether a flush went well.
+/// Whether the writer took this text, and its account has as many bytes, and tells too whether a flush went well.
 fn is_written(writer: &ReportWriter<Slow>, text: &[u8], is_flushed: bool) -> bool {
     writer.writer().taken.as_slice() == text
-        && writer.written() == text
+        && writer.count_written() == text.len()
         && writer.is_flushed() == is_flushed
 }
 

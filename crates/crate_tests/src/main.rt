@@ -9,9 +9,9 @@
 //!   over 1,000 frames look, and what they are handed and keep, stands in their contracts; here it stands in numbers
 //!   that a reader can check.
 //! - The text, and runs: the words of refused packets, and how faults print; readers and writers that go in steps or
-//!   fail; random keys; that two workers are in one round of an audit at once, and how many jobs each round has. What
-//!   the program answers to words and to whole captures is asked of the program, in `tests/` at the root, and of random
-//!   captures in `tools/tests/`.
+//!   fail; that several workers write what one does, on pages that are filled again; random keys; that two workers are
+//!   in one round of an audit at once, and how many jobs each round has. What the program answers to words and to whole
+//!   captures is asked of the program, in `tests/` at the root, and of random captures in `tools/tests/`.
 //! - It is one program, since a program takes all that stands below it anew. [`fakes`], [`frames`] and [`captures`] are
 //!   what the tests share.
 #![tactic(auto)]
@@ -24,6 +24,7 @@ mod gates;
 mod in_steps;
 mod keys;
 mod looks;
+mod many_pages;
 mod random_frames;
 mod rounds;
 mod texts;
@@ -40,10 +41,10 @@ use std::thread::Threads;
 pub type Answer = Result<bool, AllocError>;
 
 /// The names of some tests, and what they answer.
-type Answers = [(&'static str, Answer); 6];
+type Answers<const N: usize> = [(&'static str, Answer); N];
 
 /// Keys, texts and looks.
-fn of_parts(rt: &impl RandomSource, alloc: Global) -> Answers {
+fn of_parts(rt: &impl RandomSource, alloc: Global) -> Answers<6> {
     [
         ("drawn_keys", keys::drawn_keys(rt)),
         ("each_kind_of_packet", texts::each_kind_of_packet(alloc)),
@@ -54,8 +55,8 @@ fn of_parts(rt: &impl RandomSource, alloc: Global) -> Answers {
     ]
 }
 
-/// Runs over readers and writers.
-fn of_runs(rt: &(impl Sync + Threads + RandomSource), alloc: Global) -> Answers {
+/// Runs over readers and writers, and what several workers write.
+fn of_runs(rt: &(impl Sync + Threads + RandomSource), alloc: Global) -> Answers<7> {
     [
         ("slow_steps", in_steps::slow_steps(rt, alloc)),
         (
@@ -66,11 +67,12 @@ fn of_runs(rt: &(impl Sync + Threads + RandomSource), alloc: Global) -> Answers 
         ("failing_flush", in_steps::failing_flush(rt, alloc)),
         ("refused_capture", in_steps::refused_capture(rt, alloc)),
         ("refused_header", in_steps::refused_header(rt, alloc)),
+        ("pages_of_several", many_pages::pages_of_several(rt, alloc)),
     ]
 }
 
 /// Rounds, and their threads.
-fn of_rounds(rt: &(impl Sync + Threads + RandomSource), alloc: Global) -> Answers {
+fn of_rounds(rt: &(impl Sync + Threads + RandomSource), alloc: Global) -> Answers<6> {
     [
         ("jobs_of_blocks", gates::jobs_of_blocks(rt, alloc)),
         ("jobs_up_to_the_stop", jobs_up_to_the_stop(rt, alloc)),
@@ -84,9 +86,9 @@ fn of_rounds(rt: &(impl Sync + Threads + RandomSource), alloc: Global) -> Answer
 fn main(rt: HostRuntime) -> io::Result<()> {
     let alloc = rt.alloc();
     for answers in [
-        of_parts(&rt, alloc),
-        of_runs(&rt, alloc),
-        of_rounds(&rt, alloc),
+        of_parts(&rt, alloc).as_slice(),
+        of_runs(&rt, alloc).as_slice(),
+        of_rounds(&rt, alloc).as_slice(),
     ] {
         for (name, answer) in answers {
             println!(rt; "{name} {answer:?}")?;

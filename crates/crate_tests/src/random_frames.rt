@@ -130,7 +130,13 @@ fn finds(
         gate: &gate,
     };
     let found = findings_of_each(&team, division, &[frames])?;
-    Ok(found.len() == 1 && found[0].as_slice() == want)
+    let mut joined = Vec::new(alloc);
+    for one in &found {
+        for list in &one.lists {
+            joined.extend_from_slice(list.as_slice())?;
+        }
+    }
+    Ok(found.len() == 1 && joined.as_slice() == want)
 }
 
 /// Whether each division shows of the frames what the plain pass does, with credits and without, and the quiet pass

@@ -6,11 +6,11 @@ use Rattle.std.proofs.lemmas.List.{get_or-map, length-map}
 use Rattle.std.proofs.lemmas.List.FromFn.{get_or-map-range_with_len, length-map-range_with_len}
 use Rattle.std.proofs.lemmas.Option.{get_or_from_slice_get, slice_get_within}
 use Rattle.std.proofs.lemmas.List.Elements.{All-cons, All-head, All-nil, All-tail}
-use Rattle.h2audit.specs.code.Reach.{HasGapAtEnd}
-use Rattle.h2audit.specs.code.Told.{HasOrderlyOutcome}
-use Rattle.h2audit.specs.declared.told.Outcome.{Outcome}
-use Rattle.h2audit.specs.declared.told.Outcome.TheVariants as outcome
-use Rattle.h2audit.specs.declared.told.Told.{Told}
+use Rattle.report_pages.specs.code.Reach.{HasGapAtEnd}
+use Rattle.report_pages.specs.code.Told.{HasOrderlyOutcome}
+use Rattle.report_pages.specs.declared.told.Outcome.{Outcome}
+use Rattle.report_pages.specs.declared.told.Outcome.TheVariants as outcome
+use Rattle.report_pages.specs.declared.told.Told.{Told}
 use Rattle.audit_terms.specs.code.runs.Orderly as runs
 use Rattle.audit_terms.specs.declared.frames.Frame.{Frame}
 use Rattle.audit_terms.specs.declared.sides.Sides.{Sides}

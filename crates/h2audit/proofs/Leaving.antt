@@ -7,7 +7,8 @@ use Rattle.std.specs.Io.KnownBytes.{Appends, Keeps}
 use Rattle.pcap_records.specs.Refusal.{refusal}
 use Rattle.pcap_records.specs.declared.faults.PcapFault.{PcapFault}
 use Rattle.pcap_records.proofs.Sizes.{front_decides_lem, allowed_is_short_lem}
-use Rattle.input_output.specs.Account.{HaveGiven, IsReadToEnd, IsUnwritten, OfGiven, kept, written}
+use Rattle.input_output.specs.Account.{HaveGiven, IsReadToEnd, OfGiven, kept}
+use Rattle.report_pages.specs.Account.{IsUnwritten, written}
 use Rattle.h2audit.specs.Account.{HasGiven, IsBrief, Tells}
 use Rattle.h2audit.specs.code.Reading.{AnswersFor, IsAuditingFault, IsReadingFault}
 use Rattle.h2audit.specs.code.Writing.{IsWritten}
@@ -16,7 +17,7 @@ use Rattle.h2audit.specs.laws.Run.{FaultsAreSilent, RunsLeave}
 use Rattle.h2audit.specs.declared.fault.AuditFault.{AuditFault}
 use Rattle.h2audit.specs.declared.fault.AuditFault.TheVariants as fault
 use Rattle.input_output.specs.declared.capture_reader.CaptureReader.{CaptureReader}
-use Rattle.input_output.specs.declared.report_writer.ReportWriter.{ReportWriter}
+use Rattle.report_pages.specs.declared.report_writer.ReportWriter.{ReportWriter}
 use Rattle.h2audit.specs.declared.verdict.Verdict.{Verdict}
 
 -- a front of 2^31 bytes that is not refused is all there is

@@ -4,8 +4,6 @@ mod OneReport
 mod Flows
 mod ToldAudits
 mod Standing
-mod SectionTexts
 mod Opened
 mod OptionReads
 mod Added
-mod InTurn

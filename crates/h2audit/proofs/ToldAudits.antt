@@ -8,14 +8,21 @@ use Rattle.audit_terms.specs.declared.sides.{Side.TheVariants.Client, Side.TheVa
 use Rattle.h2_frames.specs.{Cut.IsCut, declared.cuts.Cut.Cut}
 use Rattle.h2audit.specs.Audited.{IsAudited, IsFlowOf, findings_of, has_fault}
 use Rattle.h2audit.specs.code.Flows.{AreToldAudits, AreToldFlows, IsHeldBy}
-use Rattle.h2audit.specs.code.KeptFrames.{AreFound, all_with_findings, frames_of, kept_frames, left_after}
-use Rattle.h2audit.specs.code.KeptFrames.{outcome_with_next, shown_in_kept, with_next_findings}
-use Rattle.h2audit.specs.code.{Reach.extents_in, Verdict.has_fault_in}
-use Rattle.h2audit.specs.code.Told.{AreToldOf, HasOrderlyOutcome, IsOutcomeOf, IsToldOf}
-use Rattle.h2audit.specs.declared.{reach.Reach.Reach, told.Outcome.Outcome, told.Told.Told}
-use Rattle.h2audit.specs.declared.told.Outcome.TheVariants.{Audited, NoHandshake, NoPreface, NotHttp2, Quiet}
+use Rattle.h2audit.specs.code.KeptFrames.{AreFound, AreToldWith, IsOutcomeWith, IsToldWith, frames_of, kept_frames}
+use Rattle.h2audit.specs.code.KeptFrames.{left_after, shown_in_kept}
+use Rattle.split_merge.specs.{code.Findings.findings_in, declared.findings.Findings.Findings}
+use Rattle.report_pages.specs.declared.told.AuditedFrames.{AuditedFrames}
+use Rattle.audit_report.specs.Stalls.{stalls}
+use Rattle.audit_terms.specs.{code.runs.Orderly.IsOrderly, declared.frames.Frame.Frame}
+use Rattle.h2audit.specs.code.Verdict.{has_fault_in}
+use Rattle.report_pages.specs.code.Reach.{extents_in}
+use Rattle.report_pages.specs.code.Told.{AreToldOf, HasOrderlyOutcome, IsOutcomeOf, IsToldOf}
+use Rattle.report_pages.specs.declared.{reach.Reach.Reach, told.Outcome.Outcome, told.Told.Told}
+use Rattle.report_pages.specs.declared.told.Outcome.TheVariants.{Audited, NoHandshake, NoPreface, NotHttp2, Quiet}
 use Rattle.packet_heads.specs.declared.packets.Packet.{Packet}
-use Rattle.std.proofs.Common.{Bool, Global, List, Vec, [], ap, arith, length, map, refl, subst, sym, ℕ, ◌++◌, ◌<◌}
+use Rattle.std.specs.List.{flat_map}
+use Rattle.std.proofs.Common.{true, false, Bool, Box, Global, List, Vec, [], ap, arith, length, map, refl, subst, sym}
+use Rattle.std.proofs.Common.{ℕ, ◌++◌, ◌<◌}
 use Rattle.std.proofs.{Common.◌^◌, Common.◌||◌, Common.◌∙◌, Common.◌∷◌, Common.◌≡◌, lemmas.List.map-append}
 use Rattle.std.proofs.{Common.All, lemmas.List.Elements.All-cons, lemmas.List.Elements.All-head}
 use Rattle.std.{proofs.lemmas.List.Elements.All-nil, proofs.lemmas.List.Elements.All-tail, specs.List.list_any}
@@ -37,17 +44,14 @@ list-of place items few = record {
 
 -- what one connection adds: its audit, and the findings that are left for those after it
 pub record Step
-    (credits : Bool) (capture : List ℕ) (packets : List Packet) (connection : Connection) (told : Told)
-    (found : List (Vec Finding Global)) (rest : List (List Finding))
+    (credits : Bool) (capture : List ℕ) (packets : List Packet) (connection : Connection) (made one : Told)
+    (found : List Findings) (rest : List (List Finding))
     : Type 0 where
   pub audited : Audit
   pub audits : IsAudited credits capture packets connection audited
-  pub stands : IsToldOf (with_next_findings told found) audited
-  pub orderly : HasOrderlyOutcome (with_next_findings told found).outcome
-  pub left : map (λ (one : Vec Finding Global). one.items) (left_after told.outcome found) ≡ rest
-
-abbrev items : Vec Finding Global → List Finding
-items one = one.items
+  pub stands : IsToldOf one audited
+  pub orderly : HasOrderlyOutcome one.outcome
+  pub left : map findings_in (left_after made.outcome found) ≡ rest
 
 module _ (credits : Bool) (capture : List ℕ) (packets : List Packet) (c : Connection) (flows : Sides Flow)
     (client : IsFlowOf capture packets c Client flows.client) (server : IsFlowOf capture packets c Server flows.server)
@@ -56,10 +60,10 @@ module _ (credits : Bool) (capture : List ℕ) (packets : List Packet) (c : Conn
   -- a connection of which no frames are kept
   unkept : (o : Outcome) (held : Cut) (findings : Vec Finding Global) → findings.items ≡ []
       → IsCut flows.client flows.server held → findings_of credits held ≡ []
-      → (found : List (Vec Finding Global)) → map items found ≡ rest → left_after o found ≡ found
-      → IsOutcomeOf (outcome_with_next o found) held [] → HasOrderlyOutcome (outcome_with_next o found)
-      → Step credits capture packets c (record { reach = reach; outcome = o }) found rest
-  unkept o held findings none is nothing found same left stands orderly = record {
+      → (found : List Findings) → map findings_in found ≡ rest → left_after o found ≡ found
+      → (one : Told) → one.reach ≡ reach → one.outcome ≡ o → IsOutcomeOf o held [] → HasOrderlyOutcome o
+      → Step credits capture packets c (record { reach = reach; outcome = o }) one found rest
+  unkept o held findings none is nothing found same left one reached here stands orderly = record {
     audited = record { extents = extents_of flows.client flows.server; cut = held; findings = findings };
     audits = record {
       flows = flows;
@@ -70,112 +74,167 @@ module _ (credits : Bool) (capture : List ℕ) (packets : List Packet) (c : Conn
       findings = none ∙ sym nothing;
     };
     stands = record {
-      extents = reaches;
-      outcome = subst (IsOutcomeOf (outcome_with_next o found) held) (sym none) stands;
+      extents = ap extents_in reached ∙ reaches;
+      outcome = subst (λ o. IsOutcomeOf o held findings.items) (sym here)
+          (subst (IsOutcomeOf o held) (sym none) stands);
     };
-    orderly = orderly;
-    left = ap (map items) left ∙ same;
+    orderly = subst HasOrderlyOutcome (sym here) orderly;
+    left = ap (map findings_in) left ∙ same;
   }
 
-  pub step-of : (o : Outcome) → IsHeldBy credits flows.client flows.server o → (found : List (Vec Finding Global))
-      → map items found ≡ map (λ frames. shown credits (pass frames)) (frames_of o) ++ rest
-      → Step credits capture packets c (record { reach = reach; outcome = o }) found rest
-  step-of (Quiet quiet) held found same =
+  -- a connection with frames
+  kept : (made told : Box AuditedFrames Global) → IsHeldBy credits flows.client flows.server (Audited made)
+      → (findings : Findings) (found : List Findings)
+      → findings_in findings ∷ map findings_in found ≡ shown credits (pass made.value.frames.items) ∷ rest
+      → (one : Told) → one.reach ≡ reach → one.outcome ≡ Audited told
+      → IsOutcomeWith (Audited made) (findings ∷ found) (Audited told)
+      → Step credits capture packets c (record { reach = reach; outcome = Audited made }) one (findings ∷ found) rest
+  kept made told held findings found same one reached here is =
+      let put : findings_in told.value.findings ≡ findings_in findings = is.2 in
+      let all = list-of told.value.frames (findings_in told.value.findings) is.4 in
+      let frames : told.value.frames ≡ made.value.frames = is.0 in
+      let stands : IsOutcomeOf (Audited told) (cut.Http2 made.value.frames made.value.tails) all.items =
+      (ap (λ f. f.items) frames, is.1, refl, is.3 ∙ ap (stalls made.value.frames.items) (sym put)) in
+      let found_all : findings_in findings ≡ shown credits (pass made.value.frames.items) = cc in
+      record {
+        audited = record {
+          extents = extents_of flows.client flows.server;
+          cut = cut.Http2 made.value.frames made.value.tails;
+          findings = all;
+        };
+        audits = record {
+          flows = flows;
+          client = client;
+          server = server;
+          extents = refl;
+          cut = (held.0, held.1);
+          findings = put ∙ found_all;
+        };
+        stands = record {
+          extents = ap extents_in reached ∙ reaches;
+          outcome = subst (λ o. IsOutcomeOf o (cut.Http2 made.value.frames made.value.tails) all.items) (sym here)
+              stands;
+        };
+        orderly = subst HasOrderlyOutcome (sym here)
+            (subst (λ (f : Vec Frame Global). IsOrderly f.items) (sym frames) held.2);
+        left = cc;
+      }
+
+  pub step-of : (o : Outcome) → IsHeldBy credits flows.client flows.server o → (found : List Findings)
+      → map findings_in found ≡ map (λ frames. shown credits (pass frames)) (frames_of o) ++ rest
+      → (one : Told) → one.reach ≡ reach → (made : Outcome) → one.outcome ≡ made → IsOutcomeWith o found made
+      → Step credits capture packets c (record { reach = reach; outcome = o }) one found rest
+  step-of (Quiet quiet) held found same one reached made here with_them =
       let is = held.1 in
       let fit = length-orderly 0 is.frames (omega arith) is.orderly in
       let frames = list-of c.members is.frames (omega arith) in
       unkept (Quiet quiet) (cut.Http2 frames quiet.tails) (list-of c.members [] (omega arith)) refl
       (is.started, is.http2)
-      (ap (λ b. shown b (pass is.frames)) held.0 ∙ is.silent) found same refl
+      (ap (λ b. shown b (pass is.frames)) held.0 ∙ is.silent) found same refl one reached (here ∙ with_them)
       (is.count, refl, refl) tt
-  step-of (Audited audited) held [] same = absurd cc
-  step-of (Audited audited) held (findings ∷ found) same = record {
-    audited = record {
-      extents = extents_of flows.client flows.server;
-      cut = cut.Http2 audited.value.frames audited.value.tails;
-      findings = findings;
-    };
-    audits = record {
-      flows = flows;
-      client = client;
-      server = server;
-      extents = refl;
-      cut = (held.0, held.1);
-      findings = cc;
-    };
-    stands = record { extents = reaches; outcome = (refl, refl, refl) };
-    orderly = held.2;
-    left = cc;
-  }
-  step-of NotHttp2 held found same =
-      unkept NotHttp2 cut.NotHttp2 (list-of c.members [] (omega arith)) refl held refl found same refl refl tt
-  step-of NoPreface held found same =
-      unkept NoPreface cut.NoPreface (list-of c.members [] (omega arith)) refl held refl found same refl refl tt
-  step-of NoHandshake held found same =
-      unkept NoHandshake cut.NoHandshake (list-of c.members [] (omega arith)) refl held refl found same refl refl tt
+  step-of (Audited audited) held [] same one reached made here with_them = absurd cc
+  step-of (Audited audited) held (findings ∷ found) same one reached (Audited told) here with_them =
+      kept audited told held findings found same one reached here with_them
+  step-of (Audited audited) held (findings ∷ found) same one reached _ here with_them = absurd with_them
+  step-of NotHttp2 held found same one reached made here with_them =
+      unkept NotHttp2 cut.NotHttp2 (list-of c.members [] (omega arith)) refl held refl found same refl one reached
+      (here ∙ with_them) refl tt
+  step-of NoPreface held found same one reached made here with_them =
+      unkept NoPreface cut.NoPreface (list-of c.members [] (omega arith)) refl held refl found same refl one reached
+      (here ∙ with_them) refl tt
+  step-of NoHandshake held found same one reached made here with_them =
+      unkept NoHandshake cut.NoHandshake (list-of c.members [] (omega arith)) refl held refl found same refl one
+      reached (here ∙ with_them) refl tt
 
 module _ (credits : Bool) (capture : List ℕ) (packets : List Packet) where
-  pub told-audits : (opened : List Connection) (parts : List (Part Told)) (found : List (Vec Finding Global))
-      → AreToldFlows credits capture packets opened parts → map items found ≡ shown_in_kept credits parts
-      → AreToldAudits credits capture packets opened (all_with_findings parts found)
-  told-audits [] [] found are same = record {
+  pub told-audits : (opened : List Connection) (parts : List (Part Told)) (found : List Findings) (told : List Told)
+      → AreToldFlows credits capture packets opened parts → map findings_in found ≡ shown_in_kept credits parts
+      → AreToldWith parts found told → AreToldAudits credits capture packets opened told
+  told-audits [] [] found told are same put = subst (AreToldAudits credits capture packets []) (sym put) (record {
     audited = [];
     audits = tt;
     stands = tt;
     orderly = All-nil (λ (one : Told). HasOrderlyOutcome one.outcome);
-  }
-  told-audits [] (p ∷ parts) found are same = absurd are
-  told-audits (c ∷ opened) [] found are same = absurd are
-  told-audits (c ∷ opened) (p ∷ parts) found are same =
+  })
+  told-audits [] (p ∷ parts) found told are same put = absurd are
+  told-audits (c ∷ opened) [] found told are same put = absurd are
+  told-audits (c ∷ opened) (p ∷ parts) found [] are same put = absurd put
+  told-audits (c ∷ opened) (p ∷ parts) found (one ∷ told) are same put =
       let flows = are.0.flows in
       let made = p.made in
       let step = step-of credits capture packets c flows are.0.client are.0.server made.reach
       are.0.told.extents (shown_in_kept credits parts) made.outcome are.0.told.held found
-      (same ∙ map-append (λ frames. shown credits (pass frames)) (frames_of made.outcome) (kept_frames parts)) in
-      let rest = told-audits opened parts (left_after made.outcome found) are.1 step.left in
+      (same ∙ map-append (λ frames. shown credits (pass frames)) (frames_of made.outcome) (kept_frames parts))
+      one put.0.reach one.outcome refl put.0.outcome in
+      let rest = told-audits opened parts (left_after made.outcome found) told are.1 step.left put.1 in
       record {
         audited = step.audited ∷ rest.audited;
         audits = (step.audits, rest.audits);
         stands = (step.stands, rest.stands);
-        orderly = All-cons (λ (one : Told). HasOrderlyOutcome one.outcome) (with_next_findings made found)
-            (all_with_findings parts (left_after made.outcome found)) step.orderly rest.orderly;
+        orderly = All-cons (λ (one : Told). HasOrderlyOutcome one.outcome) one told step.orderly rest.orderly;
       }
 
   pub found-audits : (opened : List Connection) (parts : List (Part Told)) (told : List Told)
       → AreToldFlows credits capture packets opened parts → AreFound credits parts told
       → AreToldAudits credits capture packets opened told
-  found-audits opened parts told are found =
-      subst (AreToldAudits credits capture packets opened) (sym found.put)
-      (told-audits opened parts found.found are found.are)
+  found-audits opened parts told are found = told-audits opened parts found.found told are found.are found.put
 
 abbrev IsOrderlyTold : Told → Type 0
 IsOrderlyTold told = HasOrderlyOutcome told.outcome
 
-pub put-orderly : (made : Told) (found : List (Vec Finding Global)) → IsOrderlyTold made
-    → IsOrderlyTold (with_next_findings made found)
-put-orderly made found orderly = by_outcome made.outcome found orderly where
-  by_outcome : (o : Outcome) (found : List (Vec Finding Global)) → HasOrderlyOutcome o
-      → HasOrderlyOutcome (outcome_with_next o found)
-  by_outcome (Audited audited) [] orderly = orderly
-  by_outcome (Audited audited) (one ∷ found) orderly = orderly
-  by_outcome (Quiet quiet) found orderly = tt
-  by_outcome NotHttp2 found orderly = tt
-  by_outcome NoPreface found orderly = tt
-  by_outcome NoHandshake found orderly = tt
+-- what is told with findings has the frames that it had before
+pub with-orderly : (made : Outcome) (found : List Findings) (outcome : Outcome) → HasOrderlyOutcome made
+    → IsOutcomeWith made found outcome → HasOrderlyOutcome outcome
+with-orderly (Audited made) found (Audited told) orderly is =
+    subst (λ (f : Vec Frame Global). IsOrderly f.items) (sym is.0) orderly
+with-orderly (Audited made) found _ orderly is = absurd is
+with-orderly (Quiet quiet) found outcome orderly is = subst HasOrderlyOutcome (sym is) tt
+with-orderly NotHttp2 found outcome orderly is = subst HasOrderlyOutcome (sym is) tt
+with-orderly NoPreface found outcome orderly is = subst HasOrderlyOutcome (sym is) tt
+with-orderly NoHandshake found outcome orderly is = subst HasOrderlyOutcome (sym is) tt
 
--- there is as much told as there are parts, and their frames are orderly
-pub all-fit : (parts : List (Part Told)) (found : List (Vec Finding Global))
-    → All (λ (part : Part Told). IsOrderlyTold part.made) parts
-    → (length (all_with_findings parts found) ≡ length parts) × All IsOrderlyTold (all_with_findings parts found)
-all-fit [] found all = (refl, All-nil IsOrderlyTold)
-all-fit (p ∷ parts) found all =
+-- there is here much told here there are parts, and their frames are orderly
+pub all-fit : (parts : List (Part Told)) (found : List Findings) (told : List Told)
+    → All (λ (part : Part Told). IsOrderlyTold part.made) parts → AreToldWith parts found told
+    → (length told ≡ length parts) × All IsOrderlyTold told
+all-fit [] found told all put = subst (λ (l : List Told). (length l ≡ 0) × All IsOrderlyTold l) (sym put)
+    (refl, All-nil IsOrderlyTold)
+all-fit (p ∷ parts) found [] all put = absurd put
+all-fit (p ∷ parts) found (one ∷ told) all put =
     let IsOrderlyPart = λ (part : Part Told). IsOrderlyTold part.made in
-    let rest = all-fit parts (left_after p.made.outcome found) (All-tail IsOrderlyPart p parts all) in (
+    let rest = all-fit parts (left_after p.made.outcome found) told (All-tail IsOrderlyPart p parts all) put.1 in (
       omega (arith, rest.0),
-      All-cons IsOrderlyTold (with_next_findings p.made found)
-          (all_with_findings parts (left_after p.made.outcome found))
-          (put-orderly p.made found (All-head IsOrderlyPart p parts all)) rest.1,
+      All-cons IsOrderlyTold one told (with-orderly p.made.outcome found one.outcome
+          (All-head IsOrderlyPart p parts all) put.0.outcome) rest.1,
     )
+
+-- a list of no length
+pub nothing : {X : Type 0} (xs : List X) → length xs ≡ 0 → xs ≡ []
+nothing [] none = refl
+nothing (x ∷ xs) none = absurd (omega arith)
+
+-- what is told of one part more
+pub with-more : (part : Part Told) (parts : List (Part Told)) (found : List Findings) (one : Told) (told : List Told)
+    → IsToldWith part.made found one → AreToldWith parts (left_after part.made.outcome found) told
+    → AreToldWith (part ∷ parts) found (one ∷ told)
+with-more part parts found one told first rest = (first, rest)
+
+any-append : (f : Finding → Bool) (xs ys : List Finding) → list_any f xs || list_any f ys ≡ list_any f (xs ++ ys)
+any-append f [] ys = refl
+any-append f (x ∷ xs) ys = either (f x) (any-append f xs ys) where
+  either : (b : Bool) → list_any f xs || list_any f ys ≡ list_any f (xs ++ ys)
+      → (b || list_any f xs) || list_any f ys ≡ b || list_any f (xs ++ ys)
+  either true rest = refl
+  either false rest = rest
+
+-- some finding in one of the lists
+pub any-of-all : (f : Finding → Bool) (lists : List (Vec Finding Global))
+    → list_any (λ (list : Vec Finding Global). list_any f list.items) lists
+    ≡ list_any f (flat_map (λ (list : Vec Finding Global). list.items) lists)
+any-of-all f [] = refl
+any-of-all f (list ∷ lists) =
+    ap (λ b. list_any f list.items || b) (any-of-all f lists)
+    ∙ any-append f list.items (flat_map (λ (list : Vec Finding Global). list.items) lists)
 
 -- a fault is in what is told exactly where it is in the findings
 fault-same : (o : Outcome) (held : Cut) (findings : List Finding) → IsOutcomeOf o held findings

@@ -2,11 +2,11 @@
 use Rattle.std.specs.Prelude.{◌≡◌, ◌≢◌, ◌⊎◌, ℕ, ◌^◌, ◌≤◌, Bool, List, take, Option, None, Some, IfSome, Result, Ok}
 use Rattle.std.specs.Prelude.{Err}
 use Rattle.pcap_records.specs.Refusal.{refusal}
-use Rattle.input_output.specs.Account.{HasReadFailed, HasWriteFailed, HaveGiven, IsFlushed, IsReadToEnd, IsUnwritten}
-use Rattle.input_output.specs.Account.{OfGiven, kept, written}
+use Rattle.input_output.specs.Account.{HasReadFailed, HaveGiven, IsReadToEnd, OfGiven, kept}
+use Rattle.report_pages.specs.Account.{HasWriteFailed, IsFlushed, IsUnwritten, written}
 use Rattle.input_output.specs.declared.capture_reader.CaptureReader.{CaptureReader}
 use Rattle.input_output.specs.declared.capture_reader.ReadState.TheVariants.{LackedMemory}
-use Rattle.input_output.specs.declared.report_writer.ReportWriter.{ReportWriter}
+use Rattle.report_pages.specs.declared.report_writer.ReportWriter.{ReportWriter}
 use Rattle.h2audit.specs.Report.{IsReport}
 use Rattle.h2audit.specs.declared.fault.AuditFault.{AuditFault}
 use Rattle.h2audit.specs.declared.fault.AuditFault.TheVariants as fault

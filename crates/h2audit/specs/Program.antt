@@ -9,9 +9,9 @@ use Rattle.std.specs.declared.io.ErrorKind.{ErrorKind}
 use Rattle.std.specs.declared.io.ErrorKind.TheVariants.{OutOfMemory}
 use Rattle.std.specs.declared.vec.IntoIter.{IntoIter}
 use Rattle.std.specs.Vec.Iter.{into_iter_items}
-use Rattle.input_output.specs.Account.{HasWriteFailed, IsFlushed, written}
+use Rattle.report_pages.specs.Account.{HasWriteFailed, IsFlushed, written}
 use Rattle.input_output.specs.declared.capture_reader.CaptureReader.{CaptureReader}
-use Rattle.input_output.specs.declared.report_writer.ReportWriter.{ReportWriter}
+use Rattle.report_pages.specs.declared.report_writer.ReportWriter.{ReportWriter}
 use Rattle.h2audit.specs.Asked.{Asks}
 use Rattle.h2audit.specs.declared.command_line.words.Parsed.{Parsed}
 use Rattle.h2audit.specs.declared.command_line.words.Parsed.TheVariants.{Run, Help, Refused, Version}

@@ -2,12 +2,9 @@ pub mod Reading
 pub mod Writing
 pub mod Flows
 pub mod KeptFrames
-pub mod Reach
-pub mod Sections
-pub mod Told
+pub mod Headings
 pub mod Verdict
 pub mod Options
 pub mod Choices
 pub mod Arguments
 pub mod Inputs
-pub mod InTurn

@@ -1,4 +1,4 @@
-ghost use Rattle.std.specs.Prelude.{◌≡◌, ◌<◌, ◌^◌, All, IfOk, IfErr, None, Ok, length};
+ghost use Rattle.std.specs.Prelude.{◌≡◌, ◌<◌, ◌^◌, ◌⊎◌, All, IfOk, IfErr, IsOk, None, Ok, Err, length};
 ghost use Rattle.pcap_records.specs.Refusal.{refusal};
 ghost use Rattle.packet_heads.specs.code.Walk.{AreInOrder, ArePacketsOf, packets_in};
 ghost use Rattle.tcp_streams.specs.Membership.{AreConnections, strays_of};
@@ -6,25 +6,22 @@ ghost use Rattle.tcp_streams.specs.code.Orderly.{AreMembers};
 ghost use Rattle.tcp_streams.specs.code.Walk.{IsConnectionWalkIn};
 ghost use Rattle.h2audit.specs.Report.{IsNoReport, IsReport};
 ghost use Rattle.h2audit.specs.code.Flows.{AreSources, AreToldFlows};
-ghost use Rattle.h2audit.specs.code.InTurn.{AreTold};
-ghost use Rattle.h2audit.specs.code.Told.{HasOrderlyOutcome};
-ghost use Rattle.h2audit.specs.code.Writing.{AreLinesOf, IsToldBehind};
-ghost use Rattle.h2audit.specs.declared.told.Told.{Told as ToldTerm};
+ghost use Rattle.report_pages.specs.code.Told.{HasOrderlyOutcome};
+ghost use Rattle.h2audit.specs.code.Writing.{AreLinesOf, AreTold};
+ghost use Rattle.report_pages.specs.declared.told.Told.{Told as ToldTerm};
 ghost use Rattle.stop_desk.specs.declared.parts.Part.{Part as PartTerm};
 
 use crate::command_line::Options;
 use crate::each_connection::{audit_each, flows_each};
 use crate::fault::AuditFault;
 use crate::headings::headings_of;
-use crate::in_turn::report_in_turn;
-use crate::section_shares::push_all_sections;
-use crate::told::Told;
 use crate::verdict::{Verdict, verdict_on};
 use audit_report::{SectionHeading, capture_lines};
 use audit_rounds::Division;
 use input_output::{Capture, TableHash};
 use packet_heads::{CapturePackets, Packets};
 use pcap_records::PcapFault;
+use report_pages::{Report, Told};
 use std::alloc::{AllocError, Global};
 use std::random::RandomSource;
 use std::thread::Threads;
@@ -48,10 +45,29 @@ pub fn audit(
     // A refusal takes no memory, so it comes before the chunks.
     match ConnectionWalk::begin(alloc, TableHash::drawn(rt), capture) {
         Ok(walk) => match Capture::of_slice(alloc, capture) {
-            Ok(chunks) => audit_chunks(&team_of(rt, alloc, options, gate), options, walk, &chunks),
+            Ok(chunks) => {
+                let team = team_of(rt, alloc, options, gate);
+                in_bytes(rt, alloc, audit_chunks(&team, options, walk, &chunks))
+            }
             Err(_) => Err(AuditFault::OutOfMemory),
         },
         Err(refusal) => Err(AuditFault::Pcap(refusal)),
+    }
+}
+
+/// The text of a report, in memory as a whole, and its verdict.
+fn in_bytes<R: Threads + Sync>(
+    rt: &R,
+    alloc: Global,
+    audited: Result<(Report, Verdict), AuditFault>,
+) -> Result<(Vec<u8>, Verdict), AuditFault>
+    ensures ok { IfOk result (λ r. audited ≡ Ok (r.0.items, r.1)) }
+    ensures err { IfErr result (λ e. (audited ≡ Err e) ⊎ (IsOk audited × (e ≡ AuditFault.OutOfMemory))) }
+{
+    let (report, verdict) = audited?;
+    match report.into_bytes(rt, alloc) {
+        Ok(text) => Ok((text, verdict)),
+        Err(_) => Err(AuditFault::OutOfMemory),
     }
 }
 
@@ -76,10 +92,9 @@ pub(crate) fn audit_chunks<R: Threads + Sync, G: Gate>(
     options: &Options,
     walk: ConnectionWalk,
     capture: &Capture<'_>,
-) -> Result<(Vec<u8>, Verdict), AuditFault>
+) -> Result<(Report, Verdict), AuditFault>
     requires { IsConnectionWalkIn capture.now walk }
-    ensures report { IfOk result
-        (λ r. IsReport capture.now options.now.frames_shown r.0.items r.1) }
+    ensures report { IfOk result (λ r. IsReport capture.now options.now.frames_shown r.0 r.1) }
     ensures refused { IfErr result (λ e. IsNoReport capture.now e) }
 {
     let hash = walk.hash();
@@ -103,7 +118,7 @@ fn audit_records<R: Threads + Sync, G: Gate>(
     found: CapturePackets,
     connections: Connections,
     capture: &Capture<'_>,
-) -> Result<(Vec<u8>, Verdict), AllocError>
+) -> Result<(Report, Verdict), AllocError>
     requires size { length capture.now < 2 ^ 31 }
     requires taken { refusal capture.now ≡ None }
     requires packets { ArePacketsOf capture.now found }
@@ -111,7 +126,7 @@ fn audit_records<R: Threads + Sync, G: Gate>(
     requires opened { AreConnections (packets_in found) connections.opened.items }
     requires strays { connections.strays.items ≡ strays_of (packets_in found) }
     requires members { All (λ c. AreMembers 0 (packets_in found) c.members.items) connections.opened.items }
-    ensures { IfOk result (λ r. IsReport capture.now options.now.frames_shown r.0.items r.1) }
+    ensures { IfOk result (λ r. IsReport capture.now options.now.frames_shown r.0 r.1) }
 {
     // `--frames` asks for credit lines.
     let frames_shown = options.frames_shown();
@@ -139,7 +154,7 @@ fn audit_records<R: Threads + Sync, G: Gate>(
         hash,
         frames_shown,
     };
-    report_parts(team, &division, lines, headings.as_slice(), parts)
+    report_parts(team, &division, lines, headings, parts)
 }
 
 /// The report of connections, behind the lines of the capture, and its verdict. Of each these parts tell what its flows
@@ -148,24 +163,25 @@ fn report_parts<R: Threads + Sync, G: Gate>(
     team: &Team<'_, R, G>,
     division: &Division,
     lines: Vec<u8>,
-    headings: &[SectionHeading],
+    headings: Vec<SectionHeading>,
     parts: Vec<Part<Told>>,
-) -> Result<(Vec<u8>, Verdict), AllocError>
-    requires each { length parts.items ≡ length headings.now }
+) -> Result<(Report, Verdict), AllocError>
+    requires each { length parts.items ≡ length headings.items }
+    requires few { length headings.items < 2 ^ 32 }
     requires orderly { All (λ (part : PartTerm ToldTerm). HasOrderlyOutcome part.made.outcome) parts.items }
-    ensures { IfOk result (λ r. AreTold division.now.frames_shown lines.items headings.now parts.items r.0.items r.1) }
+    ensures { IfOk result (λ r. AreTold division.now.frames_shown lines.items headings.items parts.items r.0 r.1) }
 {
-    if division.frames_shown && team.workers == 1 {
-        return report_in_turn(team, division, lines, headings, parts);
-    }
     let told = audit_each(team, division, parts)?;
-    report_told(
-        team,
+    let verdict = verdict_on(told.as_slice());
+    let report = Report::new(
+        team.alloc,
+        team.workers,
         division.frames_shown,
         lines,
         headings,
-        told.as_slice(),
-    )
+        told,
+    )?;
+    Ok((report, verdict))
 }
 
 /// The lines of a capture, and what the flows of its connections hold. Packets and strays are gone when it answers.
@@ -201,28 +217,4 @@ fn with_flows(
         Ok(parts) => Ok((lines, parts)),
         Err(error) => Err(error),
     }
-}
-
-/// The report of connections of which this is told, behind the lines of the capture, and its verdict.
-fn report_told<R: Threads + Sync, G: Gate>(
-    team: &Team<'_, R, G>,
-    frames_shown: bool,
-    lines: Vec<u8>,
-    headings: &[SectionHeading],
-    told: &[Told],
-) -> Result<(Vec<u8>, Verdict), AllocError>
-    requires each { length told.now ≡ length headings.now }
-    requires orderly { All (λ (one : ToldTerm). HasOrderlyOutcome one.outcome) told.now }
-    ensures { IfOk result (λ r. IsToldBehind frames_shown lines.items headings.now told.now r.0.items r.1) }
-{
-    let mut text = lines;
-    push_all_sections(
-        team.rt,
-        team.workers,
-        frames_shown,
-        &mut text,
-        headings,
-        told,
-    )?;
-    Ok((text, verdict_on(told)))
 }

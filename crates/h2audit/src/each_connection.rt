@@ -4,17 +4,24 @@ ghost use Rattle.std.specs.Prelude.{◌≡◌, ◌<◌, ◌^◌, All, IfOk, leng
 ghost use Rattle.std.specs.Vec.Iter.{into_iter_items};
 ghost use Rattle.stop_desk.specs.declared.parts.Part.{Part};
 ghost use Rattle.h2audit.specs.code.Flows.{AreSources, AreToldFlows};
-ghost use Rattle.h2audit.specs.code.KeptFrames.{AreFound, all_with_findings, kept_frames, left_after};
-ghost use Rattle.h2audit.specs.code.KeptFrames.{with_next_findings};
-ghost use Rattle.h2audit.specs.code.Told.{HasOrderlyOutcome};
-ghost use Rattle.h2audit.specs.declared.told.Told.{Told};
+ghost use Rattle.audit_terms.specs.code.runs.Orderly.{IsOrderly};
+ghost use Rattle.std.specs.Bool.{OnTrue};
+ghost use Rattle.std.specs.List.{flat_map};
+ghost use Rattle.std.specs.Option.{option_to_list};
+ghost use Rattle.h2audit.specs.code.KeptFrames.{AreFound, AreToldWith, IsOutcomeWith, IsToldWith, kept_frames};
+ghost use Rattle.h2audit.specs.code.KeptFrames.{left_after};
+ghost use Rattle.report_pages.specs.declared.told.Outcome.{Outcome as OutcomeTerm};
+ghost use Rattle.report_pages.specs.code.Told.{HasOrderlyOutcome};
+ghost use Rattle.report_pages.specs.declared.told.Told.{Told};
 
 use crate::flow_round::FlowRound;
-use crate::told::{Outcome, Told};
+use audit_report::stall_pairs;
 use audit_rounds::{Division, findings_of_each};
 use audit_terms::{Finding, Frame, Place};
 use input_output::Capture;
 use packet_heads::Packets;
+use report_pages::{AuditedFrames, Outcome, Told};
+use split_merge::Findings;
 use std::alloc::{AllocError, Global};
 use std::thread::Threads;
 use std::vec::IntoIter;
@@ -95,32 +102,73 @@ fn kept_frames<'a>(alloc: Global, parts: &'a [Part<Told>]) -> Result<Vec<&'a [Fr
 fn all_with_findings(
     alloc: Global,
     parts: Vec<Part<Told>>,
-    found: Vec<Vec<Finding>>,
+    found: Vec<Findings>,
 ) -> Result<Vec<Told>, AllocError>
-    ensures { IfOk result (λ told. told.items ≡ all_with_findings parts.items found.items) }
+    requires { All (λ (part : Part Told). HasOrderlyOutcome part.made.outcome) parts.items }
+    ensures { IfOk result (λ told. AreToldWith parts.items found.items told.items) }
 {
     let mut all = Vec::with_capacity(alloc, parts.len())?;
     let mut rest = found.into_iter();
     for part in parts {
-        all.push(with_next_findings(part.made, &mut rest))?;
+        all.push(with_next_findings(alloc, part.made, &mut rest)?)?;
     }
     Ok(all)
 }
 
-/// What is told of a connection, with the next findings where its frames are kept.
-pub(crate) fn with_next_findings(told: Told, found: &mut IntoIter<Vec<Finding>>) -> Told
-    ensures with { result ≡ with_next_findings told (into_iter_items found.old) }
+/// What is told of a connection, with the next findings and their stalls where its frames are kept.
+fn with_next_findings(
+    alloc: Global,
+    told: Told,
+    found: &mut IntoIter<Findings>,
+) -> Result<Told, AllocError>
+    requires { HasOrderlyOutcome told.outcome }
+    ensures with { IfOk result (IsToldWith told (into_iter_items found.old)) }
     ensures left { into_iter_items found.new ≡ left_after told.outcome (into_iter_items found.old) }
 {
     let Told { reach, outcome } = told;
     match outcome {
-        Outcome::Audited(mut audited) => {
-            if let Some(findings) = found.next() {
-                audited.findings = findings;
-            }
-            let outcome = Outcome::Audited(audited);
-            Told { reach, outcome }
+        Outcome::Audited(audited) => {
+            let outcome = Outcome::Audited(with_findings(alloc, audited, found.next())?);
+            Ok(Told { reach, outcome })
         }
-        outcome => Told { reach, outcome },
+        outcome => Ok(Told { reach, outcome }),
     }
+}
+
+/// The frames of a connection with these findings, or none, and their stalls.
+fn with_findings(
+    alloc: Global,
+    audited: Box<AuditedFrames>,
+    findings: Option<Findings>,
+) -> Result<Box<AuditedFrames>, AllocError>
+    requires { IsOrderly audited.value.frames.items }
+    ensures { IfOk result (λ with_them. IsOutcomeWith (OutcomeTerm.Audited audited) (option_to_list findings)
+        (OutcomeTerm.Audited with_them)) }
+{
+    let mut audited = audited;
+    let findings = match findings {
+        Some(findings) => findings,
+        None => Findings::none(alloc),
+    };
+    // So many do not fit into memory.
+    if !are_few(findings.lists.as_slice()) {
+        return Err(AllocError);
+    }
+    audited.stalls = stall_pairs(alloc, findings.lists.as_slice(), audited.frames.as_slice())?;
+    audited.findings = findings;
+    Ok(audited)
+}
+
+/// Are there fewer findings in all than a list can have?
+fn are_few(lists: &[Vec<Finding>]) -> bool
+    ensures { OnTrue result (length (flat_map (λ list. list.items) lists.now) < 2 ^ 63) }
+{
+    let mut count = 0usize;
+    for list in lists {
+        let Some(more) = count.checked_add(list.len()) else {
+            return false;
+        };
+        count = more;
+    }
+    count <= isize::MAX as usize
 }

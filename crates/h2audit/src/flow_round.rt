@@ -1,18 +1,18 @@
 //! The round over connections: both flows of each, and what they hold.
 
-ghost use Rattle.std.specs.Prelude.{◌≡◌, ◌<◌, ◌^◌, IfOk, length};
+ghost use Rattle.std.specs.Prelude.{◌≡◌, ◌<◌, IfOk};
 ghost use Rattle.audit_terms.specs.declared.sides.Side.{Side};
 ghost use Rattle.audit_terms.specs.declared.sides.Side.TheVariants.{Client, Server};
 ghost use Rattle.h2audit.specs.code.Flows.{AreSources, IsHeldBy, IsToldFlows, KeepsCut};
 ghost use Rattle.tcp_streams.specs.code.Orderly.{AreFlowsOfOne};
 
-use crate::reach::Reach;
-use crate::told::{AuditedFrames, Outcome, Told};
 use audit_terms::{Look, Side};
 use h2_frames::{Cut, cut_by};
 use input_output::Capture;
 use packet_heads::Packets;
 use quiet_pass::quiet_connection;
+use report_pages::{AuditedFrames, Outcome, Reach, Told};
+use split_merge::Findings;
 use std::alloc::{AllocError, Global};
 use std::marker::Model;
 use std::thread::{Threads, join};
@@ -214,7 +214,8 @@ fn outcome_in(alloc: Global, cut: Cut) -> Result<Outcome, AllocError>
             let audited = AuditedFrames {
                 frames,
                 tails,
-                findings: Vec::new(alloc),
+                findings: Findings::none(alloc),
+                stalls: Vec::new(alloc),
             };
             Ok(Outcome::Audited(Box::new(alloc, audited)?))
         }

@@ -1,5 +1,5 @@
 ghost use Rattle.std.specs.Prelude.{◌≡◌, IfOk, map};
-ghost use Rattle.h2audit.specs.code.Sections.{heading_of};
+ghost use Rattle.h2audit.specs.code.Headings.{heading_of};
 
 use audit_report::SectionHeading;
 use std::alloc::{AllocError, Global};

@@ -8,10 +8,11 @@
 //! - [`audit`] answers for every capture its report and verdict, or why there is none: the first refusal that applies,
 //!   or want of memory. The report is `IsReport` of `specs/Report.antt`, which names no function of the crates below,
 //!   no workers, groups or blocks; [`laws::one_report`] says that there is no second one.
-//! - [`run`] reads a capture to its end, audits it, writes the report and flushes once. What its reads gave and its
-//!   writes took is told by the accounts of `input_output`, a [`CaptureReader`] and a [`ReportWriter`] (clause `tells`,
-//!   `Tells` of `specs/Account.antt`), for every reader and writer, also of files and pipes. Where these tell their
-//!   bytes themselves, they are those of the accounts (`given`, `taken`); what a run then leaves in the writer follows
+//! - [`run`] reads a capture to its end, audits it, writes the report and flushes once. It never has the text as a
+//!   whole, which [`audit`] answers, and no want of memory ends it once writing begins. What its reads gave and its
+//!   writes took is told by the accounts of a [`CaptureReader`] and a [`ReportWriter`] (clause `tells`, `Tells` of
+//!   `specs/Account.antt`), for every reader and writer, also of files and pipes. Where these tell their bytes
+//!   themselves, they are those of the accounts (`given`, `taken`); what a run then leaves in the writer follows
 //!   ([`laws::runs_leave`], [`laws::faults_are_silent`]).
 //! - [`run_program`] is the program, over its words and what it is lent ([`Outside`]): a way to open FILE and to say a
 //!   line, and the accounts of standard input, of FILE and of standard output. It does what the words ask for and
@@ -22,11 +23,11 @@
 //! - 2^31 bytes, at which reading stops, are refused as the whole is. Where the file header refuses a capture, it alone
 //!   is kept (`brief`), since what follows changes no answer (`pcap_records::laws::header_refuses`).
 //! - docs/ARCHITECTURE.md follows the data all the way through the crates, and says how workers divide the work.
-//! - What is kept of a connection from its flows on is small: how far these reach, and the number of frames where
-//!   nothing is shown of them, else the frames and what was found in them. It has all that the text tells of an audit
-//!   (`AreToldOf` of `specs/code/Told.antt`). Several workers write halves of a batch of connections side by side.
+//! - What is kept of a connection from its flows on is small, and has all that the text tells of its audit
+//!   (`report_pages::Told`): how far the flows reach, and the number of frames where nothing is shown of them, else the
+//!   frames, what was found in them and the stalls. Of all connections it is kept until the report is written.
 //! - Refused by the prover: an empty report, a verdict by errors alone, standard input read beside FILE, FILE left out,
-//!   the ends of a connection exchanged, a half whose connections are numbered afresh.
+//!   the ends of a connection exchanged.
 //! - Tested, in `crate_tests`: the texts of faults; in `tests/` at the root: what the program answers to words, the
 //!   texts of help and of refused words, whole reports, long captures.
 #![tactic(auto)]
@@ -37,24 +38,20 @@ mod each_connection;
 mod fault;
 mod flow_round;
 mod headings;
-mod in_turn;
 pub mod laws;
 mod program;
-mod reach;
 mod reading;
 mod running;
-mod section_shares;
-mod sections;
 mod status;
-mod told;
 mod verdict;
 pub mod worked_examples;
 
 pub use auditing::audit;
 pub use command_line::{Options, Parsed, parse};
 pub use fault::AuditFault;
-pub use input_output::{CaptureReader, ReportWriter};
+pub use input_output::CaptureReader;
 pub use program::{Outside, program_words, run_program};
+pub use report_pages::ReportWriter;
 pub use running::run;
 pub use status::ending;
 pub use stop_desk::{AuditRound, Gate, NoGate};

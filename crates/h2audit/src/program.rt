@@ -5,7 +5,8 @@ ghost use Rattle.std.specs.IoError.{error_kind};
 ghost use Rattle.std.specs.Process.{exit_status};
 ghost use Rattle.std.specs.Vec.Iter.{into_iter_items};
 ghost use Rattle.input_output.specs.declared.capture_reader.CaptureReader.{CaptureReader as CaptureReaderTerm};
-ghost use Rattle.input_output.specs.Account.{IsUnread, IsUnwritten, written};
+ghost use Rattle.input_output.specs.Account.{IsUnread};
+ghost use Rattle.report_pages.specs.Account.{IsUnwritten, written};
 ghost use Rattle.h2audit.specs.Asked.{Asks};
 ghost use Rattle.h2audit.specs.Account.{HasGiven, Tells};
 ghost use Rattle.h2audit.specs.Ending.{ending_of};
@@ -17,7 +18,8 @@ use crate::fault::{AuditFault, NotText};
 use crate::running::{run, write_out};
 use crate::status::ending;
 use crate::verdict::Verdict;
-use input_output::{CaptureReader, ReportWriter};
+use input_output::CaptureReader;
+use report_pages::{Report, ReportWriter};
 use std::alloc::{AllocError, Global};
 use std::env::Args;
 use std::io::{self, ErrorKind, Read, Write};
@@ -95,8 +97,8 @@ pub fn run_program<
             let answer = audit_input(rt, &options, path, outside);
             end(&answer, &mut outside.say)
         }
-        Ok(Parsed::Help(text)) => end(&show(text, &mut outside.output), &mut outside.say),
-        Ok(Parsed::Version(text)) => end(&show(text, &mut outside.output), &mut outside.say),
+        Ok(Parsed::Help(text)) => end(&show(rt, text, &mut outside.output), &mut outside.say),
+        Ok(Parsed::Version(text)) => end(&show(rt, text, &mut outside.output), &mut outside.say),
         Ok(Parsed::Refused(text)) => {
             (outside.say)(text.as_str().trim_end());
             ExitCode::from(WORDS_REFUSED)
@@ -203,12 +205,17 @@ fn audit_file<F: Read + Drop, W: Write>(
 }
 
 /// Writes a text in place of a report.
-fn show<W: Write>(text: String, output: &mut ReportWriter<W>) -> Result<Verdict, AuditFault>
+fn show<W: Write>(
+    rt: &(impl AllocGlobal + Threads + Sync),
+    text: String,
+    output: &mut ReportWriter<W>,
+) -> Result<Verdict, AuditFault>
     requires { IsUnwritten output.old }
     ensures shown { IsShown (string_bytes text) output.new result }
     ensures taken { Appends (W.contents output.old.writer) (W.contents output.new.writer) (written output.new) }
 {
-    write_out(text.into_bytes(), Verdict::Clean, output)
+    let text = Report::of_text(rt.alloc(), text.into_bytes());
+    write_out(rt, text, Verdict::Clean, output)
 }
 
 /// Says what `ending` says of the answer, and gives its exit status.

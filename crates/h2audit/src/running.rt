@@ -1,6 +1,7 @@
 ghost use Rattle.std.specs.Prelude.{◌≡◌, IfErr, IfOk, OnOk};
 ghost use Rattle.std.specs.Io.KnownBytes.{Appends};
-ghost use Rattle.input_output.specs.Account.{IsReadToEnd, IsUnread, IsUnwritten, kept, written};
+ghost use Rattle.input_output.specs.Account.{IsReadToEnd, IsUnread, kept};
+ghost use Rattle.report_pages.specs.Account.{IsUnwritten, written};
 ghost use Rattle.h2audit.specs.Account.{HasGiven, IsBrief, Tells};
 ghost use Rattle.h2audit.specs.Report.{IsReport};
 ghost use Rattle.h2audit.specs.code.Reading.{IsAuditingFault, IsHeaderOf};
@@ -11,7 +12,8 @@ use crate::command_line::Options;
 use crate::fault::AuditFault;
 use crate::reading::{FileHeader, read_capture};
 use crate::verdict::Verdict;
-use input_output::{CaptureReader, ReportWriter, write_report};
+use input_output::CaptureReader;
+use report_pages::{Report, ReportWriter};
 use std::alloc::Global;
 use std::io::{Read, Write};
 use std::random::RandomSource;
@@ -45,21 +47,21 @@ pub fn run<R: Read, W: Write>(
     let header = read_capture(rt, alloc, options.workers(), reader)?;
     let team = team_of(rt, alloc, options, gate);
     let (text, verdict) = audit_kept(&team, options, reader, header)?;
-    write_out(text, verdict, writer)
+    write_out(rt, text, verdict, writer)
 }
 
-/// Writes a text and flushes once, and answers this verdict where that went well.
-pub(crate) fn write_out<W: Write>(
-    text: Vec<u8>,
+/// Writes a text as it is spelled and flushes once, and answers this verdict where that went well.
+pub(crate) fn write_out<R: Threads + Sync, W: Write>(
+    rt: &R,
+    text: Report,
     verdict: Verdict,
     writer: &mut ReportWriter<W>,
 ) -> Result<Verdict, AuditFault>
     requires { IsUnwritten writer.old }
-    ensures written { IsWritten text.items verdict writer.new result }
+    ensures written { IsWritten text verdict writer.new result }
     ensures taken { Appends (W.contents writer.old.writer) (W.contents writer.new.writer) (written writer.new) }
 {
-    writer.begin(text);
-    match write_report(writer) {
+    match writer.write(rt, text) {
         Ok(()) => Ok(verdict),
         Err(_) => Err(AuditFault::Write),
     }
@@ -71,10 +73,10 @@ fn audit_kept<T: Threads + Sync, G: Gate, R: Read>(
     options: &Options,
     reader: &mut CaptureReader<R>,
     header: FileHeader,
-) -> Result<(Vec<u8>, Verdict), AuditFault>
+) -> Result<(Report, Verdict), AuditFault>
     requires { IsHeaderOf (kept reader.old) header }
     ensures same { OnOk result (reader.new ≡ reader.old) }
-    ensures report { IfOk result (λ r. IsReport (kept reader.old) options.now.frames_shown r.0.items r.1) }
+    ensures report { IfOk result (λ r. IsReport (kept reader.old) options.now.frames_shown r.0 r.1) }
     ensures fault { IfErr result (λ e. IsAuditingFault e reader.old reader.new) }
 {
     match header {

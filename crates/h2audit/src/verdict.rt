@@ -4,11 +4,13 @@ ghost use Rattle.audit_report.specs.declared.audited.Audited.{Audited};
 ghost use Rattle.audit_terms.specs.Kind.{is_fault};
 ghost use Rattle.audit_terms.specs.declared.findings.Finding.{Finding};
 ghost use Rattle.h2audit.specs.Audited.{verdict_of};
-ghost use Rattle.h2audit.specs.code.Told.{AreToldOf};
-ghost use Rattle.h2audit.specs.code.Verdict.{has_fault_in, worse};
+ghost use Rattle.report_pages.specs.code.Told.{AreToldOf};
+ghost use Rattle.h2audit.specs.code.Verdict.{has_fault_in};
+ghost use Rattle.split_merge.specs.code.Findings.{findings_in};
 
-use crate::told::{Outcome, Told};
 use audit_terms::Finding;
+use report_pages::{Outcome, Told};
+use split_merge::Findings;
 
 /// What the audit of a whole capture comes to.
 #[derive(Clone, Copy, Debug, PartialEq, Eq)]
@@ -35,24 +37,19 @@ fn has_fault_in(outcome: &Outcome) -> bool
     ensures { result ≡ has_fault_in outcome.now }
 {
     match outcome {
-        Outcome::Audited(audited) => has_fault(audited.findings.as_slice()),
+        Outcome::Audited(audited) => has_fault(&audited.findings),
         _ => false,
     }
 }
 
-fn has_fault(findings: &[Finding]) -> bool
+fn has_fault(findings: &Findings) -> bool
+    ensures { result ≡ list_any (λ (finding : Finding). is_fault finding.kind) (findings_in findings.now) }
+{
+    findings.lists.iter().any(|list| is_faulty(list.as_slice()))
+}
+
+fn is_faulty(findings: &[Finding]) -> bool
     ensures { result ≡ list_any (λ (finding : Finding). is_fault finding.kind) findings.now }
 {
     findings.iter().any(|finding| finding.kind.is_fault())
-}
-
-/// The verdict on connections, with one more.
-pub(crate) fn worse(verdict: Verdict, outcome: &Outcome) -> Verdict
-    ensures { result ≡ worse verdict outcome.now }
-{
-    if has_fault_in(outcome) {
-        Verdict::Faults
-    } else {
-        verdict
-    }
 }

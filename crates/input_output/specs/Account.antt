@@ -1,8 +1,7 @@
--- What the account of a reader tells of its reads, and that of a writer of its writes, whatever reader and writer are.
-use Rattle.std.specs.Prelude.{◌≡◌, ◌⊎◌, ℕ, ◌^◌, true, false, List, [], ◌++◌, length, take}
+-- What the account of a reader tells of its reads, whatever the reader is.
+use Rattle.std.specs.Prelude.{◌≡◌, ◌⊎◌, ℕ, ◌^◌, List, [], ◌++◌, length}
 use Rattle.input_output.specs.declared.capture_reader.CaptureReader.{CaptureReader}
 use Rattle.input_output.specs.declared.capture_reader.ReadState.TheVariants.{Open, Ended, Failed}
-use Rattle.input_output.specs.declared.report_writer.ReportWriter.{ReportWriter}
 
 module _ {R : Type 0} where
   -- the bytes that are kept of those that the reads gave
@@ -33,22 +32,3 @@ module _ {R : Type 0} where
   -- a read failed, and no memory was wanting
   abbrev pub HasReadFailed : CaptureReader R → Type 0
   HasReadFailed reader = reader.state ≡ Failed
-
-module _ {W : Type 0} where
-  -- the bytes that the writes took, in order
-  abbrev pub written : ReportWriter W → List ℕ
-  written writer = take writer.written writer.text.items
-
-  -- no write was made, and no flush
-  pub record IsUnwritten (writer : ReportWriter W) : Type 0 where
-    pub written : writer.written ≡ 0
-    pub is_flushed : writer.is_flushed ≡ false
-    pub has_failed : writer.has_failed ≡ false
-
-  -- all writes went well, and one flush after them
-  abbrev pub IsFlushed : ReportWriter W → Type 0
-  IsFlushed writer = (writer.is_flushed ≡ true) × (writer.has_failed ≡ false)
-
-  -- a write or the flush failed
-  abbrev pub HasWriteFailed : ReportWriter W → Type 0
-  HasWriteFailed writer = (writer.is_flushed ≡ false) × (writer.has_failed ≡ true)

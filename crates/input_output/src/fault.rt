@@ -6,7 +6,3 @@ pub enum ReadFault {
     /// Memory ran out, for the bytes or for a walk over them.
     OutOfMemory,
 }
-
-/// A write or a flush that failed.
-#[derive(Clone, Copy)]
-pub struct WriteFault;

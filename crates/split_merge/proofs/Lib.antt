@@ -7,5 +7,4 @@ pub mod Ahead
 mod LoudStreams
 pub mod GroupRanges
 pub mod ShownMerge
-mod MergedRuns
-mod Stretches
+mod Merged

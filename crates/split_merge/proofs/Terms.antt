@@ -2,15 +2,16 @@
 pub use Rattle.audit_terms.specs.Finding.{comes_after, in_order, is_shown, shown, upto_stop}
 pub use Rattle.audit_terms.specs.Frame.{is_ack, meets, promised_by, promises}
 pub use Rattle.audit_terms.specs.Pass.{first_of, streams_of}
+pub use Rattle.audit_terms.specs.code.SeenStreams.{is_among, with_stream, without}
 pub use Rattle.audit_terms.specs.code.runs.{Orderly.IsInRange, Orderly.IsOrderly, Streams.frames_of, Streams.stream_run}
 pub use Rattle.audit_terms.specs.declared.{frames.Frame.Frame, items.Change.Change}
 pub use Rattle.split_merge.specs.code.Ahead.{AreAhead, EndQuiet, IsAheadOf, EndsQuietOf, with_next}
 pub use Rattle.split_merge.specs.code.Loud.{ArePlaces, CanPlace, IsPlacing, loud_of, opened_in, places_from, quiet_in}
 pub use Rattle.split_merge.specs.code.Split.{ArePositionsOf, opening_of, positions_from, positions_of, row_positions}
-pub use Rattle.split_merge.specs.code.Visits.{AreBelow, AreFilled, IsFilled, IsTableOf, NotAmong, NotBefore, is_among}
-pub use Rattle.split_merge.specs.code.Visits.{AreDistinct, longer, noted_positions, notes_from, streams_in, with_stream}
+pub use Rattle.split_merge.specs.code.Visits.{AreBelow, AreFilled, IsFilled, IsTableOf, NotAmong, NotBefore}
+pub use Rattle.split_merge.specs.code.Visits.{AreDistinct, longer, noted_positions, notes_from, streams_in}
 pub use Rattle.split_merge.specs.code.Visits.{IsIndex, IsRowOf, counted, laid_out, noted, rows_of, total_of, with_row}
-pub use Rattle.split_merge.specs.code.{Loud.IsKept, Loud.IsLaid, Split.IsRange, Split.IsSplit, Split.frames_at}
+pub use Rattle.split_merge.specs.code.{Loud.IsKept, Loud.IsLaid, Split.IsRange, Split.IsSplit}
 pub use Rattle.split_merge.specs.declared.{row_index.RowIndex.RowIndex, splits.SplitFrames.SplitFrames}
 pub use Rattle.split_merge.specs.declared.{splits.StreamRow.StreamRow, visits.Visited.Visited}
 pub use Rattle.std.proofs.Common.{Bool, List, Option, arith, false, filter, flat_map, get_or, inl, length, rules, subst}
@@ -26,4 +27,5 @@ pub use Rattle.std.proofs.lemmas.List.{drop-drop, drop_all, drop_more, get_or_at
 pub use Rattle.std.proofs.lemmas.Option.{get_or_from_slice_get, slice_get-get_or, slice_get-map, slice_get_within}
 pub use Rattle.std.proofs.lemmas.{Grind.common_steps, List.map_push}
 pub use Rattle.std.specs.List.{All, AllByRecursion, AllZip, between, find, position_or_len, range_with_len}
+pub use Rattle.stream_credit.specs.code.StreamPart.{frames_at}
 pub use Rattle.stream_credit.specs.declared.quiet_streams.QuietStream.{QuietStream}

@@ -1,9 +1,9 @@
 -- The streams that frames name, gathered one by one, and what the table of them says after one more visit.
-use Rattle.split_merge.proofs.Terms.{◌≡◌, ◌≢◌, ℕ, ◌<◌, zero, suc, Bool, true, false, not, ◌==◌, List, [], ◌∷◌, ◌++◌}
-use Rattle.split_merge.proofs.Terms.{length, get_or, slice_get, filter, arith, refl, sym, ap, ◌∙◌, Some}
-use Rattle.split_merge.proofs.Terms.{append_assoc, find, nat_tests, get_or-map, length-map, get_or_from_slice_get}
-use Rattle.split_merge.proofs.Terms.{slice_get-get_or, slice_get_within, first_of, Visited, NotAmong, AreDistinct}
-use Rattle.split_merge.proofs.Terms.{is_among, with_stream, streams_in, ◌||◌, map_push, slice_get-map, ◌+◌, ◌≤◌, set}
+use Rattle.split_merge.proofs.Terms.{◌≡◌, ◌≢◌, ℕ, ◌<◌, zero, suc, Bool, true, false, List, [], ◌∷◌, ◌++◌}
+use Rattle.split_merge.proofs.Terms.{length, get_or, slice_get, arith, refl, sym, ap, ◌∙◌, Some}
+use Rattle.split_merge.proofs.Terms.{find, nat_tests, get_or-map, length-map, get_or_from_slice_get}
+use Rattle.split_merge.proofs.Terms.{slice_get-get_or, slice_get_within, Visited, NotAmong, AreDistinct}
+use Rattle.split_merge.proofs.Terms.{is_among, with_stream, streams_in, map_push, slice_get-map, ◌+◌, ◌≤◌, set}
 use Rattle.split_merge.proofs.Terms.{append-nil, length-set, length_push, filter-append, noted_positions, total_of}
 use Rattle.split_merge.proofs.Terms.{counted, noted, IsIndex, IsTableOf, map-append, rows_of, with_row}
 use Rattle.split_merge.specs.declared.visits.Visits.{Visits}
@@ -22,10 +22,6 @@ pub found_among : (q : ℕ) (seen : List ℕ) (i : ℕ) → slice_get seen i ≡
 found_among q [] i e = cc
 found_among q (x ∷ xs) zero e = grind (arith, nat_tests)
 found_among q (x ∷ xs) (suc i) e = grind (arith, found_among q xs i e)
-
-among-push : (q s : ℕ) (seen : List ℕ) → is_among q (seen ++ s ∷ []) ≡ (is_among q seen || (q == s))
-among-push q s [] = grind arith
-among-push q s (x ∷ seen) = grind (arith, among-push q s seen)
 
 -- what is not among them stands at no index
 pub not_among-at : (q : ℕ) (xs : List ℕ) (i : ℕ) → NotAmong q xs → i < length xs → get_or xs i 0 ≢ q
@@ -55,30 +51,7 @@ pub distinct-push : (s : ℕ) (xs : List ℕ) → NotAmong s xs → AreDistinct 
 distinct-push s [] n h = (tt, tt)
 distinct-push s (x ∷ xs) n h = (not_among-push x s xs h.0 (λ e. n.0 (sym e)), distinct-push s xs n.1 h.1)
 
--- ---- one more stream, of those still to come
-
--- the streams that are not among those seen
-abbrev pub without : (seen : List ℕ) → List ℕ → List ℕ
-without seen streams = filter (λ stream. not (is_among stream seen)) streams
-
-without-seen : (stream : ℕ) (seen later : List ℕ) → is_among stream seen ≡ true
-    → without seen (filter (λ other. not (other == stream)) later) ≡ without seen later
-without-seen stream seen [] h = refl
-without-seen stream seen (x ∷ later) h = grind (arith, nat_tests, without-seen stream seen later h)
-
-without-new : (stream : ℕ) (seen later : List ℕ)
-    → without seen (filter (λ other. not (other == stream)) later) ≡ without (seen ++ stream ∷ []) later
-without-new stream seen [] = refl
-without-new stream seen (x ∷ later) = grind (arith, among-push x stream seen, without-new stream seen later)
-
--- the streams seen and those still to come stay the same
-pub named-more : (stream : ℕ) (seen later : List ℕ)
-    → with_stream stream seen ++ without (with_stream stream seen) later ≡ seen ++ without seen (first_of stream later)
-named-more stream seen later = grind (arith, nat_tests, append_assoc, without-seen, without-new)
-
-pub named-first : (streams : List ℕ) → without [] streams ≡ streams
-named-first [] = refl
-named-first (x ∷ xs) = ap (λ l. x ∷ l) (named-first xs)
+-- ---- what is found in a list
 
 pub found-passes : (test : ℕ → Bool) (xs : List ℕ) (x : ℕ) → find test xs ≡ Some x → test x ≡ true
 found-passes test [] x e = cc

@@ -3,4 +3,5 @@ pub mod Ahead
 pub mod Loud
 pub mod Groups
 pub mod Split
-pub mod Stretches
+pub mod Findings
+pub mod Ranges

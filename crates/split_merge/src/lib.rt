@@ -8,16 +8,17 @@
 //!   order of first frames, promises of it included. A second walk finds them, where there are such streams. [`groups`]
 //!   deals the rows out in consecutive ranges. A row names a range of one list of positions, so no frame is copied, and
 //!   a stream of three frames costs no list of its own.
-//! - [`merge`] puts lists of findings into one, up to the least connection error (5.4.1). It asks for neither sorted
-//!   nor distinct findings, since their order is total. [`merge_by`] does so with two lists by several workers, each of
-//!   which takes a range of places.
+//! - [`merge_by`] puts the findings of lists in order, up to the least connection error (5.4.1). It asks for neither
+//!   sorted nor distinct findings, since their order is total. Of many findings each of several workers makes the list
+//!   of a range of places, and these lists stand one after the other ([`Findings`]): none is copied behind another.
 //! - [`worked_examples`] shows splits, quiet streams, groups, and where a merge ends.
 //! - Refused by the prover: a rest of streams left out, a stream that is called quiet before its last changes, a cut at
 //!   the first reported error.
 //! - Tested by whole reports: that the calls succeed where there is memory.
-//! - Trusted: the ports of `indexmap` and `itertools`.
+//! - Trusted: the port of `indexmap`.
 #![tactic(auto)]
 
+mod findings;
 mod grouping;
 mod loud;
 mod merging;
@@ -27,7 +28,7 @@ mod splits;
 mod visits;
 pub mod worked_examples;
 
+pub use findings::Findings;
 pub use grouping::groups;
-pub use merging::merge;
 pub use ranges::merge_by;
 pub use splits::{SplitFrames, StreamRow, split};

@@ -1,11 +1,16 @@
-//! Long lists of findings merged by several workers, each of which puts the findings of a range of places in order.
-//! Lists are taken apart into stretches that stand in order: of these the places in a range are a slice each.
+//! Many findings merged by several workers, each of which puts those of a range of places in order. Of a list that
+//! stands in order, the findings of a range are a slice; of any other, ranges are found not to stand one after the
+//! other, and then one worker puts all in order.
 
-ghost use Rattle.std.specs.Prelude.{◌≡◌, ◌<◌, ◌≤◌, ◌++◌, IfOk, OnOk, length};
+ghost use Rattle.std.specs.Prelude.{◌≡◌, ◌<◌, ◌≤◌, ◌++◌, if◌then◌else◌, IfOk, Some, length};
+ghost use Rattle.std.specs.List.{flat_map};
 ghost use Rattle.std.specs.Thread.{IsSync};
+ghost use Rattle.audit_terms.specs.declared.findings.Finding.{Finding as FindingTerm};
 ghost use Rattle.audit_terms.specs.Finding.{in_order, upto_stop};
-ghost use Rattle.split_merge.specs.code.Stretches.{AreParted, all_in};
+ghost use Rattle.split_merge.specs.code.Findings.{findings_in};
+ghost use Rattle.split_merge.specs.code.Ranges.{AreInTurn, AreMerged, AreParted, BeginsWith, EndsWith, all_in};
 
+use crate::findings::Findings;
 use crate::merging::merge;
 use audit_terms::{Finding, Place, cut_at_stop, put_in_order};
 use std::alloc::{AllocError, Global};
@@ -15,144 +20,199 @@ use std::thread::{Threads, join};
 /// credits of one connection their merge by one worker took a fifth of the whole time.
 const SHARED_FINDINGS: usize = 1 << 14;
 
-/// What [`merge`] makes of two lists, by so many workers.
+/// Of so many findings of a list one is looked at to tell where ranges end.
+const FINDINGS_PER_SAMPLE: usize = 1 << 8;
+
+/// The findings of all lists in order, up to and including the least that stops (RFC 9113, 5.4.1), by so many workers.
+///
+/// Of many findings each worker makes one list, that of a range of places. Where a list does not stand in order itself,
+/// one worker may have to put all in order.
 pub fn merge_by<R: Threads + Sync>(
     rt: &R,
     alloc: Global,
     workers: u32,
-    one: Vec<Finding>,
-    other: Vec<Finding>,
-) -> Result<Vec<Finding>, AllocError>
-    ensures { IfOk result (λ all. all.items ≡ upto_stop (in_order (one.items ++ other.items))) }
+    lists: Vec<Vec<Finding>>,
+) -> Result<Findings, AllocError>
+    ensures { IfOk result (λ all. findings_in all
+        ≡ upto_stop (in_order (flat_map (λ list. list.items) lists.items))) }
 {
-    if workers < 2 || one.len().saturating_add(other.len()) < SHARED_FINDINGS {
-        return merge(alloc, vec![in alloc; one, other]?);
+    if workers < 2 || are_few(lists.as_slice()) {
+        return merge(alloc, lists);
     }
-    let mut stretches = Vec::new(alloc);
-    add_stretches(&mut stretches, one.as_slice())?;
-    add_stretches(&mut stretches, other.as_slice())?;
-    let mut all = in_ranges(rt, alloc, workers, stretches.as_slice())?;
-    cut_at_stop(&mut all);
-    Ok(all)
+    let slices = slices_of(alloc, lists.as_slice())?;
+    in_ranges(rt, alloc, workers, slices.as_slice())
 }
 
-/// Adds the stretches of a list.
-fn add_stretches<'a>(
-    stretches: &mut Vec<&'a [Finding]>,
-    list: &'a [Finding],
-) -> Result<(), AllocError>
-    ensures { OnOk result (all_in stretches.new.items ≡ all_in stretches.old.items ++ list.now) }
-{
-    let mut left = list;
-    while !left.is_empty() {
-        let (stretch, later) = left.split_at(length_of_stretch(left));
-        stretches.extend_from_slice(&[stretch])?;
-        left = later;
+/// Are there so few findings that one worker merges them?
+fn are_few(lists: &[Vec<Finding>]) -> bool {
+    let mut count: usize = 0;
+    for list in lists {
+        count = count.saturating_add(list.len());
     }
-    Ok(())
+    count < SHARED_FINDINGS
 }
 
-/// How many findings at the front stand in order.
-fn length_of_stretch(list: &[Finding]) -> usize
-    requires { 0 < length list.now }
-    ensures some { 0 < result }
-    ensures within { result ≤ length list.now }
+/// The lists as slices.
+fn slices_of<'a>(alloc: Global, lists: &'a [Vec<Finding>]) -> Result<Vec<&'a [Finding]>, AllocError>
+    ensures { IfOk result (λ slices. all_in slices.items ≡ flat_map (λ list. list.items) lists.now) }
 {
-    let mut count = 1;
-    while count < list.len() && !list[count - 1].compare(&list[count]).is_gt() {
-        count += 1;
+    let mut slices = Vec::with_capacity(alloc, lists.len())?;
+    for list in lists {
+        slices.extend_from_slice(&[list.as_slice()])?;
     }
-    count
+    Ok(slices)
 }
 
-/// All findings of stretches in order, by so many workers.
+/// All findings of slices, in order and up to the least that stops, by so many workers.
 fn in_ranges<R: Threads + Sync>(
     rt: &R,
     alloc: Global,
     workers: u32,
-    stretches: &[&[Finding]],
-) -> Result<Vec<Finding>, AllocError>
-    ensures { IfOk result (λ all. all.items ≡ in_order (all_in stretches.now)) }
+    slices: &[&[Finding]],
+) -> Result<Findings, AllocError>
+    ensures { IfOk result (λ all. findings_in all ≡ upto_stop (in_order (all_in slices.now))) }
 {
     let few = workers / 2;
+    if few == 0 {
+        return in_one_range(alloc, slices);
+    }
     let others = workers - few;
-    let middle = place_within(stretches, others, workers);
-    let (Some(last), true) = (middle, 0 < few) else {
-        return in_one_list(alloc, stretches);
+    let Some(last) = place_within(alloc, slices, others, workers)? else {
+        return in_one_range(alloc, slices);
     };
-    let (fronts, backs) = parted(alloc, stretches, last)?;
+    let (fronts, backs) = parted(alloc, slices, last)?;
     let (fronts, backs) = (fronts.as_slice(), backs.as_slice());
     let (one, other) = join(
         rt,
-        || -> Result<Vec<Finding>, AllocError>
+        || -> Result<Findings, AllocError>
             requires { IsSync R.row × (0 < others) }
-            ensures { IfOk result (λ all. all.items ≡ in_order (all_in fronts.entry.now)) }
+            ensures { IfOk result (λ all. findings_in all ≡ upto_stop (in_order (all_in fronts.entry.now))) }
         { in_ranges(rt, alloc, others, fronts) },
-        || -> Result<Vec<Finding>, AllocError>
+        || -> Result<Findings, AllocError>
             requires { IsSync R.row × (0 < few) }
-            ensures { IfOk result (λ all. all.items ≡ in_order (all_in backs.entry.now)) }
+            ensures { IfOk result (λ all. findings_in all ≡ upto_stop (in_order (all_in backs.entry.now))) }
         { in_ranges(rt, alloc, few, backs) },
     );
-    joined(one?, other?)
+    both_ranges(alloc, one?, other?)
 }
 
-/// The place of the finding that stands behind so many parts of the longest stretch, if there is one.
-fn place_within(stretches: &[&[Finding]], parts: u32, all: u32) -> Option<Place> {
-    let mut longest: &[Finding] = &[];
-    for stretch in stretches {
-        if longest.len() < stretch.len() {
-            longest = *stretch;
+/// The place of a finding up to which about so many parts of all findings stand, if there are findings.
+fn place_within(
+    alloc: Global,
+    slices: &[&[Finding]],
+    parts: u32,
+    all: u32,
+) -> Result<Option<Place>, AllocError> {
+    let mut places = Vec::new(alloc);
+    for slice in slices {
+        for chunk in slice.chunks(FINDINGS_PER_SAMPLE) {
+            if let Some(first) = chunk.first() {
+                places.push(first.place)?;
+            }
         }
     }
-    let part = longest.len() / all.max(1) as usize;
-    let found = longest.get(part.saturating_mul(parts as usize))?;
-    Some(found.place)
+    places.sort_unstable();
+    let at = places.len().saturating_mul(parts as usize) / all.max(1) as usize;
+    Ok(places.get(at).copied())
 }
 
-/// Each stretch in two: the findings up to a place, and those behind it.
+/// Each slice in two: the findings up to a place, and those behind it.
 fn parted<'a>(
     alloc: Global,
-    stretches: &[&'a [Finding]],
+    slices: &[&'a [Finding]],
     last: Place,
 ) -> Result<(Vec<&'a [Finding]>, Vec<&'a [Finding]>), AllocError>
-    ensures { IfOk result (AreParted stretches.now) }
+    ensures { IfOk result (AreParted slices.now) }
 {
-    let mut fronts = Vec::with_capacity(alloc, stretches.len())?;
-    let mut backs = Vec::with_capacity(alloc, stretches.len())?;
-    for stretch in stretches {
-        let (front, back) = stretch.split_at(count_up_to(*stretch, last));
+    let mut fronts = Vec::with_capacity(alloc, slices.len())?;
+    let mut backs = Vec::with_capacity(alloc, slices.len())?;
+    for slice in slices {
+        let (front, back) = slice.split_at(count_up_to(*slice, last));
         fronts.extend_from_slice(&[front])?;
         backs.extend_from_slice(&[back])?;
     }
     Ok((fronts, backs))
 }
 
-/// How many findings of a stretch stand at a place or before it.
-fn count_up_to(stretch: &[Finding], last: Place) -> usize
-    ensures { result ≤ length stretch.now }
+/// How many findings of a slice stand at a place or before it.
+fn count_up_to(slice: &[Finding], last: Place) -> usize
+    ensures { result ≤ length slice.now }
 {
-    stretch.partition_point(|one| one.place <= last)
+    slice.partition_point(|one| one.place <= last)
 }
 
-/// All findings of stretches, put in order.
-fn in_one_list(alloc: Global, stretches: &[&[Finding]]) -> Result<Vec<Finding>, AllocError>
-    ensures { IfOk result (λ all. all.items ≡ in_order (all_in stretches.now)) }
+/// All findings of slices in one list, in order and up to the least that stops.
+fn in_one_range(alloc: Global, slices: &[&[Finding]]) -> Result<Findings, AllocError>
+    ensures { IfOk result (λ all. findings_in all ≡ upto_stop (in_order (all_in slices.now))) }
 {
-    let mut all = Vec::new(alloc);
-    for stretch in stretches {
-        all.extend_from_slice(*stretch)?;
+    let mut all = Vec::with_capacity(alloc, count_in(slices))?;
+    for slice in slices {
+        all.extend_from_slice(*slice)?;
     }
     put_in_order(&mut all)?;
+    cut_at_stop(&mut all);
+    Findings::of(alloc, all)
+}
+
+/// How many findings there are in slices.
+fn count_in(slices: &[&[Finding]]) -> usize {
+    let mut count: usize = 0;
+    for slice in slices {
+        count = count.saturating_add(slice.len());
+    }
+    count
+}
+
+/// The findings of two ranges. Where those of the second stand behind those of the first, no finding is moved.
+fn both_ranges(alloc: Global, one: Findings, other: Findings) -> Result<Findings, AllocError>
+    requires one { AreMerged (findings_in one) }
+    requires other { AreMerged (findings_in other) }
+    ensures { IfOk result (λ all. findings_in all
+        ≡ upto_stop (in_order (findings_in one ++ findings_in other))) }
+{
+    let Some(last) = last_in_turn(&one, &other) else {
+        let both = behind(one, other, false)?;
+        return merge(alloc, both.lists);
+    };
+    behind(one, other, last.stops())
+}
+
+/// The findings of the first range, and those of the second behind them unless the first has ended the audit.
+fn behind(one: Findings, mut other: Findings, has_ended: bool) -> Result<Findings, AllocError>
+    ensures { IfOk result (λ all. findings_in all
+        ≡ (if has_ended then findings_in one else findings_in one ++ findings_in other)) }
+{
+    let mut all = one;
+    if !has_ended {
+        all.lists.append(&mut other.lists)?;
+    }
     Ok(all)
 }
 
-/// The findings of two ranges: those of the second stand behind those of the first, and then nothing is moved.
-fn joined(one: Vec<Finding>, other: Vec<Finding>) -> Result<Vec<Finding>, AllocError>
-    ensures { IfOk result (λ all. all.items ≡ in_order (one.items ++ other.items)) }
+/// The last finding of the first range, if it does not stand behind the first one of the second.
+fn last_in_turn(one: &Findings, other: &Findings) -> Option<Finding>
+    ensures { (last : FindingTerm) → result ≡ Some last
+        → AreInTurn (findings_in one.now) last (findings_in other.now) }
 {
-    let mut all = one;
-    let mut more = other;
-    all.append(&mut more)?;
-    put_in_order(&mut all)?;
-    Ok(all)
+    let last = last_in(one)?;
+    let first = first_in(other)?;
+    (!last.compare(&first).is_gt()).then_some(last)
+}
+
+/// The last finding, if its list is not empty.
+fn last_in(found: &Findings) -> Option<Finding>
+    ensures { (last : FindingTerm) → result ≡ Some last → EndsWith (findings_in found.now) last }
+{
+    let (list, _) = found.lists.split_last()?;
+    let (last, _) = list.split_last()?;
+    Some(*last)
+}
+
+/// The first finding, if its list is not empty.
+fn first_in(found: &Findings) -> Option<Finding>
+    ensures { (first : FindingTerm) → result ≡ Some first → BeginsWith (findings_in found.now) first }
+{
+    let (list, _) = found.lists.split_first()?;
+    let (first, _) = list.split_first()?;
+    Some(*first)
 }

@@ -1,5 +1,5 @@
--- What the table of stall ends says that the walk over the findings keeps.
-use Rattle.std.specs.Prelude.{ℕ, List, [], ◌∷◌, if◌then◌else◌, Option}
+-- What the table of stall ends says, and what the sweep over findings keeps.
+use Rattle.std.specs.Prelude.{◌≡◌, ℕ, List, [], ◌∷◌, if◌then◌else◌, Option, reverse}
 use Rattle.std.specs.BTreeMap.{get}
 use Rattle.std.specs.Ordering.{nat_cmp}
 use Rattle.audit_terms.specs.declared.sides.Side.{Side}
@@ -8,7 +8,7 @@ use Rattle.audit_terms.specs.declared.findings.Finding.{Finding}
 use Rattle.audit_terms.specs.declared.frames.Frame.{Frame}
 use Rattle.audit_terms.specs.Place.{place_stream}
 use Rattle.audit_terms.specs.Kind.{begins_stall}
-use Rattle.audit_report.specs.Stalls.{stall_of}
+use Rattle.audit_report.specs.Stalls.{first_end, stall_of, stalls}
 use Rattle.audit_report.specs.declared.ends.Ends.{Ends}
 use Rattle.audit_report.specs.declared.stalls.Stall.{Stall}
 
@@ -23,3 +23,12 @@ begun_by frames ends found =
     if begins_stall found.kind
     then stall_of frames found (end_in ends found.side (place_stream found.place)) ∷ []
     else []
+
+-- the table has the first end of each window among the findings
+pub record HasFirstEnds (ends : Ends) (later : List Finding) : Type 0 where
+  pub at : (side : Side) (stream : ℕ) → end_in ends side stream ≡ first_end side stream later
+
+-- the sweep has come down to the findings that are later
+pub record HasSweptTo (frames : List Frame) (later : List Finding) (ends : Ends) (met : List Stall) : Type 0 where
+  pub first : HasFirstEnds ends later
+  pub reversed : reverse met ≡ stalls frames later

@@ -14,8 +14,8 @@ moment_text rec nanos = field (codes " record ") rec ++ field (codes " time ") n
 
 -- the moment has its text, which is short
 pub record IsSpelled (moment : Moment) : Type 0 where
-  pub within : moment.begin ≤ 192
-  pub short : 192 ≤ moment.begin + 54
+  pub within : moment.begin ≤ 512
+  pub short : 512 ≤ moment.begin + 54
   pub text : drop moment.begin moment.spelled ≡ moment_text moment.rec moment.nanos
 
 -- ` SIDE KIND stream S value V`

@@ -1,10 +1,11 @@
 -- A batch of connections, and what is found of each.
-use Rattle.std.specs.Global.{Global}
-use Rattle.std.specs.Prelude.{◌≡◌, ◌++◌, if◌then◌else◌, All, Bool, List, Vec, Result, IfOk, map}
+use Rattle.std.specs.Prelude.{◌≡◌, ◌++◌, if◌then◌else◌, All, Bool, List, Result, IfOk, map}
 use Rattle.std.specs.List.{zip}
 use denote.Ref.{Bor}
 use Rattle.audit_terms.specs.declared.findings.Finding.{Finding}
 use Rattle.audit_terms.specs.declared.frames.Frame.{Frame}
+use Rattle.split_merge.specs.declared.findings.Findings.{Findings}
+use Rattle.split_merge.specs.code.Findings.{findings_in}
 use Rattle.audit_terms.specs.code.runs.Orderly.{IsOrderly}
 use Rattle.audit_terms.specs.Finding.{shown}
 use Rattle.audit_terms.specs.Pass.{pass}
@@ -19,15 +20,15 @@ pub record IsBatch (connections : List (Bor (List Frame))) : Type 0 where
   pub few : AreFew connections
 
 -- the same, made ready, with what was found of each before the rounds
-pub record AreReady (frames_shown : Bool) (connections : List Prepared) (found : List (Vec Finding Global)) : Type 0
+pub record AreReady (frames_shown : Bool) (connections : List Prepared) (found : List Findings) : Type 0
   where
     pub prepared : All (IsPrepared frames_shown) connections
     pub few : PreparedAreFew connections
-    pub before : map (λ (one : Vec Finding Global). one.items) found ≡ map found_before connections
+    pub before : map findings_in found ≡ map found_before connections
 
 -- what is shown of each connection
-abbrev pub AreShown : (frames_shown : Bool) → List (Bor (List Frame)) → List (Vec Finding Global) → Type 0
-AreShown frames_shown connections found = map (λ (one : Vec Finding Global). one.items) found
+abbrev pub AreShown : (frames_shown : Bool) → List (Bor (List Frame)) → List Findings → Type 0
+AreShown frames_shown connections found = map findings_in found
     ≡ map (λ (frames : Bor (List Frame)). shown frames_shown (pass frames.now)) connections
 
 -- where something is made of either half of some connections, it is made of all
@@ -43,8 +44,8 @@ shown_after frames_shown frames found =
     if is_pending frames found then shown frames_shown (pass frames) else found
 
 -- that of each connection
-abbrev pub AreShownAfter : (frames_shown : Bool) → List (Bor (List Frame)) → (found all : List (Vec Finding Global)) →
+abbrev pub AreShownAfter : (frames_shown : Bool) → List (Bor (List Frame)) → (found all : List Findings) →
     Type 0
-AreShownAfter frames_shown connections found all = map (λ (one : Vec Finding Global). one.items) all
-    ≡ map (λ (one : Bor (List Frame) × Vec Finding Global). shown_after frames_shown one.0.now one.1.items)
+AreShownAfter frames_shown connections found all = map findings_in all
+    ≡ map (λ (one : Bor (List Frame) × Findings). shown_after frames_shown one.0.now (findings_in one.1))
     (zip connections found)

@@ -1,8 +1,7 @@
 -- What making connections ready gives.
-use Rattle.std.specs.Global.{Global}
-use Rattle.std.specs.Prelude.{◌≡◌, Bool, List, [], ◌∷◌, ◌++◌, Vec, All, map}
+use Rattle.std.specs.Prelude.{◌≡◌, Bool, List, [], ◌∷◌, ◌++◌, All, map}
 use denote.Ref.{Bor}
-use Rattle.audit_terms.specs.declared.findings.Finding.{Finding}
+use Rattle.split_merge.specs.code.Findings.{findings_in}
 use Rattle.audit_terms.specs.declared.frames.Frame.{Frame}
 use Rattle.audit_rounds.specs.declared.prepared.MadeReady.{MadeReady}
 use Rattle.audit_rounds.specs.declared.prepared.Prepared.{Prepared}
@@ -13,7 +12,7 @@ pub record AreMadeReady (frames_shown : Bool) (connections : List (Bor (List Fra
   pub frames : map (λ (one : Prepared). one.frames.now) made.prepared.items
       ≡ map (λ (frames : Bor (List Frame)). frames.now) connections
   pub prepared : All (IsPrepared frames_shown) made.prepared.items
-  pub before : map (λ (one : Vec Finding Global). one.items) made.found.items ≡ map found_before made.prepared.items
+  pub before : map findings_in made.found.items ≡ map found_before made.prepared.items
 
 -- one connection more is made ready
 abbrev pub AddsReady : (frames_shown : Bool) → Bor (List Frame) → (before after : MadeReady) → Type 0

@@ -1,7 +1,8 @@
 -- What is left to do of connections, and what is found of them once it is done.
-use Rattle.std.specs.Global.{Global}
-use Rattle.std.specs.Prelude.{◌≡◌, ℕ, ◌<◌, ◌++◌, Bool, List, Option, Vec, length, slice_index_or}
+use Rattle.std.specs.Prelude.{◌≡◌, ℕ, ◌<◌, ◌++◌, Bool, List, Option, length, slice_index_or}
 use Rattle.audit_terms.specs.declared.findings.Finding.{Finding}
+use Rattle.split_merge.specs.declared.findings.Findings.{Findings}
+use Rattle.split_merge.specs.code.Findings.{findings_in}
 use Rattle.audit_terms.specs.Connection.{connection_start}
 use Rattle.audit_terms.specs.code.runs.Blocks.{block_run}
 use Rattle.audit_terms.specs.Finding.{in_order, shown, upto_stop}
@@ -19,19 +20,19 @@ pub record IsRemaining (whole : Block) (stop : Option ℕ) (found : List Finding
   pub least : IsLeast (StopsAt found) stop
 
 -- that of each connection
-pub record AreRemaining (connections : List Block) (stops : List (Option ℕ)) (found : List (Vec Finding Global))
+pub record AreRemaining (connections : List Block) (stops : List (Option ℕ)) (found : List Findings)
     : Type 0 where
   pub number : length stops ≡ length connections
   pub founds : length connections ≡ length found
-  pub each : (n : ℕ) (whole : Block) (stop : Option ℕ) (list : Vec Finding Global) → n < length connections
+  pub each : (n : ℕ) (whole : Block) (stop : Option ℕ) (list : Findings) → n < length connections
       → IsRemaining (slice_index_or connections n whole) (slice_index_or stops n stop)
-      (slice_index_or found n list).items
+      (findings_in (slice_index_or found n list))
 
 -- up to the first error, what was found of each connection with what its blocks show
-pub record AreGoneThrough (frames_shown : Bool) (connections : List Block) (found last : List (Vec Finding Global))
+pub record AreGoneThrough (frames_shown : Bool) (connections : List Block) (found last : List Findings)
     : Type 0 where
   pub number : length last ≡ length found
-  pub each : (n : ℕ) (whole : Block) (list list' : Vec Finding Global) → n < length connections
-      → (slice_index_or last n list).items
-      ≡ upto_stop (in_order ((slice_index_or found n list').items ++ shown frames_shown (block_run connection_start
-      (items_in (slice_index_or connections n whole)))))
+  pub each : (n : ℕ) (whole : Block) (list list' : Findings) → n < length connections
+      → findings_in (slice_index_or last n list)
+      ≡ upto_stop (in_order (findings_in (slice_index_or found n list')
+      ++ shown frames_shown (block_run connection_start (items_in (slice_index_or connections n whole)))))

@@ -13,7 +13,8 @@ use Rattle.audit_terms.specs.Place.{place_number}
 use Rattle.audit_terms.specs.code.Stops.{lesser_place}
 use Rattle.audit_terms.specs.code.runs.Streams.{frames_of, stream_run, stream_at_end}
 use Rattle.split_merge.specs.declared.splits.StreamRow.{StreamRow}
-use Rattle.split_merge.specs.code.Split.{IsRange, row_positions, frames_at}
+use Rattle.split_merge.specs.code.Split.{IsRange, row_positions}
+use Rattle.stream_credit.specs.code.StreamPart.{frames_at}
 use Rattle.stop_desk.specs.code.Board.{IsCut}
 use Rattle.stop_desk.specs.code.Heeding.{Heeds, RunLooks}
 use Rattle.stream_credit.specs.code.Looks.{step_numbers}

@@ -11,11 +11,11 @@ use Rattle.h2_frames.specs.Cut.{IsCut, IsHttp2}
 use Rattle.h2_frames.specs.declared.cuts.Cut.{Cut}
 use Rattle.h2_frames.specs.declared.cuts.Cut.TheVariants.{Http2, NotHttp2, NoPreface, NoHandshake}
 use Rattle.h2audit.specs.Audited.{AreAudited, IsFlowOf}
-use Rattle.h2audit.specs.code.Reach.{extents_in}
-use Rattle.h2audit.specs.code.Told.{AreToldOf, HasOrderlyOutcome}
-use Rattle.h2audit.specs.declared.told.Outcome.{Outcome}
-use Rattle.h2audit.specs.declared.told.Outcome.TheVariants as outcome
-use Rattle.h2audit.specs.declared.told.Told.{Told}
+use Rattle.report_pages.specs.code.Reach.{extents_in}
+use Rattle.report_pages.specs.code.Told.{AreToldOf, HasOrderlyOutcome}
+use Rattle.report_pages.specs.declared.told.Outcome.{Outcome}
+use Rattle.report_pages.specs.declared.told.Outcome.TheVariants as outcome
+use Rattle.report_pages.specs.declared.told.Told.{Told}
 use Rattle.quiet_pass.specs.code.QuietConnections.{IsQuietOf}
 use Rattle.stop_desk.specs.code.Board.{Job}
 use Rattle.stop_desk.specs.declared.parts.Part.{Part}

@@ -1,14 +1,16 @@
 -- The frames that are kept of connections, and how what is found in them goes to these.
-use Rattle.std.specs.Global.{Global}
 use Rattle.std.specs.List.{flat_map}
-use Rattle.std.specs.Prelude.{◌≡◌, Bool, List, [], ◌∷◌, Vec, map}
+use Rattle.std.specs.Prelude.{◌≡◌, ◌<◌, ◌^◌, Bool, List, [], ◌∷◌, length, map}
+use Rattle.audit_report.specs.Stalls.{stalls}
 use Rattle.audit_terms.specs.Finding.{shown}
 use Rattle.audit_terms.specs.Pass.{pass}
 use Rattle.audit_terms.specs.declared.findings.Finding.{Finding}
 use Rattle.audit_terms.specs.declared.frames.Frame.{Frame}
-use Rattle.h2audit.specs.declared.told.Outcome.{Outcome}
-use Rattle.h2audit.specs.declared.told.Outcome.TheVariants.{Audited}
-use Rattle.h2audit.specs.declared.told.Told.{Told}
+use Rattle.report_pages.specs.declared.told.Outcome.{Outcome}
+use Rattle.report_pages.specs.declared.told.Outcome.TheVariants.{Audited}
+use Rattle.report_pages.specs.declared.told.Told.{Told}
+use Rattle.split_merge.specs.code.Findings.{findings_in}
+use Rattle.split_merge.specs.declared.findings.Findings.{Findings}
 use Rattle.stop_desk.specs.declared.parts.Part.{Part}
 
 -- the frames of a connection, where they are kept
@@ -24,31 +26,41 @@ kept_frames parts = flat_map (λ (part : Part Told). frames_of part.made.outcome
 abbrev pub shown_in_kept : (frames_shown : Bool) → List (Part Told) → List (List Finding)
 shown_in_kept frames_shown parts = map (λ frames. shown frames_shown (pass frames)) (kept_frames parts)
 
--- the outcome with the first of these findings, where it has frames
-abbrev pub outcome_with_next : Outcome → List (Vec Finding Global) → Outcome
-outcome_with_next (Audited audited) [] = Audited audited
-outcome_with_next (Audited audited) (findings ∷ rest) =
-    Audited (record audited { value = record audited.value { findings = findings } })
-outcome_with_next outcome found = outcome
+-- the findings of the first of these, or none
+abbrev pub first_of : List Findings → List Finding
+first_of [] = []
+first_of (findings ∷ rest) = findings_in findings
+
+-- the outcome has the first of these findings and their stalls, where it has frames
+abbrev pub IsOutcomeWith : Outcome → List Findings → Outcome → Type 0
+IsOutcomeWith (Audited made) found (Audited audited) =
+    (audited.value.frames ≡ made.value.frames) × (audited.value.tails ≡ made.value.tails)
+    × (findings_in audited.value.findings ≡ first_of found)
+    × (audited.value.stalls.items ≡ stalls made.value.frames.items (first_of found))
+    × (length (findings_in audited.value.findings) < 2 ^ 63)
+IsOutcomeWith (Audited made) found _ = ⊥
+IsOutcomeWith made found outcome = outcome ≡ made
 
 -- what is told of a connection, with the first of these findings where its frames are kept
-abbrev pub with_next_findings : Told → List (Vec Finding Global) → Told
-with_next_findings told found = record told { outcome = outcome_with_next told.outcome found }
+pub record IsToldWith (made : Told) (found : List Findings) (told : Told) : Type 0 where
+  pub reach : told.reach ≡ made.reach
+  pub outcome : IsOutcomeWith made.outcome found told.outcome
 
 -- the findings that are left after it
-abbrev pub left_after : Outcome → List (Vec Finding Global) → List (Vec Finding Global)
+abbrev pub left_after : Outcome → List Findings → List Findings
 left_after (Audited audited) [] = []
 left_after (Audited audited) (findings ∷ rest) = rest
 left_after _ found = found
 
 -- what is told of all
-abbrev pub all_with_findings : List (Part Told) → List (Vec Finding Global) → List Told
-all_with_findings [] found = []
-all_with_findings (part ∷ parts) found =
-    with_next_findings part.made found ∷ all_with_findings parts (left_after part.made.outcome found)
+abbrev pub AreToldWith : List (Part Told) → List Findings → List Told → Type 0
+AreToldWith [] found told = told ≡ []
+AreToldWith (part ∷ parts) found [] = ⊥
+AreToldWith (part ∷ parts) found (one ∷ told) =
+    IsToldWith part.made found one × AreToldWith parts (left_after part.made.outcome found) told
 
 -- what is told of all, from what their flows hold and what is shown of the frames that are kept
 pub record AreFound (frames_shown : Bool) (parts : List (Part Told)) (told : List Told) : Type 0 where
-  pub found : List (Vec Finding Global)
-  pub are : map (λ (one : Vec Finding Global). one.items) found ≡ shown_in_kept frames_shown parts
-  pub put : told ≡ all_with_findings parts found
+  pub found : List Findings
+  pub are : map findings_in found ≡ shown_in_kept frames_shown parts
+  pub put : AreToldWith parts found told

@@ -10,11 +10,13 @@ use Rattle.pcap_records.specs.declared.pcap_record.Records.{Records}
 use Rattle.tcp_streams.specs.declared.members.Connection.{Connection}
 use Rattle.tcp_streams.specs.declared.members.Stray.{Stray}
 use Rattle.h2audit.specs.Audited.{verdict_of}
-use Rattle.h2audit.specs.code.Sections.{heading_of}
-use Rattle.h2audit.specs.code.Told.{AreToldOf}
-use Rattle.h2audit.specs.declared.told.Told.{Told}
-use Rattle.input_output.specs.Account.{HasWriteFailed, IsFlushed, written}
-use Rattle.input_output.specs.declared.report_writer.ReportWriter.{ReportWriter}
+use Rattle.h2audit.specs.code.Headings.{heading_of}
+use Rattle.h2audit.specs.code.Flows.{AreToldAudits, AreToldFlows}
+use Rattle.report_pages.specs.code.Told.{AreToldOf}
+use Rattle.stop_desk.specs.declared.parts.Part.{Part}
+use Rattle.report_pages.specs.declared.told.Told.{Told}
+use Rattle.report_pages.specs.Account.{HasWriteFailed, IsFlushed, written}
+use Rattle.report_pages.specs.declared.report_writer.ReportWriter.{ReportWriter}
 use Rattle.h2audit.specs.declared.fault.AuditFault.{AuditFault}
 use Rattle.h2audit.specs.declared.fault.AuditFault.TheVariants as fault
 use Rattle.h2audit.specs.declared.verdict.Verdict.{Verdict}
@@ -37,3 +39,12 @@ IsToldBehind frames_shown lines headings told text verdict =
     (connections : List Connection) → (audited : List Audited) → headings ≡ map heading_of connections
     → AreToldOf told audited
     → (text ≡ lines ++ sections_text frames_shown 1 connections audited) × (verdict ≡ verdict_of audited)
+
+-- the same of connections of which the parts have what their flows hold
+pub record AreTold (frames_shown : Bool) (lines : List ℕ) (headings : List SectionHeading) (parts : List (Part Told))
+    (text : List ℕ) (verdict : Verdict) : Type 0 where
+  pub told : List Told
+  pub audits : (capture : List ℕ) (packets : List Packet) (opened : List Connection)
+      → AreToldFlows frames_shown capture packets opened parts
+      → AreToldAudits frames_shown capture packets opened told
+  pub behind : IsToldBehind frames_shown lines headings told text verdict

@@ -1,6 +1,6 @@
 -- The frames of a connection by stream: where the frames stand that each stream meets (RFC 9113, 5 and 6.6).
 use Rattle.std.specs.Prelude.{◌≡◌, ℕ, ◌+◌, ◌<◌, ◌≤◌, Bool, true, not, if◌then◌else◌, List, [], ◌∷◌, map, filter, length}
-use Rattle.std.specs.Prelude.{slice_get, option_to_list}
+use Rattle.std.specs.Prelude.{option_to_list}
 use Rattle.std.specs.List.{All, between, flat_map}
 use Rattle.audit_terms.specs.declared.frames.Frame.{Frame}
 use Rattle.audit_terms.specs.declared.items.Change.{Change}
@@ -8,6 +8,7 @@ use Rattle.audit_terms.specs.Finding.{shown}
 use Rattle.audit_terms.specs.Frame.{meets}
 use Rattle.audit_terms.specs.Pass.{streams_of}
 use Rattle.audit_terms.specs.code.runs.Streams.{frames_of, stream_at_end, stream_run}
+use Rattle.stream_credit.specs.code.StreamPart.{frames_at}
 use Rattle.split_merge.specs.declared.splits.StreamRow.{StreamRow}
 use Rattle.split_merge.specs.declared.splits.SplitFrames.{SplitFrames}
 
@@ -21,10 +22,6 @@ positions_from position stream (frame ∷ frames) =
 -- the positions of the frames that the stream meets
 abbrev pub positions_of : (stream : ℕ) → List Frame → List ℕ
 positions_of stream frames = positions_from 0 stream frames
-
--- the frames at some positions
-abbrev pub frames_at : List Frame → List ℕ → List Frame
-frames_at frames positions = flat_map (λ position. option_to_list (slice_get frames position)) positions
 
 -- the range of a row lies in the list of positions
 pub record IsRange (split : SplitFrames) (row : StreamRow) : Type 0 where

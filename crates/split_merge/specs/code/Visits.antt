@@ -1,10 +1,10 @@
 -- What the table of streams says that a split fills as it walks over the frames.
-use Rattle.std.specs.Prelude.{◌≡◌, ◌≢◌, ℕ, ◌+◌, ◌<◌, ◌≤◌, ◌==◌, ◌||◌, if◌then◌else◌, Bool, true, false, List, [], ◌∷◌}
+use Rattle.std.specs.Prelude.{◌≡◌, ◌≢◌, ℕ, ◌+◌, ◌<◌, ◌≤◌, ◌==◌, if◌then◌else◌, Bool, true, false, List, [], ◌∷◌}
 use Rattle.std.specs.Prelude.{◌++◌, map, filter, length, get_or, slice_get, take, drop, Some}
-use Rattle.std.specs.List.{list_any}
 use Rattle.audit_terms.specs.declared.frames.Frame.{Frame}
 use Rattle.audit_terms.specs.Frame.{promised_by}
 use Rattle.audit_terms.specs.Pass.{streams_of}
+use Rattle.audit_terms.specs.code.SeenStreams.{is_among}
 use Rattle.split_merge.specs.declared.row_index.RowIndex.{RowIndex}
 use Rattle.split_merge.specs.declared.splits.StreamRow.{StreamRow}
 use Rattle.split_merge.specs.declared.visits.Visited.{Visited}
@@ -42,14 +42,6 @@ NotAmong stream (other ∷ others) = (stream ≢ other) × NotAmong stream other
 abbrev pub AreDistinct : List ℕ → Type 0
 AreDistinct [] = Unit {0}
 AreDistinct (stream ∷ streams) = NotAmong stream streams × AreDistinct streams
-
--- does the stream stand among these?
-abbrev pub is_among : ℕ → List ℕ → Bool
-is_among stream streams = list_any (λ other. stream == other) streams
-
--- the streams, and one more where it is not 0 and not among them
-abbrev pub with_stream : ℕ → List ℕ → List ℕ
-with_stream stream streams = if (stream == 0) || is_among stream streams then streams else streams ++ stream ∷ []
 
 -- the index tells where each stream stands among these: those at the front rise, the others are in its table, in order;
 -- 0 is none of them

@@ -1,16 +1,15 @@
-use Rattle.std.proofs.Common.{List, [], ap, append-nil, append_assoc, arith, drop, ℕ, ◌++◌, ◌∙◌, ◌≡◌}
-use Rattle.std.{proofs.lemmas.List.drop_all, specs.Fmt.signed_decimal, specs.Prelude.codes}
+use Rattle.std.proofs.Common.{List, ap, append_assoc, ℕ, ◌++◌, ◌∙◌, ◌≡◌}
+use Rattle.std.{specs.Fmt.signed_decimal, specs.Prelude.codes}
 use Rattle.audit_terms.specs.{Kind.kind_name, Place.place_number, Place.place_stream, Side.side_name}
 use Rattle.audit_terms.specs.{declared.findings.Finding.Finding, declared.frames.Frame.Frame}
 use Rattle.audit_report.specs.{FindingLine.finding_line, FindingLine.record_at, FrameLookup.nanos_at, Line.field}
 use Rattle.audit_report.specs.{code.Findings.moment_text, code.Findings.said_text}
 use Rattle.audit_report.proofs.findings.put_finding_line.Goals as goal
 
--- four pieces, each before what was there, at the end of all
-joined : (a b d e whole three two one none : List ℕ) → whole ≡ a ++ three → three ≡ b ++ two → two ≡ d ++ one
-    → one ≡ e ++ none → none ≡ [] → whole ≡ a ++ (b ++ (d ++ e))
-joined a b d e whole three two one none p q r s t =
-    p ∙ ap (λ l. a ++ l) (q ∙ ap (λ l. b ++ l) (r ∙ ap (λ l. d ++ l) (s ∙ ap (λ l. e ++ l) t ∙ append-nil e)))
+-- four pieces, each before what was there
+joined : (a b d e whole three two one : List ℕ) → whole ≡ a ++ three → three ≡ b ++ two → two ≡ d ++ one → one ≡ e
+    → whole ≡ a ++ (b ++ (d ++ e))
+joined a b d e whole three two one p q r s = p ∙ ap (λ l. a ++ l) (q ∙ ap (λ l. b ++ l) (r ∙ ap (λ l. d ++ l) s))
 
 regroup : (a b c d e f g h i j k : List ℕ) → a ++ ((b ++ c) ++ ((d ++ e ++ f ++ g ++ h ++ i ++ j) ++ k))
     ≡ (a ++ b ++ c ++ d ++ e ++ f ++ g ++ h ++ i ++ j) ++ k
@@ -37,7 +36,6 @@ returns-clause-made c =
     let number = c.number-number.result in
     let moment = rw (c.go_to.ensures.rec, c.go_to.ensures.nanos) at c.text.ensures.text in
     joined (field (codes "frame ") number) (moment_text (record_at frames number) (nanos_at frames number))
-    (said_text finding) (codes "\n") _ _ _ _ (drop 192 c.args.line.now) c.put_field.ensures.put
-    (rw moment at c.put_text-end.ensures.put) c.put_said-end.ensures.put c.put_word-end.ensures.put
-    (drop_all 192 c.args.line.now (omega arith))
+    (said_text finding) (codes "\n") _ _ _ _ c.put_field.ensures.put (rw moment at c.put_text-end.ensures.put)
+    c.put_said-end.ensures.put c.put_last-end.ensures.put
     ∙ ap (text_at frames finding) c.number-number.ensures ∙ parts frames finding

@@ -8,5 +8,5 @@ returns-clause-put c =
     c.put_field.ensures.put
     ∙ ap (λ l. field (codes " record ") c.args.rec ++ l)
     (c.put_field-end.ensures.put
-    ∙ ap (λ l. field (codes " time ") c.args.nanos ++ l) (drop_all 192 c.args.line.now (omega arith))
+    ∙ ap (λ l. field (codes " time ") c.args.nanos ++ l) (drop_all 512 c.args.line.now (omega arith))
     ∙ append-nil (field (codes " time ") c.args.nanos))

@@ -1,11 +1,11 @@
-use Rattle.audit_rounds.proofs.Words.{◌≡◌, ◌≤◌, ◌-◌, map, length, take, shown, pass}
+use Rattle.audit_rounds.proofs.Words.{findings_in, ◌≡◌, ◌≤◌, ◌-◌, map, length, take, shown, pass}
 use Rattle.audit_rounds.proofs.batch.one_by_one.Given as goal
 
 -- what is shown of the connections so far
 abbrev pub invariant-loop-done : goal.invariant-loop-done
 invariant-loop-done g l = record {
   within : l.done ≤ length l.connections;
-  shown : map (λ one. one.items) l.all.items
+  shown : map findings_in l.all.items
       ≡ map (λ frames. shown l.division.frames_shown (pass frames.now)) (take l.done l.connections);
 }
 

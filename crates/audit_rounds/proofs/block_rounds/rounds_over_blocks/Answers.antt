@@ -1,4 +1,4 @@
-use Rattle.audit_rounds.proofs.Words.{◌<◌, length, map, sym, ◌∙◌, arith, block_job, IfOk-weaker}
+use Rattle.audit_rounds.proofs.Words.{map, sym, block_job, IfOk-weaker}
 use Rattle.audit_rounds.proofs.Settles.{each-block, each-fits, each-place, gone-through, jobs-inside, parts-within}
 use Rattle.audit_rounds.proofs.block_rounds.rounds_over_blocks.Goals as goal
 
@@ -24,18 +24,14 @@ gathered-requires g c =
     let shows = c.args.division.now.frames_shown in
     parts-within (map (block_job shows) c.as_slice.result.now) c.args.stops.now c.in_ok-settled.settled _
     c.in_ok-settled.ensures.settled
-    (rw c.as_slice.ensures.value (jobs-inside shows _ _ _ _ (sym c.in_ok-none.ensures.number)
+    (rw c.as_slice.ensures.value (jobs-inside shows _ _ _ _ c.requires.remaining.founds
     c.in_ok-plan.ensures.plan))
 
 pub returns : goal.returns
 returns g c =
-    let none = c.in_ok-none.ensures in
-    let own = c.in_ok-own.ensures in
-    let rest = c.requires.remaining in
-    let number = own.number in
+    let all = c.in_ok-found.ensures in
     IfOk-weaker c.merged_each.result _ _ (λ last is.
-    gone-through _ _ _ rest c.args.division.now.frames_shown c.as_slice.result.now c.in_ok-settled.settled
-    c.in_ok-own.own.items last.items (rw c.as_slice.ensures.value c.in_ok-plan.ensures.plan)
-    c.in_ok-settled.ensures.settled (number ∙ none.number ∙ rest.founds) (λ n list l.
-    let inside : n < length c.in_ok-none.none.items = omega (arith, number, l) in
-    rw (none.each n list inside) at (own.each n list list inside)) is) c.merged_each.ensures
+    gone-through _ _ _ c.requires.remaining c.args.division.now.frames_shown c.as_slice.result.now
+    c.in_ok-settled.settled c.in_ok-found.found.items last.items
+    (rw c.as_slice.ensures.value c.in_ok-plan.ensures.plan) c.in_ok-settled.ensures.settled all.number all.each is)
+    c.merged_each.ensures

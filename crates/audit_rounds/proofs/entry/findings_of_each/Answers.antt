@@ -1,5 +1,5 @@
-use Rattle.audit_rounds.proofs.Words.{List, refl, arith, Bor, Frame, shown, pass, take_all}
-use Rattle.audit_rounds.proofs.Lists.{items_in, batch-more}
+use Rattle.audit_rounds.proofs.Words.{findings_in, List, refl, arith, Bor, Frame, shown, pass, take_all}
+use Rattle.audit_rounds.proofs.Lists.{batch-more}
 use Rattle.audit_rounds.proofs.entry.findings_of_each.Goals as goal
 
 pub loop-done-preserved : goal.loop-done-preserved
@@ -13,7 +13,7 @@ loop-done-preserved g c =
     let shows = c.args.division.now.frames_shown in
     record {
       within = omega (arith, left, few, within);
-      shown = batch-more items_in (λ (frames : Bor (List Frame)). shown shows (pass frames.now))
+      shown = batch-more findings_in (λ (frames : Bor (List Frame)). shown shows (pass frames.now))
           at.all.items c.in_ok-found.found.items c.append.new.self.items c.args.connections.now batch.result.now
           rest.result.1.now at.done _ refl batch.ensures.front rest.ensures.back c.in_ok-append.ensures.items
           at.invariant.shown c.in_ok-found.ensures;

@@ -1,5 +1,5 @@
-use Rattle.audit_rounds.proofs.Words.{◌<◌, ◌++◌, [], ◌∷◌, map, length, get_or, sym, ap, ◌∙◌, arith, length-set, Vec}
-use Rattle.audit_rounds.proofs.Words.{Global, Finding, map-append, into_iter_items, findings_of_parts, part_of}
+use Rattle.audit_rounds.proofs.Words.{◌<◌, ◌++◌, [], ◌∷◌, map, length, get_or, sym, ap, ◌∙◌, arith, length-set}
+use Rattle.audit_rounds.proofs.Words.{Findings, findings_in, map-append, into_iter_items, findings_of_parts, part_of}
 use Rattle.stop_desk.specs.code.Board.{PartView}
 use Rattle.audit_rounds.proofs.Lists.{part-more, taken-all, taken-holds, taken-more}
 use Rattle.audit_rounds.proofs.gathering.gathered.Goals as goal
@@ -23,15 +23,15 @@ loop-part-preserved g c =
     c.requires in
     record {
       parts = taken-more at.yielded part rest _ _ steps at.invariant.parts;
-      number = length-set at.all.items part.connection c.append.new.self ∙ at.invariant.number;
-      each = λ n list list' l.
-          rw (map-append part_of at.yielded (part ∷ [])) (part-more at.all.items
-          (λ (one : PartView). one.connection) (λ (one : PartView). one.findings)
-          (get_or c.args.found.items n list').items n list c.index_mut.result.now c.append.new.self
+      number = length-set at.all.items part.connection c.add.new.self ∙ at.invariant.number;
+      each = λ n one one' l.
+          rw (map-append part_of at.yielded (part ∷ [])) (part-more findings_in at.all.items
+          (λ (other : PartView). other.connection) (λ (other : PartView). other.findings)
+          (findings_in (get_or c.args.found.items n one')) n one c.index_mut.result.now c.add.new.self
           (map part_of at.yielded) (part_of part) (rw at.invariant.number inside)
-          (c.in_ok-append.ensures.items
-          ∙ ap (λ (v : Vec Finding Global). v.items ++ part.findings.items) c.index_mut.ensures.value)
-          (λ list. at.invariant.each n list list' l));
+          (c.in_ok-add.ensures
+          ∙ ap (λ (found : Findings). findings_in found ++ part.findings.items) c.index_mut.ensures.value)
+          (λ one. at.invariant.each n one one' l));
     }
 
 pub returns-clause-each : goal.returns-clause-each
@@ -39,6 +39,6 @@ returns-clause-each g c =
     let at = c.loop-part in
     let all = taken-all at.yielded (into_iter_items at.part-iterator) c.args.parts.items
     (sym at.part-iterator.rest.ok.0 ∙ c.in-None.ensures.steps.0) at.invariant.parts in
-    λ n list list' l.
-    at.invariant.each n list list' l
-    ∙ ap (λ parts. (get_or c.args.found.items n list').items ++ findings_of_parts n (map part_of parts)) all
+    λ n one one' l.
+    at.invariant.each n one one' l
+    ∙ ap (λ parts. findings_in (get_or c.args.found.items n one') ++ findings_of_parts n (map part_of parts)) all

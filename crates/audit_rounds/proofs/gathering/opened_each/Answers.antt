@@ -17,7 +17,8 @@ loop-part-preserved c =
       number = length-set all part.connection c.extend_from_slice.new.self ∙ number;
       each = λ n list l.
           rw (take_more parts at.part-index part c.loop-part-test.true, ← c.part-item.is)
-          (part-more all (λ (one : Part (Vec ℕ Global)). one.connection) (λ one. one.made.items) [] n list d
+          (part-more (λ (list : Vec ℕ Global). list.items) all (λ (one : Part (Vec ℕ Global)). one.connection)
+          (λ one. one.made.items) [] n list d
           c.extend_from_slice.new.self (take at.part-index parts) part (omega (arith, number, inside))
           (c.in_ok-extend_from_slice.ensures.items ∙ ap (λ numbers. d.items ++ numbers) c.as_slice.ensures.value
           ∙ ap (λ (v : Vec ℕ Global). v.items ++ part.made.items) c.index_mut.ensures.value)

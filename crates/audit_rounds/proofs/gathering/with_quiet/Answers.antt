@@ -3,6 +3,6 @@ use Rattle.audit_rounds.proofs.gathering.with_quiet.Goals as goal
 
 pub returns : goal.returns
 returns c = record {
-  same = rw c.in_ok-extend_from_slice.ensures.items at c.sort_unstable.ensures.permutation;
-  rising = never-fall _ c.sort_unstable.ensures.sorted;
+  same = rw c.in_ok-extend_from_slice.ensures.items at c.in_ok-sort.ensures.permutation;
+  rising = never-fall _ c.in_ok-sort.ensures.sorted;
 }

@@ -1,5 +1,5 @@
 use Rattle.audit_rounds.proofs.Words.{drop, length, map, take, ◌++◌, ◌≡◌}
-use Rattle.audit_rounds.proofs.Lists.{items_in}
+use Rattle.audit_rounds.proofs.Words.{findings_in}
 use Rattle.audit_rounds.specs.code.Pending.{put_back}
 use Rattle.std.specs.Vec.Iter.{into_iter_items}
 use Rattle.audit_rounds.proofs.pending.put_back.Given as goal
@@ -8,7 +8,7 @@ use Rattle.audit_rounds.proofs.pending.put_back.Given as goal
 abbrev pub invariant-loop-n : goal.invariant-loop-n
 invariant-loop-n l = record {
   number : length l.all.items ≡ length l.connections;
-  lists : map items_in (take l.n l.all.items)
+  lists : map findings_in (take l.n l.all.items)
       ++ put_back (drop l.n l.connections) (drop l.n l.all.items) (into_iter_items l.rest)
       ≡ put_back l.connections l.fn.found.items l.fn.later.items;
 }

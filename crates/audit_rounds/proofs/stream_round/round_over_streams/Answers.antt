@@ -1,5 +1,5 @@
-use Rattle.audit_rounds.proofs.Words.{found_before}
-use Rattle.audit_rounds.proofs.Lists.{items_in, as-many}
+use Rattle.audit_rounds.proofs.Words.{findings_in, found_before}
+use Rattle.audit_rounds.proofs.Lists.{as-many}
 use Rattle.audit_rounds.proofs.StreamRounds.{parts-inside, are-after}
 use Rattle.audit_rounds.proofs.stream_round.round_over_streams.Goals as goal
 
@@ -13,7 +13,7 @@ opened_each-requires g c =
 pub gathered-requires : goal.gathered-requires
 gathered-requires g c =
     let division = c.args.division.now in
-    rw (as-many items_in found_before c.args.found.items c.args.connections.now c.requires.before)
+    rw (as-many findings_in found_before c.args.found.items c.args.connections.now c.requires.before)
     (parts-inside division.frames_shown division.groups division.some_groups c.args.connections.now
     c.args.found.items c.requires c.in_ok-settled.settled (rw c.as_slice.ensures.value at c.in_ok-settled.ensures))
 

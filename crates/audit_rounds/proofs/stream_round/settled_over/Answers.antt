@@ -1,7 +1,7 @@
-use Rattle.audit_rounds.proofs.Words.{sym, ◌∙◌, AllZip-long, found_before, IfOk-weaker}
+use Rattle.audit_rounds.proofs.Words.{findings_in, sym, ◌∙◌, AllZip-long, found_before, IfOk-weaker}
 use Rattle.audit_rounds.proofs.Batches.{few-rows}
 use Rattle.audit_rounds.proofs.StreamRounds.{ready-each, stops-are-places}
-use Rattle.audit_rounds.proofs.Lists.{items_in, as-many}
+use Rattle.audit_rounds.proofs.Lists.{as-many}
 use Rattle.audit_rounds.proofs.stream_round.settled_over.Goals as goal
 
 pub settled_streams-requires-clause-ready : goal.settled_streams-requires-clause-ready
@@ -18,7 +18,7 @@ pub settled_streams-requires-clause-number : goal.settled_streams-requires-claus
 settled_streams-requires-clause-number g c κs within =
     rw (c.as_slice.ensures.value, c.as_slice-2.ensures.value)
     (AllZip-long _ c.args.found.now c.in_ok-stops.stops.items c.in_ok-stops.ensures
-    ∙ as-many items_in found_before c.args.found.now c.args.connections.now c.requires.before
+    ∙ as-many findings_in found_before c.args.found.now c.args.connections.now c.requires.before
     ∙ sym (AllZip-long _ c.args.connections.now c.in_ok-streams.streams.items c.in_ok-streams.ensures))
 
 pub settled_streams-requires-clause-places : goal.settled_streams-requires-clause-places

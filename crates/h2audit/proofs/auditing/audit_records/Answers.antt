@@ -6,9 +6,9 @@ use Rattle.std.proofs.lemmas.Slice.Zip.{AllZip-long}
 use Rattle.std.proofs.lemmas.List.FromFn.{length-enumerate_from}
 use Rattle.audit_report.specs.CaptureLines.{capture_text}
 use Rattle.audit_report.specs.Section.{sections_text}
-use Rattle.h2audit.specs.code.Sections.{heading_of}
+use Rattle.h2audit.specs.code.Headings.{heading_of}
 use Rattle.audit_report.specs.code.Packets.{AreRecordsOf}
-use Rattle.h2audit.specs.declared.told.Told.{Told}
+use Rattle.report_pages.specs.declared.told.Told.{Told}
 use Rattle.packet_heads.specs.Decision.{packet_decision, packet_decisions}
 use Rattle.packet_heads.specs.code.Walk.{packets_in}
 use Rattle.packet_heads.specs.declared.packets.Packet.{Packet}
@@ -57,7 +57,17 @@ report_parts-requires-clause-each g c κs within =
     ∙ ap length c.as_slice.ensures.value
     ∙ sym (length-map c.args.connections.opened.items heading_of)
     ∙ sym (ap length c.in_ok-headings.ensures)
-    ∙ sym (ap length c.as_slice-2.ensures.value)
+
+pub report_parts-requires-clause-few : goal.report_parts-requires-clause-few
+report_parts-requires-clause-few g c =
+    let few = opened-few (packets_in c.args.found) c.args.connections.opened.items c.requires.opened in
+    omega (
+      arith,
+      few,
+      c.requires.order.few,
+      length-map c.args.connections.opened.items heading_of,
+      ap length c.in_ok-headings.ensures,
+    )
 
 pub report_parts-requires-clause-orderly : goal.report_parts-requires-clause-orderly
 report_parts-requires-clause-orderly g c κs within =
@@ -84,7 +94,7 @@ returns g c =
     c.as_slice.ensures.value
     (is.audits capture (packets_in c.args.found) c.as_slice.result.now c.in_ok-lines.ensures.flows)) in
     let audited = audits.audited in
-    let text = is.behind opened audited (c.as_slice-2.ensures.value ∙ c.in_ok-headings.ensures) audits.stands in
+    let text = is.behind opened audited c.in_ok-headings.ensures audits.stands in
     record {
       found = found;
       taken = c.requires.taken;

@@ -1,6 +1,6 @@
 use Rattle.std.proofs.Common.{◌∙◌, ap, map, refl, take}
 use Rattle.std.proofs.lemmas.List.{map-append, take_all, take_more}
-use Rattle.h2audit.specs.code.Sections.{heading_of}
+use Rattle.h2audit.specs.code.Headings.{heading_of}
 use Rattle.h2audit.proofs.headings.headings_of.Goals as goal
 
 pub loop-connection-preserved : goal.loop-connection-preserved

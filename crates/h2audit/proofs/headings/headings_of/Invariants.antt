@@ -1,5 +1,5 @@
 use Rattle.std.proofs.Common.{◌≡◌, map, take}
-use Rattle.h2audit.specs.code.Sections.{heading_of}
+use Rattle.h2audit.specs.code.Headings.{heading_of}
 use Rattle.h2audit.proofs.headings.headings_of.Given as goal
 
 abbrev pub invariant-loop-connection : goal.invariant-loop-connection

@@ -1,7 +1,7 @@
 use Rattle.std.proofs.Common.{Bool, sym, ap, ◌∙◌, if◌then◌else◌, rules}
 use Rattle.std.proofs.lemmas.Iterator.{YieldsList-from_slice}
 use Rattle.std.proofs.lemmas.Iterator.Search.{any_from_yields_List}
-use Rattle.h2audit.specs.declared.told.Told.{Told}
+use Rattle.report_pages.specs.declared.told.Told.{Told}
 use Rattle.h2audit.specs.code.Verdict.{has_fault_in}
 use Rattle.h2audit.specs.declared.verdict.Verdict.TheVariants.{Clean, Faults}
 use Rattle.h2audit.proofs.ToldAudits.{faults-same}

@@ -1,5 +1,4 @@
-use Rattle.audit_rounds.proofs.Words.{map, sym, ap, ◌∙◌, arith, Prepared, found_before}
-use Rattle.audit_rounds.proofs.Lists.{items_in}
+use Rattle.audit_rounds.proofs.Words.{findings_in, map, sym, ap, ◌∙◌, arith, Prepared, found_before}
 use Rattle.audit_rounds.proofs.prepared.MadeReady.with_capacity.Goals as goal
 
 pub returns : goal.returns
@@ -8,5 +7,5 @@ returns c = λ shows.
     record {
       frames = ap (map (λ (one : Prepared). one.frames.now)) none;
       prepared = rw none (λ n d l. absurd (omega arith));
-      before = ap (map items_in) c.in_ok-found.ensures.items ∙ sym (ap (map found_before) none);
+      before = ap (map findings_in) c.in_ok-found.ensures.items ∙ sym (ap (map found_before) none);
     }

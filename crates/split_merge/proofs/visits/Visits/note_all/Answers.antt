@@ -1,7 +1,7 @@
 use Rattle.split_merge.proofs.Terms.{append_assoc, ◌+◌, ◌++◌, [], drop, refl, sym, ◌∙◌, arith, drop_more, append-nil}
 use Rattle.split_merge.proofs.Terms.{promised_by, first_of, streams_of, IsInRange, frames_of, streams_in, with_stream}
 use Rattle.split_merge.proofs.Terms.{with_next, at_drop_all, noted, notes_from}
-use Rattle.split_merge.proofs.Visited.{named-more, named-first}
+use Rattle.audit_terms.proofs.SeenStreams.{named-more, without-none}
 use Rattle.split_merge.proofs.Positions.{came-fits, came-more, notes-next}
 use Rattle.split_merge.proofs.Ahead.{ahead-none, ahead-frame, ahead-alike, promised-small}
 use Rattle.audit_terms.proofs.OrderlyFrames.{in_range_at}
@@ -21,7 +21,7 @@ loop-frame-init c =
         few = rw none (omega arith);
         visits = rw none (omega arith);
       };
-      named = rw none (named-first (streams_of c.args.frames.now));
+      named = rw none (without-none (streams_of c.args.frames.now));
       ahead = rw (none, c.requires.empty.quiets) (ahead-none can.orderly can.rise can.acknowledged);
     }
 

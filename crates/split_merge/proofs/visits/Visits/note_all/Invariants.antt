@@ -1,5 +1,5 @@
 use Rattle.split_merge.proofs.Terms.{AreAhead, IsTableOf, List, drop, frames_of, notes_from, streams_in, streams_of, ℕ}
-use Rattle.split_merge.proofs.{Terms.◌++◌, Terms.◌≡◌, Visited.without}
+use Rattle.split_merge.proofs.Terms.{without, ◌++◌, ◌≡◌}
 use Rattle.split_merge.proofs.visits.Visits.note_all.Given as goal
 
 abbrev pub invariant-loop-frame : goal.invariant-loop-frame

@@ -1,0 +1,6 @@
+mod Standing
+mod Steps
+mod Filled
+mod Pieces
+mod Texts
+mod WrittenBytes

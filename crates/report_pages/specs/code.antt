@@ -1,0 +1,5 @@
+pub mod Entries
+pub mod Pages
+pub mod Reach
+pub mod Sections
+pub mod Told

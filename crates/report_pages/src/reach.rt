@@ -1,0 +1,69 @@
+ghost use Rattle.std.specs.Prelude.{◌≡◌};
+
+use audit_report::Extent;
+use audit_terms::Sides;
+use tcp_streams::Flow;
+
+/// The extent of a flow of a capture in 8 bytes: where bytes are missing, the offset at which they are is its length.
+#[derive(Clone, Copy)]
+pub struct Reach {
+    /// The number of bytes.
+    pub(crate) size: u32,
+    /// Are bytes missing before later ones that were captured?
+    pub(crate) has_gap: bool,
+}
+
+const _: () = prove!(size_of::<Reach>() == 8);
+
+impl Reach {
+    ghost use Rattle.audit_report.specs.FlowLine.{extent_of, extents_of};
+    ghost use Rattle.report_pages.specs.code.Reach.{HasGapAtEnd, extent_in, extents_in};
+    ghost use Rattle.tcp_streams.specs.code.Orderly.{IsOrderly};
+
+    /// The reach of one flow.
+    fn of(flow: &Flow) -> Reach
+        requires orderly { IsOrderly flow.now }
+        requires gap { HasGapAtEnd flow.now }
+        ensures { extent_in result ≡ extent_of flow.now }
+    {
+        Reach {
+            size: flow.length() as u32,
+            has_gap: flow.gap.is_some(),
+        }
+    }
+
+    /// The reach of a connection's flows, which need no longer be kept for the report.
+    pub fn of_both(client: &Flow, server: &Flow) -> Sides<Reach>
+        requires client { IsOrderly client.now }
+        requires server { IsOrderly server.now }
+        requires client_gap { HasGapAtEnd client.now }
+        requires server_gap { HasGapAtEnd server.now }
+        ensures { extents_in result ≡ extents_of client.now server.now }
+    {
+        Sides {
+            client: Reach::of(client),
+            server: Reach::of(server),
+        }
+    }
+
+    /// The extent that it stands for.
+    fn extent(self) -> Extent
+        ensures { result ≡ extent_in self }
+    {
+        let size = self.size as u64;
+        Extent {
+            size,
+            gap: if self.has_gap { Some(size) } else { None },
+        }
+    }
+
+    /// The extents of a connection's flows that reach so far.
+    pub(crate) fn extents(both: &Sides<Reach>) -> Sides<Extent>
+        ensures { result ≡ extents_in both.now }
+    {
+        Sides {
+            client: both.client.extent(),
+            server: both.server.extent(),
+        }
+    }
+}
