@@ -20,16 +20,19 @@ import unittest
 from collections.abc import Callable, Iterator
 from concurrent.futures import ThreadPoolExecutor
 
-from tests.captures import capture_of, frame_of
+from tests.captures import BEGINNINGS, CLIENT, SERVER, SYN, Capture, capture_of, frame_of
 from tests.programs import needed
 
 TOP = pathlib.Path(__file__).resolve().parents[1]
 EXAMPLES = TOP / "examples"
 Test = Callable[[str], bool]  # whether a program passes it
+Mix = tuple[int, int, int]  # numbers of workers, of groups, and of frames in a block
 
 # Numbers of workers, of groups, and of frames in a block: the least of each, some between, the most that matter here.
 # Three workers and five are halved unevenly.
 MIXES = list(itertools.product((1, 2, 3, 5, 64), (1, 3, 1024), (1, 2, 4096)))
+# Those of a report whose lines matter more than how they are found.
+FEW_MIXES = list(itertools.product((1, 2, 4, 64), (3,), (2, 4096)))
 
 # The captures of examples/ whose exit status is 1: one side or the other broke the connection.
 FAULTY = {"connection_overflow_nginx", "stream_overrun_go", "use_after_reset", "zero_increment_nginx"}
@@ -41,10 +44,13 @@ def answer_of(program: str, words: list[str], capture: bytes) -> str:
     return f"status {ran.returncode}\n{ran.stderr.decode()}{ran.stdout.decode()}"
 
 
-def always_answers(program: str, capture: bytes, wanted: str, *words: str) -> bool:
+def always_answers(program: str, capture: bytes, wanted: str, *words: str, mixes: list[Mix] = MIXES) -> bool:
     """Whether a run leaves this answer in each mix."""
-    mixes = [[f"--workers={workers}", f"--groups={groups}", f"--block={block}"] for workers, groups, block in MIXES]
-    return all(answer_of(program, [*words, *mix], capture) == wanted for mix in mixes)
+    return all(
+        answer_of(program, [*words, f"--workers={workers}", f"--groups={groups}", f"--block={block}"], capture)
+        == wanted
+        for workers, groups, block in mixes
+    )
 
 
 def lines_of(text: str, frames_shown: bool) -> str:
@@ -146,6 +152,61 @@ flow server bytes 0 gap none tail 0
     return always_answers(program, capture_of("empty\n" + "".join(f"SYN {number}\n" for number in numbers)), wanted)
 
 
+def stalled(capture: Capture, number: int, turns: int) -> str:
+    """Adds a connection whose client uses up a window of one byte and is granted one, so many times, and answers its
+    section with credit lines."""
+    capture.ends = {"C": ((CLIENT[0], number), SERVER), "S": (SERVER, (CLIENT[0], number))}
+    first = capture.records + 1
+    script = BEGINNINGS["opened"].replace("S SETTINGS", "S SETTINGS 4 1") + "C HEADERS 1\n"
+    for step in (script + turns * "C DATA 1 1\nS WINDOW_UPDATE 1 1\n").splitlines():
+        capture.step(step)
+
+    def line(frame: int, rest: str) -> str:
+        return f"frame {frame} record {first + frame + 1} time {first + frame + 1}000 {rest}\n"
+
+    text = f"""\
+connection {number} client 10.0.0.1:{number} server 10.0.0.2:80 record {first} http2 frames {5 + 2 * turns}
+flow client bytes {51 + 10 * turns} gap none tail 0
+flow server bytes {24 + 13 * turns} gap none tail 0
+"""
+    text += line(5, "client stream-credit stream 1 value 1") + line(5, "server stream-credit stream 1 value 65535")
+    for turn in range(turns):
+        text += line(6 + 2 * turn, "client stream-stall-begin stream 1 value 0")
+        text += line(6 + 2 * turn, f"client connection-credit stream 0 value {65534 - turn}")
+        text += line(6 + 2 * turn, "client stream-credit stream 1 value 0")
+        text += line(7 + 2 * turn, "client stream-stall-end stream 1 value 1")
+        text += line(7 + 2 * turn, "client stream-credit stream 1 value 1")
+    for turn in range(turns):
+        text += f"stall client stream 1 from {6 + 2 * turn} to {7 + 2 * turn} nanos 1000\n"
+    return f"{text}audit of all frames\n"
+
+
+def many_sections(program: str) -> bool:
+    """1,500 connections of none to seven stalls, after each eighth of which one is merely opened. The report is longer
+    than the pages of four workers together, and these begin at openings, findings, stalls and ends."""
+    capture, sections, number = Capture(), "", 0
+    for turns in itertools.islice(itertools.cycle(range(8)), 1500):
+        number += 1
+        sections += stalled(capture, number, turns)
+        if turns == 7:
+            number += 1
+            capture.ends["C"] = ((CLIENT[0], number), SERVER)
+            capture.syn("C", 1000, SYN)
+            sections += f"""\
+connection {number} client 10.0.0.1:{number} server 10.0.0.2:80 record {capture.records} no-handshake
+flow client bytes 0 gap none tail 0
+flow server bytes 0 gap none tail 0
+"""
+    counts = f"records {capture.records} segments {capture.records}"
+    wanted = f"status 0\ncapture {counts} snapped 0 not-ipv4 0 fragments 0 not-tcp 0 refused 0\n{sections}"
+    given, entries = bytes(capture.bytes), len(wanted.splitlines()) - 2 * (number + 1)
+    return (
+        entries > 4 * 8192
+        and always_answers(program, given, lines_of(wanted, False), mixes=FEW_MIXES)
+        and always_answers(program, given, wanted, "--frames", mixes=FEW_MIXES)
+    )
+
+
 def never_opened(program: str) -> bool:
     """1,024 streams that were never opened, the greatest first: the first frame's finding stands alone."""
     script = "opened\n" + "".join(f"S WINDOW_UPDATE {stream} 1\n" for stream in range(2047, 0, -2))
@@ -214,7 +275,16 @@ def spelling(_program: str) -> bool:
 
 def tests() -> Iterator[tuple[str, Test]]:
     """Each test's name, and what answers whether it is passed."""
-    for test in (spelling, many_frames, error_in_front, error_past_front, many_openings, never_opened, each_prefix):
+    for test in (
+        spelling,
+        many_frames,
+        error_in_front,
+        error_past_front,
+        many_openings,
+        many_sections,
+        never_opened,
+        each_prefix,
+    ):
         yield test.__name__, test
     for name, text in rows():
         yield name, functools.partial(row, text=text)

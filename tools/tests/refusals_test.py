@@ -2,10 +2,15 @@
 
 refuse.c is loaded before the C library and makes one call fail. A run whose call is refused either says so, with the
 status and the line that docs/STATUS.md names and nothing on standard output, or gives the same answer as a run that
-meets no refusal. Only after a failed write is there more on standard output: a beginning of the report. A thread that
-cannot be had changes nothing, and neither does a read or a write of a single byte.
+meets no refusal. Only after a failed write is there more on standard output: a beginning of the report. So once the
+first byte is written no memory is asked for, but for a thread. A thread that cannot be had changes nothing, and neither
+does a read or a write of a single byte.
+
+A report is written in parts: the lines on the capture, and then pages of so many entries each. An entry is one line, or
+the three lines that a section begins with.
 """
 
+import itertools
 import os
 import pathlib
 import resource
@@ -28,6 +33,8 @@ WORDS_REFUSED = (
 )
 Answer = tuple[int, bytes, bytes]  # status, standard output, standard error
 BAD_MAGIC = b"h2audit: capture refused: bad-magic\n"
+# How many entries a page has with one worker, and with several where there are that many entries for each.
+PAGE_OF_ONE, PAGE_OF_EACH = 1024, 4096
 
 
 def one_frame(one: Connection, side: int, data: bytes) -> None:
@@ -81,6 +88,29 @@ def three_chunks(capture: Capture) -> None:
         capture.segment((50000, 80), CLIENT, 1, 0x10, bytes(1400))
 
 
+def several_pages(capture: Capture) -> None:
+    """Frames enough that four workers fill their pages more than once, where their credits are shown."""
+    one = Connection(capture, 40000)
+    one.send(CLIENT, frame(HEADERS, END_HEADERS, 1))
+    one.send(CLIENT, 17000 * frame(0, 0, 1, b"a"))
+
+
+def parts_of(report: bytes, entries: int) -> list[bytes]:
+    """The parts in which a report is written whose pages have so many entries."""
+    lines, pages, left = b"", list[bytes](), 0
+    for line in report.splitlines(keepends=True):
+        if line.startswith(b"flow ") or (left == 0 and not pages and not line.startswith(b"connection ")):
+            # It goes with the line before it.
+            lines += line
+            continue
+        if left == 0:
+            pages.append(lines)
+            lines, left = b"", entries
+        lines += line
+        left -= 1
+    return [*pages, lines]
+
+
 class Refusals(unittest.TestCase):
     folder: tempfile.TemporaryDirectory[str]
     shim: pathlib.Path
@@ -96,7 +126,14 @@ class Refusals(unittest.TestCase):
         source = pathlib.Path(__file__).with_name("refuse.c")
         subprocess.run(["cc", "-O2", "-shared", "-fPIC", "-o", cls.shim, source], check=True)
         cls.captures = {}
-        for script in (padded_stall, first_error_below_overflow, many_connections, long_connection, three_chunks):
+        for script in (
+            padded_stall,
+            first_error_below_overflow,
+            many_connections,
+            long_connection,
+            three_chunks,
+            several_pages,
+        ):
             path = cls.captures[script.__name__] = home / script.__name__
             with open(path, "wb") as file:
                 script(Capture(file))
@@ -175,6 +212,8 @@ class Refusals(unittest.TestCase):
             ("first_error_below_overflow", 2, 1),
             ("many_connections", 2, 0),
             ("long_connection", 4, 0),
+            ("several_pages", 1, 0),
+            ("several_pages", 4, 0),
             ("no_record", 4, 0),
             ("pcapng", 4, 3),
         ):
@@ -188,10 +227,27 @@ class Refusals(unittest.TestCase):
             with self.subTest(words):
                 self.growths(words, status)
 
+    def test_growths_once_written(self) -> None:
+        for name, workers in itertools.product(self.captures, (1, 4)):
+            with self.subTest(name, workers=workers):
+                words = ["--workers", str(workers), "--frames", str(self.captures[name])]
+                whole, _ = self.run_program(words)
+                answer, met = self.run_program(words, "late-growth 1")
+                self.assertEqual(answer, whole)
+                # Those of threads, which fill pages side by side.
+                self.assertEqual(met, workers > 1 and name in ("long_connection", "several_pages"))
+                # With those before the first write.
+                self.assertEqual(self.run_program(words, "late-growth 0"), (OUT_OF_MEMORY, True))
+
     def test_threads(self) -> None:
-        for name in ("many_connections", "long_connection", "three_chunks"):
+        for name, more in (
+            ("many_connections", ["--block", "64"]),
+            ("long_connection", ["--block", "64"]),
+            ("three_chunks", ["--block", "64"]),
+            ("several_pages", ["--frames"]),
+        ):
             with self.subTest(name):
-                words = ["--workers", "4", "--groups", "8", "--block", "64", str(self.captures[name])]
+                words = ["--workers", "4", "--groups", "8", *more, str(self.captures[name])]
                 whole, answers = self.each_refused("thread", words)
                 self.assertNotEqual(answers, [])
                 self.assertEqual(set(answers), {whole})
@@ -208,15 +264,37 @@ class Refusals(unittest.TestCase):
     def test_writes(self) -> None:
         for name in ("no_record", "padded_stall"):
             path = str(self.captures[name])
-            for kind, taken in (("write", 0), ("write-none", 0), ("drip", 3)):
+            for kind, most in (("write", None), ("write-none", None), ("drip", 3)):
                 with self.subTest(name, kind=kind):
-                    whole, answers = self.each_refused(kind, [path])
-                    self.assertEqual(len(answers), -(-len(whole[1]) // taken) if taken else 1)
-                    for number, (status, text, line) in enumerate(answers):
-                        self.assertEqual((status, line), WRITE_FAILED)
-                        self.assertEqual(text, whole[1][: number * taken])
+                    self.failed_writes(kind, [path], PAGE_OF_ONE, most)
             whole, answers = self.each_refused("write-one", [path])
             self.assertEqual(set(answers), {whole})
+
+    def test_writes_of_pages(self) -> None:
+        for workers, entries, parts in ((1, PAGE_OF_ONE, 35), (4, PAGE_OF_EACH, 10)):
+            words = ["--workers", str(workers), "--frames", str(self.captures["several_pages"])]
+            for kind in ("write", "write-none"):
+                with self.subTest(workers=workers, kind=kind):
+                    self.assertEqual(self.failed_writes(kind, words, entries), parts)
+            with self.subTest(workers=workers, kind="write-one"):
+                whole, answers = self.each_refused("write-one", words)
+                self.assertEqual(answers, parts * [whole])
+
+    def failed_writes(self, kind: str, words: list[str], entries: int, most: int | None = None) -> int:
+        """Each write fails in turn, after those that took what comes before: a part, or so many bytes of it at most.
+        Answers how many writes there are.
+        """
+        whole, answers = self.each_refused(kind, words)
+        taken = b""
+        wanted = []
+        for part in parts_of(whole[1], entries):
+            step = most or len(part)
+            wanted += [taken + part[:at] for at in range(0, len(part), step)]
+            taken += part
+        self.assertEqual(taken, whole[1])
+        self.assertEqual([text for _, text, _ in answers], wanted)
+        self.assertEqual({(status, line) for status, _, line in answers}, {WRITE_FAILED})
+        return len(answers)
 
 
 if __name__ == "__main__":

@@ -1,8 +1,9 @@
 /* Refuses one call of a program, for refusals_test.py: LD_PRELOAD names this library, REFUSE says "KIND N".
  *
- * The Nth call of KIND fails: growth (malloc, realloc), thread (pthread_create), read, write. Of read-one and write-one the Nth
- * moves one byte, and of write-none it takes none. With drip each write takes 3 bytes, and the Nth fails. Where the call is met,
- * the file MET is made.
+ * The Nth call of KIND fails: growth (malloc, realloc), thread (pthread_create), read, write. Of read-one and write-one
+ * the Nth moves one byte, and of write-none it takes none. With drip each write takes 3 bytes, and the Nth fails. Of
+ * late-growth each growth fails that comes after N writes on standard output. Where the call is met, the file MET is
+ * made.
  */
 #define _GNU_SOURCE
 #include <dlfcn.h>
@@ -17,7 +18,7 @@
 
 static const char *kind = "";
 static long wanted = -1;
-static atomic_long calls;
+static atomic_long calls, writes;
 
 static int is_kind(const char *name) { return wanted >= 0 && strcmp(kind, name) == 0; }
 
@@ -31,12 +32,18 @@ __attribute__((constructor)) static void begin(void) {
     }
 }
 
-/* Whether this call of the kind is the one to refuse. */
-static int is_met(const char *name) {
-    if (!is_kind(name) || atomic_fetch_add(&calls, 1) + 1 != wanted)
-        return 0;
+static int tell_met(void) {
     close(open(getenv("MET"), O_CREAT | O_WRONLY, 0600));
     return 1;
+}
+
+/* Whether this call of the kind is the one to refuse. */
+static int is_met(const char *name) {
+    return is_kind(name) && atomic_fetch_add(&calls, 1) + 1 == wanted && tell_met();
+}
+
+static int is_growth_met(void) {
+    return is_met("growth") || (is_kind("late-growth") && atomic_load(&writes) >= wanted && tell_met());
 }
 
 #define REAL(name) ((__typeof__(&name))dlsym(RTLD_NEXT, #name))
@@ -47,13 +54,13 @@ static void *(*real_realloc)(void *, size_t);
 void *malloc(size_t size) {
     if (!real_malloc)
         real_malloc = REAL(malloc);
-    return is_met("growth") ? (errno = ENOMEM, NULL) : real_malloc(size);
+    return is_growth_met() ? (errno = ENOMEM, NULL) : real_malloc(size);
 }
 
 void *realloc(void *old, size_t size) {
     if (!real_realloc)
         real_realloc = REAL(realloc);
-    return is_met("growth") ? (errno = ENOMEM, NULL) : real_realloc(old, size);
+    return is_growth_met() ? (errno = ENOMEM, NULL) : real_realloc(old, size);
 }
 
 int pthread_create(pthread_t *thread, const pthread_attr_t *attributes, void *(*body)(void *), void *data) {
@@ -69,6 +76,7 @@ ssize_t read(int file, void *to, size_t count) {
 ssize_t write(int file, const void *from, size_t count) {
     if (file != STDOUT_FILENO)
         return REAL(write)(file, from, count);
+    atomic_fetch_add(&writes, 1);
     if (is_met("write") || is_met("drip"))
         return errno = ENOSPC, -1;
     if (is_met("write-none"))

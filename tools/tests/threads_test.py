@@ -12,7 +12,7 @@ import pathlib
 import tempfile
 import unittest
 
-from tests.captures import PREFACE, SERVER, SYN, SYN_ACK, Capture, capture_of, frame_of
+from tests.captures import BEGINNINGS, PREFACE, SERVER, SYN, SYN_ACK, Capture, capture_of, frame_of
 from tests.programs import needed
 from tools.tests.counting import Counter
 
@@ -41,6 +41,17 @@ def connections(count: int, last: bytes = b"") -> bytes:
             ("S", SETTINGS_ACK + last),
         ):
             capture.send(side, payload)
+    return bytes(capture.bytes)
+
+
+def credits(frames: int) -> bytes:
+    """One connection whose client sends so many frames of a byte in one record. Each has two credits; of the stream's
+    opening there are two as well, and the section has a beginning and an end: four entries more.
+    """
+    capture = Capture()
+    for line in BEGINNINGS["opened"].splitlines():
+        capture.step(line)
+    capture.send("C", frame_of(["HEADERS", "1"]) + frames * frame_of(["DATA", "1", "1"]))
     return bytes(capture.bytes)
 
 
@@ -151,22 +162,26 @@ ROWS: list[tuple[str, bytes, Ways]] = [
             "packets of two MiB": 2,
             "flows": 3,
             "halves of one batch, and halves of these": 3,
-            "halves of the text on two batches, and halves of these": 6,
+            "four pages, each filled once": 3,
         },
     ),
-    ("--workers 4", connections(255), {"flows": 3, "a text of so few is one worker's": 0}),
-    ("--workers 4", connections(256), {"flows": 3, "halves of the text, from 256 connections on": 1}),
+    ("--workers 4", connections(1023), {"a part ahead": 1, "flows": 3, "2,046 entries are one worker's": 0}),
+    ("--workers 4", connections(1024), {"a part ahead": 1, "flows": 3, "two pages, from 2,048 entries on": 1}),
     (
         "--workers 4",
-        connections(8193),
+        connections(8192),
         {
             "chunks ahead": 4,
             "one more at the second and the third MiB": 2,
             "packets of three MiB": 3,
             "flows": 3,
-            "halves of the text on 8,192 connections, and halves of these; the last one is a batch of its own": 3,
+            "four pages, each filled once": 3,
         },
     ),
+    ("--workers 4 --frames --block 100000", credits(1021), {"one side's flow": 1, "2,046 entries": 0}),
+    ("--workers 4 --frames --block 100000", credits(1022), {"one side's flow": 1, "two pages of 1,025 entries": 1}),
+    ("--workers 4 --frames --block 100000", credits(8190), {"one side's flow": 1, "four pages of 4,096 entries": 3}),
+    ("--workers 4 --frames --block 100000", credits(8191), {"one side's flow": 1, "four pages, filled twice": 6}),
 ]
 
 
