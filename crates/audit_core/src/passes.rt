@@ -52,7 +52,7 @@ pub fn shown_in_one_pass(
     Ok(Some(found))
 }
 
-/// So many steps for each frame, on average, are few.
+/// So many steps for each frame, on average, are few. (Measured: bench/README.md, Thresholds.)
 const FEW_STEPS: usize = 8;
 
 /// Is each of so many frames met in few steps, where so many of them may meet all of so many streams? The change of an

@@ -18,6 +18,7 @@ use stop_desk::{Gate, Team};
 
 /// How many frames a batch of more than one connection has at most. What the rounds need beside the frames is there for
 /// one batch at a time, and so many frames are enough to keep all workers at work.
+/// (Measured: bench/README.md, Thresholds.)
 const BATCH_FRAMES: usize = 1 << 22;
 
 /// The next batch: the first of these connections, one at least.
@@ -40,6 +41,7 @@ pub(crate) fn next_batch<'a, 'b>(connections: &'b [&'a [Frame]]) -> &'b [&'a [Fr
 }
 
 /// So many connections and more are halved: then halves of as many frames are about as much work.
+/// (Measured: bench/README.md, Thresholds.)
 const HALVED_CONNECTIONS: usize = 64;
 
 /// Is each connection short beside what a worker goes through? Else jobs that are drawn divide the work better.

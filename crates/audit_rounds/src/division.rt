@@ -4,7 +4,7 @@ use audit_terms::Frame;
 use input_output::TableHash;
 
 /// Connections of so many frames and more are long: several threads make one ready, and a front of it goes through the
-/// rounds first.
+/// rounds first. (Measured: bench/README.md, Thresholds.)
 pub(crate) const LONG_FRAMES: usize = 4_096;
 
 /// How the frames of an audit are divided, and what is shown of them. However they are divided, the findings are the

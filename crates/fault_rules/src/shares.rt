@@ -16,6 +16,7 @@ use std::alloc::{AllocError, Global};
 use std::thread::Threads;
 
 /// How many frames make a share at least, 160 KiB of them: it bounds what the start of a thread costs a frame.
+/// (Measured: bench/README.md, Thresholds.)
 const SHARE_FRAMES: usize = 4096;
 
 /// The local faults of a connection's frames, in order, each frame's in order of rank: a side that does not begin with

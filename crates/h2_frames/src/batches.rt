@@ -18,16 +18,18 @@ use std::thread::{Threads, join_mut};
 const FEW_FRAMES: u64 = 8_192;
 
 /// With more frames than these in a batch, the next one reads half as far: they are to stay in the cache of a
-/// processor.
+/// processor. (Measured: bench/README.md, Thresholds.)
 const MANY_FRAMES: u64 = 32_768;
 
 /// With fewer frames than these in a batch no thread is started for the work on it.
+/// (Measured: bench/README.md, Thresholds.)
 const SHORT_FRAMES: u64 = 1_024;
 
-/// How many bytes of a side are read for a batch at least.
+/// How many bytes of a side are read for a batch at least. (Measured: bench/README.md, Thresholds.)
 const LEAST_REACH_BYTES: u32 = 131_072;
 
 /// How many are read at most: they hold up to 116,508 frames, of nine bytes each, which take 4.7 MB in a list.
+/// (Measured: bench/README.md, Thresholds.)
 const MOST_REACH_BYTES: u32 = 1_048_576;
 
 /// Frames of both sides that were taken together: each comes before any that was not taken.

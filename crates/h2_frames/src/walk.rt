@@ -25,6 +25,7 @@ use std::thread::{Threads, join_mut};
 use tcp_streams::Flow;
 
 /// With so many bytes of both sides two threads work on them: fewer are gone through before a second one has begun.
+/// (Measured: bench/README.md, Thresholds.)
 const LONG_BYTES: usize = 1_048_576;
 
 /// The frames of both sides of a connection, taken out one by one in capture order.

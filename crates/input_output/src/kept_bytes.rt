@@ -17,6 +17,7 @@ use std::{io, mem};
 
 /// How many bytes of room are made at a time in a chunk that was not made ahead. No more than that is made in vain, and
 /// what was read into it is still in the processor's cache when the walk advances over it.
+/// (Measured: bench/README.md, Thresholds.)
 const ROOM_BYTES: usize = 262_144;
 
 /// Bytes in chunks of `CAPTURE_CHUNK`, with room for more in the last of them.

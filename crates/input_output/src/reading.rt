@@ -11,7 +11,7 @@ use crate::front::FrontWalk;
 use std::io::Read;
 use std::thread::Threads;
 
-/// How many bytes are read at a time that are not kept.
+/// How many bytes are read at a time that are not kept. (Measured: bench/README.md, Thresholds.)
 const PASSED_BYTES: usize = 65_536;
 
 /// Reads until so many bytes are kept, or to the end. An error is a read that failed, or want of memory for the bytes.

@@ -20,7 +20,7 @@ use std::thread::{Threads, join};
 /// credits of one connection their merge by one worker took a fifth of the whole time.
 const SHARED_FINDINGS: usize = 1 << 14;
 
-/// Of so many findings of a list one is looked at to tell where ranges end.
+/// Of so many findings of a list one is looked at to tell where ranges end. (Measured: bench/README.md, Thresholds.)
 const FINDINGS_PER_SAMPLE: usize = 1 << 8;
 
 /// The findings of all lists in order, up to and including the least that stops (RFC 9113, 5.4.1), by so many workers.

@@ -20,10 +20,11 @@ use input_output::TableHash;
 use std::alloc::{AllocError, Global};
 use stream_credit::{Changes, QuietStream};
 
-/// How many rows are remembered, a power of 2: 4 KiB.
+/// How many rows are remembered, a power of 2: 4 KiB. (Measured: bench/README.md, Thresholds.)
 const HINTED_ROWS: usize = 1024;
 
 /// Of so many frames and more rows are remembered. Fewer look-ups would not be worth the list.
+/// (Measured: bench/README.md, Thresholds.)
 const HINTED_FRAMES: usize = 128;
 
 /// A stream, and of how many frames it is so far: it visits each frame that it meets.

@@ -19,6 +19,7 @@ use audit_terms::{Frame, Look};
 use std::alloc::{AllocError, Global};
 
 /// How many frames of a stream are gathered at once: 1,280 bytes, which stay in the nearest cache until they are met.
+/// (Measured: bench/README.md, Thresholds.)
 const NEAR_FRAMES: usize = 32;
 
 /// Makes of `near` the frames at some positions. They lie far from one another, and loads that do not depend on each
