@@ -4,9 +4,7 @@ use Rattle.audit_report.specs.{code.Ends.HasSweptTo, code.Ends.end_in, declared.
 use Rattle.audit_report.specs.declared.stalls.Stall.{Stall}
 use Rattle.audit_terms.specs.{Kind.begins_stall, Place.place_stream}
 use Rattle.audit_terms.specs.declared.{findings.Finding.Finding, frames.Frame.Frame, sides.Side.Side}
-use Rattle.std.specs.Global.{Global}
-use Rattle.std.specs.List.{flat_map}
-use Rattle.std.proofs.Common.{Bool, List, Option, Some, Vec, [], ap, arith, drop, false, get_or, if◌then◌else◌, length}
+use Rattle.std.proofs.Common.{Bool, List, Option, Some, [], ap, arith, drop, false, get_or, if◌then◌else◌, length}
 use Rattle.std.proofs.Common.{reverse, subst, sym, true, ℕ, ◌++◌, ◌-◌, ◌<◌, ◌∙◌, ◌∷◌, ◌≡◌, ◌≤◌}
 use Rattle.std.proofs.lemmas.List.{drop_more, reverse-append}
 
@@ -55,11 +53,3 @@ swept_down frames findings later left found ends ends' met met' positive within 
     swept_more frames found (drop left findings ++ later) ends ends' met swept ended in
     subst (λ (l : List Finding). P (l ++ later) met') (sym (drop_one_less findings left found positive within here))
     (subst (λ (m : List Stall). P (found ∷ (drop left findings ++ later)) m) (sym begun) stepped)
-
--- the findings of the lists from one place before
-pub lists_one_less : (lists : List (Vec Finding Global)) (left : ℕ) (list : Vec Finding Global) → 0 < left
-    → left ≤ length lists → list ≡ get_or lists (left - 1) list
-    → flat_map (λ (l : Vec Finding Global). l.items) (drop (left - 1) lists)
-    ≡ list.items ++ flat_map (λ (l : Vec Finding Global). l.items) (drop left lists)
-lists_one_less lists left list positive within is =
-    ap (flat_map (λ (l : Vec Finding Global). l.items)) (drop_one_less lists left list positive within is)

@@ -1,7 +1,7 @@
 -- The stretches of sections, one after the other.
 use Rattle.std.proofs.Common.{◌≡◌, ◌≢◌, ℕ, suc, ◌+◌, ◌-◌, ◌<◌, ◌≤◌, Bool, List, [], ◌∷◌, ◌++◌, drop, get_or, length}
 use Rattle.std.proofs.Common.{refl, ap, sym, subst, arith, ◌∙◌, append-nil, length-append}
-use Rattle.std.proofs.lemmas.List.{drop_all, get_or_default, drop_more, drop-drop, drop-append-le, Elements.All-tail}
+use Rattle.std.proofs.lemmas.List.{drop_all, get_or_default, drop_more, drop-drop, drop-append-le}
 use Rattle.std.proofs.Common.{Option, Vec, map}
 use Rattle.std.proofs.lemmas.List.{get_or-append_right, length-map}
 use Rattle.std.specs.{Global.Global, Prelude.slice_get}
@@ -12,8 +12,6 @@ use Rattle.split_merge.specs.code.Findings.{findings_in}
 use Rattle.report_pages.specs.declared.told.AuditedFrames.{AuditedFrames}
 use Rattle.report_pages.specs.code.Entries.{Entries, StandsIn, audited_stretches, listed, section_stretches}
 use Rattle.report_pages.specs.code.Entries.{told_stretches}
-use Rattle.report_pages.specs.code.Sections.{AreHeaded}
-use Rattle.report_pages.specs.code.Told.{HasOrderlyOutcome}
 use Rattle.report_pages.specs.declared.told.Told.{Told}
 
 -- one of the stretches in front, and those behind it
@@ -80,26 +78,6 @@ stands-next shown at stretch k hs [] h hd t td stands same some is this more = a
 stands-next shown at stretch k [] (t' ∷ ts) h hd t td stands same some is this more = absurd (omega arith)
 stands-next shown at stretch k (h' ∷ hs) (t' ∷ ts) h hd t td stands same some is this more =
     (of-first h' t' h t is this (λ h t. stretch + 1 < length (section_stretches shown k h t)) more, omega arith)
-
--- the beginning of sections
-pub stands-first : (shown : Bool) (k : ℕ) (hs : List SectionHeading) (ts : List Told) → StandsIn shown 0 0 k hs ts
-stands-first shown k [] ts = (refl, refl)
-stands-first shown k (h ∷ hs) [] = (refl, refl)
-stands-first shown k (h ∷ hs) (t ∷ ts) = (omega arith, omega arith)
-
--- the headings and what is told of the connections behind the first
-pub headed-behind : (k : ℕ) (hs : List SectionHeading) (ts : List Told) → AreHeaded k hs ts → 0 < length ts
-    → AreHeaded (k + 1) (drop 1 hs) (drop 1 ts)
-headed-behind k hs [] headed some = absurd (omega arith)
-headed-behind k [] (t ∷ ts) headed some = let each = headed.each in absurd (omega arith)
-headed-behind k (h ∷ hs) (t ∷ ts) headed some =
-    let each = headed.each in
-    let numbers = headed.numbers in
-    record {
-      each = omega arith;
-      orderly = All-tail (λ (t : Told). HasOrderlyOutcome t.outcome) t ts headed.orderly;
-      numbers = omega arith;
-    }
 
 -- the line on the end stands last
 pub end-last : (shown : Bool) (audited : AuditedFrames) (index : ℕ) (d : Entries)
