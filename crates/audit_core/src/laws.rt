@@ -12,8 +12,8 @@ pub fn credit_is_sum()
 
 ghost use Rattle.audit_core.specs.laws.LiveWindows.{LiveWindowsAreOpened, LiveWindowsAreUnended};
 
-/// A live window of a stream is of one that is opened, and that the window's endpoint has not ended: so the law on the
-/// credit of streams speaks of each live window.
+/// A live window belongs to a stream that is opened and that the window's endpoint has not ended: so the law on the
+/// credit of streams covers each live window.
 #[tactic(auto, using(crate::proofs::LiveWindows::live_laws))]
 pub fn live_windows_are_opened()
     ensures opened { LiveWindowsAreOpened }
@@ -51,8 +51,8 @@ pub fn parts_make_full()
 
 ghost use Rattle.audit_core.specs.laws.Stop.{KeptUptoFirstStop, FindingsStandInOrder};
 
-/// What the pass keeps is a front of all findings, in which nothing but its last is an error of the connection; and all
-/// findings stand in order, so that this error is the least.
+/// The pass keeps a front of all findings, of which only the last may be an error of the connection; and all findings
+/// are in order, so this error is the least.
 #[tactic(auto, using(crate::proofs::StopLemmas::stop_laws))]
 pub fn findings_end_at_first_stop()
     ensures kept { KeptUptoFirstStop }

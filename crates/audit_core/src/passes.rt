@@ -31,8 +31,8 @@ pub fn one_pass(alloc: Global, frames: &[Frame]) -> Result<Vec<Finding>, AllocEr
     shown_with(alloc, true, frames, &pairs, rows)
 }
 
-/// What is shown of the plain pass, with or without credits, if this takes time about as the frames do: where streams
-/// first come in rising order, and few frames may be met by all of them. Else there is no answer.
+/// What the plain pass shows, with or without credits, if that takes about linear time: where streams first come in
+/// rising order, and all of them may meet few frames. Else `None`.
 pub fn shown_in_one_pass(
     alloc: Global,
     frames_shown: bool,
@@ -52,17 +52,17 @@ pub fn shown_in_one_pass(
     Ok(Some(found))
 }
 
-/// So many steps for each frame, on average, are few. (Measured: bench/README.md, Thresholds.)
+/// Up to so many steps a frame, on average, are few. (Measured: bench/README.md, Thresholds.)
 const FEW_STEPS: usize = 8;
 
-/// Is each of so many frames met in few steps, where so many of them may meet all of so many streams? The change of an
-/// acknowledgement is also looked for among those of all acknowledgements: before this was bounded, 3 MB of settings
-/// took 8.8 s in place of 0.05.
+/// Are the steps for each of these frames few, where `met_by_all` of them may meet all streams? The change of an
+/// acknowledgement is also looked up among those of all: before this was bounded, 3 MB of settings took 8.8 s in place
+/// of 0.05.
 fn are_few_steps(met_by_all: usize, streams: usize, frames: usize) -> bool {
     met_by_all.saturating_mul(streams.max(met_by_all)) <= frames.saturating_mul(FEW_STEPS)
 }
 
-/// What is shown of the pass, where these are the changes and the rows of the streams.
+/// What the pass shows, given the changes and the rows of the streams.
 fn shown_with(
     alloc: Global,
     frames_shown: bool,
@@ -120,8 +120,8 @@ fn change_of(pairs: &Pairs, frame: &Frame) -> Option<Change>
     pairs.change_at(frame.number)
 }
 
-/// Adds what is shown of what is said at a frame, put in order, and answers whether the audit stops there. What was
-/// said is empty then, and its room serves the next frame.
+/// Appends those of a frame's findings that are shown, in order, and returns whether the audit stops there. Then `said`
+/// is empty, and its room serves the next frame.
 fn add_shown(
     found: &mut Vec<Finding>,
     said: &mut Vec<Finding>,

@@ -32,7 +32,7 @@ pub(crate) fn idle_rows(alloc: Global, frames: &[Frame]) -> Result<Vec<StreamRow
     Ok(rows)
 }
 
-/// Puts the row of a stream before the others, unless the stream is 0.
+/// Puts the row of a stream first, unless the stream is 0.
 fn put_first(rows: &mut Vec<StreamRow>, stream: u32) -> Result<(), AllocError>
     ensures { OnOk result ((streams : List ℕ) → rows.old.items ≡ idle_rows streams
         → rows.new.items ≡ idle_rows (first_of stream streams)) }
@@ -45,8 +45,7 @@ fn put_first(rows: &mut Vec<StreamRow>, stream: u32) -> Result<(), AllocError>
     Ok(())
 }
 
-/// The rows of [`idle_rows`], where streams first come in rising order, as they have to be opened (RFC 9113, 5.1.1);
-/// else none.
+/// The rows of [`idle_rows`], if streams first come in rising order, as they have to be opened (RFC 9113, 5.1.1).
 pub(crate) fn rising_rows(alloc: Global, frames: &[Frame]) -> Result<Option<IdleRows>, AllocError>
     ensures { IfOk result (λ made. ForSome made (λ idle. idle.rows.items ≡ idle_rows (streams_of frames.now))) }
 {
@@ -67,8 +66,8 @@ pub(crate) fn rising_rows(alloc: Global, frames: &[Frame]) -> Result<Option<Idle
     }))
 }
 
-/// May a frame meet all streams? An acknowledgement may change each window, and a stream that is promised is looked for
-/// among all.
+/// May a frame meet all streams? An acknowledgement may change each window, and a promised stream is looked up among
+/// all.
 fn may_meet_all(frame: &Frame) -> bool {
     frame.body.is_ack() || frame.promised_by() != 0
 }
@@ -92,8 +91,7 @@ impl RisingRows {
     ghost use Rattle.audit_core.specs.code.StreamRows.{AreRowsBefore, AreRowsOf};
     ghost use Rattle.audit_terms.specs.code.SeenStreams.{with_stream};
 
-    /// Puts the rows of the streams that a frame meets behind the others, where they have none, if the streams are past
-    /// them.
+    /// Appends a row for each stream that meets a frame and has none; returns false for one that is not above all rows.
     fn put_of(&mut self, frame: &Frame) -> Result<bool, AllocError>
         ensures { IfOk result (λ rises. OnTrue rises ((all later : List FrameTerm)
             → AreRowsBefore all (frame.now ∷ later) self.old → AreRowsBefore all later self.new)) }
@@ -105,7 +103,7 @@ impl RisingRows {
         self.put(frame.promised_by())
     }
 
-    /// Puts the row of one stream behind the others, where it has none, if the stream is past them; 0 has no row.
+    /// Appends a row for a stream other than 0 that has none; returns false for one that is not above all rows.
     fn put(&mut self, stream: u32) -> Result<bool, AllocError>
         ensures { IfOk result (λ rises. OnTrue rises ((streams : List ℕ) → AreRowsOf streams self.old
             → AreRowsOf (with_stream stream streams) self.new)) }
@@ -123,7 +121,7 @@ impl RisingRows {
     }
 }
 
-/// Where the row of a stream stands. Clients mostly open every odd stream, so a guess finds most.
+/// The index of a stream's row. Clients mostly open every odd stream, so a guess finds most.
 #[inline]
 fn find(rows: &[StreamRow], stream: u32) -> Option<usize>
     ensures { ForSome result (IsRowOf rows.now stream) }
@@ -138,7 +136,7 @@ fn find(rows: &[StreamRow], stream: u32) -> Option<usize>
     search(rows, stream)
 }
 
-/// Where the row of a stream stands, found by halving.
+/// The index of a stream's row, by binary search.
 fn search(rows: &[StreamRow], stream: u32) -> Option<usize>
     ensures { ForSome result (IsRowOf rows.now stream) }
 {
@@ -149,7 +147,7 @@ fn search(rows: &[StreamRow], stream: u32) -> Option<usize>
     None
 }
 
-/// Does the row of a stream stand here?
+/// Is the row at this index the stream's?
 fn is_row_of(rows: &[StreamRow], at: usize, stream: u32) -> bool
     ensures { OnTrue result (IsRowOf rows.now stream at) }
 {
@@ -164,7 +162,7 @@ pub(crate) fn opens(rows: &[StreamRow], frame: &Frame) -> bool
     requires { AreDistinctRows rows.now }
     ensures { result ≡ list_any (row_opens frame.now) rows.now }
 {
-    // Most frames are no HEADERS, and for these no row is looked for.
+    // Most frames are no HEADERS: for these no row is looked up.
     if !frame.body.is_headers() {
         return false;
     }
@@ -186,7 +184,7 @@ fn opens_some(rows: &[StreamRow], frame: &Frame) -> bool
 }
 
 /// Adds what each stream shows at an item, and brings it to its state after the item; `initial` are the initial windows
-/// in force before it. An item that brings no change and promises no stream is met by one stream at most.
+/// in force before it. At most one stream meets an item that brings no change and promises no stream.
 pub(crate) fn meet(
     rows: &mut [StreamRow],
     found: &mut Vec<Finding>,
@@ -215,7 +213,7 @@ pub(crate) fn meet(
     }
 }
 
-/// Adds what one stream shows at an item that no other stream meets: that of the row which stands there.
+/// Adds what one stream shows at an item that no other stream meets: the stream of the row at this index.
 fn meet_at(
     rows: &mut [StreamRow],
     at: usize,
@@ -241,8 +239,8 @@ fn meet_at(
     Ok(())
 }
 
-/// Adds what each stream shows at an item that any may meet: by halves, since there may be as many streams as frames,
-/// and a call for each would need a stack as long.
+/// Adds what each stream shows at an item that any may meet. It recurses by halves: there may be as many streams as
+/// frames, and a call for each would need as deep a stack.
 fn meet_all(
     rows: &mut [StreamRow],
     found: &mut Vec<Finding>,

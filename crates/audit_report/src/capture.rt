@@ -15,8 +15,8 @@ use tcp_streams::Stray;
 /// What the report says of the capture itself: the capture line, then a line for each fragment, each refused packet,
 /// the record that the capture's end cuts, and each pair of endpoints whose opening was not captured.
 ///
-/// There is a packet for each record, so no more of the records is needed than the number of the one that is cut. No
-/// other line tells of strays, so they are taken, and their memory is free from here on.
+/// There is a packet for each record, so beside these only the number of the cut record is needed. No other line tells
+/// of strays, so they are taken, and their memory is free from here on.
 pub fn capture_lines(
     alloc: Global,
     cut: Option<u32>,

@@ -20,7 +20,7 @@ pub fn add_stall_lines(page: &mut Vec<u8>, stalls: &[Stall])
     }
 }
 
-/// Makes the line of a stall, and answers where it begins.
+/// Makes the line of a stall, and returns where it begins.
 fn put_stall_line(line: &mut [u8; LINE_ROOM], stall: &Stall) -> usize
     ensures begins { result ≤ 512 }
     ensures made { drop result line.new ≡ stall_line stall.now }
@@ -32,7 +32,7 @@ fn put_stall_line(line: &mut [u8; LINE_ROOM], stall: &Stall) -> usize
     put_words(line, end, "stall ", stall.side.name())
 }
 
-/// Puts how a stall ends before what stands from `end` on, and answers where that begins.
+/// Puts the end of a stall just before index `end`, and returns where it begins.
 fn put_stall_end(line: &mut [u8; LINE_ROOM], end: usize, to: Option<u32>, nanos: i64) -> usize
     requires { (51 ≤ end) × (end ≤ 512) }
     ensures begins { (result ≤ end) × (end ≤ result + 51) }
@@ -57,7 +57,7 @@ pub fn add_end_line(page: &mut Vec<u8>, last: Option<Finding>)
     add_line(page, &line, begin);
 }
 
-/// Makes the line that says how far the audit went, and answers where it begins.
+/// Makes the line that says how far the audit went, and returns where it begins.
 fn put_end_line(line: &mut [u8; LINE_ROOM], last: Option<Finding>) -> usize
     ensures begins { result ≤ 512 }
     ensures made { drop result line.new ≡ end_line_after last }
@@ -68,7 +68,7 @@ fn put_end_line(line: &mut [u8; LINE_ROOM], last: Option<Finding>) -> usize
     }
 }
 
-/// Makes the line of an audit that stopped at this frame, and answers where it begins.
+/// Makes the line of an audit that stopped at this frame, and returns where it begins.
 fn put_stop_line(line: &mut [u8; LINE_ROOM], number: u32) -> usize
     ensures begins { result ≤ 512 }
     ensures made { drop result line.new ≡ line_of (field (codes "audit stopped at frame ") number) }

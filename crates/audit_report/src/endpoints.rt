@@ -4,7 +4,7 @@ ghost use Rattle.audit_report.specs.Endpoint.{address_text, endpoint_text};
 use crate::lines::{LINE_ROOM, put_field, put_number};
 use packet_heads::Endpoint;
 
-/// Puts the four bytes of an IPv4 address, with dots between them, before what stands from `end` on, and answers where
+/// Puts the four bytes of an IPv4 address, with dots between them, just before index `end`, and returns where
 /// they begin.
 fn put_address(line: &mut [u8; LINE_ROOM], end: usize, address: u32) -> usize
     requires { (83 ≤ end) × (end ≤ 512) }
@@ -17,7 +17,7 @@ fn put_address(line: &mut [u8; LINE_ROOM], end: usize, address: u32) -> usize
     put_number(line, end, (address / 16777216) as u64)
 }
 
-/// Puts `address:port` before what stands from `end` on, and answers where it begins.
+/// Puts `address:port` just before index `end`, and returns where it begins.
 pub(crate) fn put_endpoint(line: &mut [u8; LINE_ROOM], end: usize, endpoint: Endpoint) -> usize
     requires { (104 ≤ end) × (end ≤ 512) }
     ensures begins { (result ≤ end) × (end ≤ result + 104) }

@@ -28,7 +28,7 @@ impl Ends {
         }
     }
 
-    /// The end that stands for this window.
+    /// The end that is kept for this window.
     pub(crate) fn of(&self, side: Side, stream: u32) -> Option<Finding>
         ensures { result ≡ end_in self.now side stream }
     {
@@ -38,7 +38,7 @@ impl Ends {
         }
     }
 
-    /// Keeps this end for its window, instead of the one that was kept.
+    /// Keeps this end for its window, in place of the one before.
     pub(crate) fn put(&mut self, end: Finding) -> Result<(), AllocError>
         ensures { OnOk result ((side : Side) (stream : ℕ) → end_in self.new side stream
             ≡ (if is_side side end.side && (place_stream end.place == stream)

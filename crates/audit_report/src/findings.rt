@@ -66,8 +66,8 @@ fn add_finding_line(
     add_line(page, line, begin);
 }
 
-/// Makes the line of a finding, with the record and the time of its frame, which is found among the frames by its
-/// number, and answers where it begins. For a frame that is not there both are 0.
+/// Makes the line of a finding, with the record and the time of the frame of its number, and returns where it begins.
+/// For a missing frame both are 0.
 fn put_finding_line(
     line: &mut [u8; LINE_ROOM],
     moment: &mut Moment,
@@ -88,7 +88,7 @@ fn put_finding_line(
     put_field(line, end, "frame ", number as u64)
 }
 
-/// Puts what a finding says before what stands from `end` on, and answers where it begins.
+/// Puts a finding's own words just before index `end`, and returns where they begin.
 fn put_said(line: &mut [u8; LINE_ROOM], end: usize, finding: &Finding) -> usize
     requires { (86 ≤ end) × (end ≤ 512) }
     ensures begins { (result ≤ end) × (end ≤ result + 86) }

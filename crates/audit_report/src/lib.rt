@@ -8,26 +8,26 @@
 //!   it is filled, written, cleared and filled again. Each call that fills it asks for room for so many lines, says
 //!   what it added and how much of that room it took (`specs/code/Pages.antt`), and cannot fail.
 //! - [`add_opening`] begins a section, by a [`SectionHeading`], the [`Extent`]s of both flows and their [`Contents`].
-//!   Of HTTP/2, [`add_finding_lines`] goes on, page after page, by the frames and what was found in them; then come
-//!   [`add_stall_lines`] and [`add_end_line`]. Where nothing was found, the last alone is left to say, and no frames
-//!   are needed.
+//!   For HTTP/2, [`add_finding_lines`] goes on, page after page, from the frames and what was found in them; then come
+//!   [`add_stall_lines`] and [`add_end_line`]. Where nothing was found, only the end line follows, and no frames are
+//!   needed.
 //! - Definitions of whole reports are over a list of [`Audited`], one for each connection.
-//! - Which stalls findings tell of, the definition (`specs/Stalls.antt`) says by looking forward from each beginning
-//!   for the first end of the same side and stream; [`stall_pairs`] goes over the findings once, from the back, with
-//!   the nearest end of each window in a table.
-//! - Every word, number, sign, space and line end is in the contracts, the order of lines, and which findings are
-//!   shown: credits are left out by their kind, unless they are asked for. Counts are over packets, one for each
-//!   record, so they add up. The last finding alone decides how an audit ended. Want of memory is the one error, and
-//!   only of the calls that take an allocator.
-//! - Asked of the caller: orderly frames, and room; nothing of the findings. A finding whose frame is not there would
-//!   have record 0 and time 0, which no report meets. A finding's frame is looked for at its own number first, since
-//!   frame n stands at n - 1, then by halving. A line is made from its end on, in a few bytes that serve all (`lines`),
-//!   and then added to the page at once.
+//! - The definition of stalls (`specs/Stalls.antt`) looks forward from each beginning for the first end of the same
+//!   side and stream; [`stall_pairs`] reads the findings once, from the back, and keeps the nearest end of each window
+//!   in a table.
+//! - The contracts have every word, number, sign, space and line end, the order of lines, and which findings are shown:
+//!   credits are left out by their kind, unless they are asked for. Counts are over packets, one for each record, so
+//!   they add up. The last finding alone decides how an audit ended. Want of memory is the one error, and only of the
+//!   calls that take an allocator.
+//! - Asked of the caller: orderly frames, and room; nothing of the findings. A finding whose frame is missing would
+//!   have record 0 and time 0, which no report meets. A finding's frame is looked up at its own number first, since
+//!   frame n has index n - 1, then by binary search. A line is made backwards from its end, in one buffer for all
+//!   (`lines`), and then appended to the page at once.
 //! - [`worked_examples`] shows stalls: of both sides, of several windows, without an end, by a clock that went back.
 //! - Refused by the prover: the cut record left out, a sign left out, an end of a stall that has none.
 //! - Tested: in `crate_tests` the lines on one packet of each kind, and by whole reports that the calls succeed where
 //!   there is memory.
-//! - Trusted: what `itoa` states of the digits that it writes of a number.
+//! - Trusted: what `itoa` states of the digits that it writes.
 #![tactic(auto)]
 
 mod audited;

@@ -4,7 +4,7 @@ ghost use Rattle.audit_report.specs.FrameLookup.{frame_numbered};
 
 use audit_terms::Frame;
 
-/// The frame of this number, found by halving.
+/// The frame of this number, by binary search.
 pub(crate) fn frame_at(frames: &[Frame], number: u32) -> Option<Frame>
     requires { IsOrderly frames.now }
     ensures value { result ≡ frame_numbered frames.now number }
@@ -16,8 +16,8 @@ pub(crate) fn frame_at(frames: &[Frame], number: u32) -> Option<Frame>
     }
 }
 
-/// The frame of this number. Frames numbered without a gap have it as far behind the first one as their numbers differ:
-/// there it is looked for first.
+/// The frame of this number. It is first looked up as far behind the first frame as their numbers differ: there it is,
+/// if numbers have no gap.
 pub(crate) fn frame_of(frames: &[Frame], number: u32) -> Option<Frame>
     requires { IsOrderly frames.now }
     ensures { result ≡ frame_numbered frames.now number }
@@ -28,7 +28,7 @@ pub(crate) fn frame_of(frames: &[Frame], number: u32) -> Option<Frame>
     }
 }
 
-/// How far behind the first frame the one of this number stands, where frames are numbered without a gap.
+/// How far behind the first frame the one of this number is, if numbers have no gap.
 #[inline]
 fn offset_of(frames: &[Frame], number: u32) -> usize {
     match frames.first() {

@@ -1,5 +1,5 @@
-//! The record and the time of a frame, spelled once for all lines that have them: those of one frame, and of all that
-//! end in one record.
+//! The record and the time of a frame, spelled once for all lines that have them: those of one frame, and of all frames
+//! that end in one record.
 
 ghost use Rattle.std.specs.Prelude.{◌≡◌, ◌+◌, ◌≤◌, drop, length};
 ghost use Rattle.audit_terms.specs.code.runs.Orderly.{IsOrderly};
@@ -16,7 +16,7 @@ use audit_terms::Frame;
 pub(crate) struct Moment {
     pub(crate) rec: u32,
     pub(crate) nanos: u64,
-    /// What stands here from `begin` on.
+    /// The spelling, from index `begin` on.
     pub(crate) spelled: [u8; LINE_ROOM],
     pub(crate) begin: usize,
 }
@@ -36,7 +36,7 @@ impl Moment {
         }
     }
 
-    /// Goes to the frame of this number. For one that is not there both are 0.
+    /// Goes to the frame of this number. For a missing one both are 0.
     pub(crate) fn go_to(&mut self, number: u32, frames: &[Frame])
         requires frames { IsOrderly frames.now }
         requires spelled { IsSpelled self.old }
@@ -65,7 +65,7 @@ impl Moment {
     }
 }
 
-/// Puts a record and a time at the end of a line, and answers where they begin.
+/// Puts a record and a time at the end of a line, and returns where they begin.
 fn spell(line: &mut [u8; LINE_ROOM], rec: u32, nanos: u64) -> usize
     ensures begins { (result ≤ 512) × (512 ≤ result + 54) }
     ensures put { drop result line.new ≡ moment_text rec nanos }

@@ -34,7 +34,7 @@ pub fn add_opening(
     add_line(page, &line, begin);
 }
 
-/// Makes the lines of the connection and of both flows, and answers where they begin.
+/// Makes the lines of the connection and of both flows, and returns where they begin.
 fn put_opening(
     line: &mut [u8; LINE_ROOM],
     k: u64,
@@ -52,7 +52,7 @@ fn put_opening(
     put_opening_line(line, end, k, heading, contents)
 }
 
-/// Puts the line of a connection before what stands from `end` on, and answers where it begins.
+/// Puts the line of a connection just before index `end`, and returns where it begins.
 fn put_opening_line(
     line: &mut [u8; LINE_ROOM],
     end: usize,
@@ -70,7 +70,7 @@ fn put_opening_line(
     put_heading(line, end, k, heading)
 }
 
-/// Puts what a connection's line says of its opening before what stands from `end` on, and answers where it begins.
+/// Puts the heading of a connection just before index `end`, and returns where it begins.
 fn put_heading(line: &mut [u8; LINE_ROOM], end: usize, k: u64, heading: SectionHeading) -> usize
     requires { (283 ≤ end) × (end ≤ 512) }
     ensures begins { (result ≤ end) × (end ≤ result + 283) }
@@ -81,7 +81,7 @@ fn put_heading(line: &mut [u8; LINE_ROOM], end: usize, k: u64, heading: SectionH
     put_field(line, end, "connection ", k)
 }
 
-/// Puts both ends of a connection before what stands from `end` on, and answers where they begin.
+/// Puts both ends of a connection just before index `end`, and returns where they begin.
 #[tactic(auto, unfolding(crate::specs::code::Roles::roles_text))]
 fn put_roles(line: &mut [u8; LINE_ROOM], end: usize, client: Endpoint, server: Endpoint) -> usize
     requires { (224 ≤ end) × (end ≤ 512) }
@@ -94,7 +94,7 @@ fn put_roles(line: &mut [u8; LINE_ROOM], end: usize, client: Endpoint, server: E
     put_word(line, end, " client ")
 }
 
-/// Puts what flows hold before what stands from `end` on, and answers where it begins.
+/// Puts the contents of flows just before index `end`, and returns where they begin.
 fn put_contents(line: &mut [u8; LINE_ROOM], end: usize, contents: Contents) -> usize
     requires { (33 ≤ end) × (end ≤ 512) }
     ensures begins { (result ≤ end) × (end ≤ result + 33) }
@@ -108,7 +108,7 @@ fn put_contents(line: &mut [u8; LINE_ROOM], end: usize, contents: Contents) -> u
     }
 }
 
-/// Puts the line of a flow before what stands from `end` on, and answers where it begins.
+/// Puts the line of a flow just before index `end`, and returns where it begins.
 fn put_flow_line(
     line: &mut [u8; LINE_ROOM],
     end: usize,
@@ -128,7 +128,7 @@ fn put_flow_line(
     put_words(line, end, "flow ", side.name())
 }
 
-/// Puts where bytes are missing before what stands from `end` on, and answers where it begins.
+/// Puts a gap, if there is one, just before index `end`, and returns where it begins.
 fn put_gap(line: &mut [u8; LINE_ROOM], end: usize, gap: Option<u64>) -> usize
     requires { (20 ≤ end) × (end ≤ 512) }
     ensures begins { (result ≤ end) × (end ≤ result + 20) }

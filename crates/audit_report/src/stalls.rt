@@ -29,9 +29,9 @@ pub struct Stall {
     pub(crate) nanos: i64,
 }
 
-/// The stalls that findings of one connection tell of, in the order in which they begin. The findings stand in lists,
-/// one after the other. Each stall ends with the first end of its window that stands after it. `frames` has the times;
-/// a frame that is not there counts as time 0.
+/// The stalls that findings of one connection tell of, in the order in which they begin. The findings come in lists,
+/// one after the other. Each stall ends with the first later end of its window. `frames` has the times; a missing frame
+/// counts as time 0.
 pub fn stall_pairs(
     alloc: Global,
     findings: &[Vec<Finding>],

@@ -6,7 +6,7 @@ use crate::lines::{LINE_ROOM, put_field, put_last, put_word};
 use std::alloc::AllocError;
 use tcp_streams::Stray;
 
-/// Makes the line of a pair of endpoints, and answers where it begins.
+/// Makes the line of a pair of endpoints, and returns where it begins.
 fn put_unopened_line(line: &mut [u8; LINE_ROOM], stray: Stray) -> usize
     ensures begins { result ≤ 512 }
     ensures made { drop result line.new ≡ unopened_line stray }

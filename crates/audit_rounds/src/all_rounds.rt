@@ -1,4 +1,4 @@
-//! Connections that are gone through whole: they are made ready, and the rounds go over all of them.
+//! The audit of whole connections: all are made ready, and the rounds run over all of them.
 
 ghost use Rattle.std.specs.Prelude.{◌≡◌, All, IfOk, length, map};
 ghost use Rattle.audit_terms.specs.code.runs.Orderly.{IsOrderly};
@@ -21,8 +21,8 @@ use std::alloc::{AllocError, Global};
 use std::thread::Threads;
 use stop_desk::{Gate, Team};
 
-/// What is shown of each connection, all of which are gone through. One that is not divided needs no rounds: its frames
-/// are met one by one, if that takes little time.
+/// What each connection shows. One that is not divided needs no rounds: its frames are met one by one, if that takes
+/// little time.
 pub(crate) fn shown_of_each<R: Threads + Sync, G: Gate>(
     team: &Team<'_, R, G>,
     division: &Division,
@@ -42,7 +42,7 @@ pub(crate) fn shown_of_each<R: Threads + Sync, G: Gate>(
     shown_in_rounds(team, division, connections)
 }
 
-/// What is shown of each connection, found by the rounds.
+/// What each connection shows, by the rounds.
 fn shown_in_rounds<R: Threads + Sync, G: Gate>(
     team: &Team<'_, R, G>,
     division: &Division,
@@ -60,7 +60,7 @@ fn shown_in_rounds<R: Threads + Sync, G: Gate>(
     Ok(found)
 }
 
-/// What is shown of each connection, of which this was found before the rounds.
+/// What each connection shows, given what was found of it before the rounds.
 fn findings_of_prepared<R: Threads + Sync, G: Gate>(
     team: &Team<'_, R, G>,
     division: &Division,
@@ -82,7 +82,7 @@ fn findings_of_prepared<R: Threads + Sync, G: Gate>(
     rounds_over_blocks(team, division, stops, rests.as_slice(), found)
 }
 
-/// The frames up to the one at which the connection stops, that one included.
+/// The frames up to and including the one at which the connection stops.
 fn frames_within<'a>(stop: &Option<Place>, frames: &'a [Frame]) -> &'a [Frame]
     requires { IsOrderly frames.now }
     ensures { result.now ≡ frames_within stop.now frames.now }
@@ -96,7 +96,7 @@ fn frames_within<'a>(stop: &Option<Place>, frames: &'a [Frame]) -> &'a [Frame]
     }
 }
 
-/// What is left to do of each connection: of its frames, as far as they matter, with what opens streams and what comes
+/// What is left to do for each connection: its frames, as far as they matter, with what opens streams and what comes
 /// into force.
 fn rest_of_each<'a>(
     alloc: Global,

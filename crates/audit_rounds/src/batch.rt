@@ -1,5 +1,5 @@
-//! A batch of connections. Many short connections are gone through in halves, side by side: no part of the work is then
-//! left to one thread, and threads start once.
+//! A batch of connections. Many short ones are audited in halves, side by side: then no part of the work is left to one
+//! thread, and threads start once.
 
 ghost use Rattle.std.specs.Prelude.{◌≡◌, ◌<◌, ◌≤◌, All, IfOk, length, take};
 ghost use Rattle.std.specs.Bool.{OnTrue};
@@ -16,8 +16,8 @@ use std::alloc::AllocError;
 use std::thread::{Threads, join};
 use stop_desk::{Gate, Team};
 
-/// How many frames a batch of more than one connection has at most. What the rounds need beside the frames is there for
-/// one batch at a time, and so many frames are enough to keep all workers at work.
+/// The most frames of a batch of more than one connection. What the rounds need beside the frames is in memory for one
+/// batch at a time, and so many frames keep all workers at work.
 /// (Measured: bench/README.md, Thresholds.)
 const BATCH_FRAMES: usize = 1 << 22;
 
@@ -40,11 +40,11 @@ pub(crate) fn next_batch<'a, 'b>(connections: &'b [&'a [Frame]]) -> &'b [&'a [Fr
     batch
 }
 
-/// So many connections and more are halved: then halves of as many frames are about as much work.
+/// So many connections or more are halved: then halves of as many frames are about as much work.
 /// (Measured: bench/README.md, Thresholds.)
 const HALVED_CONNECTIONS: usize = 64;
 
-/// Is each connection short beside what a worker goes through? Else jobs that are drawn divide the work better.
+/// Is each connection short beside a worker's share? Else jobs that are drawn divide the work better.
 fn are_short(workers: u32, connections: &[&[Frame]]) -> bool
     requires { 0 < workers }
 {
@@ -52,14 +52,14 @@ fn are_short(workers: u32, connections: &[&[Frame]]) -> bool
     connections.iter().all(|frames| frames.len() <= most)
 }
 
-/// Is no connection divided? One thread then goes over one after the other.
+/// Is no connection divided? Then one thread audits one after the other.
 fn are_undivided(division: &Division, connections: &[&[Frame]]) -> bool {
     connections
         .iter()
         .all(|frames| division.is_undivided(*frames))
 }
 
-/// Is it worth while to go over halves of these connections side by side?
+/// Is it worth while to audit halves of these connections side by side?
 fn are_halved(workers: u32, division: &Division, connections: &[&[Frame]]) -> bool
     ensures { OnTrue result ((2 ≤ workers) × (2 ≤ length connections.now)) }
 {
@@ -72,7 +72,7 @@ fn are_halved(workers: u32, division: &Division, connections: &[&[Frame]]) -> bo
     HALVED_CONNECTIONS <= connections.len() && are_short(workers, connections)
 }
 
-/// What is shown of each connection, one gone through after the other.
+/// What each connection shows, one audited after the other.
 fn one_by_one<R: Threads + Sync, G: Gate>(
     team: &Team<'_, R, G>,
     division: &Division,
@@ -93,7 +93,7 @@ fn one_by_one<R: Threads + Sync, G: Gate>(
     Ok(all)
 }
 
-/// What is shown of the connections of both halves.
+/// What the connections of both halves show.
 fn both_shown(
     one: Result<Vec<Findings>, AllocError>,
     other: Result<Vec<Findings>, AllocError>,
@@ -106,7 +106,7 @@ fn both_shown(
     Ok(found)
 }
 
-/// What is shown of each connection of a batch.
+/// What each connection of a batch shows.
 pub(crate) fn by_halves<R: Threads + Sync, G: Gate>(
     team: &Team<'_, R, G>,
     division: &Division,
@@ -123,7 +123,7 @@ pub(crate) fn by_halves<R: Threads + Sync, G: Gate>(
         };
     }
     let (front, back) = in_halves(connections);
-    // `join` passes on nothing of what closures say that hold a team, which has a lifetime and an invariant.
+    // `join` passes on no contract of a closure that holds a team, which has a lifetime and an invariant.
     let (rt, alloc, gate) = (team.rt, team.alloc, team.gate);
     let few = team.workers / 2;
     let others = team.workers - few;

@@ -1,4 +1,4 @@
-//! The blocks that are gone through, each with the connection before it.
+//! The blocks that are run, each with the connection before it.
 
 ghost use Rattle.std.specs.Prelude.{◌≡◌, ℕ, ◌<◌, ◌≤◌, [], All, List, IfOk, length};
 ghost use Rattle.std.specs.Bool.{OnFalse};
@@ -25,7 +25,7 @@ pub(crate) struct ReadyBlock<'a> {
     pub(crate) before: ConnectionState,
 }
 
-/// May anything be shown of a block, by what its summary tells? Of a clear block only credits are.
+/// May a block show anything, by its summary? A clear block shows only credits.
 fn may_show(frames_shown: bool, before: &ConnectionState, sum: &ConnSum) -> bool
     ensures { OnFalse result ((items : List ItemTerm) → sum.now ≡ conn_sum_of items
         → shown frames_shown (block_run before.now items) ≡ []) }
@@ -33,7 +33,7 @@ fn may_show(frames_shown: bool, before: &ConnectionState, sum: &ConnSum) -> bool
     frames_shown || !clear(before, sum)
 }
 
-/// The connection before a block: as the last block leaves it, where that is of the same connection.
+/// The connection before a block: as the last block leaves it, if that is of the same connection.
 fn before_of(last: usize, now: &ConnectionState, one: &ConnectionBlock<'_>) -> ConnectionState
     ensures { result ≡ before_of last now.now one.now }
 {
@@ -44,7 +44,7 @@ fn before_of(last: usize, now: &ConnectionState, one: &ConnectionBlock<'_>) -> C
     }
 }
 
-/// The blocks of all connections of which anything may be shown.
+/// The blocks of all connections that may show anything.
 pub(crate) fn plan_of<'a>(
     alloc: Global,
     frames_shown: bool,

@@ -1,4 +1,4 @@
-//! The rounds in which blocks are summed, and gone through.
+//! The rounds that sum blocks and that run them.
 
 ghost use Rattle.std.specs.Prelude.{◌≡◌, ◌-◌, ◌<◌, ◌^◌, [], length, map, slice_index_or, ⊤};
 ghost use Rattle.std.proofs.Props.{props};
@@ -16,8 +16,7 @@ use stop_desk::{Round, Work};
 
 /// Blocks to be summed, each a job.
 ///
-/// Each block is summed, also one alone: the sum says whether it is clear, and a clear block shows nothing without
-/// credits.
+/// A sole block is summed too: the sum says whether it is clear, and a clear block shows nothing without credits.
 #[derive(Drop)]
 pub(crate) struct SumRound<'a> {
     pub(crate) blocks: &'a [ConnectionBlock<'a>],
@@ -57,7 +56,7 @@ impl Round for SumRound<'_> {
     }
 }
 
-/// Blocks to be gone through, each a job.
+/// Blocks to be run, each a job.
 #[derive(Drop)]
 pub(crate) struct BlockRound<'a> {
     pub(crate) plan: &'a [ReadyBlock<'a>],

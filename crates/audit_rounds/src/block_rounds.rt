@@ -1,5 +1,5 @@
-//! The connections' own findings, by blocks of frames: the blocks of all connections are summed in one round, and gone
-//! through in another, each from the state that the sums of the blocks before it lead to.
+//! The connections' own findings, by blocks of frames: one round sums the blocks of all connections, and another runs
+//! them, each from the state to which the sums of the blocks before it lead.
 
 ghost use Rattle.std.specs.Prelude.{◌≡◌, ◌^◌, ◌<◌, All, IfOk, length, map};
 ghost use Rattle.audit_terms.specs.Connection.{connection_start};
@@ -52,7 +52,7 @@ fn sums_of<R: Threads + Sync, G: Gate>(
     sums_in(team.alloc, settled.parts.as_slice())
 }
 
-/// The blocks of all connections of which anything may be shown, each with the connection before it.
+/// The blocks of all connections that may show anything, each with the connection before it.
 fn planned<'a, R: Threads + Sync, G: Gate>(
     team: &Team<'_, R, G>,
     division: &Division,

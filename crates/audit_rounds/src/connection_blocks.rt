@@ -8,7 +8,7 @@ ghost use Rattle.audit_rounds.specs.code.Few.{RestsAreFew};
 use conn_scan::{Block, changes_not_below, numbers_not_below};
 use std::alloc::{AllocError, Global};
 
-/// A block, and the connection that it is of.
+/// A block, and its connection.
 #[derive(Clone, Copy)]
 pub(crate) struct ConnectionBlock<'a> {
     pub(crate) connection: usize,

@@ -3,7 +3,7 @@ ghost use Rattle.std.specs.Prelude.{◌<◌};
 use audit_terms::Frame;
 use input_output::TableHash;
 
-/// Connections of so many frames and more are long: several threads make one ready, and a front of it goes through the
+/// Connections of so many frames or more are long: several threads make one ready, and a front of it goes through the
 /// rounds first. (Measured: bench/README.md, Thresholds.)
 pub(crate) const LONG_FRAMES: usize = 4_096;
 
@@ -11,12 +11,12 @@ pub(crate) const LONG_FRAMES: usize = 4_096;
 /// same.
 #[derive(Clone, Copy)]
 pub struct Division {
-    /// Into how many groups the streams of a connection are divided at most, 1 at least.
+    /// The most groups into which a connection's streams are divided, 1 at least.
     pub groups: u32,
-    /// How many frames of a connection make a block at most, 1 at least.
+    /// The most frames of a connection that make a block, 1 at least.
     pub block: u32,
-    /// Where credits are shown, the frames of a connection that has no more than so many are met one by one, if that
-    /// takes little time.
+    /// Where credits are shown, the frames of a connection of at most so many are met one by one, if that takes little
+    /// time.
     pub undivided: usize,
     /// The hash of the tables in which streams are looked up.
     pub hash: TableHash,
@@ -27,8 +27,8 @@ pub struct Division {
 }
 
 impl Division {
-    /// Is a connection of these frames not divided? Where credits are shown, which most frames change, rounds spare
-    /// little.
+    /// Is a connection of these frames not divided? Where credits are shown, rounds spare little: most frames change
+    /// one.
     pub(crate) fn is_undivided(&self, frames: &[Frame]) -> bool {
         self.frames_shown && frames.len() <= self.undivided
     }

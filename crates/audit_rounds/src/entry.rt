@@ -12,8 +12,8 @@ use std::alloc::AllocError;
 use std::thread::Threads;
 use stop_desk::{Gate, Team};
 
-/// What is shown of each connection, from its frames: what one pass over them says up to the first connection error
-/// (RFC 9113, 5.4.1), with or without credits. Without memory there is no answer.
+/// What each connection shows: what one pass over its frames says up to the first connection error (RFC 9113, 5.4.1),
+/// with or without credits. An error is want of memory.
 pub fn findings_of_each<R: Threads + Sync, G: Gate>(
     team: &Team<'_, R, G>,
     division: &Division,

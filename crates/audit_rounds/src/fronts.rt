@@ -1,5 +1,5 @@
-//! Fronts of connections. An error that lies early in a long connection spares what comes after it: of each long
-//! connection a front is gone through first, and all of it only where the front shows no error.
+//! Fronts of connections. An early error in a long connection spares what comes after it: a front of each long
+//! connection is audited first, and all of it only where the front shows no error.
 
 ghost use Rattle.std.specs.Prelude.{◌≡◌, IfOk, length, map};
 ghost use Rattle.std.specs.List.{AllZip};
@@ -16,13 +16,13 @@ use std::alloc::{AllocError, Global};
 use std::thread::Threads;
 use stop_desk::{Gate, Team};
 
-/// A front has one of so many frames of its connection. Where it shows no error, so small a part is gone through twice.
+/// A front has one in so many frames of its connection. Where it shows no error, only so small a part is audited twice.
 ///
 /// Measured, without it a connection with an early error took 1.4 times as long with credits, since rows and changes
 /// are made of all frames first.
 const FRAMES_PER_FRONT_FRAME: usize = 32;
 
-/// The frames of a connection that are gone through first: none, if there are not many.
+/// The frames of a connection that are audited first: none, if there are not many.
 fn front_of<'a>(frames: &'a [Frame]) -> &'a [Frame]
     ensures { result.now ≡ front_of frames.now }
 {
@@ -32,7 +32,7 @@ fn front_of<'a>(frames: &'a [Frame]) -> &'a [Frame]
     &frames[..frames.len() / FRAMES_PER_FRONT_FRAME]
 }
 
-/// What is gone through first of each connection.
+/// The front of each connection.
 fn fronts_of<'a>(alloc: Global, connections: &[&'a [Frame]]) -> Result<Vec<&'a [Frame]>, AllocError>
     ensures { IfOk result (λ fronts. map (λ front. front.now) fronts.items
         ≡ map (λ frames. front_of frames.now) connections.now) }
@@ -44,8 +44,8 @@ fn fronts_of<'a>(alloc: Global, connections: &[&'a [Frame]]) -> Result<Vec<&'a [
     Ok(fronts)
 }
 
-/// What is shown of each connection, of which this was found so far. Where nothing of that ends it, it is gone through,
-/// if it has frames; of any other connection this is all.
+/// What each connection shows, given what was found of it so far. Where nothing of that ends it, it is audited, if it
+/// has frames; for any other connection this is all.
 fn found_after<R: Threads + Sync, G: Gate>(
     team: &Team<'_, R, G>,
     division: &Division,
@@ -61,7 +61,7 @@ fn found_after<R: Threads + Sync, G: Gate>(
     Ok(put_back(connections, found, later))
 }
 
-/// What is shown of a front of each connection: of none of its frames, where no connection is long.
+/// What the front of each connection shows: nothing, where no connection is long.
 fn found_early<R: Threads + Sync, G: Gate>(
     team: &Team<'_, R, G>,
     division: &Division,
@@ -78,7 +78,7 @@ fn found_early<R: Threads + Sync, G: Gate>(
     found_after(team, division, fronts.as_slice(), none)
 }
 
-/// What is shown of each connection, fronts of long ones first.
+/// What each connection shows, fronts of long ones first.
 pub(crate) fn fronts_first<R: Threads + Sync, G: Gate>(
     team: &Team<'_, R, G>,
     division: &Division,

@@ -14,7 +14,7 @@ use std::alloc::{AllocError, Global};
 use std::thread::Threads;
 use stop_desk::{Gate, Part, Team};
 
-/// No findings of each connection.
+/// An empty list of findings for each connection.
 pub(crate) fn no_findings(alloc: Global, connections: usize) -> Result<Vec<Findings>, AllocError>
     ensures number { IfOk result (λ all. length all.items ≡ connections) }
     ensures each { IfOk result (λ all. All (λ one. findings_in one ≡ []) all.items) }
@@ -26,8 +26,7 @@ pub(crate) fn no_findings(alloc: Global, connections: usize) -> Result<Vec<Findi
     Ok(all)
 }
 
-/// What was found of each connection, and after it what the parts of a round keep of it: the lists of the parts, of
-/// which none is copied.
+/// What was found of each connection, and behind it what the parts of a round keep of it. No list is copied.
 pub(crate) fn gathered<M: Drop>(
     found: Vec<Findings>,
     parts: Vec<Part<M>>,
@@ -45,7 +44,7 @@ pub(crate) fn gathered<M: Drop>(
     Ok(all)
 }
 
-/// No numbers of each connection.
+/// An empty list of numbers for each connection.
 fn no_numbers(alloc: Global, connections: usize) -> Result<Vec<Vec<u32>>, AllocError>
     ensures number { IfOk result (λ all. length all.items ≡ connections) }
     ensures each { IfOk result (λ all. All (λ list. list.items ≡ []) all.items) }
@@ -57,8 +56,8 @@ fn no_numbers(alloc: Global, connections: usize) -> Result<Vec<Vec<u32>>, AllocE
     Ok(all)
 }
 
-/// Adds the numbers that a split tells, of the frames that open quiet streams, and puts all of them in order. They are
-/// few runs that rise, which this sort merges.
+/// Adds the numbers that a split tells, of the frames that open quiet streams, and sorts all of them. They are few
+/// rising runs, which this sort merges.
 fn with_quiet(told: &mut Vec<u32>, quiet: &[u32]) -> Result<(), AllocError>
     ensures { OnOk result (IsInOrder (told.old.items ++ quiet.now) told.new.items) }
 {

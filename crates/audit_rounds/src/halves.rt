@@ -1,4 +1,4 @@
-//! The halves of a batch, which are gone through side by side.
+//! The halves of a batch, which are audited side by side.
 
 ghost use Rattle.std.specs.Prelude.{◌≡◌, ◌≤◌, ◌++◌, length};
 ghost use Rattle.audit_rounds.specs.code.Batch.{IsBatch};

@@ -1,5 +1,5 @@
-//! The connections of a batch that are still to be gone through: those that have frames, and that nothing stops which
-//! was found of them so far. Any TCP connection may have no frame, and a SYN is enough to open one.
+//! The pending connections of a batch: those that have frames and that no finding so far stops. Any TCP connection may
+//! have no frame, and a SYN is enough to open one.
 
 ghost use Rattle.std.specs.Prelude.{◌≡◌, IfOk, length, map};
 ghost use Rattle.std.specs.Vec.Iter.{into_iter_items};
@@ -29,14 +29,14 @@ fn has_stopped(found: &Findings) -> bool
     stopped
 }
 
-/// Is a connection of which this was found still to be gone through?
+/// Is a connection with these frames and findings pending?
 fn is_pending(frames: &[Frame], found: &Findings) -> bool
     ensures { result ≡ is_pending frames.now (findings_in found.now) }
 {
     !frames.is_empty() && !has_stopped(found)
 }
 
-/// Of connections, with what was found of each, those that are still to be gone through.
+/// The pending ones of these connections, by what was found of each.
 pub(crate) fn pending_of<'a>(
     alloc: Global,
     connections: &[&'a [Frame]],
@@ -54,8 +54,7 @@ pub(crate) fn pending_of<'a>(
     Ok(pending)
 }
 
-/// What was found of each connection; for each that was still to be gone through, the next of what was found later in
-/// place of it.
+/// What was found of each connection; for each pending one, the next of `later` in its place.
 pub(crate) fn put_back(
     connections: &[&[Frame]],
     found: Vec<Findings>,
@@ -72,7 +71,7 @@ pub(crate) fn put_back(
     all
 }
 
-/// The next of what was found later in place of what was found of a connection, if it was still to be gone through.
+/// Replaces what was found of a connection by the next of `later`, if it is pending.
 fn put_next(frames: &[Frame], found: &mut Findings, later: &mut IntoIter<Findings>)
     ensures { IsPutNext frames.entry found.old found.new (into_iter_items later.old) (into_iter_items later.new) }
 {

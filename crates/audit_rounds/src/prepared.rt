@@ -26,11 +26,11 @@ pub(crate) struct Prepared<'a> {
     pub(crate) frames: &'a [Frame],
     /// What its acknowledgements bring into force, in order.
     pub(crate) changes: Vec<Change>,
-    /// Its frames by stream, but for the streams of which nothing is shown.
+    /// Its frames by stream, but for the quiet streams.
     pub(crate) split: SplitFrames,
 }
 
-/// Connections made ready, and of each what is found before the rounds: the faults of its single frames, then its
+/// Connections made ready, and what is found of each before the rounds: the faults of its single frames, then its
 /// unmatched acknowledgements.
 #[derive(Drop)]
 pub(crate) struct MadeReady<'a> {
@@ -39,7 +39,7 @@ pub(crate) struct MadeReady<'a> {
 }
 
 impl<'a> MadeReady<'a> {
-    /// None so far, with room for so many.
+    /// None yet, with room for so many.
     fn with_capacity(alloc: Global, connections: usize) -> Result<MadeReady<'a>, AllocError>
         ensures { IfOk result (λ made. (frames_shown : Bool) → AreMadeReady frames_shown [] made) }
     {
@@ -85,7 +85,7 @@ fn faults_and_split<R: Threads + Sync, G: Gate>(
     )
 }
 
-/// Adds a connection with what was made of it: these faults are found of it, and what its pairs show.
+/// Adds a connection with what was made of it. Its findings are these faults, and those of its pairs.
 fn add_ready<'a>(
     alloc: Global,
     made: &mut MadeReady<'a>,
@@ -110,7 +110,7 @@ fn add_ready<'a>(
     Ok(())
 }
 
-/// Makes one connection more ready.
+/// Makes one more connection ready.
 fn prepare<'a, R: Threads + Sync, G: Gate>(
     team: &Team<'_, R, G>,
     division: &Division,
@@ -157,7 +157,7 @@ fn prepare_one_by_one<'a, R: Threads + Sync, G: Gate>(
     Ok(made)
 }
 
-/// Makes each connection ready, halves of them side by side where there are workers, and answers what is found of each
+/// Makes each connection ready, halves of them side by side where there are workers, and returns what is found of each
 /// before the rounds.
 pub(crate) fn prepare_each<'a, R: Threads + Sync, G: Gate>(
     team: &Team<'_, R, G>,
@@ -171,7 +171,7 @@ pub(crate) fn prepare_each<'a, R: Threads + Sync, G: Gate>(
         return prepare_one_by_one(team, division, connections);
     }
     let (front, back) = in_halves(connections);
-    // `join` passes on nothing of what closures say that hold a team, which has a lifetime and an invariant.
+    // `join` passes on no contract of a closure that holds a team, which has a lifetime and an invariant.
     let (rt, alloc, gate) = (team.rt, team.alloc, team.gate);
     let few = team.workers / 2;
     let others = team.workers - few;

@@ -13,7 +13,7 @@ use split_merge::groups;
 use std::alloc::{AllocError, Global};
 use stop_desk::{Round, Work};
 
-/// Consecutive rows of a connection's split, from the first up to the first of the next.
+/// Consecutive rows of a connection's split, from the first up to the first of the next job.
 #[derive(Clone, Copy)]
 pub(crate) struct StreamJob {
     pub(crate) connection: usize,
@@ -21,7 +21,7 @@ pub(crate) struct StreamJob {
     pub(crate) to: usize,
 }
 
-/// Adds so many groups of the streams of a connection at most.
+/// Adds at most so many groups of a connection's streams.
 fn add_groups(
     plan: &mut Vec<StreamJob>,
     alloc: Global,
@@ -44,7 +44,7 @@ fn add_groups(
     Ok(())
 }
 
-/// So many groups of the streams of each connection at most, one connection after the other.
+/// At most so many groups of each connection's streams, one connection after the other.
 pub(crate) fn stream_plan(
     alloc: Global,
     count: usize,
@@ -64,7 +64,7 @@ pub(crate) fn stream_plan(
     Ok(plan)
 }
 
-/// A round of which each job is a group of the streams of one connection.
+/// A round in which each job is a group of one connection's streams.
 #[derive(Drop)]
 pub(crate) struct StreamsRound<'a> {
     pub(crate) connections: &'a [Streams<'a>],

@@ -24,7 +24,7 @@ use stop_desk::{AuditRound, Gate, Settled, Team, settle};
 /// What the round over streams leaves, connection by connection.
 #[derive(Drop)]
 pub(crate) struct AfterStreams {
-    /// What was found so far, of its streams at least what stands up to its stop.
+    /// What was found so far: of its streams, at least all up to its stop.
     pub(crate) found: Vec<Findings>,
     /// Where the connection is known to stop.
     pub(crate) stops: Vec<Option<Place>>,
@@ -32,7 +32,7 @@ pub(crate) struct AfterStreams {
     pub(crate) opened: Vec<Vec<u32>>,
 }
 
-/// Where a connection stops of which this was found, in all lists.
+/// Where a connection stops, by what was found in all lists.
 fn first_stop_in(found: &Findings) -> Option<Place>
     ensures { IsFirstStop (findings_in found.now) result }
 {
@@ -54,7 +54,7 @@ fn opening_stops(alloc: Global, found: &[Findings]) -> Result<Vec<Option<Place>>
     Ok(stops)
 }
 
-/// What is found of these streams, in groups, where it is known of some connections where they stop.
+/// What these streams show, in groups, given where some connections are known to stop.
 fn settled_streams<R: Threads + Sync, G: Gate>(
     team: &Team<'_, R, G>,
     division: &Division,
@@ -76,7 +76,7 @@ fn settled_streams<R: Threads + Sync, G: Gate>(
     settle(team, AuditRound::Streams, stops, &round)
 }
 
-/// What is found of the streams of connections that are ready, of each of which this was found before.
+/// What the streams of prepared connections show, given what was found of each before.
 fn settled_over<R: Threads + Sync, G: Gate>(
     team: &Team<'_, R, G>,
     division: &Division,
@@ -92,7 +92,7 @@ fn settled_over<R: Threads + Sync, G: Gate>(
     settled_streams(team, division, streams.as_slice(), stops.as_slice())
 }
 
-/// Goes through the streams of all connections, of each of which this was found before.
+/// Runs the streams of all connections, given what was found of each before.
 pub(crate) fn round_over_streams<R: Threads + Sync, G: Gate>(
     team: &Team<'_, R, G>,
     division: &Division,

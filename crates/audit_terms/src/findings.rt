@@ -100,14 +100,14 @@ pub fn put_in_order(found: &mut Vec<Finding>) -> Result<(), AllocError>
     Ok(())
 }
 
-/// Where the first finding that stops stands.
+/// The index of the first finding that stops.
 fn first_stop_index(found: &[Finding]) -> Option<usize>
     ensures { result ≡ position stops found.now }
 {
     found.iter().position(|one| one.stops())
 }
 
-/// Drops what stands after the first finding that stops.
+/// Drops the findings after the first that stops.
 pub fn cut_at_stop(found: &mut Vec<Finding>)
     ensures { found.new.items ≡ upto_stop found.old.items }
 {
@@ -127,7 +127,7 @@ pub fn keep_shown(found: &mut Vec<Finding>, frames_shown: bool)
     );
 }
 
-/// Drops what stands past a place, where there is one.
+/// Drops the findings past a place, if there is one.
 pub fn keep_up_to(found: &mut Vec<Finding>, upto: &Option<Place>)
     ensures { found.new.items ≡ up_to upto.now found.old.items }
 {

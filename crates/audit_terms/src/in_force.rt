@@ -10,7 +10,7 @@ use crate::items::Change;
 use crate::settings::Settings;
 use crate::sides::{Side, Sides};
 
-/// What an acknowledgement brings into force that answers these settings.
+/// What an acknowledgement of these settings brings into force.
 pub fn change_by(frame: &Frame, settings: Settings) -> Change
     ensures { result ≡ change_by frame.now settings }
 {

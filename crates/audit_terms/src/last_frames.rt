@@ -4,7 +4,7 @@ ghost use Rattle.audit_terms.specs.code.LastFrame.{last_of, breaks};
 use crate::frame_types::CONTINUATION;
 use crate::frames::Frame;
 
-/// What the next frame of a side asks of the last one (RFC 9113, 4.3).
+/// What the next frame of a side needs of the last one (RFC 9113, 4.3).
 #[derive(Clone, Copy)]
 pub enum LastFrame {
     /// The side sent none so far.

@@ -5,31 +5,30 @@
 //!   settings in force (`InForce`, 6.5.3), the life of a stream (`Life`, 5.1), both sides' windows (`Connection` and
 //!   `Stream`, 6.9), and the pass over all frames of a connection and where it ends (`Pass`, 5.4.1). `specs/code/runs/`
 //!   has what parts of a pass show by themselves, and when a run looks for the stop of its connection; `specs/laws/`
-//!   what laws say, as credit in closed form. The contracts of the program's calls rest on neither of the two.
+//!   what laws say, as credit in closed form. The contracts of the program's calls rest on neither.
 //! - [`Frame`], [`Change`], [`Item`] and [`Step`] are what an audit reads: frames, what they bring, and tests of one.
 //!   [`frame_types`] has the type bytes and the flags; [`change_by`], [`new_initial`] and their neighbours say what an
 //!   acknowledgement brings into force.
-//! - [`Stream`], [`StreamLife`] and [`ConnectionState`] are a stream and a connection between two frames. What a frame
-//!   shows of them, and makes of them, is said by the calls of `fault_rules`; a life goes on by itself.
-//! - [`Count`] is what a step does to the credit of a window, with the tests of it: stalls, an overrun, an overflow;
-//!   and what is left of a window that a grant overflows.
-//! - [`LastFrame`] is what the next frame of a side asks of the last one.
-//! - [`standings`]: how a side stands on a stream of which nothing is shown, in one number, and what content, grants
-//!   and changes do to it. The quiet pass and the split keep streams so.
+//! - [`Stream`], [`StreamLife`] and [`ConnectionState`] are a stream and a connection between two frames. The calls of
+//!   `fault_rules` say what a frame shows of them, and makes of them; a life goes on by itself.
+//! - [`Count`] is what a step does to the credit of a window, with its tests: stalls, an overrun, an overflow; and what
+//!   is left of a window that a grant overflows.
+//! - [`LastFrame`] is what the next frame of a side needs of the last one.
+//! - [`standings`]: how a side stands on a quiet stream, in one number, and what content, grants and changes do to it.
+//!   The quiet pass and the split keep streams so.
 //! - [`PackedSettings`], [`Word`] and [`Length`] need no alignment, so that a frame takes fewer bytes; contracts see
 //!   the settings and the numbers that they hold.
 //! - [`Place`], [`Kind`] and [`Finding`] say where a finding stands, what it says and whether it stops the audit;
 //!   [`put_in_order`], [`cut_at_stop`], [`keep_up_to`] and [`keep_shown`] order findings, end them and drop credits;
 //!   [`first_stop_place`] says where they stop, and [`lesser_place`] which of two places comes first.
-//! - [`Look`] and [`Watch`]: a run asks where its connection stops, and hands each look what is shown of the steps
-//!   before it. When a look is due, `specs/code/runs/Look.antt` says, and docs/ARCHITECTURE.md ("How the work is
-//!   divided").
+//! - [`Look`] and [`Watch`]: a run asks where its connection stops, and hands each look what the steps before it show.
+//!   `specs/code/runs/Look.antt` says when a look is due, and so does docs/ARCHITECTURE.md ("How the work is divided").
 //! - [`laws`]: places stand in the order of frame number, rank and stream, and none is all ones.
 //! - Each contract gives exactly what its definition says. The order of findings goes on from the place to side, kind
-//!   and value, so it is total, and putting in order asks for no condition.
+//!   and value, so it is total, and sorting needs no condition.
 //! - Refused by the prover: a cut by the frame, an order with the server first, an overflowing grant that is added,
-//!   padding that does not count, a place with four bits for the rank, a quiet credit that is used up. That calls
-//!   succeed where there is memory is tested by those above them.
+//!   padding that does not count, a place with four bits for the rank, a quiet credit that is used up. The calls above
+//!   test that these succeed where there is memory.
 #![tactic(auto)]
 
 mod connection_state;

@@ -13,7 +13,7 @@ const STREAMS: u64 = 0x8000_0000;
 /// The first word past all places, whose frame numbers end at 2^28 - 2.
 const PAST_PLACES: u64 = 0x0fff_ffff * RANKS * STREAMS;
 
-/// Where a finding stands: frame number, rank and stream, which order it.
+/// Where a finding stands: frame number, rank and stream, which order findings.
 ///
 /// One word of 28, 5 and 31 bits from the top, so that places compare as words. A contract sees that word.
 #[derive(Clone, Copy, PartialEq, Eq, PartialOrd, Ord)]

@@ -36,8 +36,8 @@ impl Settings {
 /// Settings as a frame keeps them, in 13 bytes: a connection has many frames. A contract sees the settings.
 #[derive(Clone, Copy)]
 pub struct PackedSettings {
-    /// Which of the words below hold a value, in three bits; before them one more than the identifier out of range, or
-    /// 0.
+    /// The low three bits say which of the words below hold a value; the others are one more than the identifier out of
+    /// range, or 0.
     marks: u8,
     push: Word,
     initial: Word,
@@ -108,7 +108,7 @@ fn one_more(identifier: Option<u16>) -> u8
     }
 }
 
-/// The identifier that a number is one more than; none of 0.
+/// The identifier that is one less than a number; none for 0.
 fn one_less(number: u8) -> Option<u16>
     ensures { result ≡ one_less number }
 {

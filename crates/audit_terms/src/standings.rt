@@ -1,5 +1,5 @@
-//! How a side stands on a stream of which nothing is shown, in one number: the credit of its live window, which is more
-//! than 0; 0 where its window is not live; and [`ENDED`] where it has ended the stream.
+//! How a side stands on a quiet stream, in one number: the credit of its live window, which is more than 0; 0 where its
+//! window is not live; and [`ENDED`] where it has ended the stream.
 
 ghost use Rattle.std.specs.Prelude.{◌≡◌};
 ghost use Rattle.std.specs.Option.{ForSome};
@@ -8,33 +8,31 @@ ghost use Rattle.audit_terms.specs.code.Standing.{IsMovedBy};
 
 use crate::windows::LARGEST_WINDOW;
 
-/// What stands for a credit where the side has ended the stream: its window is not live then. It is one more than any
-/// credit.
+/// The standing of a side that has ended the stream: its window is not live then. It is one more than any credit.
 pub const ENDED: u32 = LARGEST_WINDOW + 1;
 
-/// Does a side that stands so have a live window?
+/// Does a side of this standing have a live window?
 pub fn has_credit(standing: u32) -> bool
     ensures { result ≡ has_credit standing }
 {
     0 < standing && standing < ENDED
 }
 
-/// Has a side that stands so ended the stream?
+/// Has a side of this standing ended the stream?
 pub fn has_ended(standing: u32) -> bool
     ensures { result ≡ has_ended standing }
 {
     standing == ENDED
 }
 
-/// How a side stands whose window is not live, by whether it has ended the stream.
+/// The standing of a side whose window is not live, by whether it has ended the stream.
 pub fn without_window(is_ended: bool) -> u32
     ensures { result ≡ without_window is_ended }
 {
     if is_ended { ENDED } else { 0 }
 }
 
-/// A credit after it rises by so many bytes and falls by so many, if it is not below 0 then, and no more than the
-/// largest (RFC 9113, 6.9.1).
+/// `credit + rise - fall`, in bytes, if that is not below 0 and no more than the largest credit (RFC 9113, 6.9.1).
 pub fn balance(credit: u32, rise: u32, fall: u32) -> Option<u32>
     ensures { ForSome result (IsBalance credit rise fall) }
 {
@@ -57,8 +55,8 @@ fn kept(credit: i64) -> Option<u32>
     Some(credit as u32)
 }
 
-/// How a side stands after a change of the initial window, if its credit is still more than 0 and no more than the
-/// largest (6.9.2).
+/// A standing after a change of the initial window, if its credit is still more than 0 and no more than the largest
+/// (6.9.2).
 pub fn standing_after_change(standing: u32, before: u32, after: u32) -> Option<u32>
     ensures { ForSome result (IsMovedBy before after standing) }
 {

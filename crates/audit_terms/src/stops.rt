@@ -19,7 +19,7 @@ pub fn lesser_place(one: &Option<Place>, other: &Option<Place>) -> Option<Place>
     }
 }
 
-/// The stop so far, or the place of one finding more, if that is an error of the connection and stands before it.
+/// The stop so far, or the place of one more finding, if that is an error of the connection and lies before it.
 fn stop_with(stop: Option<Place>, one: &Finding) -> Option<Place>
     ensures { result ≡ (if stops one.now then lesser_place stop (Some one.now.place) else stop) }
 {

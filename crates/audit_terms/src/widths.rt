@@ -2,7 +2,7 @@ ghost use Rattle.std.specs.Prelude.{◌≡◌, ℕ, ◌^◌, ◌<◌};
 
 use std::marker::Model;
 
-/// A number of 32 bits that may stand at any address: so a frame takes 40 bytes. A contract sees the number.
+/// A number of 32 bits that may lie at any address: so a frame takes 40 bytes. A contract sees the number.
 #[derive(Clone, Copy)]
 pub struct Word {
     bytes: [u8; 4],

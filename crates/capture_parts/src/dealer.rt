@@ -46,7 +46,7 @@ pub(crate) struct Dealer {
 }
 
 impl Dealer {
-    /// A dealer that stands behind a file header.
+    /// A dealer that begins behind a file header.
     fn behind(header: &[u8]) -> Dealer
         requires { 24 ≤ length header.now }
         ensures order { IfSome (format_of header.now) (λ format. order_of result.is_little ≡ number_of format.endian) }
@@ -114,7 +114,7 @@ impl<W: Write + Drop> Dealing<W> {
         self.dealer.left == 0
     }
 
-    /// Deals these bytes, but for those at their end that are too few of a record.
+    /// Deals these bytes, but for those at their end that are too few to begin a record.
     pub(crate) fn deal(&mut self, unread: &[u8]) -> Result<usize, SplitFault>
         ensures within { IfOk result (λ n. n ≤ length unread.now) }
         ensures few { IfOk result (λ n. length unread.now < n + 98) }

@@ -20,7 +20,7 @@ use std::io::{Read, Write};
 /// file, and then the files of these names, which are opened in turn.
 ///
 /// Where the readers tell their bytes, these are the capture's. Each part that is not full then holds exactly its own
-/// records, in order, and their numbers; and which part is full, by which record, its own records tell. Fails where a
+/// records, in order, and their numbers; a part's own records tell whether it is full, and by which one. Fails where a
 /// file cannot be opened, is refused or ends within a record though another follows, where a read or a write does, and
 /// where either is too many ([`SplitFault::TooLong`]).
 pub fn split_capture<R: Read, F: Read + Drop, O: Fn(&str) -> io::Result<F>, W: Write + Drop>(
@@ -129,7 +129,7 @@ fn open_later<F: Read + Drop, O: Fn(&str) -> io::Result<F>>(
     Ok(file)
 }
 
-/// Fails where a later file that has this header does not go on with a capture that begins with the other.
+/// Fails where a later file with header `own` does not continue a capture that begins with `header`.
 fn like_first(own: &[u8], header: &[u8]) -> Result<(), SplitFault>
     requires { 24 ≤ length header.now }
     ensures { OnOk result (24 ≤ length own.now) }

@@ -22,7 +22,7 @@ pub struct FlushFault {
     pub file: PartFile,
 }
 
-/// Flushes all parts that are not full. Fails at the first of which a file cannot be flushed.
+/// Flushes all parts that are not full. Fails at the first with a file that cannot be flushed.
 pub fn flush_parts<W: Write + Drop>(parts: &mut [Part<BufWriter<W>>]) -> Result<(), FlushFault>
     ensures flushed { OnOk result (All IsFlushedOrFull parts.new) }
     ensures full { map (λ part. part.full) parts.new ≡ map (λ part. part.full) parts.old }
@@ -50,7 +50,7 @@ fn flush_part<W: Write + Drop>(
     }
 }
 
-/// Has each full part refused, in turn, and answers whether there is one. Fails where `refuse` does, at once.
+/// Has each full part refused, in turn, and returns whether there is one. Fails where `refuse` does, at once.
 pub fn refuse_full<W: Write + Drop, E: Drop, F: FnMut(RefusedPart) -> Result<(), E>>(
     parts: &[Part<W>],
     refuse: &mut F,

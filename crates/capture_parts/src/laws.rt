@@ -7,13 +7,13 @@ pub fn one_part()
     ensures { OnePart }
 {}
 
-/// A packet in which `packet_heads` finds a segment names that segment's endpoints. So the part of a segment hangs on
+/// A packet in which `packet_heads` finds a segment names that segment's endpoints. So the part of a segment depends on
 /// its endpoints alone.
 pub fn segments_name()
     ensures { SegmentsName }
 {}
 
-/// And on no order of the two: both directions of a connection go to one part.
+/// And not on their order: both directions of a connection go to one part.
 pub fn either_order()
     ensures { EitherOrder }
 {}

@@ -22,7 +22,7 @@ pub struct Endpoints {
 /// The length of the two ports in bytes.
 pub(crate) const PORTS: usize = 4;
 
-/// Where the datagram begins in a packet of which so much is there.
+/// Where the datagram begins in a packet with this front.
 fn datagram_start(link: u16, front: &[u8]) -> usize
     requires { 14 ≤ length front.now }
     ensures start { result ≡ datagram_start link front.now }

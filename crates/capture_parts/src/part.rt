@@ -109,7 +109,7 @@ impl<W: Write + Drop> Part<W> {
 impl<W: Write + Drop> Part<BufWriter<W>> {
     ghost use Rattle.capture_parts.specs.Finished.{IsFlushed};
 
-    /// Flushes both files, in whose buffers nothing is left then. Fails where a flush does.
+    /// Flushes both files: nothing is left in their buffers then. Fails where a flush does.
     pub fn flush(&mut self) -> Result<(), PartFile>
         ensures flushed { OnOk result (IsFlushed self.new) }
         ensures packets { Keeps (writer_contents W.contents self.old.packets)

@@ -24,7 +24,7 @@ pub fn make_buffer(alloc: Global) -> Result<Vec<u8>, AllocError>
     vec![in alloc; 0; BUFFER_BYTES]
 }
 
-/// Reads the header of a file, and answers how many bytes of it there are. Fails where a read does.
+/// Reads the header of a file, and returns how many bytes of it there are. Fails where a read does.
 pub fn read_header<R: Read>(reader: &mut R, header: &mut [u8]) -> Result<usize, SplitFault>
     ensures within { IfOk result (λ n. n ≤ length header.new) }
     ensures bytes { IfOk result (λ n. Consumes (R.remaining reader.old) (R.remaining reader.new) (take n header.new)) }
@@ -106,7 +106,7 @@ impl<W: Write + Drop> Splitter<W> {
     }
 }
 
-/// Deals a file to its end, and answers how many bytes of it are left in the buffer: too few of a record.
+/// Deals a file to its end, and returns how many bytes of it are left in the buffer: too few to begin a record.
 fn deal_file<R: Read, W: Write + Drop>(
     dealing: &mut Dealing<W>,
     reader: &mut R,
@@ -129,7 +129,7 @@ fn deal_file<R: Read, W: Write + Drop>(
     Err(SplitFault::TooLong)
 }
 
-/// Deals the first so many bytes of a buffer, moves those to its front that are too few of a record, and answers how
+/// Deals the first `filled` bytes of a buffer, moves the last, too few to begin a record, to its front, and returns how
 /// many these are.
 fn deal_buffer<W: Write + Drop>(
     dealing: &mut Dealing<W>,

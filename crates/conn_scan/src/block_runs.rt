@@ -83,8 +83,8 @@ fn goes_on<L: Look>(watch: &mut Watch, look: &mut L, found: &[Finding], item: &I
     watch.goes_on(look, found, item.frame.number)
 }
 
-/// Adds what an item shows, in order, and brings the connection to its state after the item. What `said` holds is of no
-/// account: it is kept for its memory.
+/// Adds what an item shows, in order, and brings the connection to its state after the item. `said` is scratch: only
+/// its memory is kept.
 fn add_item(
     found: &mut Vec<Finding>,
     said: &mut Vec<Finding>,

@@ -12,9 +12,9 @@ use crate::rising::Rising;
 use crate::sums::ConnSum;
 use audit_terms::{ConnectionState, LARGEST_WINDOW};
 
-/// Can a block show nothing but connection credit, by what its summary tells? Both credits stay above 0 and at most
-/// 2^31 - 1 on entry and after every item; no increment of 0 stands on stream 0; opened streams rise past those before;
-/// promises are allowed and rise; no frame is longer than the least limit of its side (RFC 9113, 4.2, 5.1.1, 6.9, 8.4).
+/// Can a block show nothing but connection credit, by its summary? Both credits stay above 0 and at most 2^31 - 1 on
+/// entry and after every item; no increment of 0 stands on stream 0; opened streams rise past those before; promises
+/// are allowed and rise; no frame is longer than the least limit of its side (RFC 9113, 4.2, 5.1.1, 6.9, 8.4).
 #[tactic(auto, using(crate::proofs::ClearLemmas::clear_same))]
 pub fn clear(before: &ConnectionState, sum: &ConnSum) -> bool
     ensures { (items : List Item) → sum.now ≡ conn_sum_of items → result ≡ is_clear before.now items }

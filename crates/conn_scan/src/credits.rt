@@ -3,7 +3,7 @@ ghost use Rattle.audit_terms.specs.code.Room.{HasRoom};
 
 use block_scan::Summary;
 
-/// What a list of signed changes does to the credit of a window (RFC 9113, 6.9). Of no change all is 0.
+/// What a list of signed changes does to the credit of a window (RFC 9113, 6.9). Without one, all is 0.
 #[derive(Clone, Copy)]
 pub struct Credit {
     /// The changes added up, in bytes.
@@ -43,7 +43,7 @@ impl Credit {
         self.sum + later
     }
 
-    /// These changes, and then those of a later summary, all of them far from what a word holds.
+    /// These changes, and then those of a later summary, all far below what a word holds.
     fn with(&self, later: &Self) -> Self
         requires mine { IsRoomy self.now }
         requires later { IsRoomy later.now }

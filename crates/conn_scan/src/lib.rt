@@ -1,17 +1,17 @@
 //! What a block of frames does to a connection (RFC 9113, 4.2, 5.1.1, 6.9), in a form that can be joined.
 //!
-//! - [`Credit`] is what changes do to one window. The greatest and the least prefix sum stand beside the sum: by the
+//! - [`Credit`] is what changes do to one window. It has the greatest and the least prefix sum beside the sum: by the
 //!   sum alone, a block that falls below 0 and rises again would look clear.
 //! - [`Rising`] is what is known of the streams that items open, [`Latest`] are the settings that they bring and the
 //!   lengths of their frames.
 //! - [`Block`] is a range of frames with the numbers of those that open streams and the changes of settings: its items
 //!   are walked one by one, and no list of them is made. A number counts as an opening on HEADERS alone, and numbers of
-//!   no frame are passed over. [`numbers_not_below`] and [`changes_not_below`] are what a later block needs of both.
+//!   no frame are skipped. [`numbers_not_below`] and [`changes_not_below`] are what a later block needs of both.
 //! - [`ConnSum`] is all of these, a lawful summary of `block_scan` whose steps are those of the connection, and
-//!   [`block_sum`] that of a block. It takes each item in place, and none is made of an item alone to be joined: most
-//!   frames move a credit or nothing.
-//! - [`block_findings`] is what a block shows, from the connection before it, up to the place at which its look has it
-//!   end, with the looks made in time (`IsRun` of `audit_terms`).
+//!   [`block_sum`] that of a block. It counts each item in place, and joins no summary of one item: most frames move a
+//!   credit or nothing.
+//! - [`block_findings`] is what a block shows, from the connection before it, up to the place at which its look ends
+//!   it, with the looks made in time (`IsRun` of `audit_terms`).
 //! - [`clear`] tells by a summary that a block shows nothing but connection credit ([`laws::clear_shows_credit`]). It
 //!   is exact for `is_clear` of `specs/code/Clear.antt`, both ways.
 //! - [`laws`] say too that the items of a connection are those of the pass and that those of consecutive blocks join,

@@ -119,7 +119,7 @@ impl Write for Slow {
     }
 }
 
-/// Counts the jobs of each round. Of some rounds it holds job 0 until another one is entered, for so many turns at
+/// Counts the jobs of each round. In some rounds it holds job 0 until another one is entered, for so many turns at
 /// most.
 #[derive(Drop)]
 pub struct TestGate {

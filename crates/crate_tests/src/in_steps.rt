@@ -46,15 +46,15 @@ fn calls_of(reader: &Pieces, writer: &Slow) -> Option<[u32; 3]> {
     Some([reader.reads, writer.writes, writer.flushes])
 }
 
-/// Whether, of these bytes, as many as the reader gave are in its account: the front that is kept, of these many at
-/// most, and how many came after it.
+/// Whether the account has as many of these bytes as the reader gave: the front that is kept, of at most `at_most`, and
+/// how many came after it.
 fn is_read(alloc: Global, reader: &CaptureReader<Pieces>, whole: &[u8], at_most: usize) -> bool {
     let read = whole.len() - reader.reader().left.len().min(whole.len());
     let kept = read.min(at_most);
     reader.passed() == read - kept && has_kept(alloc, reader, &whole[..kept])
 }
 
-/// Whether these few bytes, of one chunk, are what is kept.
+/// Whether exactly these few bytes, of one chunk, are kept.
 fn has_kept(alloc: Global, reader: &CaptureReader<Pieces>, bytes: &[u8]) -> bool {
     let Ok(kept) = reader.capture(alloc) else {
         return false;

@@ -1,4 +1,4 @@
-//! The keys under which tables are hashed: which are drawn, no contract says, since every key serves.
+//! The keys of hash tables: no contract says which are drawn, since every key serves.
 
 use crate::Answer;
 use crate::fakes::NoBytes;

@@ -1,17 +1,16 @@
-//! Tests of calls, as a program that prints a line for each: its name, and `Ok(true)` where what it compares is the
-//! same. Most lines are of what no contract says; the others show in numbers, or on random frames, what one says.
+//! Tests of calls, as a program that prints a line for each: its name, and `Ok(true)` where what it compares is equal.
+//! Most test what no contract says; the others show in numbers, or on random frames, what one says.
 //!
 //! - What the calls answer is proved in their own crates, and worked out by proof in their `worked_examples`; no test
 //!   repeats an equation.
 //! - From frames to findings: that a look answers what another pass of the desk lowered; that a later job sees the stop
-//!   which an earlier one lowered; and that `findings_of_each` and `one_pass` have an answer, where there is memory,
-//!   and the same one, of random frames, and that the quiet pass gives up only where that is not empty. How often runs
-//!   over 1,000 frames look, and what they are handed and keep, stands in their contracts; here it stands in numbers
-//!   that a reader can check.
+//!   that an earlier one lowered; that for random frames `findings_of_each` and `one_pass` have an answer, where there
+//!   is memory, and the same one; and that the quiet pass gives up only where it is not empty. Contracts say how often
+//!   runs over 1,000 frames look, and what they are handed and keep; here it is in numbers that a reader can check.
 //! - The text, and runs: the words of refused packets, and how faults print; readers and writers that go in steps or
 //!   fail; that several workers write what one does, on pages that are filled again; random keys; that two workers are
 //!   in one round of an audit at once, and how many jobs each round has. What the program answers to words and to whole
-//!   captures is asked of the program, in `tests/` at the root, and of random captures in `tools/tests/`.
+//!   captures is tested with the program, in `tests/` at the root, and with random captures in `tools/tests/`.
 //! - It is one program, since a program takes all that stands below it anew. [`fakes`], [`frames`] and [`captures`] are
 //!   what the tests share.
 #![tactic(auto)]

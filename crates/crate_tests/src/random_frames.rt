@@ -99,7 +99,7 @@ fn divided(groups: u32, block: u32, undivided: usize, frames_shown: bool) -> Div
     }
 }
 
-/// Whether the quiet pass knows that nothing is shown of the frames without credits.
+/// Whether the quiet pass knows that the frames show nothing without credits.
 fn is_quiet(alloc: Global, frames: &[Frame]) -> Answer {
     let mut pass = QuietPass::begin(alloc);
     for frame in frames {

@@ -50,7 +50,7 @@ impl Round for TwoJobs {
     }
 }
 
-/// What one worker makes of both, which find an error at frame 5.
+/// What one worker makes of both jobs, which find an error at frame 5.
 fn settled(
     rt: &(impl Sync + Threads),
     alloc: Global,

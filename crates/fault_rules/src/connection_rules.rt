@@ -59,7 +59,7 @@ pub fn say_connection(
     Ok(())
 }
 
-/// Is it content or a grant, and no change? Of the connection it moves credit alone. Most frames are of this kind.
+/// Is it content or a grant, and no change? It only moves credit of the connection. Most frames are of this kind.
 #[inline]
 fn is_plain_item(item: &Item) -> bool
     ensures { OnTrue result (IsPlainItem item.now) }

@@ -72,7 +72,7 @@ fn say_body(found: &mut Vec<Finding>, frame: &Frame) -> Result<(), AllocError>
     }
 }
 
-/// Adds a payload that cannot be read, in one of the ways in which one cannot (4.2, 6).
+/// Adds a payload that cannot be read, if the kind is one for this (4.2, 6).
 fn say_unreadable(
     found: &mut Vec<Finding>,
     kind: Kind,

@@ -7,18 +7,18 @@
 //! - [`say_connection`]: what an item shows of its connection, and the connection after it.
 //! - [`say_stream`]: what a step shows of a stream, and the stream after it.
 //! - [`local_faults`]: what `say_local` says of all frames of a connection.
-//! - The first three answer exactly what the definitions of `audit_terms` say of one frame (`local_said`,
-//!   `connection_said`, `stream_said`). The plain pass and the rounds take them from here: both say each rule by the
-//!   same code, and differ only in how they walk. Quicker ways that only tell that nothing is shown have bodies of
-//!   their own (docs/RULES_IN_CODE.md). A step with a change has an acknowledgement for its frame (`IsAcknowledged`),
-//!   so one thing alone moves a window at a step: content, a grant, or a difference of initial windows. Each is below
-//!   2^32, so credits stay below 2^60 over the fewer than 2^28 frames of a connection, and no sum wraps; that bound is
+//! - The first three give exactly what the definitions of `audit_terms` say of one frame (`local_said`,
+//!   `connection_said`, `stream_said`). The plain pass and the rounds call them: both say each rule by the same code,
+//!   and differ only in how they walk. Faster paths that only tell that nothing is shown have bodies of their own
+//!   (docs/RULES_IN_CODE.md). A step with a change has an acknowledgement for its frame (`IsAcknowledged`), so one
+//!   thing alone moves a window at a step: content, a grant, or a difference of initial windows. Each is below 2^32, so
+//!   credits stay below 2^60 over the fewer than 2^28 frames of a connection, and no sum wraps; that bound is
 //!   bookkeeping of code (`Room` of `audit_terms`).
-//! - [`local_faults`] answers exactly `local_run` of `audit_terms`, one walk over the frames that knows no shares. The
+//! - [`local_faults`] returns exactly `local_run` of `audit_terms`, one walk over the frames that knows no shares. The
 //!   code divides the frames into a share for each worker, of 4,096 frames at least. All that a share needs of those
-//!   before it is the last frame of each side. That is carried from share to share first, by going back from each
-//!   share's end as far as the frame sought, so that no frame is read more than once for each side. The shares'
-//!   findings are joined in order, whichever thread was done first.
+//!   before it is the last frame of each side. That is carried from share to share first: a scan back from each share's
+//!   end stops at the frame sought, so that no frame is read more than once for each side. The shares' findings are
+//!   joined in order, whichever thread ends first.
 //! - Tested by whole reports: that the calls succeed where there is memory, once over several shares.
 //! - Trusted: the port of `rayon`, which starts the threads; that several work at once is not proved.
 #![tactic(auto)]

@@ -15,7 +15,7 @@ use rayon::prelude::*;
 use std::alloc::{AllocError, Global};
 use std::thread::Threads;
 
-/// How many frames make a share at least, 160 KiB of them: it bounds what the start of a thread costs a frame.
+/// The fewest frames of a share, 160 KiB of them: this bounds what the start of a thread costs a frame.
 /// (Measured: bench/README.md, Thresholds.)
 const SHARE_FRAMES: usize = 4096;
 
@@ -127,7 +127,7 @@ fn faults_after(
     Ok(found)
 }
 
-/// Adds the faults of a frame, in order. What `said` holds is of no account: it is kept for its memory.
+/// Adds the faults of a frame, in order. `said` is scratch: only its memory is kept.
 fn add_faults(
     found: &mut Vec<Finding>,
     said: &mut Vec<Finding>,

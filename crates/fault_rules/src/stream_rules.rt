@@ -61,7 +61,7 @@ pub fn say_stream(
     Ok(())
 }
 
-/// Has a step a frame that does nothing but move credit of the stream? Most have.
+/// Has a step a frame that only moves credit of the stream? Most have.
 #[inline]
 fn is_plain_step(entry: &Stream, step: &Step) -> bool
     ensures { OnTrue result ((stream : ℕ) → IsPlainStep stream entry.now step.now) }
@@ -72,8 +72,8 @@ fn is_plain_step(entry: &Stream, step: &Step) -> bool
     }
 }
 
-/// Does a frame do nothing but move credit of a stream? The stream is opened, and the frame is content of a side that
-/// has not ended it, nor does so, or a grant of more than 0.
+/// Does a frame only move credit of a stream? The stream is opened, and the frame is content of a side that has not
+/// ended it, nor does so, or a grant of more than 0.
 #[inline]
 fn moves_alone(life: &StreamLife, frame: &Frame) -> bool
     ensures { OnTrue result (MovesAlone life.now frame.now) }
@@ -133,7 +133,7 @@ fn say_frame(
 }
 
 /// Adds what a step shows of the stream by its frame, if it has one. Either window of the stream may meet the step: the
-/// side is of no account.
+/// side does not matter.
 fn say_step(
     found: &mut Vec<Finding>,
     entry: &Stream,

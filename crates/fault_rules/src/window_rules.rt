@@ -117,7 +117,7 @@ fn is_used_up(credit: &i64) -> bool
     *credit <= 0
 }
 
-/// Does a step leave a live window as it is? It brings no change, and no frame that does not.
+/// Does a step leave a live window as it is? It brings no change, and its frame leaves it, if it has one.
 #[inline]
 fn leaves_window(met: &WindowStep<'_>) -> bool
     ensures { OnTrue result (LeavesWindow met.now.side met.now.stream met.now.step.now) }

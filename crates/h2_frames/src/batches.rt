@@ -25,10 +25,10 @@ const MANY_FRAMES: u64 = 32_768;
 /// (Measured: bench/README.md, Thresholds.)
 const SHORT_FRAMES: u64 = 1_024;
 
-/// How many bytes of a side are read for a batch at least. (Measured: bench/README.md, Thresholds.)
+/// The fewest bytes of a side that are read for a batch. (Measured: bench/README.md, Thresholds.)
 const LEAST_REACH_BYTES: u32 = 131_072;
 
-/// How many are read at most: they hold up to 116,508 frames, of nine bytes each, which take 4.7 MB in a list.
+/// The most that are read: they hold up to 116,508 frames, of nine bytes each, which take 4.7 MB in a list.
 /// (Measured: bench/README.md, Thresholds.)
 const MOST_REACH_BYTES: u32 = 1_048_576;
 
@@ -88,7 +88,7 @@ impl FrameBatch {
         self.reach
     }
 
-    /// Numbers its frames on from those that were taken before, and says how many are taken with them.
+    /// Numbers its frames on from those that were taken before, and returns how many are taken with them.
     pub(crate) fn number_on(&mut self, taken: u32) -> u32
         requires { taken + (length self.old.client.items + length self.old.server.items) < 2 ^ 31 }
         ensures before { self.new.before ≡ taken }
@@ -109,9 +109,9 @@ impl FrameBatch {
         self.client.len() + self.server.len()
     }
 
-    /// Appends its frames in capture order. Where memory is wanting the list is left empty.
+    /// Appends its frames in capture order. Without memory the list is left empty.
     ///
-    /// The list stands with this thread alone meanwhile: in its place it lies beside what others write.
+    /// The list is first moved to this thread, against false sharing: in its place it lies beside what others write.
     pub(crate) fn append_to(&self, frames: &mut Vec<Frame>) -> Result<(), AllocError>
         requires { IsNumbered self.now }
         ensures { OnOk result (frames.new.items ≡ frames.old.items ++ frames_of self.now) }
@@ -135,7 +135,7 @@ impl FrameBatch {
         Ok(frames)
     }
 
-    /// Goes over its frames in capture order.
+    /// Iterates over its frames in capture order.
     pub fn merge(&self) -> Merge<'_>
         requires { IsNumbered self.now }
         ensures ready { IsReadyMerge result }
@@ -191,7 +191,7 @@ impl<'a> Merge<'a> {
     }
 }
 
-/// Takes the frames of both sides up to a limit, each side's on a thread of its own where these can be had.
+/// Takes the frames of both sides up to a limit, each side's on a thread of its own where these can be spawned.
 pub(crate) fn take_side_by_side<R: Threads>(
     rt: &R,
     limit: Limit,

@@ -41,7 +41,7 @@ fn of_length(size: usize, payload: &[u8], body: Body) -> Body
     }
 }
 
-/// What stands behind the length of the padding, where there is padding, and is `fields` bytes long or longer.
+/// `body`, if the payload has at least `fields` bytes beside padding and its length; else why it is unreadable.
 fn padded_body(flags: u8, payload: &[u8], fields: usize, body: Body) -> Body
     requires payload { length payload.now < 2 ^ 24 }
     requires fields { fields < 2 ^ 24 }

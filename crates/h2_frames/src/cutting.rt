@@ -27,7 +27,7 @@ fn all_of(alloc: Global, walk: FrameWalk<'_>) -> Result<Cut, AllocError>
     Ok(Cut::Http2 { frames, tails })
 }
 
-/// What `all_of` returns, in batches: while one thread appends a batch to the list, others take the next one.
+/// As `all_of`, in batches: while one thread appends a batch to the list, others take the next one.
 fn all_in_batches<R: Threads>(
     rt: &R,
     alloc: Global,
@@ -103,7 +103,7 @@ pub fn cut_by<R: Threads>(
     }
 }
 
-/// All frames of a walk that none was taken of, and the tails. Several threads take those of long flows.
+/// All frames of a walk from which none was taken, and the tails. Several threads take those of long flows.
 fn all_by<R: Threads>(
     rt: &R,
     alloc: Global,

@@ -8,11 +8,11 @@ use crate::unread::{Next, Unread};
 use std::alloc::AllocError;
 use std::mem;
 
-/// How many frames of one record a batch takes at most, from each side: one record may fill a gap and bring many.
+/// The most frames of one record that a batch takes from each side: one record may fill a gap and bring many.
 const ENOUGH_FRAMES: u32 = 32_768;
 
-/// Up to where both sides take frames at a time: frames of earlier records, and those of this record up to this number
-/// within their side.
+/// How far a batch goes on both sides: frames of earlier records, and those of this record up to this number within
+/// their side.
 ///
 /// It is a record, so that each side is read alone: a batch of so many frames would leave some of one side over for the
 /// next.
@@ -42,8 +42,8 @@ impl Limit {
     }
 }
 
-/// The limit of both sides, where one of them has a frame left: at least that one is taken. Each side is read so many
-/// bytes further at most.
+/// The limit of both sides, where one of them has a frame left: at least that one is taken. Each side is read at most
+/// `reach` bytes further.
 pub(crate) fn limit_of(client: &Unread<'_>, server: &Unread<'_>, reach: u32) -> Option<Limit>
     requires client { IsReadAhead client.now }
     requires server { IsReadAhead server.now }
@@ -57,7 +57,7 @@ pub(crate) fn limit_of(client: &Unread<'_>, server: &Unread<'_>, reach: u32) -> 
 }
 
 impl<'a> Unread<'a> {
-    /// Up to where this side is read at a time. Its next frame, if there is one, is not past it.
+    /// How far this side is read at a time. Its next frame, if there is one, is not past it.
     ///
     /// That is the record at which its flow is so many bytes further, or else its end, and [`ENOUGH_FRAMES`] of that
     /// record.

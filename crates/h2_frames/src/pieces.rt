@@ -99,7 +99,7 @@ impl<'a> Pieces<'a> {
         front
     }
 
-    /// Takes this many bytes out and puts them behind those gathered.
+    /// Takes this many bytes out and appends them to those gathered.
     fn gather(&mut self, count: usize, gathered: &mut Vec<u8>) -> Result<(), AllocError>
         requires counted { IsMeasured self.old }
         requires there { count ≤ length (bytes_left self.old) }
@@ -128,7 +128,7 @@ impl<'a> Pieces<'a> {
         }
     }
 
-    /// Takes a payload out, and says what it says.
+    /// Takes a payload out, and returns what it says.
     fn take_payload(&mut self, header: Header, gathered: &mut Vec<u8>) -> Result<Body, AllocError>
         requires counted { IsMeasured self.old }
         requires short { header.length < 2 ^ 24 }

@@ -47,7 +47,7 @@ pub(crate) enum Next {
     Over,
 }
 
-/// What one side sent, as far as it was not taken yet: frames, of which the next may be read ahead, and a tail.
+/// What one side sent and was not taken yet: frames, the next of which may be read ahead, and a tail.
 #[derive(Drop)]
 pub(crate) struct Unread<'a> {
     pub side: Side,

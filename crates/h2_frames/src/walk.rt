@@ -24,7 +24,7 @@ use std::alloc::{AllocError, Global};
 use std::thread::{Threads, join_mut};
 use tcp_streams::Flow;
 
-/// With so many bytes of both sides two threads work on them: fewer are gone through before a second one has begun.
+/// With so many bytes of both sides two threads work on them: fewer are read before a second one has started.
 /// (Measured: bench/README.md, Thresholds.)
 const LONG_BYTES: usize = 1_048_576;
 
@@ -39,7 +39,7 @@ pub struct FrameWalk<'a> {
 /// What the two flows of a connection begin with: which kind of [`crate::Cut`] they have.
 #[derive(Drop)]
 pub enum Begun<'a> {
-    /// The preface, and then what this walk goes over.
+    /// The preface, and then the frames of this walk.
     Http2(FrameWalk<'a>),
     /// The client's bytes do not begin with the connection preface.
     NotHttp2,
@@ -117,7 +117,7 @@ impl<'a> FrameWalk<'a> {
         Ok(Some(first.numbered(self.taken)))
     }
 
-    /// Reads the next frame of each side ahead, and says up to where the next batch goes, where there is a frame left.
+    /// Reads the next frame of each side ahead, and returns the limit of the next batch, where there is a frame left.
     fn limit_ahead(&mut self, batch: &mut FrameBatch) -> Result<Option<Limit>, AllocError>
         requires { IsReadyWalk self.old }
         ensures on { OnOk result (IsWalkOn self.old self.new) }
@@ -223,7 +223,7 @@ impl<'a> FrameWalk<'a> {
     }
 }
 
-/// Begins to go over the frames of a connection's client and server: decides whether it is HTTP/2, and reads none yet.
+/// Begins a walk over the frames of a connection's client and server: decides whether it is HTTP/2, and reads none yet.
 ///
 /// The flows are to be as [`crate::cut`] asks, and its four kinds are these.
 pub fn begin<'a>(alloc: Global, client: &'a Flow<'a>, server: &'a Flow<'a>) -> Begun<'a>

@@ -30,7 +30,7 @@ use tcp_streams::{Connection, ConnectionWalk, Connections, Stray};
 
 /// The report of a capture, and its verdict.
 ///
-/// Answers `Pcap` exactly where the capture is refused, else `OutOfMemory` where memory runs out; never another fault.
+/// Returns `Pcap` exactly where the capture is refused, else `OutOfMemory` where memory runs out; never another fault.
 pub fn audit(
     rt: &(impl Threads + Sync + RandomSource),
     alloc: Global,
@@ -110,7 +110,7 @@ pub(crate) fn audit_chunks<R: Threads + Sync, G: Gate>(
     }
 }
 
-/// The report of a capture whose packets and connections are these, and its verdict. Tables have this hash.
+/// The report of a capture with these packets and connections, and its verdict. Tables have this hash.
 fn audit_records<R: Threads + Sync, G: Gate>(
     team: &Team<'_, R, G>,
     options: &Options,
@@ -131,7 +131,7 @@ fn audit_records<R: Threads + Sync, G: Gate>(
     // `--frames` asks for credit lines.
     let frames_shown = options.frames_shown();
     let Connections { opened, strays } = connections;
-    // From here on there are no packets and strays, whose memory frames may take.
+    // From here on packets and strays are freed: frames may take their memory.
     let (lines, parts) = lines_and_flows(
         team,
         frames_shown,
@@ -140,7 +140,7 @@ fn audit_records<R: Threads + Sync, G: Gate>(
         strays,
         opened.as_slice(),
     )?;
-    // Nor are there lists of members.
+    // So are lists of members.
     let headings = headings_of(team.alloc, opened)?;
     let division = Division {
         groups: options.groups(),
@@ -157,7 +157,7 @@ fn audit_records<R: Threads + Sync, G: Gate>(
     report_parts(team, &division, lines, headings, parts)
 }
 
-/// The report of connections, behind the lines of the capture, and its verdict. Of each these parts tell what its flows
+/// The report of connections, behind the lines of the capture, and its verdict. `parts` tell what the flows of each
 /// hold.
 fn report_parts<R: Threads + Sync, G: Gate>(
     team: &Team<'_, R, G>,
@@ -184,7 +184,7 @@ fn report_parts<R: Threads + Sync, G: Gate>(
     Ok((report, verdict))
 }
 
-/// The lines of a capture, and what the flows of its connections hold. Packets and strays are gone when it answers.
+/// The lines of a capture, and what the flows of its connections hold. It frees packets and strays.
 fn lines_and_flows<R: Threads + Sync, G: Gate>(
     team: &Team<'_, R, G>,
     frames_shown: bool,

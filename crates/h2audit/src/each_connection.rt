@@ -28,9 +28,9 @@ use std::vec::IntoIter;
 use stop_desk::{AuditRound, Gate, Part, Team, settle};
 use tcp_streams::Connection;
 
-/// How many packets a connection has on average, at least, where workers share the connections out. Of mere openings
-/// it takes longer to share such jobs out, and to put in order what they made, than to do them: measured, several
-/// workers took a fifth longer than one.
+/// The least average of packets per connection at which workers share the connections out. With mere openings it takes
+/// longer to share such jobs out, and to sort what they made, than to do them: measured, several workers took a fifth
+/// longer than one.
 const SHARED_PACKETS_PER_CONNECTION: usize = 4;
 
 /// What the flows of each connection hold, in order.
@@ -60,7 +60,7 @@ pub(crate) fn flows_each<R: Threads + Sync, G: Gate>(
     Ok(settled.parts)
 }
 
-/// How many of the workers share out so many connections, which have so many packets.
+/// How many of the workers share out so many connections with so many packets.
 fn sharers(workers: u32, packets: usize, opened: usize) -> u32
     requires { 0 < workers }
     ensures { 0 < result }

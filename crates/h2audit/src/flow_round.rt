@@ -19,8 +19,8 @@ use std::thread::{Threads, join};
 use stop_desk::{Round, Work};
 use tcp_streams::{Connection, Flow, assemble};
 
-/// What is made for each side of a connection, by two threads (`both`). It stands behind a trait, since `join` passes
-/// on nothing of what closures say that hold a type with a lifetime and a model, as [`Capture`] is.
+/// What is made for each side of a connection, by two threads (`both`). It is behind a trait, since `join` passes on no
+/// contract of a closure that holds a type with a lifetime and a model, as [`Capture`] is.
 trait ForSides: Sync {
     type Made: Send + Drop;
 
@@ -33,7 +33,7 @@ trait ForSides: Sync {
         ensures { Self.makes self.now side result };
 }
 
-/// What is made for both sides, the server's on a thread of its own where there are two and one can be had.
+/// What is made for both sides, the server's on a thread of its own if two are allowed and one can be spawned.
 fn both<R: Threads, S: ForSides>(rt: &R, threads: usize, sources: &S) -> (S::Made, S::Made)
     requires { S.asks sources.now }
     ensures client { S.makes sources.now Client result.0 }
@@ -176,7 +176,7 @@ fn told_from<R: Threads>(
     let (client, server) = both(rt, threads, sources);
     let client = client?;
     let server = server?;
-    // Of the flows the report needs their reach alone.
+    // The report needs only the reach of the flows.
     let reach = Reach::of_both(&client, &server);
     match outcome_of(rt, sources.alloc, threads, frames_shown, &client, &server) {
         Ok(outcome) => Ok(Told { reach, outcome }),
@@ -184,7 +184,7 @@ fn told_from<R: Threads>(
     }
 }
 
-/// What the flows of one connection hold, with nothing found yet. Where nothing is shown of them, no list is made.
+/// What the flows of one connection hold, with nothing found yet. Where they show nothing, no list is made.
 fn outcome_of<R: Threads>(
     rt: &R,
     alloc: Global,

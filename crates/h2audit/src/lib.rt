@@ -5,12 +5,12 @@
 //! let (report, verdict) = audit(&rt, rt.alloc(), &options, capture.as_slice(), &NoGate)?;
 //! ```
 //!
-//! - [`audit`] answers for every capture its report and verdict, or why there is none: the first refusal that applies,
+//! - [`audit`] returns the report and verdict of every capture, or why there is none: the first refusal that applies,
 //!   or want of memory. The report is `IsReport` of `specs/Report.antt`, which names no function of the crates below,
 //!   no workers, groups or blocks; [`laws::one_report`] says that there is no second one.
-//! - [`run`] reads a capture to its end, audits it, writes the report and flushes once. It never has the text as a
-//!   whole, which [`audit`] answers, and no want of memory ends it once writing begins. What its reads gave and its
-//!   writes took is told by the accounts of a [`CaptureReader`] and a [`ReportWriter`] (clause `tells`, `Tells` of
+//! - [`run`] reads a capture to its end, audits it, writes the report and flushes once. It never holds the whole text,
+//!   which [`audit`] returns, and no want of memory ends it once writing begins. The accounts of a [`CaptureReader`]
+//!   and a [`ReportWriter`] tell what its reads gave and its writes took (clause `tells`, `Tells` of
 //!   `specs/Account.antt`), for every reader and writer, also of files and pipes. Where these tell their bytes
 //!   themselves, they are those of the accounts (`given`, `taken`); what a run then leaves in the writer follows
 //!   ([`laws::runs_leave`], [`laws::faults_are_silent`]).
@@ -20,12 +20,12 @@
 //! - [`parse`] says what the words of a command line ask for, by `clap`'s own definition of the command (`Asks` of
 //!   `specs/Asked.antt`): an audit with its [`Options`], help, the version or why the words are refused. [`Options`]
 //!   refuses numbers out of range. [`worked_examples`] compute eight command lines. [`ending`] is status and line.
-//! - 2^31 bytes, at which reading stops, are refused as the whole is. Where the file header refuses a capture, it alone
+//! - Reading stops at 2^31 bytes, which are refused as the whole is. Where the file header refuses a capture, only it
 //!   is kept (`brief`), since what follows changes no answer (`pcap_records::laws::header_refuses`).
 //! - docs/ARCHITECTURE.md follows the data all the way through the crates, and says how workers divide the work.
-//! - What is kept of a connection from its flows on is small, and has all that the text tells of its audit
-//!   (`report_pages::Told`): how far the flows reach, and the number of frames where nothing is shown of them, else the
-//!   frames, what was found in them and the stalls. Of all connections it is kept until the report is written.
+//! - From its flows on, little is kept of a connection, but all that the text tells of its audit
+//!   (`report_pages::Told`): how far the flows reach, and the number of frames where they show nothing, else the
+//!   frames, what was found in them and the stalls. For all connections it is kept until the report is written.
 //! - Refused by the prover: an empty report, a verdict by errors alone, standard input read beside FILE, FILE left out,
 //!   the ends of a connection exchanged.
 //! - Tested, in `crate_tests`: the texts of faults; in `tests/` at the root: what the program answers to words, the

@@ -31,7 +31,7 @@ use stop_desk::NoGate;
 /// The exit status for words that do not parse.
 const WORDS_REFUSED: u8 = 2;
 
-/// The words of the command line behind the first, which is the program's name. An error is a word that is not text, or
+/// The words of the command line after the first, which is the program's name. An error is a word that is not text, or
 /// want of memory.
 pub fn program_words(alloc: Global, words: io::Result<Args>) -> io::Result<Vec<String>>
     ensures { AreBehindName words result }
@@ -68,10 +68,10 @@ pub struct Outside<O, S, I, F, W> {
 
 /// The program: `h2audit [--workers N] [--groups N] [--block N] [--frames] [FILE]`, with these words.
 ///
-/// The report goes to standard output, and so does help; a fault is one line on standard error. The
-/// words are judged before FILE is opened. `ending` says which exit status an audit has; words that
-/// do not parse have status 2. Unless the status is 0, 1 or 4 nothing is written to standard output.
-/// Of standard input and FILE no more than one is read, by the words.
+/// The report goes to standard output, and so does help; a fault is one line on standard error. The words are judged
+/// before FILE is opened. `ending` says which exit status an audit has; words that do not parse have status 2. Unless
+/// the status is 0, 1 or 4 nothing is written to standard output. By the words, at most one of standard input and FILE
+/// is read.
 pub fn run_program<
     O: FnMut(&str) -> io::Result<F>,
     S: FnMut(&str),
@@ -177,7 +177,7 @@ fn open<O: FnMut(&str) -> io::Result<F>, S, I, F, W>(
     (outside.open_file)(path)
 }
 
-/// What the audit of FILE answers, and the account of its reads. Not opened, it is a failed read, or want of memory.
+/// What the audit of FILE returns, and the account of its reads. Not opened, it is a failed read, or want of memory.
 fn audit_file<F: Read + Drop, W: Write>(
     rt: &(impl AllocGlobal + Threads + Sync + RandomSource),
     options: &Options,

@@ -26,8 +26,8 @@ pub(crate) enum FileHeader {
 }
 
 /// Reads to the end, or until there are 2^31 bytes, and keeps what its answer can depend on: all of it, or the file
-/// header alone where that refuses it. Answers that refusal, or a walk that has made the packets so far and found their
-/// connections, by a table whose hash is drawn here. Other workers make room ahead of the reads.
+/// header alone where that refuses it. Returns that refusal, or a walk that has made the packets so far and found their
+/// connections, by a table whose hash is drawn here. Other workers make chunks ahead of the reads.
 pub(crate) fn read_capture<R: Read>(
     rt: &(impl Threads + Sync + RandomSource),
     alloc: Global,
@@ -48,7 +48,7 @@ pub(crate) fn read_capture<R: Read>(
     }
 }
 
-/// Reads a capture into chunks that are made ahead, and answers what its file header gives.
+/// Reads a capture into chunks that are made ahead, and returns what its file header gives.
 fn read_in_chunks<T: Threads, R: Read>(
     alloc: Global,
     hash: TableHash,

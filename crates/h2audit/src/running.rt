@@ -22,9 +22,9 @@ use stop_desk::{Gate, Team};
 
 /// Reads a capture to its end, audits it, writes its report and flushes once.
 ///
-/// Of any reader and writer, also of a file or a pipe, the accounts then tell which bytes the reads gave and the
-/// writes took: the report that was written is that of the capture that was read. Of a capture that its file header
-/// refuses the account keeps that header, and the number of bytes after it, which are read and passed over.
+/// For any reader and writer, also a file or a pipe, the accounts then tell which bytes the reads gave and the writes
+/// took: the report that was written is that of the capture that was read. If its file header refuses a capture, the
+/// account keeps that header, and the number of bytes after it, which are read and passed over.
 ///
 /// No capture is refused before reading is over, so a failure to read comes before a refusal of the capture. After
 /// `Write` a front of the report was written, possibly all of it; after any other fault nothing was. An error of any
@@ -50,7 +50,7 @@ pub fn run<R: Read, W: Write>(
     write_out(rt, text, verdict, writer)
 }
 
-/// Writes a text as it is spelled and flushes once, and answers this verdict where that went well.
+/// Writes a text as it is spelled and flushes once, and returns this verdict where that went well.
 pub(crate) fn write_out<R: Threads + Sync, W: Write>(
     rt: &R,
     text: Report,
@@ -67,7 +67,7 @@ pub(crate) fn write_out<R: Threads + Sync, W: Write>(
     }
 }
 
-/// Audits what is kept of a capture, or answers the refusal that was read. Want of memory is entered in the account.
+/// Audits what is kept of a capture, or returns the refusal that was read. Want of memory is entered in the account.
 fn audit_kept<T: Threads + Sync, G: Gate, R: Read>(
     team: &Team<'_, T, G>,
     options: &Options,

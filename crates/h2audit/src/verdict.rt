@@ -32,7 +32,7 @@ pub(crate) fn verdict_on(told: &[Told]) -> Verdict
     }
 }
 
-/// Is one of the findings that are told of a connection a fault?
+/// Is one of a connection's findings a fault?
 fn has_fault_in(outcome: &Outcome) -> bool
     ensures { result ≡ has_fault_in outcome.now }
 {

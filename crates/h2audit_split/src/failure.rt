@@ -14,9 +14,9 @@ use thiserror::Error;
 /// What the program does at its end.
 #[derive(Drop)]
 pub enum Ending {
-    /// Every part stands.
+    /// Every part was written.
     Split,
-    /// Some part does not, which was said.
+    /// Some part was refused, as was said.
     PartsRefused,
     /// A text for standard output: help, or the version.
     Text(String),

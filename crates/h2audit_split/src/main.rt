@@ -1,7 +1,7 @@
 //! The program: `h2audit-split --parts N -o DIR [FILE..]`. It makes parts of a capture of any size, each of which is a
 //! capture that h2audit reads.
 //!
-//! - Which record goes to which part, and that each goes to one, `capture_parts` promises.
+//! - `capture_parts` promises which record goes to which part, and that each goes to one.
 //! - What the program does with words, files and folders is proved safe and total: as many parts are made as `clap`
 //!   hands over, those that are not full are flushed, each full one is refused, and status 3 says so.
 //! - Tested, in `tests/` and `tools/tests/splitter_test.py` at the root: the texts of help and of refused words, each

@@ -240,8 +240,8 @@ fn remove_file<R: Files + AllocGlobal>(
     }
 }
 
-/// Removes the folder with the files of so many parts, after a failure. What cannot be removed stays: it is the failure
-/// before that is told.
+/// Removes the folder with the files of so many parts, after a failure. What cannot be removed stays: the failure
+/// before is told.
 pub fn remove_folder<R: Files + AllocGlobal>(rt: &R, folder: &str, count: usize) {
     for index in 0..count {
         let _ = remove_file(rt, folder, index + 1, PartFile::Packets);

@@ -16,12 +16,12 @@ use std::thread::{Threads, join_mut};
 /// The number of bytes at which reading stops: a capture that has as many is refused.
 pub const LIMIT: usize = 2_147_483_648;
 
-/// How many bytes are read beside one walk, at most. Where no thread can be had, the walk comes after them.
+/// The most bytes that are read beside one walk. Where no thread can be spawned, the walk comes after them.
 const BESIDE_BYTES: usize = 67_108_864;
 
 /// How the reads of a capture went so far.
 ///
-/// It is one state: of three marks two would never stand together, and each clause would have to say of all three what
+/// It is one state: of three flags two would never be set together, and each clause would have to say of all three what
 /// it means of one.
 #[derive(Clone, Copy, PartialEq, Eq)]
 pub enum ReadState {
@@ -37,8 +37,8 @@ pub enum ReadState {
 
 /// A reader of a capture, with an account of what its reads answered.
 ///
-/// A type of reader tells which bytes it will give, if any, and not whether a read failed; of a file or a pipe it tells
-/// nothing. The account does: the top of the crate names all that enters it.
+/// A type of reader tells which bytes it will give, if any, and not whether a read failed; for a file or a pipe it
+/// tells nothing. The account does: the top of the crate names all that enters it.
 #[derive(Drop)]
 pub struct CaptureReader<R> {
     reader: R,
@@ -175,10 +175,10 @@ impl<R: Read> CaptureReader<R> {
         self.enter_read(read).and(Ok(()))
     }
 
-    /// Reads once or more, up to [`LIMIT`], while a walk goes on over what is kept.
+    /// Reads once or more, up to [`LIMIT`], while a walk advances over what is kept.
     ///
-    /// With one worker the thread at hand reads once, and walks where the room is filled. With several, where a chunk
-    /// begins, another thread walks over those before it, and the one at hand reads on until that walk is done.
+    /// With one worker the calling thread reads once, and walks where the room is filled. With several, where a chunk
+    /// begins, another thread walks over those before it, and the caller reads on until that walk is done.
     pub(crate) fn read_and_walk<T: Threads, W: FrontWalk + Send>(
         &mut self,
         ahead: &mut ChunksAhead<'_, T>,
@@ -233,9 +233,9 @@ impl<R: Read> CaptureReader<R> {
         self.enter_memory(whole).and(read)
     }
 
-    /// Reads on, up to `limit`, until a walk over full chunks is done, which another thread lets go on. So neither
-    /// sleeps until the other one is done. A reader need not be fit for another thread, so it is the walk that goes
-    /// there; where no thread can be had, it comes after the reads.
+    /// Reads on, up to `limit`, until another thread's walk over full chunks is done. So neither sleeps until the other
+    /// one is done. A reader need not be `Send`, so the walk goes to the other thread; where none can be spawned, it
+    /// comes after the reads.
     ///
     /// Measured, a virtual processor that sleeps takes 0.3 ms to wake. With a join after each chunk the reader slept
     /// wherever the walk took longer than the read.

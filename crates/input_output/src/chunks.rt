@@ -7,7 +7,7 @@ ghost use Rattle.input_output.specs.code.Sizes.{IsChunkAt};
 use std::alloc::{AllocError, Global};
 use std::marker::Model;
 
-/// A list that is held in chunks of `N` elements each, of which the last may be shorter.
+/// A list that is held in chunks of `N` elements each, the last of which may be shorter.
 #[derive(Drop)]
 pub struct Chunks<'a, T, const N: usize> {
     chunks: Vec<&'a [T]>,
@@ -44,7 +44,7 @@ impl<'a, T, const N: usize> Chunks<'a, T, N> {
         &self.chunk_of(start)[start % N..]
     }
 
-    /// The chunk in which an index stands.
+    /// The chunk that an index is in.
     fn chunk_of(&self, index: usize) -> &'a [T]
         requires { index < length self.now }
         ensures size { 0 < N }
@@ -77,8 +77,8 @@ impl<'a, T, const N: usize> Chunks<'a, T, N> {
         }
     }
 
-    /// Puts the elements from one index up to another behind those that were found: as they lie, in one slice or in
-    /// several. Where memory is wanting, some of them may stand there.
+    /// Appends the elements from one index up to another to those that were found: as they lie, in one slice or in
+    /// several. Without memory, some of them may be appended.
     pub fn slices(
         &self,
         start: usize,

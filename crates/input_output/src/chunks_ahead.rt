@@ -7,7 +7,7 @@ use std::alloc::{AllocError, Global};
 use std::collections::VecDeque;
 use std::thread::{JoinHandle, Threads, spawn};
 
-/// How many chunks are in the making at once, at most, each by a thread: measured, the first use of a page takes two to
+/// The most chunks that are in the making at once, each by a thread: measured, the first use of a page takes two to
 /// three times as long as to read into it.
 const MOST_MAKERS: usize = 4;
 
@@ -87,7 +87,7 @@ impl<'a, T: Threads> ChunksAhead<'a, T> {
     }
 }
 
-/// Makes a chunk so long, with zeros behind what it has.
+/// Fills a chunk up to this length with zeros.
 pub(crate) fn fill_up(chunk: &mut Vec<u8>, length: usize) -> Result<(), AllocError>
     requires { vec_len chunk.old ≤ length }
     ensures front { take (vec_len chunk.old) chunk.new.items ≡ chunk.old.items }

@@ -25,7 +25,7 @@ const ROOM_BYTES: usize = 262_144;
 pub(crate) struct KeptBytes {
     /// The chunks before the last, each of them full.
     full: Vec<Vec<u8>>,
-    /// Of the last chunk the first `filled` bytes are kept.
+    /// The last chunk: its first `filled` bytes are kept.
     last: Vec<u8>,
     filled: usize,
 }
@@ -122,7 +122,7 @@ impl KeptBytes {
         Ok(count)
     }
 
-    /// Takes out what is kept, where it fills chunks and nothing stands in the last one. It is to be put back.
+    /// Takes out what is kept, where it fills chunks and the last one is empty. It is to be put back.
     #[tactic(auto, using(crate::proofs::Bytes::full_size, crate::proofs::Bytes::sizes))]
     pub(crate) fn take_full(&mut self, alloc: Global) -> Option<FullChunks>
         ensures kept { IfSome result (λ full. full ≡ self.old.kept) }
@@ -156,7 +156,7 @@ impl KeptBytes {
         put
     }
 
-    /// Lets a walk go on over the bytes, where there is no room for one more, and no other thread to walk over them.
+    /// Advances a walk over the bytes, where there is no room for one more, and no other thread to walk over them.
     pub(crate) fn walk_where_filled<T: Threads, W: FrontWalk>(
         &self,
         ahead: &ChunksAhead<'_, T>,
@@ -204,7 +204,7 @@ impl FullChunks {
         self.chunks.len() * CAPTURE_CHUNK
     }
 
-    /// Lets a walk go on over the bytes, and then tells that it is done.
+    /// Advances a walk over the bytes, and then tells that it is done.
     pub(crate) fn walk<W: FrontWalk>(&self, alloc: Global, walk: &mut W) -> Result<(), AllocError>
         requires { SurvivesAppends W.stands self.now walk.old }
         ensures { OnOk result (SurvivesAppends W.stands self.now walk.new) }

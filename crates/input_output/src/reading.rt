@@ -34,12 +34,12 @@ pub fn keep_up_to<T: Threads, R: Read>(
     read
 }
 
-/// Reads to the end, or until there are 2^31 bytes, and keeps them, while a walk goes on over them.
+/// Reads to the end, or until there are 2^31 bytes, and keeps them, while a walk advances over them.
 ///
-/// With one worker the thread that reads walks over each 256 KiB as soon as these are there, while they are near the
-/// processor. With several, another thread walks over the full chunks while the one at hand reads on, and when it is
-/// done, over those that are full by then. What is read last is left to the end of the walk. An error is a read that
-/// failed, or want of memory for the bytes or for the walk.
+/// With one worker the reading thread walks over each 256 KiB as soon as these are there, while they are in the cache.
+/// With several, another thread walks over the full chunks while the reading one reads on, and when it is done, over
+/// those that are full by then. What is read last is left to the end of the walk. An error is a read that failed, or
+/// want of memory for the bytes or for the walk.
 pub fn keep_and_walk<T: Threads, R: Read, W: FrontWalk + Send>(
     ahead: &mut ChunksAhead<'_, T>,
     reader: &mut CaptureReader<R>,

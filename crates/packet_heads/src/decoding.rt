@@ -76,9 +76,9 @@ fn decision_on(link: u16, number: u32, row: &Record, packet: &[u8]) -> Packet
 
 /// What a record holds: the first line of the table that applies to its captured bytes.
 ///
-/// `link` is the link type of the capture, 1 (Ethernet) or 101 (raw IP); `number` is the record's. The captured
-/// bytes of `row` are to lie in `capture`, as those of `pcap_records::records` do. They are read where they lie;
-/// those in which chunks of the capture meet are gathered first.
+/// `link` is the link type of the capture, 1 (Ethernet) or 101 (raw IP); `number` is the record's. The captured bytes
+/// of `row` are to lie in `capture`, as those of `pcap_records::records` do. They are read where they lie; those that
+/// cross chunks of the capture are gathered first.
 pub fn decode(
     alloc: Global,
     link: u16,
@@ -103,7 +103,7 @@ pub fn decode(
     Ok(decision_on(link, number, row, &packet))
 }
 
-/// The captured bytes of a record in which chunks of the capture meet, gathered.
+/// The captured bytes of a record that crosses chunks of the capture, gathered.
 #[cold]
 fn gathered(alloc: Global, row: &Record, capture: &Capture<'_>) -> Result<Vec<u8>, AllocError>
     requires { row.now.start + row.now.length ≤ length capture.now }

@@ -51,7 +51,7 @@ impl<T: Copy> Growing<T> {
         (self.full.len() * PACKET_CHUNK + self.last.len()) as u32
     }
 
-    /// One item more.
+    /// Appends an item.
     #[tactic(auto, using(crate::proofs::Held::held_length))]
     pub(crate) fn push(&mut self, alloc: Global, item: T) -> Result<(), AllocError>
         requires { length self.old < 2 ^ 31 }
@@ -73,7 +73,7 @@ impl<T: Copy> Growing<T> {
     }
 }
 
-/// Puts a chunk behind full ones, and begins another with an item.
+/// Appends a chunk to the full ones, and begins another with an item.
 #[cold]
 fn begin_chunk<T: Copy>(
     alloc: Global,

@@ -42,7 +42,7 @@ impl MadePackets {
         Ok(made)
     }
 
-    /// One packet more.
+    /// Appends a packet.
     #[tactic(auto, using(crate::proofs::Marking::one_more))]
     pub(crate) fn push(&mut self, alloc: Global, packet: Packet) -> Result<(), AllocError>
         requires sound { IsSound self.old }

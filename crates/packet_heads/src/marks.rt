@@ -1,4 +1,4 @@
-//! Marks, of which each stands for a packet: one below 11 for one that is passed over, any other for a segment.
+//! Marks. Each stands for a packet: one below 11 for one that is passed over, any other for a segment.
 
 ghost use Rattle.std.specs.Prelude.{◌≡◌, ◌<◌, IfNone, IfSome, get_or};
 ghost use Rattle.packet_heads.specs.code.Marks.{packet_of, passed_over};

@@ -26,7 +26,7 @@ pub struct CapturePackets {
 
 /// The packets of a front of a capture, behind which more bytes may come.
 ///
-/// Who reads a capture lets the walk advance over each chunk as it has come. No record is kept beside its packet.
+/// The reader of a capture advances the walk over each chunk as it comes. No record is kept beside its packet.
 #[derive(Drop)]
 pub struct PacketWalk {
     records: RecordWalk,
@@ -36,7 +36,7 @@ pub struct PacketWalk {
 }
 
 impl PacketWalk {
-    /// A walk that stands behind the file header, or the refusal of these bytes.
+    /// A walk that begins behind the file header, or the refusal of these bytes.
     pub fn begin(alloc: Global, front: &[u8]) -> Result<PacketWalk, PcapFault>
         ensures ok { IfOk result (IsPacketWalkIn front.now) }
         ensures none { IfOk result (λ walk. made_by walk ≡ []) }
@@ -68,9 +68,9 @@ impl PacketWalk {
         Packets::of(alloc, &self.packets)
     }
 
-    /// Makes the packet of each record that the capture has by now, behind those that were made before.
+    /// Appends the packet of each record that the capture has by now.
     ///
-    /// Memory can be wanting for the packets, or for a record in which chunks of the capture meet.
+    /// Memory can be wanting for the packets, or for a record that crosses chunks of the capture.
     pub fn advance(&mut self, alloc: Global, capture: &Capture<'_>) -> Result<(), AllocError>
         requires walk { IsPacketWalkIn capture.now self.old }
         requires short { length capture.now ≤ 2 ^ 31 }
@@ -82,8 +82,8 @@ impl PacketWalk {
         self.go_on(alloc, capture)
     }
 
-    /// Makes the packet of each record that the capture has by now. The contract speaks of this capture alone, and not
-    /// of one that goes on behind its bytes.
+    /// Makes the packet of each record that the capture has by now. The contract is about this capture alone, and not
+    /// about one that goes on behind its bytes.
     fn go_on(&mut self, alloc: Global, capture: &Capture<'_>) -> Result<(), AllocError>
         requires walk { HasMade capture.now self.old }
         requires short { length capture.now ≤ 2 ^ 31 }
@@ -99,12 +99,12 @@ impl PacketWalk {
         Ok(())
     }
 
-    /// What the capture holds, of which this walk made a front, or the first refusal that applies.
+    /// What the capture holds, after this walk over a front of it, or the first refusal that applies.
     ///
     /// Refusals are tested in the order of their numbers, from the header and the length alone. A capture that is not
     /// refused is read whole: bytes at its end that hold no whole record are the cut record, and all before it is kept.
-    /// [`PcapFault::OutOfMemory`] comes only where memory for packets, or for a record in which chunks of the capture
-    /// meet, was wanting.
+    /// [`PcapFault::OutOfMemory`] comes only where memory for packets, or for a record that crosses chunks of the
+    /// capture, was wanting.
     pub fn finish(self, alloc: Global, capture: &Capture<'_>) -> Result<CapturePackets, PcapFault>
         requires walk { IsPacketWalkIn capture.now self }
         // Nothing refuses the capture, and there is a packet for each of its records: the decision on it.
@@ -114,7 +114,7 @@ impl PacketWalk {
         // Each fault other than want of memory is that refusal.
         ensures err { IfErr result (λ e. (e ≡ PcapFault.OutOfMemory) ⊎ (refusal capture.now ≡ Some e)) }
 
-        // For those who go on from the packets.
+        // For callers that use the packets.
         ensures front { IfOk result (λ found. IsFrontOf (made_by self) (packets_in found)) }
         ensures order { IfOk result (λ found. AreInOrder (length capture.now) (packets_in found)) }
         ensures short { OnOk result (length capture.now < 2 ^ 31) }
@@ -128,7 +128,7 @@ impl PacketWalk {
         }
     }
 
-    /// What a capture that is not refused holds, of which this walk made a front.
+    /// What a capture that is not refused holds, after this walk over a front of it.
     fn completed(
         mut self,
         alloc: Global,

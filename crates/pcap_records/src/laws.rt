@@ -32,7 +32,7 @@ pub fn header_refuses()
     ensures { HeaderRefuses }
 {}
 
-/// What a walk has read of a front of a capture stands, whatever bytes come behind it.
+/// What a walk has read of a front of a capture stays right, whatever bytes come behind it.
 #[tactic(auto, using(crate::proofs::Walking::more_bytes_keep_a_walk_lem))]
 pub fn more_bytes_keep_a_walk()
     ensures { MoreBytesKeepAWalk }

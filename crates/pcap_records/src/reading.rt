@@ -30,11 +30,11 @@ pub fn refusal_in_chunks(capture: &Capture<'_>) -> Option<PcapFault>
 
 /// The records of a capture (file format version 2.4), or the first refusal that applies.
 ///
-/// Refusals are tested in the order of their numbers, from the header and the length alone. A capture
-/// that is not refused is read whole: bytes at its end that hold no whole record are the cut record,
-/// and all before it is kept. Times are in nanoseconds; a fraction above its usual range is used as
-/// it is. [`PcapFault::OutOfMemory`] comes only where the table of records could not grow, or a record's
-/// header, in which chunks of the capture meet, could not be gathered.
+/// Refusals are tested in the order of their numbers, from the header and the length alone. A capture that is not
+/// refused is read whole: bytes at its end that hold no whole record are the cut record, and all before it is kept.
+/// Times are in nanoseconds; a fraction above its usual range is used as it is. [`PcapFault::OutOfMemory`] comes only
+/// where the table of records could not grow, or a record's header, which crosses chunks of the capture, could not be
+/// gathered.
 pub fn records(alloc: Global, capture: &Capture<'_>) -> Result<Records, PcapFault>
     // Nothing refuses the capture, and this is all that it holds.
     ensures ok { IfOk result (λ found. (refusal capture.now ≡ None) × IsReading capture.now found) }
@@ -43,8 +43,8 @@ pub fn records(alloc: Global, capture: &Capture<'_>) -> Result<Records, PcapFaul
     // Each fault other than want of memory is that refusal.
     ensures err { IfErr result (λ e. (e ≡ PcapFault.OutOfMemory) ⊎ (refusal capture.now ≡ Some e)) }
 
-    // For those who go on from the records: they lie in the capture in order, their times fit, the
-    // link type is one of the two, and a place in the capture has 31 bits.
+    // For callers that use the records: they lie in the capture in order, their times fit, the link type is one of the
+    // two, and a place in the capture has 31 bits.
     ensures placed { IfOk result (λ found. AreWithin (length capture.now) found.rows.items) }
     ensures timely { IfOk result (λ found. AreTimely found.rows.items) }
     ensures linked { IfOk result (λ found. IsTrue (is_read found.link)) }
@@ -60,7 +60,7 @@ pub fn records(alloc: Global, capture: &Capture<'_>) -> Result<Records, PcapFaul
     }
 }
 
-/// All that a capture holds, of which this walk has passed no record yet.
+/// All that a capture holds, by a walk that has passed no record of it yet.
 fn passed(alloc: Global, mut walk: RecordWalk, capture: &Capture<'_>) -> Result<Records, AllocError>
     requires walk { HasPassed capture.now [] walk }
     requires short { length capture.now < 2 ^ 31 }

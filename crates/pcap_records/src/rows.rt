@@ -53,7 +53,7 @@ fn record_behind<T: ByteOrder>(front: &[u8], at: usize, size: usize, unit: u64) 
 /// The record that begins at an offset of a capture of this format, if a whole one stands there. `T` is the format's
 /// order of bytes.
 ///
-/// Its header is read where it lies; one in which chunks of the capture meet is gathered first, and fails where memory
+/// Its header is read where it lies; one that crosses chunks of the capture is gathered first, and fails where memory
 /// runs out.
 pub(crate) fn next_record<T: ByteOrder>(
     alloc: Global,

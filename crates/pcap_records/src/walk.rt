@@ -18,8 +18,8 @@ use std::alloc::{AllocError, Global};
 
 /// The records of a front of a capture, behind which more bytes may come, one after the other.
 ///
-/// A program can so walk over what it has read of a capture. What a walk has passed stands whatever follows
-/// (`laws::more_bytes_keep_a_walk`), and it keeps no record.
+/// So a program can walk over what it has read of a capture. What a walk has passed stays right whatever follows
+/// (`laws::more_bytes_keep_a_walk`). It keeps no record.
 #[derive(Clone, Copy)]
 pub struct RecordWalk {
     format: Format,
@@ -29,7 +29,7 @@ pub struct RecordWalk {
 }
 
 impl RecordWalk {
-    /// A walk that stands behind the file header, or the refusal of these bytes.
+    /// A walk that begins behind the file header, or the refusal of these bytes.
     pub fn begin(front: &[u8]) -> Result<RecordWalk, PcapFault>
         ensures ok { IfOk result (HasPassed front.now []) }
         ensures taken { OnOk result (refusal front.now ≡ None) }
@@ -43,7 +43,7 @@ impl RecordWalk {
         }
     }
 
-    /// A walk that stands behind this file header, which is of this format.
+    /// A walk that begins behind this file header, which is of this format.
     pub(crate) fn of(format: Format, header: &[u8]) -> RecordWalk
         requires { 24 ≤ length header.now }
         ensures format { result.format ≡ format }
@@ -66,7 +66,7 @@ impl RecordWalk {
 
     /// The next record, where the capture has all of it by now.
     ///
-    /// Memory can be wanting for a record's header in which chunks of the capture meet.
+    /// Memory can be wanting for a record's header that crosses chunks of the capture.
     pub fn next(
         &mut self,
         alloc: Global,

@@ -1,5 +1,4 @@
-//! The connection between two frames, for as long as nothing of it is shown where credits are not shown: then both
-//! windows have credit.
+//! The connection between two frames, for as long as it is quiet: then both windows have credit.
 
 ghost use Rattle.std.specs.Prelude.{◌≡◌, false, Option};
 ghost use Rattle.std.specs.Bool.{OnTrue};
@@ -43,8 +42,8 @@ impl KeptConnection {
         }
     }
 
-    /// Meets a frame, which opens its stream or not and may bring a change, and answers whether nothing of that may be
-    /// shown.
+    /// Meets a frame, which opens its stream or not and may bring a change, and returns false if that may show
+    /// something.
     pub(crate) fn meet(&mut self, frame: &Frame, opens: bool, change: &Option<Change>) -> bool
         ensures { OnTrue result (IsConnectionAfter frame.now opens change.now self.old self.new) }
     {
@@ -72,8 +71,8 @@ impl KeptConnection {
         true
     }
 
-    /// Meets a frame that opens no stream, promises none and brings no change, as most do, and answers whether nothing
-    /// of that may be shown.
+    /// Meets a frame that opens no stream, promises none and brings no change, as most do, and returns false if that
+    /// may show something.
     #[inline]
     pub(crate) fn meet_lone(&mut self, frame: &Frame) -> bool
         requires { is_server_promise frame.now ≡ false }
@@ -92,8 +91,8 @@ impl KeptConnection {
         true
     }
 
-    /// Meets a SETTINGS, or an acknowledgement with the change that it brings, and answers whether nothing of that may
-    /// be shown.
+    /// Meets a SETTINGS, or an acknowledgement with the change that it brings, and returns false if that may show
+    /// something.
     pub(crate) fn meet_settings(&mut self, frame: &Frame, change: &Option<Change>) -> bool
         requires { is_server_promise frame.now ≡ false }
         ensures { OnTrue result (IsConnectionAfter frame.now false change.now self.old self.new) }
@@ -132,7 +131,7 @@ impl KeptConnection {
     }
 }
 
-/// Whose credit a frame may move: it does nothing to the others.
+/// The side whose credit a frame may move: it moves no other.
 #[inline]
 fn moved_side(frame: &Frame) -> Option<Side>
     ensures client { (result ≡ Option.Some Side.Client → ⊥) → LeavesCredit Side.Client frame.now }
@@ -158,7 +157,7 @@ fn balance_after(credit: u32, side: Side, frame: &Frame) -> Option<u32>
     Some(after)
 }
 
-/// A credit after a frame, if nothing but credit is shown of that (6.9, 6.9.1).
+/// A credit after a frame, if that shows nothing but credit (6.9, 6.9.1).
 fn credit_after(credit: u32, side: Side, frame: &Frame) -> Option<u32>
     ensures { ForSome result (IsCreditAfter side frame.now credit) }
 {

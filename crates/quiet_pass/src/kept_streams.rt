@@ -1,4 +1,4 @@
-//! All streams of a connection, for as long as nothing of them is shown where credits are not shown.
+//! All streams of a connection, for as long as they are quiet.
 
 ghost use Rattle.std.specs.Prelude.{◌≡◌, ℕ, ◌<◌, true, false, [], IfOk};
 ghost use Rattle.std.specs.Bool.{OnTrue};
@@ -33,7 +33,7 @@ impl Streams {
         }
     }
 
-    /// Meets a frame on a stream, and says whether it opens the stream; nothing where something may be shown.
+    /// Meets a frame on a stream, and returns whether it opens the stream; `None` if it may show something.
     pub(crate) fn meet(
         &mut self,
         initial: &Sides<u32>,
@@ -54,7 +54,7 @@ impl Streams {
         }
     }
 
-    /// Meets a promise of the server, which opens the promised stream, and answers whether nothing of that may be shown
+    /// Meets a promise of the server, which opens the promised stream, and returns false if that may show something
     /// (RFC 9113, 6.6).
     fn promise(&mut self, initial: &Sides<u32>, frame: &Frame) -> Result<bool, AllocError>
         requires { is_server_promise frame.now ≡ true }
@@ -67,7 +67,7 @@ impl Streams {
         open(&mut self.promised, frame.body.promised(), initial, frame)
     }
 
-    /// Meets a change of the initial windows in force, and answers whether nothing of that may be shown (6.9.2).
+    /// Meets a change of the initial windows in force, and returns false if that may show something (6.9.2).
     pub(crate) fn move_windows(&mut self, before: &Sides<u32>, after: &Sides<u32>) -> bool
         ensures { OnTrue result (AreAllMoved before.now after.now self.old self.new) }
     {
@@ -75,7 +75,7 @@ impl Streams {
     }
 }
 
-/// Meets a frame on a stream that has to be opened, and answers whether nothing of that may be shown.
+/// Meets a frame on a stream that has to be opened, and returns false if that may show something.
 fn meet_opened(rows: &mut Vec<Row>, frame: &Frame) -> bool
     ensures { OnTrue result (AreRising rows.old.items → (initial : SidesTerm ℕ)
         → IsMetOn frame.now.stream initial frame.now false rows.old.items rows.new.items) }
@@ -86,8 +86,8 @@ fn meet_opened(rows: &mut Vec<Row>, frame: &Frame) -> bool
     }
 }
 
-/// Meets a frame on a stream, one of those in the rows, and says whether it opens the stream; nothing where something
-/// may be shown. Frames that need no opened stream do nothing to one without a row.
+/// Meets a frame on a stream, one of those in the rows, and returns whether it opens the stream; `None` if it may show
+/// something. Frames that need no opened stream do nothing to one without a row.
 #[inline]
 fn meet_on(
     rows: &mut Vec<Row>,

@@ -1,21 +1,21 @@
-//! Connections of which nothing is shown, where credits are not shown: most are of this kind. A [`QuietPass`] meets
-//! their frames one by one, in the order of the capture, and keeps none of them. [`quiet_connection`] takes them out of
-//! both flows as it goes, and answers how many they are, and how many bytes are left over ([`QuietConnection`]).
+//! Quiet connections, of which nothing is shown where credits are not: most are quiet. A [`QuietPass`] meets their
+//! frames one by one, in capture order, and keeps none of them. [`quiet_connection`] takes them out of both flows as it
+//! goes, and returns their number, and how many bytes are left over ([`QuietConnection`]).
 //!
-//! - It goes along the pass of `audit_terms`, which steps from state to state. For as long as it is quiet, nothing but
-//!   credits is said at any frame so far, and it stands for the state after them (`IsQuietAfter`). By
-//!   [`laws::quiet_frames_show_nothing`] the pass over these frames then shows nothing. As soon as something may be
-//!   shown, it gives up and stands for nothing: then the frames have to be audited.
-//! - Of the last frame of each side it keeps whether a field block goes on after it, and of which stream.
-//! - SETTINGS are kept until the end (`settings_pair::Pending`): connections have few. A change that moves an initial
-//!   window goes over all streams (RFC 9113, 6.9.2); after 64 of these it gives up, so that frames cost a bounded time
+//! - It follows the pass of `audit_terms`, which steps from state to state. While it is quiet, only credits are said at
+//!   the frames so far, and it stands for the state after them (`IsQuietAfter`). By [`laws::quiet_frames_show_nothing`]
+//!   the pass over these frames then shows nothing. As soon as something may be shown, it gives up and stands for
+//!   nothing: then the frames have to be audited.
+//! - It keeps of each side's last frame whether a field block goes on after it, and of which stream.
+//! - It keeps SETTINGS until the end (`settings_pair::Pending`): connections have few. A change that moves an initial
+//!   window updates all streams (RFC 9113, 6.9.2); after 64 of these it gives up, so that frames cost a bounded time
 //!   each. A change that moves none costs nothing.
-//! - A stream that is opened has a row: how each side stands is one number, since each live window has credit. The
-//!   client opens odd streams in rising order, and the server promises even ones so (5.1.1): a row is found by a guess,
-//!   and else by halving. A stream that does not open past all before it is a reason to give up, as is any use of one
-//!   that is not opened. PRIORITY and frames of unknown types do nothing to such a stream.
-//! - One rule brings a row to its state after a frame of any type, ends and resets too.
-//! - Frames cost no memory, but for a new stream and SETTINGS. No sum wraps, and nothing is asked of the caller:
+//! - An opened stream has a row: how each side stands is one number, since each live window has credit. The client
+//!   opens odd streams in rising order, and the server promises even ones likewise (5.1.1): a guess finds a row, else a
+//!   binary search. It gives up at a stream that does not open past all before it, and at any use of one that is not
+//!   opened. PRIORITY and frames of unknown types do nothing to such a stream.
+//! - One rule updates a row for frames of all types, ends and resets too.
+//! - Frames take no memory, but for a new stream and SETTINGS. No sum wraps, and nothing is asked of the caller:
 //!   credits are kept in 32 bits, and each sum is made in 64.
 //! - Refused by the prover: content of a reset stream that the connection does not count (5.1); exchanged tails.
 //! - Tested, in `threads_test.py`: that connections of which nothing is shown go through no round, so that it does not

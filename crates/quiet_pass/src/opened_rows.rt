@@ -1,5 +1,4 @@
-//! The streams that were opened, of each a row: in the order of their identifiers, which is that of their opening
-//! (RFC 9113, 5.1.1).
+//! A row for each stream that was opened, in the order of identifiers, which is that of openings (RFC 9113, 5.1.1).
 
 ghost use Rattle.std.specs.Prelude.{◌≡◌, ℕ, true, false, IfOk};
 ghost use Rattle.std.specs.Bool.{OnTrue};
@@ -23,7 +22,7 @@ pub(crate) struct Row {
 const _: () = prove!(size_of::<Row>() == 16);
 
 impl Row {
-    /// The row after a frame on its stream, if nothing of that is shown.
+    /// The row after a frame on its stream, if that shows nothing.
     #[inline]
     fn after(&self, frame: &Frame) -> Option<Row>
         ensures { ForSome result (IsRowAfter frame.now self.now) }
@@ -34,7 +33,7 @@ impl Row {
         })
     }
 
-    /// The row of a stream that a frame opens, if it does and nothing but credits is shown of that.
+    /// The row of a stream that a frame opens, if it does and shows nothing but credits.
     fn opened(stream: u32, initial: &Sides<u32>, frame: &Frame) -> Option<Row>
         ensures { ForSome result (IsOpened stream initial.now frame.now) }
     {
@@ -44,7 +43,7 @@ impl Row {
         })
     }
 
-    /// The row after a change of the initial windows in force, if nothing of that is shown (RFC 9113, 6.9.2).
+    /// The row after a change of the initial windows in force, if that shows nothing (RFC 9113, 6.9.2).
     fn after_change(&self, before: &Sides<u32>, after: &Sides<u32>) -> Option<Row>
         ensures { ForSome result (IsRowMoved before.now after.now self.now) }
     {
@@ -55,7 +54,7 @@ impl Row {
     }
 }
 
-/// Where the row of a stream stands. Clients mostly open every odd stream, so a guess finds most.
+/// The index of a stream's row. Clients mostly open every odd stream, so a guess finds most.
 #[inline]
 pub(crate) fn find(rows: &[Row], stream: u32) -> Option<usize>
     ensures { ForSome result (IsRowOf rows.now stream) }
@@ -70,7 +69,7 @@ pub(crate) fn find(rows: &[Row], stream: u32) -> Option<usize>
     search(rows, stream)
 }
 
-/// Where the row of a stream stands, found by halving.
+/// The index of a stream's row, by binary search.
 fn search(rows: &[Row], stream: u32) -> Option<usize>
     ensures { ForSome result (IsRowOf rows.now stream) }
 {
@@ -81,7 +80,7 @@ fn search(rows: &[Row], stream: u32) -> Option<usize>
     None
 }
 
-/// Does the row of a stream stand here?
+/// Is the row at this index the stream's?
 fn is_row_of(rows: &[Row], at: usize, stream: u32) -> bool
     ensures { OnTrue result (IsRowOf rows.now stream at) }
 {
@@ -91,7 +90,7 @@ fn is_row_of(rows: &[Row], at: usize, stream: u32) -> bool
     }
 }
 
-/// Meets a frame on the stream of a row, and answers whether nothing of that may be shown.
+/// Meets a frame on the stream of a row, and returns false if that may show something.
 #[inline]
 pub(crate) fn meet(rows: &mut Vec<Row>, at: usize, frame: &Frame) -> bool
     requires { IsRowOf rows.old.items frame.now.stream at }
@@ -115,8 +114,8 @@ fn is_above_all(rows: &[Row], stream: u32) -> bool
     }
 }
 
-/// Adds a row if a frame opens this stream, above those of all rows, and nothing but credits is shown of that; and
-/// answers whether it did.
+/// Adds a row if a frame opens this stream, above those of all rows, and shows nothing but credits; returns whether it
+/// did.
 pub(crate) fn open(
     rows: &mut Vec<Row>,
     stream: u32,
@@ -138,7 +137,7 @@ pub(crate) fn open(
     }
 }
 
-/// Meets a change of the initial windows in force, and answers whether nothing of that may be shown.
+/// Meets a change of the initial windows in force, and returns false if that may show something.
 pub(crate) fn move_all(rows: &mut Vec<Row>, before: &Sides<u32>, after: &Sides<u32>) -> bool
     ensures { OnTrue result (AreMoved before.now after.now rows.old.items rows.new.items) }
 {

@@ -17,11 +17,11 @@ use audit_terms::{Body, Change, FIRST_WINDOW, Frame, LastFrame, Side, Sides, ini
 use settings_pair::Pending;
 use std::alloc::{AllocError, Global};
 
-/// The most changes that move windows. Each goes over all rows, and a frame opens one row at most: so a frame costs a
+/// The most changes that move windows. Each updates all rows, and a frame opens one row at most: so a frame costs a
 /// bounded time, its own and at most 64 moves of a row.
 const MOST_MOVING_CHANGES: u32 = 64;
 
-/// A connection between two of its frames, for as long as nothing of it is shown where credits are not shown.
+/// A connection between two of its frames, for as long as it is quiet.
 #[derive(Drop)]
 pub struct QuietPass {
     /// What is kept of the last frame of each side.
@@ -51,8 +51,8 @@ impl QuietPass {
         }
     }
 
-    /// Meets the next frame, and answers whether nothing of it is shown where credits are not shown. Where something
-    /// may be shown it gives up: the answer is no, and the machine stands for nothing any more.
+    /// Meets the next frame, and returns whether it is known to show nothing where credits are not shown. If it is not,
+    /// the machine gives up, and stands for nothing any more.
     ///
     /// # Errors
     ///
@@ -61,12 +61,12 @@ impl QuietPass {
         ensures { IfOk result (λ met. OnTrue met ((frames : List FrameTerm) → IsQuietAfter frames self.old
             → IsQuietAfter (frames ++ frame.now ∷ []) self.new)) }
     {
-        // Handed on as it comes, the answer of `step` makes code that takes a tenth longer for small frames.
+        // With the result of `step` handed on directly, the code takes a tenth longer for small frames.
         let is_quiet = self.step(frame)?;
         Ok(is_quiet)
     }
 
-    /// Meets the next frame, and answers whether nothing of it is shown: from one state of the pass to the next.
+    /// Meets the next frame, and returns false if it may show something: from one state of the pass to the next.
     fn step(&mut self, frame: &Frame) -> Result<bool, AllocError>
         ensures { IfOk result (λ met. OnTrue met ((state : PassState) → StandsFor self.old state
             → IsQuietStep state frame.now self.new)) }
@@ -79,7 +79,7 @@ impl QuietPass {
         Ok(is_quiet)
     }
 
-    /// Meets a frame beside what it shows by itself, and answers whether nothing of that may be shown.
+    /// Meets a frame, beside what it shows by itself, and returns false if that may show something.
     fn meet_rest(&mut self, frame: &Frame) -> Result<bool, AllocError>
         ensures { IfOk result (λ met. OnTrue met (IsRestMet frame.now self.old self.new)) }
     {
@@ -92,7 +92,7 @@ impl QuietPass {
         self.meet_stream(frame)
     }
 
-    /// Meets a frame on a stream, one that brings no change, and answers whether nothing of that may be shown.
+    /// Meets a frame on a stream, one that brings no change, and returns false if that may show something.
     fn meet_stream(&mut self, frame: &Frame) -> Result<bool, AllocError>
         requires streamed { 0 < frame.now.stream }
         requires plain { BringsNothing frame.now }
@@ -109,7 +109,7 @@ impl QuietPass {
         Ok(is_quiet)
     }
 
-    /// Meets a frame on stream 0 that brings no change, and answers whether nothing of that may be shown.
+    /// Meets a frame on stream 0 that brings no change, and returns false if that may show something.
     fn meet_connection(&mut self, frame: &Frame) -> bool
         requires streamed { frame.now.stream ≡ 0 }
         requires plain { BringsNothing frame.now }
@@ -121,7 +121,7 @@ impl QuietPass {
         self.connection.meet_lone(frame)
     }
 
-    /// Meets a SETTINGS or an acknowledgement, and answers whether nothing of that may be shown.
+    /// Meets a SETTINGS or an acknowledgement, and returns false if that may show something.
     fn meet_settings(&mut self, frame: &Frame) -> Result<bool, AllocError>
         ensures { IfOk result (λ met. OnTrue met (IsRestMet frame.now self.old self.new)) }
     {
@@ -136,7 +136,7 @@ impl QuietPass {
         Ok(is_quiet)
     }
 
-    /// Brings the initial windows of a change into force, and answers whether nothing of that may be shown (RFC 9113,
+    /// Brings the initial windows of a change into force, and returns false if that may show something (RFC 9113,
     /// 6.9.2).
     fn bring(&mut self, change: &Option<Change>) -> bool
         ensures { OnTrue result (IsBroughtInto change.now self.old self.new) }
@@ -168,7 +168,7 @@ fn is_unmatched(frame: &Frame, change: &Option<Change>) -> bool
     frame.body.is_ack() && change.is_none()
 }
 
-/// Keeps what the next frame of its side asks of a frame.
+/// Keeps what the next frame of its side needs of a frame.
 fn keep_last(last: &mut Sides<LastFrame>, frame: &Frame)
     ensures client { last.new.client ≡ (if is_side Side.Client frame.now.side then last_of (Option.Some frame.now)
         else last.old.client) }

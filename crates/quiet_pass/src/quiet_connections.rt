@@ -1,4 +1,4 @@
-//! Connections of which nothing is shown: their frames are met as they are read, and no list of them is made.
+//! Quiet connections: their frames are met as they are read, and no list of them is made.
 
 ghost use Rattle.std.specs.Prelude.{IfOk, IfSome, IsTrue, List};
 ghost use Rattle.audit_terms.specs.declared.frames.Frame.{Frame as FrameTerm};
@@ -19,7 +19,7 @@ use std::mem;
 use std::thread::Threads;
 use tcp_streams::Flow;
 
-/// What is known of a connection of HTTP/2 of which nothing is shown.
+/// What is known of a quiet connection of HTTP/2.
 #[derive(Clone, Copy)]
 pub struct QuietConnection {
     /// How many frames the two sides sent together.
@@ -28,10 +28,10 @@ pub struct QuietConnection {
     pub tails: Sides<u32>,
 }
 
-/// The number of frames and the tails of a connection of HTTP/2 of which nothing is shown, where credits are not.
+/// The number of frames and the tails of a quiet connection of HTTP/2; credits are not shown.
 ///
-/// The frames are met by a machine that keeps none of them, and gives up at the first of which something may be shown:
-/// where there is no answer, nothing is known. With two `threads` or more, several work on long flows.
+/// A machine meets the frames, keeps none of them, and gives up at the first that may show something: where the answer
+/// is `None`, nothing is known. With two `threads` or more, several work on long flows.
 pub fn quiet_connection<R: Threads>(
     rt: &R,
     alloc: Global,
@@ -52,7 +52,7 @@ pub fn quiet_connection<R: Threads>(
     }
 }
 
-/// What `quiet_connection` answers, from a walk that no frame was taken of: each frame is met as it is taken.
+/// As `quiet_connection`, from a walk from which no frame was taken: each frame is met as it is taken.
 fn quiet_frame_by_frame(
     alloc: Global,
     walk: FrameWalk<'_>,
@@ -70,7 +70,7 @@ fn quiet_frame_by_frame(
     Ok(Some(quiet_after(&walk)))
 }
 
-/// What `quiet_frame_by_frame` answers, in batches: while one thread meets a batch, others take the next one.
+/// As `quiet_frame_by_frame`, in batches: while one thread meets a batch, others take the next one.
 fn quiet_batch_by_batch<R: Threads>(
     rt: &R,
     alloc: Global,
@@ -112,8 +112,8 @@ fn meet_and_take<R: Threads>(
     walk.take_beside(rt, threads, batch, &mut || meet_batch(pass, batch), next)
 }
 
-/// Meets a batch of frames. Is nothing of them shown? The pass stands with this thread alone meanwhile: in its place
-/// it lies beside what others write.
+/// Meets a batch of frames. Is nothing of them shown? The pass is first moved to this thread, against false sharing: in
+/// its place it lies beside what others write.
 // Measured, as a field of one value with the sides' lists it took 260 to 280 ms of processor time in place of 159 to
 // 189, since cache lines went back and forth.
 fn meet_batch(pass: &mut QuietPass, batch: &FrameBatch) -> Result<bool, AllocError>
@@ -140,7 +140,7 @@ fn meet_each(pass: &mut QuietPass, batch: &FrameBatch) -> Result<bool, AllocErro
     Ok(true)
 }
 
-/// What is told of a connection all of whose frames were taken, where the pass over them stayed quiet.
+/// What is told of a connection whose frames were all taken, where the pass over them stayed quiet.
 fn quiet_after(walk: &FrameWalk<'_>) -> QuietConnection
     requires { IsReadyWalk walk.now }
     ensures { (client server : Flow) → (frames : List FrameTerm) → (pass : PassTerm) → IsTrue server.started

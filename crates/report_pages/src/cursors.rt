@@ -1,4 +1,4 @@
-//! A place among the entries of all sections, from which on a text goes on.
+//! A position among the entries of all sections, from which a text goes on.
 
 ghost use Rattle.std.specs.Prelude.{◌≡◌, ◌<◌, ◌≤◌, ◌==◌, ◌∷◌, drop, length, slice_index_or};
 ghost use Rattle.audit_report.specs.declared.headings.SectionHeading.{SectionHeading as HeadingTerm};
@@ -35,7 +35,7 @@ impl<'a> Cursor<'a> {
         self.told.is_empty()
     }
 
-    /// The stretch in which it stands.
+    /// The stretch that it is in.
     fn current(&self) -> Stretch<'a>
         requires cursor { IsCursor self.now }
         requires some { 0 < length self.now.told.now }
@@ -94,7 +94,7 @@ impl<'a> Cursor<'a> {
         }
     }
 
-    /// The next entries of its stretch, so many at most, and the cursor behind them.
+    /// At most so many next entries of its stretch, and the cursor behind them.
     pub(crate) fn step(self, most: usize) -> (Piece<'a>, Cursor<'a>)
         requires cursor { IsCursor self }
         requires some { 0 < length self.told.now }

@@ -11,7 +11,7 @@ use crate::stretches::{Piece, add_piece};
 use std::mem;
 use std::thread::{Threads, for_each_mut};
 
-/// Adds the entries from a cursor on to a page, so many at most.
+/// Appends at most so many entries, from a cursor on, to a page.
 pub(crate) fn fill(page: &mut Vec<u8>, from: Cursor<'_>, entries: usize)
     requires cursor { IsCursor from }
     requires room { HasRoom entries page.old }
@@ -36,8 +36,8 @@ fn fill_one(from: Cursor<'_>, entries: usize, index: usize, page: &mut Vec<u8>)
     requires room { HoldsEntries entries page.old }
     ensures { IsFilled from.entry entries index page.new }
 {
-    // Pages lie side by side: their lengths, which change with each line, would be in one cache line of several
-    // processors. Measured, four workers then took as long as one.
+    // Pages lie side by side: several processors would share a cache line of their lengths, which change with each
+    // line. Measured, four workers then took as long as one.
     let mut own = Vec::new(*page.allocator());
     mem::swap(page, &mut own);
     own.clear();

@@ -1,24 +1,24 @@
 //! The report of a capture, spelled page by page while it is written.
 //!
 //! - A [`Report`] is the text, as contracts see it: the lines on the capture, and behind them the sections of all
-//!   connections, `told_text` of `specs/code/Sections.antt`. In memory are only the lines, what the sections tell, and
-//!   the pages. [`Report::into_bytes`] alone makes the text whole.
+//!   connections, `told_text` of `specs/code/Sections.antt`. Only the lines, what the sections tell, and the pages are
+//!   in memory. [`Report::into_bytes`] alone makes the text whole.
 //! - What is [`Told`] of a connection is small: how far its flows reach ([`Reach`]), and its [`Outcome`], which has
-//!   frames and findings ([`AuditedFrames`]) only where something may be shown. It stands for an audit, of which it has
-//!   all that a report tells (`AreToldOf` of `specs/code/Told.antt`).
+//!   frames and findings ([`AuditedFrames`]) only where something may be shown. It stands for an audit: it has all that
+//!   a report tells of that (`AreToldOf` of `specs/code/Told.antt`).
 //! - The sections are a sequence of entries: the opening of a section, with its three lines, or one line of a finding,
 //!   of a stall or of the end of an audit; the line of a credit that is not shown is an empty entry. Entries of one
-//!   kind that follow each other make a stretch (`specs/code/Entries.antt`). A cursor stands at an entry, and skips
-//!   stretches whole.
+//!   kind that follow each other make a stretch (`specs/code/Entries.antt`). A cursor points at an entry, and skips
+//!   whole stretches.
 //! - A page has so many entries. All pages are reserved before the first write, and what fills them cannot fail: so
-//!   nothing behind the first write fails for want of memory. With one worker there is one page. With several, and
+//!   nothing after the first write fails for want of memory. With one worker there is one page. With several, and
 //!   entries enough, there is one for each: a thread fills it from a cursor of its own (`std::thread::for_each_mut`),
 //!   and when all are full they are written in order and filled again.
 //! - A [`ReportWriter`] records how many bytes of the text the writes took, and how the flush went
 //!   (`specs/Account.antt`). This holds for every writer, also for files and pipes, whose types do not tell their
 //!   bytes. Where they do, clause `bytes` says that these are the recorded ones. Each write is offered all that is left
-//!   of a page, or of the lines on the capture. No call follows one that failed. A text of 2^64 bytes and more would be
-//!   told as a failed write.
+//!   of a page, or of the lines on the capture. No call follows one that failed. A text of 2^64 bytes or more would
+//!   count as a failed write.
 //! - Refused by the prover: all bytes of a page counted as taken where the writer took fewer, the next connection under
 //!   the number of the last, a page that begins an entry further, a section without its last line, a flush after a
 //!   failed write.
@@ -26,7 +26,7 @@
 //!   that the calls succeed where there is memory.
 //! - Trusted: that a file or a pipe keeps its bytes. No contract says that the account is honest, for which two short
 //!   functions have to be read: `write_bytes` of `writing`, which alone calls `write`, and `flush` of `ReportWriter`,
-//!   which alone calls `flush`. What lies between hands their answers on.
+//!   which alone calls `flush`. What lies between passes their answers on.
 #![tactic(auto)]
 
 mod cursors;

@@ -18,7 +18,7 @@ const ENTRIES_OF_ONE: usize = 1 << 10;
 /// reserved for each entry.
 const ENTRIES_OF_EACH: usize = 1 << 12;
 
-/// So many entries and more are worth a thread: it takes as long to start as to spell some hundred lines.
+/// So many entries or more are worth a thread: its start takes as long as to spell some hundred lines.
 const ENTRIES_WORTH_A_THREAD: usize = 1 << 10;
 
 /// How many entries all sections have, or as many as can be counted.

@@ -4,7 +4,7 @@ use audit_report::Extent;
 use audit_terms::Sides;
 use tcp_streams::Flow;
 
-/// The extent of a flow of a capture in 8 bytes: where bytes are missing, the offset at which they are is its length.
+/// The extent of a flow of a capture in 8 bytes: if bytes are missing, the first missing offset is its length.
 #[derive(Clone, Copy)]
 pub struct Reach {
     /// The number of bytes.

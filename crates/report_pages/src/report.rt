@@ -83,7 +83,7 @@ impl Report {
         })
     }
 
-    /// Writes the text, and answers how many bytes the writes took.
+    /// Writes the text, and returns how many bytes the writes took.
     pub(crate) fn write_to<R: Threads + Sync, W: Write>(
         &mut self,
         rt: &R,

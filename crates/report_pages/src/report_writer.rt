@@ -10,8 +10,8 @@ use std::thread::Threads;
 
 /// A writer of a report, with an account of what its writes and its flush answered.
 ///
-/// Of a pipe or a terminal no type of writer tells which bytes it took. The account does: the top of the crate names
-/// all that enters it.
+/// No type of writer tells which bytes a pipe or a terminal took. The account does: the top of the crate names all that
+/// enters it.
 #[derive(Drop)]
 pub struct ReportWriter<W> {
     writer: W,

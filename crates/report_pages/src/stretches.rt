@@ -125,7 +125,7 @@ fn last_behind(last: Option<Finding>, list: &[Finding]) -> Option<Finding>
     list.last().copied()
 }
 
-/// Consecutive entries of a stretch: from one up to before another.
+/// Consecutive entries of a stretch, from one index up to another.
 #[derive(Clone, Copy)]
 pub(crate) struct Piece<'a> {
     pub(crate) stretch: Stretch<'a>,
@@ -133,7 +133,7 @@ pub(crate) struct Piece<'a> {
     pub(crate) to: usize,
 }
 
-/// Adds the entries of a stretch from one up to before another to a page.
+/// Appends the entries of a stretch, from one index up to another, to a page.
 pub(crate) fn add_piece(
     page: &mut Vec<u8>,
     frames_shown: bool,
@@ -158,7 +158,7 @@ pub(crate) fn add_piece(
     }
 }
 
-/// Adds the opening of the k-th connection's section to a page, unless it is none of the entries from one up to before
+/// Appends the opening of the k-th connection's section to a page, if it is among the entries from one index up to
 /// another.
 fn add_opening_from(
     page: &mut Vec<u8>,
@@ -181,7 +181,7 @@ fn add_opening_from(
     add_opening(page, k, *heading, &extents, contents_in(&told.outcome));
 }
 
-/// Adds the line on the end of an audit, unless it is none of the entries from one up to before another.
+/// Appends the line on the end of an audit, if it is among the entries from one index up to another.
 fn add_end_from(page: &mut Vec<u8>, lists: &[Vec<Finding>], from: usize, to: usize)
     requires within { (from ≤ to) × (to ≤ 1) }
     requires room { HasRoom (to - from) page.old }

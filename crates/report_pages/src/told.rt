@@ -9,7 +9,7 @@ use audit_terms::{Frame, Sides};
 use quiet_pass::QuietConnection;
 use split_merge::Findings;
 
-/// The frames of a connection of which something may be shown.
+/// The frames of a connection that may show something.
 #[derive(Drop)]
 pub struct AuditedFrames {
     /// Both sides' frames in capture order.
@@ -22,8 +22,8 @@ pub struct AuditedFrames {
     pub stalls: Vec<Stall>,
 }
 
-/// What came of the two flows of a connection. Most captures have many connections, of which few have frames that are
-/// kept: these stand in a box, so that the others are small.
+/// What came of the two flows of a connection. Of the many connections in most captures, few have frames that are kept:
+/// these are boxed, so that the others are small.
 #[derive(Drop)]
 pub enum Outcome {
     /// HTTP/2, and nothing is shown.

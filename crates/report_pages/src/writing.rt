@@ -11,7 +11,7 @@ use crate::filling::fill_pages;
 use std::io::Write;
 use std::thread::Threads;
 
-/// Writes bytes, where so many were taken before them, and answers how many are then taken in all. To take no byte is
+/// Writes bytes, where so many were taken before them, and returns how many are then taken in all. To take no byte is
 /// a failure, and no write comes after one that failed.
 fn write_bytes<W: Write>(
     writer: &mut W,
@@ -54,8 +54,8 @@ fn write_pages<W: Write>(
     (count, Ok(()))
 }
 
-/// Writes the entries from a cursor on, where so many bytes were taken before. All pages are filled and written, and
-/// then filled again.
+/// Writes the entries from a cursor on, where so many bytes were taken before: fills and writes all pages, and fills
+/// them again.
 pub(crate) fn write_entries<R: Threads + Sync, W: Write>(
     rt: &R,
     writer: &mut W,

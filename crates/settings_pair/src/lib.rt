@@ -3,11 +3,11 @@
 //! - The acknowledgements of one endpoint answer the SETTINGS frames of the other in the order in which these were
 //!   sent. Values count from the acknowledgement, for the frames of the side that acknowledges. [`pair`] gives one
 //!   [`Change`] for each acknowledgement that has something to answer, and a finding of kind `UnmatchedAck` for each
-//!   that has not: exactly `changes_of` and `settings_run` of `audit_terms`. SETTINGS and acknowledgements go by the
-//!   body alone: on a stream other than 0 they wait and pair all the same.
-//! - [`Pending`] keeps the SETTINGS of a connection, a few as connections go, and says of each frame what it brings
+//!   that has not: exactly `changes_of` and `settings_run` of `audit_terms`. Only the body of SETTINGS and
+//!   acknowledgements counts: on a stream other than 0 they wait and pair all the same.
+//! - [`Pending`] keeps the SETTINGS of a connection, which are mostly few, and says what each frame brings
 //!   (`change_of`). [`pair`] meets all frames by it, and the quiet pass its frames one by one.
-//! - For those who go on from the changes: their numbers rise, and the frame of each is an acknowledgement.
+//! - For callers that use the changes: their numbers rise, and the frame of each is an acknowledgement.
 //!   [`worked_examples`] are short runs of the definitions: the oldest SETTINGS are taken first, and nothing that is
 //!   sent later.
 //! - Refused by the prover: settings that count when they are sent.

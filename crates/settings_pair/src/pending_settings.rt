@@ -10,7 +10,7 @@ ghost use Rattle.settings_pair.specs.code.Pending.{IsPending, IsBrought};
 use audit_terms::{Body, Change, Frame, PackedSettings, Settings, Side, Sides, change_by};
 use std::alloc::{AllocError, Global};
 
-/// The SETTINGS of a connection so far: a few, as connections go.
+/// The SETTINGS of a connection so far: mostly a few.
 #[derive(Drop)]
 pub struct Pending {
     /// All that each side sent.
@@ -44,8 +44,8 @@ impl Pending {
         }
     }
 
-    /// The change that a frame brings, if it is an acknowledgement that takes a SETTINGS, the oldest of the other side
-    /// that none took; and what stands after it.
+    /// Meets a frame, and returns the change that it brings, if it is an acknowledgement that takes a SETTINGS: the
+    /// oldest of the other side that none took.
     ///
     /// # Errors
     ///

@@ -6,8 +6,8 @@ ghost use Rattle.split_merge.specs.code.Findings.{findings_in};
 use audit_terms::Finding;
 use std::alloc::{AllocError, Global};
 
-/// Findings in lists that stand one after the other: of many findings each worker makes a list, and none is copied
-/// behind another.
+/// Findings in lists that follow each other: if there are many, each worker makes a list, and none is copied behind
+/// another.
 #[derive(Drop)]
 pub struct Findings {
     pub lists: Vec<Vec<Finding>>,
@@ -32,14 +32,14 @@ impl Findings {
         Ok(found)
     }
 
-    /// Adds those of a list behind the others. An empty list takes no room.
+    /// Appends the findings of a list. An empty list takes no room.
     pub fn add(&mut self, list: Vec<Finding>) -> Result<(), AllocError>
         ensures { OnOk result (findings_in self.new ≡ findings_in self.old ++ list.items) }
     {
         if list.is_empty() {
             return Ok(());
         }
-        // Most connections have one list, and a list of lists has room for four else.
+        // Most connections have one list; without this, there would be room for four.
         if self.lists.is_empty() {
             self.lists.reserve_exact(1)?;
         }

@@ -1,16 +1,16 @@
 //! A connection by stream and back (RFC 9113, 5 and 5.2).
 //!
-//! - [`split`] tells the quiet streams from the others. Nothing is shown of a quiet one, and most are. Each is told in
-//!   one walk over all frames in order (`stream_credit::QuietStream`), and of it only the frame that opens it is
-//!   answered. Where credits are shown, no stream is quiet. As long as streams are met in order of their numbers, as
-//!   they have to be opened (5.1.1), the row of one is found by halving; the others stand in a table.
-//! - To each other stream [`split`] gives its frames, as positions in the list of all frames: one row for each, in
-//!   order of first frames, promises of it included. A second walk finds them, where there are such streams. [`groups`]
-//!   deals the rows out in consecutive ranges. A row names a range of one list of positions, so no frame is copied, and
-//!   a stream of three frames costs no list of its own.
+//! - [`split`] tells the quiet streams from the others. Nothing is shown of a quiet one, and most are. One walk over
+//!   all frames in order finds them (`stream_credit::QuietStream`), and returns only the frame that opens each. Where
+//!   credits are shown, no stream is quiet. While streams are met in order of their numbers, as they have to be opened
+//!   (5.1.1), a binary search finds the row of one; the others are in a table.
+//! - [`split`] gives each other stream its frames, as positions in the list of all frames: one row for each, in order
+//!   of first frames, promises of it included. A second walk finds them, if there are such streams. [`groups`] deals
+//!   the rows out in consecutive ranges. A row names a range of one list of positions, so no frame is copied, and a
+//!   stream of three frames costs no list of its own.
 //! - [`merge_by`] puts the findings of lists in order, up to the least connection error (5.4.1). It asks for neither
-//!   sorted nor distinct findings, since their order is total. Of many findings each of several workers makes the list
-//!   of a range of places, and these lists stand one after the other ([`Findings`]): none is copied behind another.
+//!   sorted nor distinct findings, since their order is total. If there are many, each of several workers makes the
+//!   list of a range of places, and the lists follow each other ([`Findings`]): none is copied behind another.
 //! - [`worked_examples`] shows splits, quiet streams, groups, and where a merge ends.
 //! - Refused by the prover: a rest of streams left out, a stream that is called quiet before its last changes, a cut at
 //!   the first reported error.

@@ -1,4 +1,4 @@
-//! The streams of which something may be shown, apart from the quiet ones: the loud ones.
+//! The loud streams, of which something may be shown, apart from the quiet ones.
 
 ghost use Rattle.std.specs.Prelude.{◌≡◌, ℕ, ◌^◌, ◌<◌, ◌++◌, ◌∷◌, [], List, IfOk, MatchOption, OnOk, Some, length};
 ghost use Rattle.std.specs.Prelude.{slice_get};

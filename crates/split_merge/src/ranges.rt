@@ -1,6 +1,6 @@
-//! Many findings merged by several workers, each of which puts those of a range of places in order. Of a list that
-//! stands in order, the findings of a range are a slice; of any other, ranges are found not to stand one after the
-//! other, and then one worker puts all in order.
+//! Several workers merge many findings: each sorts those of a range of places. In a list that is in order, the findings
+//! of a range are a slice; with any other list, the ranges are found not to follow each other, and then one worker
+//! sorts all.
 
 ghost use Rattle.std.specs.Prelude.{◌≡◌, ◌<◌, ◌≤◌, ◌++◌, if◌then◌else◌, IfOk, Some, length};
 ghost use Rattle.std.specs.List.{flat_map};
@@ -16,17 +16,17 @@ use audit_terms::{Finding, Place, cut_at_stop, put_in_order};
 use std::alloc::{AllocError, Global};
 use std::thread::{Threads, join};
 
-/// Fewer findings are merged by one worker: for these a thread costs more than it spares. Measured, with a million
-/// credits of one connection their merge by one worker took a fifth of the whole time.
+/// One worker merges fewer findings: for these a thread costs more than it spares. Measured, with a million credits of
+/// one connection their merge by one worker took a fifth of the whole time.
 const SHARED_FINDINGS: usize = 1 << 14;
 
-/// Of so many findings of a list one is looked at to tell where ranges end. (Measured: bench/README.md, Thresholds.)
+/// One in so many findings of a list is sampled, to tell where ranges end. (Measured: bench/README.md, Thresholds.)
 const FINDINGS_PER_SAMPLE: usize = 1 << 8;
 
 /// The findings of all lists in order, up to and including the least that stops (RFC 9113, 5.4.1), by so many workers.
 ///
-/// Of many findings each worker makes one list, that of a range of places. Where a list does not stand in order itself,
-/// one worker may have to put all in order.
+/// If there are many, each worker makes one list, that of a range of places. Where a list is not in order itself, one
+/// worker may have to sort all.
 pub fn merge_by<R: Threads + Sync>(
     rt: &R,
     alloc: Global,
@@ -96,7 +96,7 @@ fn in_ranges<R: Threads + Sync>(
     both_ranges(alloc, one?, other?)
 }
 
-/// The place of a finding up to which about so many parts of all findings stand, if there are findings.
+/// The place of a finding up to which about `parts` of `all` parts of the findings lie, if there are findings.
 fn place_within(
     alloc: Global,
     slices: &[&[Finding]],

@@ -1,4 +1,4 @@
-//! Where the rows of streams stand.
+//! The index by which rows of streams are found.
 
 ghost use Rattle.std.specs.Prelude.{◌≡◌, ◌≢◌, ◌+◌, ◌^◌, ◌<◌, [], IfOk, MatchOption, Some, length, slice_get};
 ghost use Rattle.std.specs.Bool.{OnTrue};
@@ -9,9 +9,9 @@ use indexmap::IndexSet;
 use input_output::TableHash;
 use std::alloc::{AllocError, Global};
 
-/// Tells the row of a stream. Streams are numbered upwards (RFC 9113, 5.1.1): as long as they are met in that order,
-/// their rows are found by halving, and nothing is kept beside them. From the first stream on that is met out of order,
-/// they stand in a table.
+/// Finds the row of a stream. Streams are numbered upwards (RFC 9113, 5.1.1): while they are met in that order, a
+/// binary search finds their rows, and nothing is kept beside them. From the first stream on that is met out of order,
+/// they are in a table.
 #[derive(Drop)]
 pub(crate) struct RowIndex {
     /// How many rows at the front stand in order of their streams.
@@ -21,7 +21,7 @@ pub(crate) struct RowIndex {
 }
 
 impl RowIndex {
-    /// The index of no row.
+    /// An index of no rows.
     pub(crate) fn new(alloc: Global, hash: TableHash) -> RowIndex
         ensures { IsIndex [] result }
     {
@@ -31,7 +31,7 @@ impl RowIndex {
         }
     }
 
-    /// Where the row of a stream stands among these, if it has one.
+    /// Where the row of a stream is among these, if it has one.
     pub(crate) fn find(&self, rows: &[Visited], stream: u32) -> Option<u32>
         requires index { IsIndex (streams_in rows.now) self.now }
         requires room { length rows.now < 2 ^ 31 }
@@ -45,7 +45,7 @@ impl RowIndex {
         Some(self.rising + place as u32)
     }
 
-    /// Where the row of a stream stands among these, or is to be added behind them: then the second value is true.
+    /// Where the row of a stream is among these, or is to be appended: then the second value is true.
     pub(crate) fn insert(
         &mut self,
         rows: &[Visited],
@@ -82,7 +82,7 @@ impl RowIndex {
         }
     }
 
-    /// Where the row of a stream stands among those at the front.
+    /// Where the row of a stream is among those at the front.
     fn rising_row(&self, rows: &[Visited], stream: u32) -> Option<u32>
         requires index { IsIndex (streams_in rows.now) self.now }
         requires room { length rows.now < 2 ^ 31 }

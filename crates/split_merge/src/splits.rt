@@ -26,14 +26,14 @@ pub struct StreamRow {
 pub struct SplitFrames {
     /// A row for each stream other than 0 that meets a frame and is not quiet, in order of first frames.
     pub rows: Vec<StreamRow>,
-    /// Where the frames of the rows stand in the list of all frames, stream after stream.
+    /// The positions of the rows' frames in the list of all frames, stream after stream.
     pub positions: Vec<u32>,
     /// The numbers of the frames that open the quiet streams.
     pub opened: Vec<u32>,
 }
 
 impl SplitFrames {
-    /// Where the frames of a row's stream stand in the list of all frames, in order.
+    /// The positions of a row's frames in the list of all frames, in order.
     pub fn positions_of(&self, row: &StreamRow) -> &[u32]
         requires { IsRange self.now row.now }
         ensures { result.now ≡ row_positions self.now row.now }
@@ -42,8 +42,8 @@ impl SplitFrames {
     }
 }
 
-/// The frames of a connection by stream, each where its own stream meets it and where the stream that it promises does.
-/// A stream is quiet where nothing is shown of it by itself; with credits none is.
+/// The frames of a connection by stream: each is with its own stream and with the one that it promises. A stream is
+/// quiet where it shows nothing by itself; with credits none is.
 pub fn split(
     alloc: Global,
     hash: TableHash,
@@ -89,7 +89,7 @@ fn laid(alloc: Global, table: &mut Visits, frames: &[Frame]) -> Result<SplitFram
     })
 }
 
-/// Gives each row its range, empty as yet, with room for the visits that it counts, and answers the room in all.
+/// Gives each row its range, empty as yet, with room for the visits that it counts, and returns the room in all.
 fn lay_out(alloc: Global, loud: &[Visited]) -> Result<(Vec<StreamRow>, u32), AllocError>
     requires { total_of loud.now < 2 ^ 32 }
     ensures rows { IfOk result (λ made. made.0.items ≡ laid_out 0 loud.now) }
@@ -108,8 +108,7 @@ fn lay_out(alloc: Global, loud: &[Visited]) -> Result<(Vec<StreamRow>, u32), All
     Ok((rows, total))
 }
 
-/// The positions of the frames that the streams of the rows meet, each at the end of its row's range, which grows by
-/// it.
+/// Appends the position of each frame to the ranges of the streams that meet it, if these have rows.
 fn place(
     alloc: Global,
     rows: &mut [StreamRow],
@@ -141,7 +140,7 @@ fn place(
     Ok(positions)
 }
 
-/// Puts a position at the end of a stream's range, if it is a loud stream.
+/// Appends a position to a stream's range, if it is a loud stream.
 fn visit(
     positions: &mut Vec<u32>,
     rows: &mut [StreamRow],
@@ -161,7 +160,7 @@ fn visit(
     }
 }
 
-/// Puts a position at the end of a row's range.
+/// Appends a position to a row's range.
 fn put(positions: &mut Vec<u32>, row: &mut StreamRow, position: u32)
     requires within { row.old.to < length positions.old.items }
     requires short { length positions.old.items < 2 ^ 32 }

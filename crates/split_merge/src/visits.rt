@@ -23,11 +23,11 @@ use stream_credit::{Changes, QuietStream};
 /// How many rows are remembered, a power of 2: 4 KiB. (Measured: bench/README.md, Thresholds.)
 const HINTED_ROWS: usize = 1024;
 
-/// Of so many frames and more rows are remembered. Fewer look-ups would not be worth the list.
+/// With so many frames or more, rows are remembered. Fewer look-ups would not be worth the list.
 /// (Measured: bench/README.md, Thresholds.)
 const HINTED_FRAMES: usize = 128;
 
-/// A stream, and of how many frames it is so far: it visits each frame that it meets.
+/// A stream and the number of its frames so far: it visits each frame that it meets.
 #[derive(Clone, Copy)]
 pub(crate) struct Visited {
     pub(crate) stream: u32,
@@ -39,12 +39,12 @@ pub(crate) struct Visited {
 pub(crate) struct Visits {
     /// A row for each stream.
     pub(crate) rows: Vec<Visited>,
-    /// The stream of each row, for as long as nothing is shown of it.
+    /// The stream of each row, for as long as it is quiet.
     pub(crate) quiets: Vec<QuietStream>,
     /// Where the row of each stream stands.
     pub(crate) index: RowIndex,
-    /// Rows that were sought before, by the last bits of their streams' numbers: the streams of a connection are
-    /// numbered one after the other, so that those of one time seldom share a place here.
+    /// Rows that were looked up before, by the last bits of their streams' numbers: the streams of a connection are
+    /// numbered one after the other, so that those of one time seldom share a slot.
     // A list of rows, one for each frame, would spare a second look-up, but take a tenth of the frames' memory.
     pub(crate) hints: Vec<u32>,
     /// The row that was visited last.
@@ -239,7 +239,7 @@ fn hints_for(alloc: Global, frames: usize) -> Result<Vec<u32>, AllocError> {
     vec![in alloc; 0; HINTED_ROWS]
 }
 
-/// Where the row of a stream is remembered.
+/// The slot in which the row of a stream is remembered.
 fn hint_place(stream: u32) -> usize {
     (stream / 2) as usize % HINTED_ROWS
 }

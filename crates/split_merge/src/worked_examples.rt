@@ -3,7 +3,7 @@
 ghost use Rattle.split_merge.specs.examples.Split.{CutsAtFirstReportedError, GroupsOfFour, SplitsByStream};
 ghost use Rattle.split_merge.specs.examples.Split.{TellsQuietStreams};
 
-/// Streams stand in order of first frames; a promise stands with the stream that it is on and the one that it promises.
+/// Streams stand in order of first frames; a promise is with the stream that it is on and the one that it promises.
 pub fn split_by_stream()
     ensures { SplitsByStream }
 {}

@@ -5,11 +5,11 @@ ghost use Rattle.std.specs.Prelude.{◌≡◌};
 pub enum AuditRound {
     /// A job for each connection: its flows, and what they hold.
     Flows,
-    /// A job for each group of streams: what is shown of them, and which frames open them.
+    /// A job for each group of streams: what they show, and which frames open them.
     Streams,
     /// A job for each block of frames: its summary.
     Sums,
-    /// A job for each block of which something may be shown: what is shown of it.
+    /// A job for each block that may show something: what it shows.
     Blocks,
 }
 

@@ -30,7 +30,7 @@ fn split_pass(desk: &Desk, pass: Pass, workers: u32, given: u32) -> (Pass, Pass)
     pass.split(desk, u64::from(given) * (u64::from(desk.jobs()) + 1))
 }
 
-/// Makes one of what two groups of workers laid down, and of their passes, where both had memory.
+/// Joins what two groups of workers laid down, and their passes, where both had memory.
 fn both_worked<M: Drop>(
     desk: &Desk,
     mine: Result<(Vec<Part<M>>, Pass), AllocError>,
@@ -85,7 +85,7 @@ fn fork<R: Threads + Sync, G: Gate, P: Round>(
     both_worked(shift.desk, mine, theirs)
 }
 
-/// A worker's share of the jobs with a little over, since some draw more than others; of a sole worker, all jobs.
+/// A worker's share of the jobs with a little over, since some draw more than others; for a sole worker, all jobs.
 ///
 /// Measured, a list that doubles instead takes 1.3 times the memory with very many jobs: it leaves its former places in
 /// the C library's heap.

@@ -22,7 +22,7 @@ pub fn board_merges()
 ghost use Rattle.stop_desk.specs.laws.Cuts.{FrontIsCut, WholeIsCut, CutsJoin};
 
 /// What a part may be: a front of what its job finds or all of it, and parts of such lists put together, as where a job
-/// has several streams of which each went up to a place of its own.
+/// has several streams, each of which went up to a place of its own.
 pub fn cuts_join()
     ensures front { FrontIsCut }
     ensures whole { WholeIsCut }

@@ -1,5 +1,5 @@
 //! Jobs, the places at which connections stop, and the workers that draw the jobs. It deals numbered jobs to threads,
-//! where what one job finds can end others early. What the jobs are, it does not know; of the rounds of an audit it has
+//! where what one job finds can end others early. It does not know what the jobs are; of the rounds of an audit it has
 //! the names ([`AuditRound`]). docs/ARCHITECTURE.md has a diagram of the worker loop ("How the work is divided").
 //!
 //! - A [`Round`] says what its jobs are, as if nothing stopped them, and [`settle`] has a [`Team`] do them all: each
@@ -8,11 +8,11 @@
 //! - [`settle`] gives the parts in the order of jobs, with the stops read, and says of each part that it was not cut
 //!   below its connection's stop (`HasSettled` of `specs/code/Settling.antt`).
 //! - [`crew`] works on a desk that is given, and leaves a settled board (`IsSettled` of `specs/code/Board.antt`), for
-//!   every number of workers and by whichever order they ran in: one part a job, each up to a place that was seen; each
+//!   every number of workers and whatever order they ran in: one part a job, each up to a place that was seen; each
 //!   error of a part was lowered; each stop is the least of its opening stop and what was lowered.
-//! - Of an implementor's work a round asks that it keeps all findings up to a place, which is none or the answer of one
-//!   of its looks, and that it makes the looks that the round says are due (`IsCut`, `Heeds`). Work takes any look, and
-//!   so cannot know of desks. A worker's look owns the worker's pass while a job runs, and gives it back.
+//! - An implementor's work has to keep all findings up to a place, which is none or the answer of one of its looks, and
+//!   to make the looks that the round says are due (`IsCut`, `Heeds`). It takes any look, and so cannot know of desks.
+//!   A worker's look owns the worker's pass while a job runs, and gives it back.
 //! - A [`Desk`] is shared by `&`, and each worker has a [`Pass`], made by [`Pass::split`] and given back by
 //!   [`Pass::join`]. [`Pass::claim`] draws the next number: each job goes to one worker, once. [`Pass::lower`] gives a
 //!   place for a connection; [`Pass::look`] answers a place that is at most each that this pass gave or saw there
@@ -20,14 +20,14 @@
 //! - [`Desk::close`] takes the last pass, and the [`Closed`] desk tells how many numbers were drawn, each once, and the
 //!   least place of each connection (`IsDeskSettled` of `specs/code/Settled.antt`).
 //! - The desk is one row of words: word 0 is the next number, and each other word the stop of a connection. The steps
-//!   of all threads stand in one order, and the desk's rule (`specs/code/Rule.antt`) holds between any two: each number
+//!   of all threads have one order, and the desk's rule (`specs/code/Rule.antt`) holds between any two: each number
 //!   below word 0 was drawn once, word 0 and what may still be drawn add up, each stop is the least of its opening word
 //!   and what was lowered, and each place seen was given. Nothing is said of who draws what, nor that a place is seen
 //!   soon.
-//! - No call waits or takes a lock, and none but [`Desk::make`] allocates. What a pass drew, saw and lowered is known
-//!   to contracts alone. A pass that is dropped keeps what it holds for ever, so after a failure nothing can be closed.
-//!   Want of memory is the one error; after it the desk is gone.
-//! - There are no more workers than jobs, and each begins with one draw more than there are jobs, so it ends where no
+//! - No call waits or takes a lock, and none but [`Desk::make`] allocates. Contracts alone know what a pass drew, saw
+//!   and lowered. A pass that is dropped keeps what it holds for ever, so after a failure nothing can be closed. Want
+//!   of memory is the one error; after it the desk is gone.
+//! - There are no more workers than jobs, and each begins with one more draw than there are jobs, so it ends where no
 //!   job is left and never for want of draws.
 //! - [`Gate`] holds workers back before they start a job, for tests. It has no say in the answer.
 //! - [`laws`] are about workers, and need no code. `specs/laws/Machine.antt` is a machine in which workers draw jobs,
@@ -43,8 +43,8 @@
 //! - Tested, in `crate_tests`: two passes in two threads, that a look loads and does not answer from what its own pass
 //!   knows, that a job sees the stop that an earlier one lowered, that two workers are in one round at once, and how
 //!   many jobs each round of an audit has. That several threads work at once is not proved.
-//! - Trusted: the toolchain's `atomic_table`, and std's `join`, which starts threads, and does the work on the thread
-//!   at hand where none can be had.
+//! - Trusted: the toolchain's `atomic_table`, and std's `join`, which starts threads, and does the work on the calling
+//!   thread where it cannot.
 #![tactic(auto)]
 
 mod audit_round;

@@ -38,7 +38,7 @@ pub trait Round: Sync {
     fn count(&self) -> u32
         ensures { result ≡ length (jobs self.now) };
 
-    /// The connection that a job is of.
+    /// The connection of a job.
     fn connection(&self, job: u32) -> usize
         requires { job < length (jobs self.now) }
         ensures { (one : Job) → slice_get (jobs self.now) job ≡ Some one → result ≡ one.connection };

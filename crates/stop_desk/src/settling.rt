@@ -49,7 +49,7 @@ fn stops_of(
     Ok(stops)
 }
 
-/// Has workers do all jobs of a round, where it is known of some connections where they stop.
+/// Has workers do all jobs of a round, given where some connections are known to stop.
 ///
 /// `Err` only where memory runs out. There are at most as many workers as jobs.
 pub fn settle<R: Threads + Sync, G: Gate, P: Round>(

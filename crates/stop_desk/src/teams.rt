@@ -17,7 +17,7 @@ pub struct Team<'a, R: Threads + Sync, G: Gate> {
 }
 
 impl<'a, R: Threads + Sync, G: Gate> Team<'a, R, G> {
-    /// A team of so many workers, beside which all else stays.
+    /// The same team, with so many workers.
     pub fn with_workers(&self, workers: u32) -> Team<'a, R, G>
         requires { 0 < workers }
         ensures workers { result.workers ≡ workers }

@@ -46,7 +46,7 @@ fn lower_stops(desk: &Desk, pass: &mut Pass, connection: usize, findings: &[Find
     }
 }
 
-/// Does a job that was drawn, and answers its part and the pass.
+/// Does a job that was drawn, and returns its part and the pass.
 fn do_job<G: Gate, P: Round>(
     alloc: Global,
     shift: &Shift<'_, G, P>,

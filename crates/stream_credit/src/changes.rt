@@ -17,9 +17,8 @@ pub(crate) const FIRST_WINDOWS: Sides<u32> = Sides {
     server: FIRST_WINDOW,
 };
 
-/// The changes of a connection, in order, made ready for the runs of all its streams: each stands with the initial
-/// windows that it leaves in force (RFC 9113, 6.9.2), so that a stream that opens late need not go through those
-/// before.
+/// The changes of a connection, in order, made ready for the runs of all its streams: each has the initial windows that
+/// it leaves in force (RFC 9113, 6.9.2), so that a stream that opens late need not read those before.
 #[derive(Drop)]
 pub struct Changes<'a> {
     all: &'a [Change],
@@ -80,7 +79,7 @@ impl<'a> Changes<'a> {
         self.in_force[met as usize - 1]
     }
 
-    /// How many changes are met once all before a number are; so many were met before.
+    /// How many changes are met once all before a number are; `met` were met before.
     pub(crate) fn passed(&self, met: u32, number: u32) -> u32
         requires orderly { AreOrderly self.now }
         requires met { met ≤ length self.now }

@@ -5,19 +5,17 @@
 //!   change the windows of every stream, so [`stream_run`] takes all [`Changes`] of the connection beside them (RFC
 //!   9113, 6.9.2); a frame and a change of one number are one step.
 //! - The findings are the run of the stream as `audit_terms` defines it, in order, credits only where they are shown,
-//!   up to the place at which its [`audit_terms::Look`] has it end; with it the opening, if that does not lie past the
-//!   place.
-//! - Which steps a run has, `step_numbers` of `specs/code/Looks.antt` says. A change that is none of them costs
-//!   nothing: a search by halving passes over all of these.
-//! - The looks are made when they are due, so many and no other (`IsRun` of `audit_terms`). A run that meets all its
-//!   steps says that it is whole, and keeps all. One that ends early keeps what lies up to its last answer; it cuts
-//!   once, since a later answer may be lower than what was found before it.
-//! - [`Standings`] are a stream of which nothing is shown so far, where credits are not shown: its opening, and for
-//!   each side a number, as `audit_terms` has it. A frame or a change leads to the next ones, unless something may be
-//!   shown. The rows of `quiet_pass` hold these too.
+//!   up to the place at which its [`audit_terms::Look`] ends it; and the opening, if that does not lie past the place.
+//! - `step_numbers` of `specs/code/Looks.antt` says which steps a run has. A change that is none of them costs nothing:
+//!   a binary search skips all of these.
+//! - A run makes the looks that are due, and no other (`IsRun` of `audit_terms`). One that meets all its steps says
+//!   that it is whole, and keeps all. One that ends early keeps what lies up to its last answer; it cuts once, since a
+//!   later answer may be lower than what was found before it.
+//! - [`Standings`] are a stream that is quiet so far: its opening, and for each side a number, as `audit_terms` has it.
+//!   A frame or a change leads to the next ones, unless it may show something. The rows of `quiet_pass` hold these too.
 //! - A [`QuietStream`] is such a stream with the changes that it has met. It meets the stream's frames one by one,
-//!   beside all other streams. One that is quiet after its last frame shows nothing, and its opening is known: so it
-//!   needs no run.
+//!   beside all other streams. A stream that is quiet after its last frame shows nothing, and its opening is known: so
+//!   it needs no run.
 //! - No sum wraps, for any increments and settings that a frame can hold: 2^28 steps of less than 2^32 fit a signed
 //!   word.
 //! - [`worked_examples`] are short runs of the definitions: ends of both sides, resets, promises and where they stand

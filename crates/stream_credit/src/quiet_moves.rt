@@ -68,7 +68,7 @@ fn granted(stream: u32, frame: &Frame, increment: u32) -> Option<Move>
 }
 
 /// Moves a window, if there is credit before and after the move, and no more than the largest window (6.9.1); and
-/// answers whether it did.
+/// returns whether it did.
 pub(crate) fn move_quietly(windows: &mut Sides<Option<i64>>, one: &Move) -> bool
     requires amount { HasRoom (2 ^ 32) one.now.amount }
     requires client { WindowHasRoom (2 ^ 60) windows.old.client }

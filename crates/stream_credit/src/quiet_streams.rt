@@ -1,5 +1,5 @@
-//! Streams of which nothing is shown, where credits are not shown: most are of this kind. Such a stream is told by its
-//! frames in the order of the capture, beside all others, and need not be gone through by itself.
+//! Quiet streams, of which nothing is shown where credits are not: most are quiet. Such a stream is told by its frames
+//! in capture order, beside all others, and needs no run of its own.
 
 ghost use Rattle.std.specs.Prelude.{◌≡◌, ℕ, ◌+◌, ◌^◌, ◌<◌, ◌≤◌, List, [], ◌∷◌, drop, length};
 ghost use Rattle.std.specs.Bool.{OnTrue};
@@ -20,14 +20,14 @@ use audit_terms::{Frame, Length, Sides};
 /// The most changes that a stream is followed through: more do not fit the three bytes of its count.
 const MOST_CHANGES_MET: u32 = 0xff_ffff;
 
-/// A stream between two of its frames, for as long as nothing is shown of it. A connection keeps many: it takes 16
-/// bytes, what needs no alignment last.
+/// A stream between two of its frames, for as long as it is quiet. A connection keeps many: it takes 16 bytes, what
+/// needs no alignment last.
 #[derive(Clone, Copy)]
 pub struct QuietStream {
     pub standings: Standings,
     /// How many of the connection's changes it has met.
     pub met: Length,
-    /// Is nothing shown of it so far? If something may be, the rest says nothing of it.
+    /// Is it known to be quiet so far? If not, the rest says nothing of it.
     pub is_quiet: bool,
 }
 
@@ -56,8 +56,8 @@ impl QuietStream {
         }
     }
 
-    /// Meets a change that moves its windows from one initial window to another, and answers whether nothing of that
-    /// may be shown.
+    /// Meets a change that moves its windows from one initial window to another, and returns false if that may show
+    /// something.
     fn meet_change(&mut self, before: &Sides<u32>, after: &Sides<u32>) -> bool
         requires { self.old.met < 2 ^ 28 }
         ensures { OnTrue result (IsPassed before.now after.now self.old self.new) }
@@ -73,8 +73,8 @@ impl QuietStream {
         true
     }
 
-    /// Meets the changes before a number while a window lives, one by one, and answers whether nothing of them may be
-    /// shown.
+    /// Meets the changes before a number while a window lives, one by one, and returns false if they may show
+    /// something.
     fn meet_each(&mut self, changes: &Changes<'_>, number: u32) -> bool
         requires { CanMeet number changes.now self.old }
         ensures { OnTrue result (HasMetChanges number changes.now self.old self.new) }
@@ -88,8 +88,8 @@ impl QuietStream {
         true
     }
 
-    /// Meets the changes before a number, and answers whether nothing of them may be shown. A change that finds no live
-    /// window is passed over.
+    /// Meets the changes before a number, and returns false if they may show something. A change that finds no live
+    /// window is skipped.
     fn meet_changes(&mut self, changes: &Changes<'_>, number: u32) -> bool
         requires { CanMeet number changes.now self.old }
         ensures { OnTrue result (HasMetChanges number changes.now self.old self.new) }
@@ -104,7 +104,7 @@ impl QuietStream {
         true
     }
 
-    /// Meets its next frame, behind the changes before it, and answers whether nothing of it may be shown.
+    /// Meets its next frame, behind the changes before it, and returns false if it may show something.
     fn meet_frame(&mut self, stream: u32, changes: &Changes<'_>, frame: &Frame) -> bool
         requires ahead { (all rest : List FrameTerm) × IsAhead stream changes.now all (frame.now ∷ rest) self.old }
         requires passed { AreFrom frame.now.number (drop self.old.met changes.now) }
@@ -122,7 +122,7 @@ impl QuietStream {
         true
     }
 
-    /// How it stands after a frame without a change, if nothing of that is shown.
+    /// How it stands after a frame without a change, if that shows nothing.
     fn standings_after(
         &self,
         stream: u32,

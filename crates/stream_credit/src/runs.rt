@@ -22,7 +22,7 @@ use std::alloc::{AllocError, Global};
 /// (Measured: bench/README.md, Thresholds.)
 const NEAR_FRAMES: usize = 32;
 
-/// Makes of `near` the frames at some positions. They lie far from one another, and loads that do not depend on each
+/// Fills `near` with the frames at some positions. They lie far from one another, and loads that do not depend on each
 /// other overlap.
 fn gather(near: &mut Vec<Frame>, frames: &[Frame], positions: &[u32]) -> Result<(), AllocError>
     requires { All (λ (position : ℕ). position < length frames.now) positions.now }
@@ -35,7 +35,7 @@ fn gather(near: &mut Vec<Frame>, frames: &[Frame], positions: &[u32]) -> Result<
     Ok(())
 }
 
-/// Meets frames, and the changes before them, and answers whether it met them all.
+/// Meets frames, and the changes before them, and returns whether it met them all.
 fn meet_frames<L: Look>(
     walk: &mut Walk,
     look: &mut L,
@@ -57,8 +57,8 @@ fn meet_frames<L: Look>(
     Ok(true)
 }
 
-/// Meets all frames of a stream, some at a time, and all changes of its connection, and answers whether it met them
-/// all. `near` is room for the frames of a time.
+/// Meets all frames of a stream, some at a time, and all changes of its connection, and returns whether it met them
+/// all. `near` is a buffer for these.
 fn meet_all<L: Look>(
     near: &mut Vec<Frame>,
     walk: &mut Walk,

@@ -1,5 +1,5 @@
-//! How a stream stands of which nothing is shown, where credits are not shown: most are of this kind. Each live window
-//! then has credit, so one number says how a side stands, as `audit_terms::standings` has it.
+//! How a quiet stream stands, as most are. Each of its live windows has credit, so one number says how a side stands,
+//! as `audit_terms::standings` has it.
 
 ghost use Rattle.std.specs.Prelude.{◌≡◌, ℕ, true};
 ghost use Rattle.std.specs.Bool.{OnTrue};
@@ -16,7 +16,7 @@ use audit_terms::standings::{
 };
 use audit_terms::{Frame, Side, Sides, StreamLife};
 
-/// A stream between two of its frames, for as long as nothing is shown of it: 12 bytes.
+/// A stream between two of its frames, for as long as it is quiet: 12 bytes.
 #[derive(Clone, Copy)]
 pub struct Standings {
     /// The number of the frame that opened it; 0 where none did.
@@ -77,7 +77,7 @@ impl Standings {
         has_credit(self.client) || has_credit(self.server)
     }
 
-    /// The stream that a frame opens, if it does and nothing but credits is shown of that.
+    /// The stream that a frame opens, if it does and shows nothing but credits.
     pub fn opened(stream: u32, initial: &Sides<u32>, frame: &Frame) -> Option<Self>
         ensures { ForSome result (IsOpenedBy stream initial.now frame.now) }
     {
@@ -97,7 +97,7 @@ impl Standings {
         })
     }
 
-    /// The stream after a frame on it, if it is opened and nothing of that is shown.
+    /// The stream after a frame on it, if it is opened and the frame shows nothing.
     // In line, since it is called for each frame, as `Pending::meet` is.
     #[inline(always)]
     pub fn after(&self, frame: &Frame) -> Option<Self>
@@ -120,7 +120,7 @@ impl Standings {
         })
     }
 
-    /// The stream after a frame that it meets, if it is opened and nothing of that is shown.
+    /// The stream after a frame that it meets, if it is opened and the frame shows nothing.
     pub(crate) fn met(&self, stream: u32, frame: &Frame) -> Option<Self>
         ensures { ForSome result (λ next. (initial : SidesTerm ℕ) → IsNext stream initial frame.now self.now next) }
     {
@@ -134,7 +134,7 @@ impl Standings {
         None
     }
 
-    /// A stream that is not opened, after a frame that it meets, if nothing of that is shown.
+    /// A stream that is not opened, after a frame that it meets, if that shows nothing.
     pub(crate) fn first(stream: u32, initial: &Sides<u32>, frame: &Frame) -> Option<Self>
         ensures { ForSome result (λ next. (idle : Standings) → stream_of idle ≡ idle_stream
             → IsNext stream initial.now frame.now idle next) }
@@ -149,7 +149,7 @@ impl Standings {
         Some(Self::idle())
     }
 
-    /// The stream after a change of the initial windows in force, if nothing of that is shown (RFC 9113, 6.9.2).
+    /// The stream after a change of the initial windows in force, if that shows nothing (RFC 9113, 6.9.2).
     pub fn after_change(&self, before: &Sides<u32>, after: &Sides<u32>) -> Option<Self>
         ensures { ForSome result (AreMovedBy before.now after.now self.now) }
     {
@@ -161,7 +161,7 @@ impl Standings {
     }
 }
 
-/// How a side stands after a frame on the stream, which is opened, if nothing of that is shown (RFC 9113, 5.1, 6.9.1).
+/// How a side stands after a frame on an opened stream, if that shows nothing (RFC 9113, 5.1, 6.9.1).
 fn standing_after(standing: u32, side: Side, frame: &Frame) -> Option<u32>
     ensures { ForSome result (IsStandingAfter side frame.now standing) }
 {

@@ -80,7 +80,7 @@ impl Walk {
         self.count_shown(&step)
     }
 
-    /// Counts a change of which nothing is shown, if the step is one, and answers whether it is.
+    /// Counts a quiet change, if the step is one, and returns whether it is.
     fn count_quiet_change(&mut self, step: &Step) -> bool
         requires { CanCount self.old step.now }
         ensures counted { OnTrue result (HasCounted self.old step.now self.new) }
@@ -136,7 +136,7 @@ impl Walk {
         self.watch.goes_on(look, found, number)
     }
 
-    /// Meets the changes before a number, and answers whether it met them all. Where no window lives it has none of
+    /// Meets the changes before a number, and returns whether it met them all. Where no window lives it has none of
     /// them to meet.
     pub(crate) fn meet_changes<L: Look>(
         &mut self,
@@ -155,7 +155,7 @@ impl Walk {
         Ok(true)
     }
 
-    /// Passes over changes, and has met so many then: only what they leave in force counts.
+    /// Skips changes, and has met so many then: only what they leave in force counts.
     fn pass(&mut self, met: u32, initial: &Sides<u32>)
         ensures { self.new ≡ record self.old { initial = initial.now; met = met } }
     {
@@ -184,7 +184,7 @@ impl Walk {
         Ok(true)
     }
 
-    /// Meets the next frame of the stream, and the changes before it, and answers whether it met them all.
+    /// Meets the next frame of the stream, and the changes before it, and returns whether it met them all.
     pub(crate) fn meet_frame<L: Look>(
         &mut self,
         look: &mut L,
@@ -225,7 +225,7 @@ impl Walk {
         })
     }
 
-    /// Counts a frame of which nothing is shown and that brings no change, if it is one, and answers whether it is.
+    /// Counts a frame that is quiet and brings no change, if it is one, and returns whether it is.
     fn count_quiet_frame(&mut self, frame: &Frame, change: &Option<Change>) -> bool
         requires { CanCount self.old (frame_with frame.now change.now) }
         ensures counted { OnTrue result (HasCounted self.old (frame_with frame.now change.now) self.new) }

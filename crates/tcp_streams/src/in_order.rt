@@ -14,7 +14,7 @@ use crate::started_side::StartedSide;
 use input_output::Capture;
 use std::alloc::{AllocError, Global};
 
-/// What is laid out of a flow so far.
+/// The part of a flow that is laid out so far.
 #[derive(Drop)]
 struct Laid<'a> {
     pieces: Vec<&'a [u8]>,

@@ -22,7 +22,7 @@ impl Interval {
     ghost use Rattle.tcp_streams.specs.Bytes.{joined};
     ghost use Rattle.tcp_streams.specs.code.Interval.{IsInside, IsInterval, part_of, width};
 
-    /// Puts the interval's bytes behind the pieces that were found.
+    /// Appends the interval's bytes to the pieces that were found.
     pub fn push_bytes<'a>(
         &self,
         capture: &Capture<'a>,

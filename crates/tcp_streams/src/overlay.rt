@@ -33,7 +33,7 @@ fn lie_apart(pieces: &[Interval]) -> bool
     true
 }
 
-/// Sets the pieces apart by halves, of which the second fills what the first leaves free.
+/// Sets the pieces apart by halves: the second fills what the first leaves free.
 fn set_apart_halves(alloc: Global, pieces: &[Interval]) -> Result<Vec<Interval>, AllocError>
     requires { All IsInterval pieces.now }
     ensures { IfOk result (λ v. AreSetApart pieces.now v.items) }

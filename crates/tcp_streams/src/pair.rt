@@ -17,7 +17,7 @@ pub(crate) struct Pair {
 impl Pair {
     ghost use Rattle.tcp_streams.specs.code.Pairs.{pair_of};
 
-    /// The pair that a segment is of.
+    /// The pair of a segment.
     pub fn of(segment: &Segment) -> Pair
         ensures { result ≡ pair_of segment.now }
     {

@@ -18,7 +18,7 @@ pub(crate) struct Known {
     pub standing: Standing,
 }
 
-/// How each pair stands of which anything is known, in order of first sight.
+/// How each known pair stands, in order of first sight.
 #[derive(Drop)]
 pub(crate) struct Standings {
     pairs: IndexMap<Pair, Standing, TableHash>,
@@ -81,7 +81,7 @@ impl Standings {
         }
     }
 
-    /// The pair stands so from now on.
+    /// Sets how the pair stands from now on.
     pub fn set(&mut self, pair: Pair, standing: Standing) -> Result<(), AllocError>
         ensures { OnOk result (SetsStanding pair standing self.old self.new) }
     {

@@ -19,7 +19,7 @@ use packet_heads::{CapturePackets, PacketWalk, Packets};
 use pcap_records::PcapFault;
 use std::alloc::{AllocError, Global};
 
-/// The packets of a front of a capture and the connections that they show, behind which more bytes may come.
+/// The packets of a front of a capture, behind which more bytes may come, and the connections that they show.
 ///
 /// Each time that the walk advances, the table takes in the packets that were just made, while they are in the cache.
 #[derive(Drop)]
@@ -31,7 +31,7 @@ pub struct ConnectionWalk {
 }
 
 impl ConnectionWalk {
-    /// A walk that stands behind the file header, or the refusal of these bytes.
+    /// A walk that begins behind the file header, or the refusal of these bytes.
     pub fn begin(alloc: Global, hash: TableHash, front: &[u8]) -> Result<ConnectionWalk, PcapFault>
         ensures ok { IfOk result (IsConnectionWalkIn front.now) }
         ensures taken { OnOk result (refusal front.now ≡ None) }
@@ -53,7 +53,7 @@ impl ConnectionWalk {
         self.hash
     }
 
-    /// What the capture holds, of which this walk took in a front, with its connections and strays, or the first
+    /// What the capture holds, after this walk over a front of it, with its connections and strays, or the first
     /// refusal that applies.
     ///
     /// Refusals are those of [`PacketWalk::finish`]; memory can be wanting for the table too.
@@ -73,7 +73,7 @@ impl ConnectionWalk {
         // Each fault other than want of memory is that refusal.
         ensures err { IfErr result (λ e. (e ≡ PcapFault.OutOfMemory) ⊎ (refusal capture.now ≡ Some e)) }
 
-        // For those who go on from the packets and the connections.
+        // For callers that use the packets and the connections.
         ensures order { IfOk result (λ found. AreInOrder (length capture.now) (packets_in found.0)) }
         ensures members { IfOk result (λ found.
             All (λ c. AreMembers 0 (packets_in found.0) c.members.items) found.1.opened.items) }
@@ -88,7 +88,7 @@ impl ConnectionWalk {
     }
 }
 
-/// The connections of packets, of which a table has taken in those before this index.
+/// The connections of packets, by a table that has taken in those before this index.
 fn connections_of(
     mut table: Table,
     alloc: Global,
