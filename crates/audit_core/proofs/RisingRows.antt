@@ -89,10 +89,6 @@ rows-next all later frame old mid new h own promised =
       ) h.named;
     }
 
-pub rows-end : (all : List Frame) (made : RisingRows) → AreRowsBefore all [] made →
-    made.rows.items ≡ idle_rows (streams_of all)
-rows-end all made h = rw (← h.named, append-nil) h.rows.rows
-
 -- ---- no two rows are of one stream
 
 nonzero : (streams : List ℕ) → list_any (λ other. other == 0) streams ≡ false →

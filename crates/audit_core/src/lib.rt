@@ -2,8 +2,8 @@
 //! of the definitions of `audit_terms` that it follows.
 //!
 //! - [`one_pass`] gives the findings of the pass: all, of every kind, in order, up to and including the first that
-//!   stops. It is for tests: the audit calls [`shown_in_one_pass`] where there is one worker, and else runs the rounds
-//!   of `audit_rounds`.
+//!   stops. It is for tests: where credits are shown, the audit calls [`shown_in_one_pass`] for a connection that is
+//!   not divided; else, and where that has no answer, it runs the rounds of `audit_rounds`.
 //! - [`shown_in_one_pass`] gives those that are shown. It reads the frames once, keeps a row for each stream, and ends
 //!   at the first frame at which the audit stops. One stream meets most frames: a guess finds its row, else a binary
 //!   search. Where streams first come out of order (RFC 9113, 5.1.1), or many acknowledgements and promises meet many
@@ -25,8 +25,8 @@
 //!   not count, in `quiet_pass`; and wrong bodies of the calls that it makes with these, as a change that counts before
 //!   its acknowledgement in `settings_pair`.
 //! - Tested, in `crate_tests`: that both succeed where there is memory, that the rounds show what `one_pass` does of
-//!   random frames, and that one worker goes through no round. Neither proved nor tested: when `shown_in_one_pass` has
-//!   no answer.
+//!   random frames, and that one worker goes through no round where `shown_in_one_pass` has an answer. Neither proved
+//!   nor tested: when it has none.
 #![tactic(auto)]
 
 pub mod laws;

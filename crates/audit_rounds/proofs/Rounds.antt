@@ -24,7 +24,8 @@ use Rattle.audit_terms.specs.code.runs.Blocks.{block_runs}
 use Rattle.audit_terms.specs.code.runs.Orderly.{IsInRange}
 use Rattle.audit_terms.proofs.FindingLists.{each-append, each-in_order, each-said}
 use Rattle.audit_core.proofs.PartsLemmas.{parts_make_full_lem}
-use Rattle.split_merge.proofs.ShownMerge.{shown-flat_map, merge-shown}
+use Rattle.audit_terms.proofs.ShownFindings.{shown-flat_map}
+use Rattle.split_merge.proofs.ShownMerge.{merge-shown}
 use Rattle.audit_rounds.specs.laws.Rounds.{RoundsMakePass}
 
 -- ---- what is found before the rounds

@@ -87,7 +87,7 @@ pub use Rattle.stop_desk.specs.code.Heeding.{Heeds, RunLooks}
 pub use Rattle.stop_desk.specs.code.Laid.{part_of}
 pub use Rattle.stop_desk.specs.code.Settling.{HasSettled}
 pub use Rattle.stop_desk.specs.declared.{parts.Part.Part, settling.Settled.Settled}
-pub use Rattle.split_merge.proofs.ShownMerge.{shown-append, in_order-shown}
+pub use Rattle.audit_terms.proofs.ShownFindings.{shown-append, in_order-shown}
 pub use Rattle.split_merge.specs.code.Findings.{findings_in}
 pub use Rattle.split_merge.specs.code.Groups.{groups}
 pub use Rattle.split_merge.specs.code.Split.{IsSplit}

@@ -9,3 +9,4 @@ mod Packing
 pub mod OrderlyFrames
 pub mod SeenStreams
 pub mod LeastPlaces
+pub mod ShownFindings

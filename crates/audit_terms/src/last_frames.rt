@@ -1,4 +1,5 @@
-ghost use Rattle.std.specs.Prelude.{◌≡◌, Option};
+ghost use Rattle.std.specs.Prelude.{◌≡◌, Option, is_none};
+ghost use Rattle.audit_terms.specs.declared.frames.Frame.{Frame as FrameTerm};
 ghost use Rattle.audit_terms.specs.code.LastFrame.{last_of, breaks};
 
 use crate::frame_types::CONTINUATION;
@@ -35,6 +36,13 @@ impl LastFrame {
             Some(frame) => LastFrame::of(frame),
             None => LastFrame::Missing,
         }
+    }
+
+    /// Did the side send no frame so far?
+    pub fn is_missing(self) -> bool
+        ensures { (previous : Option FrameTerm) → self ≡ last_of previous → result ≡ is_none previous }
+    {
+        matches!(self, LastFrame::Missing)
     }
 
     /// Does the next frame of the side break a field block, or go on with one that is not open (4.3, 6.10)?

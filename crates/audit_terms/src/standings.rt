@@ -46,7 +46,7 @@ pub fn balance(credit: u32, rise: u32, fall: u32) -> Option<u32>
 /// A credit as it is kept, if some is left and it is no more than the largest (RFC 9113, 6.9.1).
 // With this test written out in `standing_after_change` LLVM makes code that takes 14 % longer where each change meets
 // many windows.
-fn kept(credit: i64) -> Option<u32>
+pub fn kept(credit: i64) -> Option<u32>
     ensures { ForSome result (IsCreditOf credit) }
 {
     if credit <= 0 || credit > i64::from(LARGEST_WINDOW) {

@@ -1,7 +1,7 @@
 -- A frame or a step that leaves a window as it is shows nothing of it.
 use Rattle.std.proofs.Common.{◌≡◌, ℕ, ℤ, [], arith, Some}
 use Rattle.std.proofs.lemmas.Int.{ints}
-use Rattle.audit_terms.specs.Connection.{connection_window_said, credit_after}
+use Rattle.audit_terms.specs.Connection.{credit_after}
 use Rattle.audit_terms.specs.Stream.{live_window_said, window_after, window_step}
 use Rattle.audit_terms.specs.declared.frames.Frame.{Frame}
 use Rattle.audit_terms.specs.declared.items.Step.{Step}
@@ -14,11 +14,6 @@ use Rattle.fault_rules.specs.code.Unmoved.{LeavesConnection, LeavesWindow}
 pub credit_stays : (d : Side) (before : ℤ) (frame : Frame) → LeavesConnection d frame
     → credit_after d before frame ≡ before
 credit_stays d before frame leaves = omega (arith, ints, leaves.grant, leaves.content)
-
-pub says_nothing : (d : Side) (before : ℤ) (frame : Frame) → LeavesConnection d frame
-    → connection_window_said d before frame ≡ []
-says_nothing d before frame leaves =
-    grind (arith, ints, credit_stays d before frame leaves, leaves.nothing, leaves.content)
 
 -- a window of a stream
 module _ (d : Side) (stream : ℕ) (initial : Sides ℕ) (step : Step) (before : ℤ) (leaves : LeavesWindow d stream step)

@@ -1,8 +1,10 @@
 //! What a frame shows by itself and beside the frame of its side just before it (RFC 9113, 3.4, 4.3, 6).
 
-ghost use Rattle.std.specs.Prelude.{◌≡◌, ◌++◌, OnOk};
+ghost use Rattle.std.specs.Prelude.{◌≡◌, ◌++◌, OnOk, Option};
 ghost use Rattle.audit_terms.specs.code.runs.Orderly.{IsInRange};
-ghost use Rattle.audit_terms.specs.LocalFault.{breaks_block, reading_fault, body_said, local_said, fault};
+ghost use Rattle.audit_terms.specs.LocalFault.{reading_fault, body_said, local_said, fault};
+ghost use Rattle.audit_terms.specs.code.LastFrame.{last_of};
+ghost use Rattle.audit_terms.specs.declared.frames.Frame.{Frame as FrameTerm};
 ghost use Rattle.audit_terms.specs.Finding.{say};
 
 use crate::previous::is_of;
@@ -22,10 +24,23 @@ pub fn say_local(
     requires { IsInRange frame.now }
     ensures { OnOk result (found.new.items ≡ found.old.items ++ local_said previous.now frame.now) }
 {
+    say_local_after(found, LastFrame::of_last(previous), frame)
+}
+
+/// What `say_local` adds, by what is kept of the frame of its side just before it.
+pub fn say_local_after(
+    found: &mut Vec<Finding>,
+    last: LastFrame,
+    frame: &Frame,
+) -> Result<(), AllocError>
+    requires { IsInRange frame.now }
+    ensures { OnOk result ((previous : Option FrameTerm) → last ≡ last_of previous
+        → found.new.items ≡ found.old.items ++ local_said previous frame.now) }
+{
     let code = u32::from(frame.code);
-    let bad_preface = previous.is_none() & !frame.is_settings();
+    let bad_preface = last.is_missing() & !frame.is_settings();
     say_fault(found, bad_preface, Kind::BadPreface, frame, code)?;
-    let broken_block = breaks_block(previous, frame);
+    let broken_block = last.breaks(frame);
     say_fault(found, broken_block, Kind::BrokenBlock, frame, code)?;
     let wrong_stream = frame.is_on_wrong_stream();
     say_fault(found, wrong_stream, Kind::WrongStream, frame, code)?;
@@ -46,13 +61,6 @@ pub(crate) fn say_fault(
     ensures { OnOk result (found.new.items ≡ found.old.items ++ say holds (fault kind frame.now value)) }
 {
     say_at(found, holds, kind, spot_of(frame), value)
-}
-
-/// Does a frame break a field block, or go on with one that is not open (4.3, 6.10)?
-fn breaks_block(previous: &Option<Frame>, frame: &Frame) -> bool
-    ensures { result ≡ breaks_block previous.now frame.now }
-{
-    LastFrame::of_last(previous).breaks(frame)
 }
 
 /// Adds what the body shows: a payload that cannot be read, or a setting out of range (6.5.2).

@@ -32,7 +32,7 @@ mod stream_rules;
 mod window_rules;
 
 pub use connection_rules::say_connection;
-pub use frame_faults::say_local;
+pub use frame_faults::{say_local, say_local_after};
 pub use previous::keep_last;
 pub use shares::local_faults;
 pub use stream_rules::say_stream;

@@ -225,7 +225,7 @@ impl<'a> FrameWalk<'a> {
 
 /// Begins a walk over the frames of a connection's client and server: decides whether it is HTTP/2, and reads none yet.
 ///
-/// The flows are to be as [`crate::cut`] asks, and its four kinds are these.
+/// The flows are to be as [`crate::cut_by`] asks, and its four kinds are these.
 pub fn begin<'a>(alloc: Global, client: &'a Flow<'a>, server: &'a Flow<'a>) -> Begun<'a>
     requires { AreFlowsOfOne client.now server.now }
     ensures { IsBegun client.now server.now result }

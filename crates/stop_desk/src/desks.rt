@@ -52,7 +52,7 @@ fn opening_words(alloc: Global, stops: &[Option<Place>]) -> Result<Vec<u64>, All
 
 impl Desk {
     /// A desk for jobs numbered from 0, with a stop for each connection, and the first pass, which has all draws: each
-    /// job once, and one more for each worker. `Err` only where memory runs out.
+    /// worker may draw as often as there are jobs, and once more. `Err` only where memory runs out.
     #[tactic(auto, using(crate::proofs::PassViews::stops_made))]
     pub fn make(
         alloc: Global,

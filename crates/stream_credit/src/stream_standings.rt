@@ -5,16 +5,16 @@ ghost use Rattle.std.specs.Prelude.{◌≡◌, ℕ, true};
 ghost use Rattle.std.specs.Bool.{OnTrue};
 ghost use Rattle.std.specs.Option.{ForSome};
 ghost use Rattle.audit_terms.specs.declared.sides.Sides.{Sides as SidesTerm};
-ghost use Rattle.audit_terms.specs.code.Standing.{has_credit};
+ghost use Rattle.audit_terms.specs.code.Standing.{has_credit, window_of};
 ghost use Rattle.audit_terms.specs.Stream.{idle_stream};
 ghost use Rattle.stream_credit.specs.code.Looks.{is_live};
 ghost use Rattle.stream_credit.specs.code.Standings.{IsStandingAfter, IsOpeningStanding, opened_of, life_of, stream_of};
-ghost use Rattle.stream_credit.specs.code.Standings.{IsNext, IsNextOpened, IsOpenedBy, AreMovedBy};
+ghost use Rattle.stream_credit.specs.code.Standings.{IsNext, IsNextOpened, IsOpenedBy, IsStandingOf, AreMovedBy};
 
 use audit_terms::standings::{
-    ENDED, balance, has_credit, has_ended, standing_after_change, without_window,
+    ENDED, balance, has_credit, has_ended, kept, standing_after_change, without_window,
 };
-use audit_terms::{Frame, Side, Sides, StreamLife};
+use audit_terms::{Frame, Side, Sides, Stream, StreamLife};
 
 /// A stream between two of its frames, for as long as it is quiet: 12 bytes.
 #[derive(Clone, Copy)]
@@ -61,6 +61,36 @@ impl Standings {
                 server: has_ended(self.server),
             },
         }
+    }
+
+    /// The stream that stands so.
+    pub fn stream(&self) -> Stream
+        ensures { result ≡ stream_of self.now }
+    {
+        Stream {
+            life: self.life(),
+            window: Sides {
+                client: window_of(self.client),
+                server: window_of(self.server),
+            },
+        }
+    }
+
+    /// How a stream stands, if each window that lives has credit, no more than the largest, and no side has one that
+    /// has ended the stream.
+    pub fn of(stream: &Stream) -> Option<Self>
+        ensures { ForSome result (λ standings. stream_of standings ≡ stream.now) }
+    {
+        let opened = match stream.life.opened {
+            Some(0) => return None,
+            Some(number) => number,
+            None => 0,
+        };
+        Some(Standings {
+            opened,
+            client: standing_of(stream.window.client, stream.life.ended.client)?,
+            server: standing_of(stream.window.server, stream.life.ended.server)?,
+        })
     }
 
     /// Is it a stream that is not opened?
@@ -161,7 +191,29 @@ impl Standings {
     }
 }
 
-/// How a side stands after a frame on an opened stream, if that shows nothing (RFC 9113, 5.1, 6.9.1).
+/// The window of a side that stands so.
+fn window_of(standing: u32) -> Option<i64>
+    ensures { result ≡ window_of standing }
+{
+    if has_credit(standing) {
+        Some(i64::from(standing))
+    } else {
+        None
+    }
+}
+
+/// How a side stands that has this window, and has ended the stream or not, if one number says so.
+fn standing_of(window: Option<i64>, is_ended: bool) -> Option<u32>
+    ensures { ForSome result (IsStandingOf window is_ended) }
+{
+    match window {
+        Some(_) if is_ended => None,
+        Some(credit) => kept(credit),
+        None => Some(without_window(is_ended)),
+    }
+}
+
+/// How a side stands after a frame on the stream, which is opened, if nothing of that is shown (RFC 9113, 5.1, 6.9.1).
 fn standing_after(standing: u32, side: Side, frame: &Frame) -> Option<u32>
     ensures { ForSome result (IsStandingAfter side frame.now standing) }
 {

@@ -43,6 +43,11 @@ pub record IsStandingAfter (d : Side) (frame : Frame) (standing next : ℕ) : Ty
       ≡ window_after d frame.stream initial (frame_step frame) (window_of standing)
   pub ended : has_ended next ≡ (has_ended standing || is_last_of d frame.stream frame)
 
+-- how a side stands that has this window, and has ended the stream or not
+pub record IsStandingOf (window : Option ℤ) (is_ended : Bool) (standing : ℕ) : Type 0 where
+  pub same : window_of standing ≡ window
+  pub ended : has_ended standing ≡ is_ended
+
 -- how a side stands on a stream that is opened: nothing of that is shown
 pub record IsOpeningStanding (initial : ℕ) (is_last : Bool) (standing : ℕ) : Type 0 where
   pub some : is_last ≡ false → is_used_up (pos initial) ≡ false
