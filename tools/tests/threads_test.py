@@ -59,6 +59,8 @@ TWO_STREAMS = capture_of("opened\nC HEADERS 1\nC HEADERS 3\n")
 TWO_LOUD_STREAMS = capture_of("opened\nC HEADERS 1\nC HEADERS 3\nS WINDOW_UPDATE 1 0\nS WINDOW_UPDATE 3 0\n")
 # An acknowledgement that answers nothing, which is told and ends nothing: so frames go through the rounds.
 UNMATCHED, AT_ONCE = SETTINGS_ACK, "C ACK"
+# A grant of nothing, which is a connection error, and is told as its frame is met.
+NOTHING_GRANTED = frame_of(["WINDOW_UPDATE", "0", "0"])
 SHORT, LONG, LONGER = pings(3904, AT_ONCE), pings(4096, AT_ONCE), pings(20004, AT_ONCE)
 
 Ways = dict[str, int]
@@ -140,6 +142,16 @@ ROWS: list[tuple[str, bytes, Ways]] = [
         "--workers 2",
         connections(2, UNMATCHED),
         {"flows of one": 1, "one is made ready": 1, "one of two blocks is summed": 1},
+    ),
+    ("--workers 2", connections(2, NOTHING_GRANTED), {"flows of one": 1, "told as met, so there is no round": 0}),
+    (
+        "--workers 2 --block 4",
+        connections(2, NOTHING_GRANTED),
+        {
+            "flows of one": 1,
+            "one is made ready, having more frames than a block": 1,
+            "one of two blocks is summed, and one of two is gone through": 2,
+        },
     ),
     ("--workers 4", connections(63), {"flows": 3}),
     ("--workers 4", connections(63, UNMATCHED), {"flows": 3, "made ready by halves": 3, "blocks are summed": 3}),

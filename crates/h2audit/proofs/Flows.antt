@@ -1,7 +1,8 @@
 -- The jobs of the round over connections, and what their parts keep of flows.
 use Rattle.std.proofs.Common.{◌≡◌, ℕ, suc, ◌<◌, Bool, List, [], ◌∷◌, ◌++◌, length, slice_get}
 use Rattle.std.proofs.Common.{All, IfOk, Ok, Err, Result, Option, Some, None, Bor, map, refl, sym, subst, ap, ◌∙◌}
-use Rattle.std.proofs.Common.{arith}
+use Rattle.std.proofs.Common.{arith, false}
+use Rattle.std.specs.List.{AllByRecursion}
 use Rattle.std.proofs.lemmas.List.{get_or-map, length-map}
 use Rattle.std.proofs.lemmas.List.FromFn.{get_or-map-range_with_len, length-map-range_with_len}
 use Rattle.std.proofs.lemmas.Option.{get_or_from_slice_get, slice_get_within}
@@ -19,7 +20,14 @@ use Rattle.h2_frames.specs.code.Orderly.{HasOrderlyFrames}
 use Rattle.h2_frames.specs.declared.cuts.Cut.{Cut}
 use Rattle.h2_frames.specs.declared.cuts.Cut.TheVariants.{Http2, NotHttp2, NoPreface, NoHandshake}
 use Rattle.h2audit.specs.Audited.{IsFlowFrom}
-use Rattle.h2audit.specs.code.Flows.{AreToldFlows, FlowView, IsHeldBy, IsToldFlows, KeepsCut, flow_job, flow_jobs}
+use Rattle.h2audit.proofs.Alike.{stalls-alike}
+use Rattle.h2audit.specs.code.Flows.{AreToldFlows, FlowView, IsHeldBy, IsToldFlows, KeepsCut, KeepsFound}
+use Rattle.h2audit.specs.code.Flows.{flow_job, flow_jobs}
+use Rattle.quiet_pass.specs.code.FoundConnections.{IsFoundOf, IsNamedAlike}
+use Rattle.quiet_pass.specs.declared.found_connections.FoundConnection.{FoundConnection}
+use Rattle.audit_report.specs.Stalls.{stalls}
+use Rattle.audit_terms.specs.declared.findings.Finding.{Finding}
+use Rattle.split_merge.specs.code.Findings.{findings_in}
 use Rattle.h2audit.specs.code.KeptFrames.{frames_of, kept_frames}
 use Rattle.stop_desk.specs.code.Board.{Job, IsCut}
 use Rattle.stop_desk.specs.declared.parts.Part.{Part}
@@ -75,6 +83,7 @@ module _ (credits : Bool) (capture : List ℕ) (packets : List Packet) where
       (each 0 p c refl refl, are-told opened parts (omega arith) (λ n. each (suc n)))
 
   held-orderly : (client server : Flow) (o : Outcome) → IsHeldBy credits client server o → HasOrderlyOutcome o
+  held-orderly client server (outcome.Found found) held = held.1.some_orderly
   held-orderly client server (outcome.Audited audited) held = held.2
   held-orderly client server _ held = tt
 
@@ -108,6 +117,42 @@ pub held-if : {E : Type 0} (credits : Bool) (client server : Flow) (made : Resul
     → IfOk made (IsHeldBy credits client server)
 held-if credits client server (Ok o) cut keeps is orderly = held-in credits client server o cut keeps is orderly
 held-if credits client server (Err e) cut keeps is orderly = tt
+
+-- so is what is kept of what was found in them
+pub held-found : (client server : Flow) (found : FoundConnection) (o : Outcome) → KeepsFound o found
+    → IsFoundOf client server found → IsHeldBy false client server o
+held-found client server found (outcome.Quiet quiet) keeps is = (
+  refl,
+  record {
+    frames = is.frames;
+    started = is.started;
+    http2 = subst (λ (t : Sides ℕ). h2.IsHttp2 client server is.frames t) (sym keeps.1) is.http2;
+    orderly = is.orderly;
+    count = keeps.0 ∙ is.count;
+    silent = sym is.findings ∙ keeps.2;
+  },
+)
+held-found client server found (outcome.Found made) keeps is =
+    let all = is.frames in
+    let same : found.findings.items ≡ findings_in made.value.audited.findings = sym keeps.2 in
+    let kept : found.shown_at.items ≡ made.value.audited.frames.items = sym keeps.3 in (
+      refl,
+      record {
+        frames = all;
+        started = is.started;
+        http2 = subst (λ (t : Sides ℕ). h2.IsHttp2 client server all t) (sym keeps.1) is.http2;
+        orderly = is.orderly;
+        count = keeps.0 ∙ is.count;
+        findings = keeps.2 ∙ is.findings;
+        few = omega (arith, ap length same, found.findings.ok.0, found.findings.small);
+        some_orderly = subst (λ l. runs.IsOrderly l) kept is.some_orderly;
+        named = subst (λ (l : List Finding). AllByRecursion (IsNamedAlike all made.value.audited.frames.items) l) same
+            (subst (λ (l : List Frame). AllByRecursion (IsNamedAlike all l) found.findings.items) kept is.named);
+        stalls_are = keeps.4 ∙ stalls-alike all found.shown_at.items found.findings.items is.named
+            ∙ ap (stalls all) same;
+      },
+    )
+held-found client server found _ keeps is = absurd keeps
 
 gap-from : (sources : ℕ → Option Source) (n : ℕ) (gap : Option ℕ) → IsGap sources n gap
     → (offset : ℕ) → gap ≡ Some offset → offset ≡ n

@@ -7,3 +7,4 @@ mod Standing
 mod Opened
 mod OptionReads
 mod Added
+mod Alike

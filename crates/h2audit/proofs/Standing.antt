@@ -1,6 +1,7 @@
 -- What is kept of connections makes the text of the audits that it stands for.
 use Rattle.std.proofs.Common.{◌≡◌, ℕ, ◌+◌, Bool, List, [], ◌∷◌, ◌++◌, ◌∙◌, map, refl, ap, append_assoc, length}
 use Rattle.std.specs.Prelude.{codes}
+use Rattle.audit_report.specs.{EndLine.end_line, StallLine.stall_lines, Stalls.stalls}
 use Rattle.audit_report.specs.ConnectionLine.{contents_text, heading_text}
 use Rattle.audit_report.specs.{FlowLine.flow_line, FlowLine.tail_of, Line.field, Line.line, code.Roles.roles_text}
 use Rattle.audit_report.specs.Section.{connection_text, findings_text, sections_text}
@@ -11,6 +12,7 @@ use Rattle.audit_terms.specs.declared.{findings.Finding.Finding, sides.Sides.Sid
 use Rattle.audit_terms.specs.declared.sides.Side.TheVariants.{Client, Server}
 use Rattle.h2_frames.specs.declared.cuts.Cut.{Cut}
 use Rattle.h2_frames.specs.declared.cuts.Cut.TheVariants.{Http2, NotHttp2, NoPreface, NoHandshake}
+use Rattle.h2audit.proofs.Alike.{lines-alike}
 use Rattle.h2audit.specs.code.Headings.{heading_of}
 use Rattle.report_pages.specs.code.Sections.{outcome_text, told_text}
 use Rattle.report_pages.specs.code.Told.{AreToldOf, IsOutcomeOf, contents_in}
@@ -51,6 +53,7 @@ opening-is k c e cut = contents-are cut
 contents-same : (o : Outcome) (cut : Cut) (findings : List Finding) → IsOutcomeOf o cut findings
     → contents_in o ≡ contents_of cut
 contents-same (outcome.Quiet quiet) (Http2 frames tails) findings h = rw (h.0, h.1) refl
+contents-same (outcome.Found found) (Http2 frames tails) findings h = rw (h.0, h.1) refl
 contents-same (outcome.Audited audited) (Http2 frames tails) findings h = rw (h.0, h.1) refl
 contents-same outcome.NotHttp2 NotHttp2 findings h = refl
 contents-same outcome.NoPreface NoPreface findings h = refl
@@ -60,6 +63,9 @@ contents-same _ _ findings h = absurd h
 outcome-same : (shown : Bool) (o : Outcome) (cut : Cut) (findings : List Finding) → IsOutcomeOf o cut findings
     → outcome_text shown o ≡ findings_text shown cut findings
 outcome-same shown (outcome.Quiet quiet) (Http2 frames tails) findings h = rw h.2 refl
+outcome-same shown (outcome.Found found) (Http2 frames tails) findings h = rw (h.2, h.3)
+    (ap (λ l. l ++ stall_lines (stalls frames.items findings) ++ end_line findings)
+    (lines-alike frames.items found.value.audited.frames.items shown findings h.4))
 outcome-same shown (outcome.Audited audited) (Http2 frames tails) findings h = rw (h.0, h.2, h.3) refl
 outcome-same shown outcome.NotHttp2 NotHttp2 findings h = refl
 outcome-same shown outcome.NoPreface NoPreface findings h = refl

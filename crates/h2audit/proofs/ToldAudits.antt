@@ -18,7 +18,8 @@ use Rattle.h2audit.specs.code.Verdict.{has_fault_in}
 use Rattle.report_pages.specs.code.Reach.{extents_in}
 use Rattle.report_pages.specs.code.Told.{AreToldOf, HasOrderlyOutcome, IsOutcomeOf, IsToldOf}
 use Rattle.report_pages.specs.declared.{reach.Reach.Reach, told.Outcome.Outcome, told.Told.Told}
-use Rattle.report_pages.specs.declared.told.Outcome.TheVariants.{Audited, NoHandshake, NoPreface, NotHttp2, Quiet}
+use Rattle.report_pages.specs.declared.told.Outcome.TheVariants.{Audited, Found, NoHandshake, NoPreface, NotHttp2}
+use Rattle.report_pages.specs.declared.told.Outcome.TheVariants.{Quiet}
 use Rattle.packet_heads.specs.declared.packets.Packet.{Packet}
 use Rattle.std.specs.List.{flat_map}
 use Rattle.std.proofs.Common.{true, false, Bool, Box, Global, List, Vec, [], ap, arith, length, map, refl, subst, sym}
@@ -57,13 +58,13 @@ module _ (credits : Bool) (capture : List ℕ) (packets : List Packet) (c : Conn
     (client : IsFlowOf capture packets c Client flows.client) (server : IsFlowOf capture packets c Server flows.server)
     (reach : Sides Reach) (reaches : extents_in reach ≡ extents_of flows.client flows.server)
     (rest : List (List Finding)) where
-  -- a connection of which no frames are kept
-  unkept : (o : Outcome) (held : Cut) (findings : Vec Finding Global) → findings.items ≡ []
-      → IsCut flows.client flows.server held → findings_of credits held ≡ []
+  -- a connection of which not all frames are kept
+  unkept : (o : Outcome) (held : Cut) (findings : Vec Finding Global) → IsCut flows.client flows.server held
+      → findings.items ≡ findings_of credits held
       → (found : List Findings) → map findings_in found ≡ rest → left_after o found ≡ found
-      → (one : Told) → one.reach ≡ reach → one.outcome ≡ o → IsOutcomeOf o held [] → HasOrderlyOutcome o
+      → (one : Told) → one.reach ≡ reach → one.outcome ≡ o → IsOutcomeOf o held findings.items → HasOrderlyOutcome o
       → Step credits capture packets c (record { reach = reach; outcome = o }) one found rest
-  unkept o held findings none is nothing found same left one reached here stands orderly = record {
+  unkept o held findings is all found same left one reached here stands orderly = record {
     audited = record { extents = extents_of flows.client flows.server; cut = held; findings = findings };
     audits = record {
       flows = flows;
@@ -71,18 +72,17 @@ module _ (credits : Bool) (capture : List ℕ) (packets : List Packet) (c : Conn
       server = server;
       extents = refl;
       cut = is;
-      findings = none ∙ sym nothing;
+      findings = all;
     };
     stands = record {
       extents = ap extents_in reached ∙ reaches;
-      outcome = subst (λ o. IsOutcomeOf o held findings.items) (sym here)
-          (subst (IsOutcomeOf o held) (sym none) stands);
+      outcome = subst (λ o. IsOutcomeOf o held findings.items) (sym here) stands;
     };
     orderly = subst HasOrderlyOutcome (sym here) orderly;
     left = ap (map findings_in) left ∙ same;
   }
 
-  -- a connection with frames
+  -- a connection with all its frames
   kept : (made told : Box AuditedFrames Global) → IsHeldBy credits flows.client flows.server (Audited made)
       → (findings : Findings) (found : List Findings)
       → findings_in findings ∷ map findings_in found ≡ shown credits (pass made.value.frames.items) ∷ rest
@@ -128,23 +128,30 @@ module _ (credits : Bool) (capture : List ℕ) (packets : List Packet) (c : Conn
       let is = held.1 in
       let fit = length-orderly 0 is.frames (omega arith) is.orderly in
       let frames = list-of c.members is.frames (omega arith) in
-      unkept (Quiet quiet) (cut.Http2 frames quiet.tails) (list-of c.members [] (omega arith)) refl
-      (is.started, is.http2)
-      (ap (λ b. shown b (pass is.frames)) held.0 ∙ is.silent) found same refl one reached (here ∙ with_them)
+      unkept (Quiet quiet) (cut.Http2 frames quiet.tails) (list-of c.members [] (omega arith)) (is.started, is.http2)
+      (sym (ap (λ b. shown b (pass is.frames)) held.0 ∙ is.silent)) found same refl one reached (here ∙ with_them)
       (is.count, refl, refl) tt
+  step-of (Found told) held found same one reached made here with_them =
+      let is = held.1 in
+      let audited = told.value.audited in
+      let fit = length-orderly 0 is.frames (omega arith) is.orderly in
+      let frames = list-of c.members is.frames (omega arith) in
+      unkept (Found told) (cut.Http2 frames audited.tails) (list-of c.members (findings_in audited.findings) is.few)
+      (is.started, is.http2) (is.findings ∙ sym (ap (λ b. shown b (pass is.frames)) held.0)) found same refl one
+      reached (here ∙ with_them) (is.count, refl, refl, is.stalls_are, is.named) is.some_orderly
   step-of (Audited audited) held [] same one reached made here with_them = absurd cc
   step-of (Audited audited) held (findings ∷ found) same one reached (Audited told) here with_them =
       kept audited told held findings found same one reached here with_them
   step-of (Audited audited) held (findings ∷ found) same one reached _ here with_them = absurd with_them
   step-of NotHttp2 held found same one reached made here with_them =
-      unkept NotHttp2 cut.NotHttp2 (list-of c.members [] (omega arith)) refl held refl found same refl one reached
+      unkept NotHttp2 cut.NotHttp2 (list-of c.members [] (omega arith)) held refl found same refl one reached
       (here ∙ with_them) refl tt
   step-of NoPreface held found same one reached made here with_them =
-      unkept NoPreface cut.NoPreface (list-of c.members [] (omega arith)) refl held refl found same refl one reached
+      unkept NoPreface cut.NoPreface (list-of c.members [] (omega arith)) held refl found same refl one reached
       (here ∙ with_them) refl tt
   step-of NoHandshake held found same one reached made here with_them =
-      unkept NoHandshake cut.NoHandshake (list-of c.members [] (omega arith)) refl held refl found same refl one
-      reached (here ∙ with_them) refl tt
+      unkept NoHandshake cut.NoHandshake (list-of c.members [] (omega arith)) held refl found same refl one reached
+      (here ∙ with_them) refl tt
 
 module _ (credits : Bool) (capture : List ℕ) (packets : List Packet) where
   pub told-audits : (opened : List Connection) (parts : List (Part Told)) (found : List Findings) (told : List Told)
@@ -188,10 +195,7 @@ pub with-orderly : (made : Outcome) (found : List Findings) (outcome : Outcome) 
 with-orderly (Audited made) found (Audited told) orderly is =
     subst (λ (f : Vec Frame Global). IsOrderly f.items) (sym is.0) orderly
 with-orderly (Audited made) found _ orderly is = absurd is
-with-orderly (Quiet quiet) found outcome orderly is = subst HasOrderlyOutcome (sym is) tt
-with-orderly NotHttp2 found outcome orderly is = subst HasOrderlyOutcome (sym is) tt
-with-orderly NoPreface found outcome orderly is = subst HasOrderlyOutcome (sym is) tt
-with-orderly NoHandshake found outcome orderly is = subst HasOrderlyOutcome (sym is) tt
+with-orderly made found outcome orderly is = subst HasOrderlyOutcome (sym is) orderly
 
 -- there is here much told here there are parts, and their frames are orderly
 pub all-fit : (parts : List (Part Told)) (found : List Findings) (told : List Told)
@@ -240,6 +244,7 @@ any-of-all f (list ∷ lists) =
 fault-same : (o : Outcome) (held : Cut) (findings : List Finding) → IsOutcomeOf o held findings
     → has_fault_in o ≡ list_any (λ (finding : Finding). is_fault finding.kind) findings
 fault-same (Quiet quiet) (cut.Http2 frames tails) findings h = rw h.2 refl
+fault-same (Found found) (cut.Http2 frames tails) findings h = rw h.2 refl
 fault-same (Audited audited) (cut.Http2 frames tails) findings h = rw h.2 refl
 fault-same NotHttp2 cut.NotHttp2 findings h = rw h refl
 fault-same NoPreface cut.NoPreface findings h = rw h refl

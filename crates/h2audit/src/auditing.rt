@@ -130,11 +130,13 @@ fn audit_records<R: Threads + Sync, G: Gate>(
 {
     // `--frames` asks for credit lines.
     let frames_shown = options.frames_shown();
+    let undivided = undivided(options);
     let Connections { opened, strays } = connections;
     // From here on packets and strays are freed: frames may take their memory.
     let (lines, parts) = lines_and_flows(
         team,
         frames_shown,
+        undivided,
         capture,
         found,
         strays,
@@ -145,19 +147,24 @@ fn audit_records<R: Threads + Sync, G: Gate>(
     let division = Division {
         groups: options.groups(),
         block: options.block(),
-        // One worker divides no connection, and several none that is one block.
-        undivided: if options.workers() == 1 {
-            usize::MAX
-        } else {
-            options.block() as usize
-        },
+        undivided,
         hash,
         frames_shown,
     };
     report_parts(team, &division, lines, headings, parts)
 }
 
-/// The report of connections, behind the lines of the capture, and its verdict. `parts` tell what the flows of each
+/// A connection of no more frames than so many is not divided: one worker divides none, and several none that is one
+/// block.
+fn undivided(options: &Options) -> usize {
+    if options.workers() == 1 {
+        usize::MAX
+    } else {
+        options.block() as usize
+    }
+}
+
+/// The report of connections, behind the lines of the capture, and its verdict. Of each these parts tell what its flows
 /// hold.
 fn report_parts<R: Threads + Sync, G: Gate>(
     team: &Team<'_, R, G>,
@@ -188,6 +195,7 @@ fn report_parts<R: Threads + Sync, G: Gate>(
 fn lines_and_flows<R: Threads + Sync, G: Gate>(
     team: &Team<'_, R, G>,
     frames_shown: bool,
+    most_met: usize,
     capture: &Capture<'_>,
     found: CapturePackets,
     strays: Vec<Stray>,
@@ -202,7 +210,7 @@ fn lines_and_flows<R: Threads + Sync, G: Gate>(
     let lines = capture_lines(team.alloc, found.cut, &packets, strays)?;
     with_flows(
         lines,
-        flows_each(team, frames_shown, capture, &packets, opened),
+        flows_each(team, frames_shown, most_met, capture, &packets, opened),
     )
 }
 

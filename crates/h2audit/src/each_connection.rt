@@ -37,6 +37,7 @@ const SHARED_PACKETS_PER_CONNECTION: usize = 4;
 pub(crate) fn flows_each<R: Threads + Sync, G: Gate>(
     team: &Team<'_, R, G>,
     frames_shown: bool,
+    most_met: usize,
     capture: &Capture<'_>,
     packets: &Packets<'_>,
     opened: &[Connection],
@@ -51,6 +52,7 @@ pub(crate) fn flows_each<R: Threads + Sync, G: Gate>(
         rt: team.rt,
         threads: team.workers as usize / opened.len().max(1),
         frames_shown,
+        most_met,
         capture,
         packets,
         opened,
@@ -69,7 +71,7 @@ fn sharers(workers: u32, packets: usize, opened: usize) -> u32
     if is_worth { workers } else { 1 }
 }
 
-/// What is told of each connection, in order: what its flows hold, with what is found in the frames that are kept.
+/// What is told of each connection, in order: what its flows hold, with what is found where all frames are kept.
 pub(crate) fn audit_each<R: Threads + Sync, G: Gate>(
     team: &Team<'_, R, G>,
     division: &Division,
@@ -85,7 +87,7 @@ pub(crate) fn audit_each<R: Threads + Sync, G: Gate>(
     all_with_findings(team.alloc, parts, found)
 }
 
-/// The frames that are kept, of each connection that has some.
+/// All frames of each connection of which they are kept.
 fn kept_frames<'a>(alloc: Global, parts: &'a [Part<Told>]) -> Result<Vec<&'a [Frame]>, AllocError>
     ensures { IfOk result (λ kept. map (λ frames. frames.now) kept.items ≡ kept_frames parts.now) }
 {

@@ -1,17 +1,19 @@
 //! The round over connections: both flows of each, and what they hold.
 
-ghost use Rattle.std.specs.Prelude.{◌≡◌, ◌<◌, IfOk};
+ghost use Rattle.std.specs.Prelude.{◌≡◌, ◌<◌, false, IfOk, IfSome};
+ghost use Rattle.audit_terms.specs.code.runs.Orderly.{IsOrderly};
 ghost use Rattle.audit_terms.specs.declared.sides.Side.{Side};
 ghost use Rattle.audit_terms.specs.declared.sides.Side.TheVariants.{Client, Server};
-ghost use Rattle.h2audit.specs.code.Flows.{AreSources, IsHeldBy, IsToldFlows, KeepsCut};
+ghost use Rattle.h2audit.specs.code.Flows.{AreSources, IsHeldBy, IsToldFlows, KeepsCut, KeepsFound};
 ghost use Rattle.tcp_streams.specs.code.Orderly.{AreFlowsOfOne};
 
+use audit_report::stall_pairs;
 use audit_terms::{Look, Side};
 use h2_frames::{Cut, cut_by};
 use input_output::Capture;
 use packet_heads::Packets;
-use quiet_pass::quiet_connection;
-use report_pages::{AuditedFrames, Outcome, Reach, Told};
+use quiet_pass::{FoundConnection, QuietConnection, found_connection, quiet_connection};
+use report_pages::{AuditedFrames, FoundFrames, Outcome, Reach, Told};
 use split_merge::Findings;
 use std::alloc::{AllocError, Global};
 use std::marker::Model;
@@ -94,6 +96,8 @@ pub(crate) struct FlowRound<'a, R: Threads + Sync> {
     pub(crate) threads: usize,
     /// Are credits shown? Then all frames are kept.
     pub(crate) frames_shown: bool,
+    /// A connection of no more frames than so many is told at once, if something is shown of it and credits are not.
+    pub(crate) most_met: usize,
     pub(crate) capture: &'a Capture<'a>,
     pub(crate) packets: &'a Packets<'a>,
     pub(crate) opened: &'a [Connection],
@@ -153,7 +157,13 @@ impl<R: Threads + Sync> Round for FlowRound<'_, R> {
             packets: self.packets,
             connection: &self.opened[job as usize],
         };
-        let made = told_from(self.rt, self.threads, self.frames_shown, &sources)?;
+        let made = told_from(
+            self.rt,
+            self.threads,
+            self.frames_shown,
+            self.most_met,
+            &sources,
+        )?;
         Ok(Work {
             findings: Vec::new(alloc),
             upto: None,
@@ -162,11 +172,13 @@ impl<R: Threads + Sync> Round for FlowRound<'_, R> {
     }
 }
 
-/// What is told of a connection, with nothing found yet. Two threads make its flows, where there are as many.
+/// What is told of a connection, with nothing found yet where all frames are kept. Two threads make its flows, where
+/// there are as many.
 fn told_from<R: Threads>(
     rt: &R,
     threads: usize,
     frames_shown: bool,
+    most_met: usize,
     sources: &Sources<'_, '_>,
 ) -> Result<Told, AllocError>
     requires { AreSources sources.now.capture.now sources.now.packets.now sources.now.connection.now }
@@ -178,18 +190,28 @@ fn told_from<R: Threads>(
     let server = server?;
     // The report needs only the reach of the flows.
     let reach = Reach::of_both(&client, &server);
-    match outcome_of(rt, sources.alloc, threads, frames_shown, &client, &server) {
+    match outcome_of(
+        rt,
+        sources.alloc,
+        threads,
+        frames_shown,
+        most_met,
+        &client,
+        &server,
+    ) {
         Ok(outcome) => Ok(Told { reach, outcome }),
         Err(error) => Err(error),
     }
 }
 
-/// What the flows of one connection hold, with nothing found yet. Where they show nothing, no list is made.
+/// What the flows of one connection hold. If credits are not shown, frames are met one by one first; where this tells
+/// all, no list of them is made. Else nothing is found yet.
 fn outcome_of<R: Threads>(
     rt: &R,
     alloc: Global,
     threads: usize,
     frames_shown: bool,
+    most_met: usize,
     client: &Flow,
     server: &Flow,
 ) -> Result<Outcome, AllocError>
@@ -197,12 +219,66 @@ fn outcome_of<R: Threads>(
     ensures { IfOk result (IsHeldBy frames_shown client.now server.now) }
 {
     if !frames_shown {
-        if let Some(quiet) = quiet_connection(rt, alloc, threads, client, server)? {
-            return Ok(Outcome::Quiet(quiet));
+        if let Some(outcome) = outcome_met(rt, alloc, threads, most_met, client, server)? {
+            return Ok(outcome);
         }
     }
     let cut = cut_by(rt, alloc, threads, client, server)?;
     outcome_in(alloc, cut)
+}
+
+/// What the flows of one connection hold, where credits are not shown, if it is told at once: nothing is shown, or the
+/// frames are few. With two threads or more, which go over long flows in batches, only the former.
+fn outcome_met<R: Threads>(
+    rt: &R,
+    alloc: Global,
+    threads: usize,
+    most_met: usize,
+    client: &Flow,
+    server: &Flow,
+) -> Result<Option<Outcome>, AllocError>
+    requires { AreFlowsOfOne client.now server.now }
+    ensures { IfOk result (λ met. IfSome met (IsHeldBy false client.now server.now)) }
+{
+    if 2 <= threads {
+        return match quiet_connection(rt, alloc, threads, client, server)? {
+            Some(quiet) => Ok(Some(Outcome::Quiet(quiet))),
+            None => Ok(None),
+        };
+    }
+    match found_connection(alloc, most_met, client, server)? {
+        Some(found) => Ok(Some(outcome_found(alloc, found)?)),
+        None => Ok(None),
+    }
+}
+
+/// What was found of a connection, with its stalls.
+fn outcome_found(alloc: Global, found: FoundConnection) -> Result<Outcome, AllocError>
+    requires { IsOrderly found.shown_at.items }
+    ensures { IfOk result (λ outcome. KeepsFound outcome found) }
+{
+    let FoundConnection {
+        frames,
+        tails,
+        findings,
+        shown_at,
+    } = found;
+    if findings.is_empty() {
+        return Ok(Outcome::Quiet(QuietConnection { frames, tails }));
+    }
+    let findings = Findings::of(alloc, findings)?;
+    let stalls = stall_pairs(alloc, findings.lists.as_slice(), shown_at.as_slice())?;
+    let audited = AuditedFrames {
+        frames: shown_at,
+        tails,
+        findings,
+        stalls,
+    };
+    let found = FoundFrames {
+        count: frames,
+        audited,
+    };
+    Ok(Outcome::Found(Box::new(alloc, found)?))
 }
 
 /// What a cut holds, with nothing found yet.

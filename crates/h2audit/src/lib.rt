@@ -23,9 +23,10 @@
 //! - Reading stops at 2^31 bytes, which are refused as the whole is. Where the file header refuses a capture, only it
 //!   is kept (`brief`), since what follows changes no answer (`pcap_records::laws::header_refuses`).
 //! - docs/ARCHITECTURE.md follows the data all the way through the crates, and says how workers divide the work.
-//! - From its flows on, little is kept of a connection, but all that the text tells of its audit
-//!   (`report_pages::Told`): how far the flows reach, and the number of frames where they show nothing, else the
-//!   frames, what was found in them and the stalls. For all connections it is kept until the report is written.
+//! - What is kept of a connection from its flows on is small, and has all that the text tells of its audit
+//!   (`report_pages::Told`): how far the flows reach, and the number of frames where nothing is shown of them; else
+//!   what was found, the stalls, and frames: where all was found as they were met, those that findings name, else all
+//!   of them. Of all connections it is kept until the report is written.
 //! - Refused by the prover: an empty report, a verdict by errors alone, standard input read beside FILE, FILE left out,
 //!   the ends of a connection exchanged.
 //! - Tested, in `crate_tests`: the texts of faults; in `tests/` at the root: what the program answers to words, the

@@ -37,6 +37,7 @@ fn has_fault_in(outcome: &Outcome) -> bool
     ensures { result ≡ has_fault_in outcome.now }
 {
     match outcome {
+        Outcome::Found(found) => has_fault(&found.audited.findings),
         Outcome::Audited(audited) => has_fault(&audited.findings),
         _ => false,
     }

@@ -3,3 +3,5 @@ mod RowLists
 mod ConnectionLemmas
 mod StreamLemmas
 mod PassLemmas
+mod SaidLemmas
+mod FoundLemmas

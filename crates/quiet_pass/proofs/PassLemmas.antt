@@ -32,12 +32,12 @@ use Rattle.quiet_pass.proofs.StreamLemmas.{unmoved, all-moved}
 -- ---- the connection and the streams
 
 -- a frame on stream 0 opens no stream
-unopened : (frame : Frame) (entry : Stream) → frame.stream ≡ 0 → is_opening frame.stream entry.life frame ≡ false
+pub unopened : (frame : Frame) (entry : Stream) → frame.stream ≡ 0 → is_opening frame.stream entry.life frame ≡ false
 unopened frame entry zero =
     let even : (frame.stream % 2 == 1) ≡ false = rw zero refl in simp (even, promises-other, and-false)
 
 -- a frame that is no SETTINGS and no acknowledgement brings nothing
-plain-brought : (frame : Frame) (now : InForce) (pending : Pending) → BringsNothing frame → IsPending now pending
+pub plain-brought : (frame : Frame) (now : InForce) (pending : Pending) → BringsNothing frame → IsPending now pending
     → IsBrought now frame None pending
 plain-brought frame now pending plain p = record {
   brings = rw plain.ack refl;
@@ -98,11 +98,11 @@ unmet {frame} initial streams kept zero unpromised h = record {
 
 -- ---- one frame
 
-last-if : (b : Bool) (frame : Frame) (previous : Option Frame) (last : LastFrame) → last ≡ last_of previous
+pub last-if : (b : Bool) (frame : Frame) (previous : Option Frame) (last : LastFrame) → last ≡ last_of previous
     → (if b then last_of (Some frame) else last) ≡ last_of (if b then Some frame else previous)
 last-if b frame previous last e = grind arith
 
-flat-quiet : (rule : ℕ → List Finding) (streams : List ℕ)
+pub flat-quiet : (rule : ℕ → List Finding) (streams : List ℕ)
     → AreNamed streams → ((s : ℕ) → 0 < s → AreQuiet (rule s)) → AreQuiet (flat_map rule streams)
 flat-quiet rule [] named h = tt
 flat-quiet rule (s ∷ streams) named h = both _ _ (h s named.0) (flat-quiet rule streams named.1 h)
@@ -170,14 +170,21 @@ module _ (frame : Frame) (old mid : QuietPass) (state : PassState) (stands : Sta
 
 -- ---- the frames so far
 
-full-more : (streams : List ℕ) (frame : Frame) (state : PassState) (frames : List Frame)
+pub full-append : (streams : List ℕ) (state : PassState) (front rest : List Frame)
+    → full_from streams state (front ++ rest)
+    ≡ full_from streams state front ++ full_from streams (state_from state front) rest
+full-append streams state [] rest = refl
+full-append streams state (one ∷ front) rest =
+    rw (full-append streams (next state one) front rest, append_assoc (said streams state one)) refl
+
+pub full-more : (streams : List ℕ) (frame : Frame) (state : PassState) (frames : List Frame)
     → full_from streams state (frames ++ frame ∷ [])
     ≡ full_from streams state frames ++ said streams (state_from state frames) frame
-full-more streams frame state [] = append-nil (said streams state frame)
-full-more streams frame state (one ∷ frames) =
-    rw (full-more streams frame (next state one) frames, append_assoc (said streams state one)) refl
+full-more streams frame state frames =
+    full-append streams state frames (frame ∷ [])
+    ∙ ap (λ l. full_from streams state frames ++ l) (append-nil (said streams (state_from state frames) frame))
 
-state-more : (frame : Frame) (state : PassState) (frames : List Frame)
+pub state-more : (frame : Frame) (state : PassState) (frames : List Frame)
     → state_from state (frames ++ frame ∷ []) ≡ next (state_from state frames) frame
 state-more frame state [] = refl
 state-more frame state (one ∷ frames) = state-more frame (next state one) frames
@@ -206,7 +213,7 @@ named-left test (s ∷ streams) h = grind (arith, named-left test streams h.1)
 named-first : (s : ℕ) (streams : List ℕ) → AreNamed streams → AreNamed (first_of s streams)
 named-first s streams h = grind (arith, nat_tests, named-left (λ other. not (other == s)) streams h)
 
-named-all : (frames : List Frame) → AreNamed (streams_of frames)
+pub named-all : (frames : List Frame) → AreNamed (streams_of frames)
 named-all [] = tt
 named-all (frame ∷ frames) =
     named-first frame.stream (first_of (promised_by frame) (streams_of frames))

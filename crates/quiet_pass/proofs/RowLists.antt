@@ -5,7 +5,7 @@ use Rattle.std.proofs.Common.{slice_set, Some, true, false, refl, arith}
 use Rattle.quiet_pass.specs.declared.opened_rows.Row.{Row}
 use Rattle.stream_credit.specs.code.Standings.{stream_of}
 use Rattle.quiet_pass.specs.code.Rows.{entry_in, AreRisingFrom, AreRising, IsAboveAll, IsRowOf, IsRowAfter}
-use Rattle.quiet_pass.specs.code.Rows.{IsOpened, IsMetOn, IsRowMoved, AreMoved}
+use Rattle.quiet_pass.specs.code.Rows.{IsOpened, IsMetOn, IsPut, IsRowMoved, AreMoved}
 
 -- ---- the row of a stream
 
@@ -43,21 +43,32 @@ module _ (row next : Row) (same : next.stream ≡ row.stream) where
   set-rising low (one ∷ rows) zero e h = let is : next.stream ≡ one.stream = cc in rw is h
   set-rising low (one ∷ rows) (suc at) e h = (h.0, set-rising one.stream rows at e h.1)
 
+-- how the stream of a row stands
+pub row-stands : (rows : List Row) (stream at : ℕ) (of : IsRowOf rows stream at) → AreRising rows
+    → entry_in rows stream ≡ stream_of of.row.standings
+row-stands rows stream at of rising = rw of.same at (entry-there 0 rows at of.row rising of.there)
+
+pub row-put : (rows : List Row) (stream at : ℕ) (next : Row) (of : IsRowOf rows stream at) → next.stream ≡ of.row.stream
+    → AreRising rows → IsPut stream next.standings rows (slice_set rows at next)
+row-put rows stream at next of same rising =
+    let risen = set-rising of.row next same 0 rows at of.there rising in record {
+      own = rw (← of.same, ← same)
+          (entry-there 0 (slice_set rows at next) at next risen (set-there of.row next same rows at of.there));
+      others = λ other differ. set-others of.row next same rows at other of.there (rw of.same differ);
+      rising = risen;
+    }
+
 pub row-met : (rows : List Row) (at : ℕ) (frame : Frame) (next : Row) (of : IsRowOf rows frame.stream at)
     → IsRowAfter frame of.row next → AreRising rows → (initial : Sides ℕ)
     → IsMetOn frame.stream initial frame false rows (slice_set rows at next)
 row-met rows at frame next of after rising initial =
-    let row = of.row in
-    let old = rw of.same at (entry-there 0 rows at row rising of.there) in
-    let risen = set-rising row next after.same 0 rows at of.there rising in
-    let new : entry_in (slice_set rows at next) frame.stream ≡ stream_of next.standings =
-    rw (← of.same, ← after.same)
-    (entry-there 0 (slice_set rows at next) at next risen (set-there row next after.same rows at of.there)) in record {
+    let old = row-stands rows frame.stream at of rising in
+    let put = row-put rows frame.stream at next of after.same rising in record {
       opening = rw old after.next.unopened;
       said = rw old (after.next.next initial).said;
-      after = rw (new, old) (after.next.next initial).after;
-      others = λ other differ. set-others row next after.same rows at other of.there (rw of.same differ);
-      rising = risen;
+      after = rw (put.own, old) (after.next.next initial).after;
+      others = put.others;
+      rising = put.rising;
     }
 
 -- ---- a row added

@@ -40,16 +40,20 @@ window-quiet window credit e next f =
     let level : int_lt credit credit ≡ false = grind (arith, ints) in
     rw (← same) (refl, rw level refl)
 
+-- a frame does nothing to a stream that it does not meet
+pub step-past : (s : ℕ) (initial : Sides ℕ) (frame : Frame) (entry : Stream) → meets s frame ≡ false
+    → IsStep s initial (as_step frame None s) entry entry
+step-past s initial frame entry m = step-moved s initial initial frame None entry entry (record {
+  life = refl;
+  client = window-stays initial.client entry.window.client;
+  server = window-stays initial.server entry.window.server;
+  client_quiet = window-quiet entry.window.client;
+  server_quiet = window-quiet entry.window.server;
+}) refl m
+
 step-unmet : (s : ℕ) (initial : Sides ℕ) (frame : Frame) (rows : List Row) (entry : Stream) → meets s frame ≡ false
     → entry ≡ entry_in rows s → IsStep s initial (as_step frame None s) entry (entry_in rows s)
-step-unmet s initial frame rows entry m is =
-    rw (← is) (step-moved s initial initial frame None entry entry (record {
-      life = refl;
-      client = window-stays initial.client entry.window.client;
-      server = window-stays initial.server entry.window.server;
-      client_quiet = window-quiet entry.window.client;
-      server_quiet = window-quiet entry.window.server;
-    }) refl m)
+step-unmet s initial frame rows entry m is = rw (← is) (step-past s initial frame entry m)
 
 -- ---- one stream
 
@@ -96,7 +100,7 @@ differ-parity a b m n p q h = ne_eqb a b (λ e. h (sym p ∙ ap (λ x. x % 2) e 
 
 module _ (initial : Sides ℕ) (frame : Frame) (opens : Bool) (old new : Streams) (streams : ℕ → Stream)
     (h : AreStreams streams old) (unpromised : is_server_promise frame ≡ false) where
-  meets-own : (s : ℕ) → meets s frame ≡ (frame.stream == s)
+  pub meets-own : (s : ℕ) → meets s frame ≡ (frame.stream == s)
   meets-own s = rw unpromised (or-false (frame.stream == s))
 
   pub met-odd : frame.stream % 2 ≡ 1 → (AreRising old.opened.items

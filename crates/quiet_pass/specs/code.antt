@@ -3,3 +3,6 @@ pub mod Connection
 pub mod Streams
 pub mod QuietPass
 pub mod QuietConnections
+pub mod FoundConnections
+pub mod SaidFrames
+pub mod FoundPass

@@ -1,23 +1,25 @@
 //! The connection between two frames, for as long as it is quiet: then both windows have credit.
 
-ghost use Rattle.std.specs.Prelude.{◌≡◌, false, Option};
-ghost use Rattle.std.specs.Bool.{OnTrue};
+ghost use Rattle.std.specs.Prelude.{◌≡◌, ◌^◌, false, Option};
+ghost use Rattle.std.specs.Bool.{OnTrue, OnFalse};
 ghost use Rattle.std.specs.Option.{ForSome};
 ghost use Rattle.audit_terms.specs.Frame.{is_server_promise};
 ghost use Rattle.audit_terms.specs.Connection.{connection_start};
+ghost use Rattle.audit_terms.specs.code.Room.{HaveRoom};
 ghost use Rattle.quiet_pass.specs.code.Connection.{connection_of, IsConnectionAfter, IsCountedCredit, IsCreditAfter};
-ghost use Rattle.quiet_pass.specs.code.Connection.{IsOpenedAfter, IsPromisedAfter, LeavesCredit};
+ghost use Rattle.quiet_pass.specs.code.Connection.{IsLoneCredit, IsOpenedAfter, IsPromisedAfter, LeavesCredit};
 
-use audit_terms::standings::balance;
+use audit_terms::standings::{balance, kept};
 use audit_terms::{
-    Change, FIRST_LIMIT, FIRST_WINDOW, Frame, Side, Sides, limit_after, new_limit, new_push,
+    Change, ConnectionState, FIRST_LIMIT, FIRST_WINDOW, Frame, Side, Sides, limit_after, new_limit,
+    new_push,
 };
 
 /// The connection between two frames (RFC 9113, 4.2, 5.1.1, 6.9).
 #[derive(Clone, Copy)]
 pub(crate) struct KeptConnection {
     /// The credit in bytes of each side's connection window: more than 0.
-    credit: Sides<u32>,
+    pub(crate) credit: Sides<u32>,
     /// The greatest stream that the client opened so far, or 0.
     opened: u32,
     /// The greatest even stream that the server promised so far, or 0.
@@ -40,6 +42,39 @@ impl KeptConnection {
             push: 1,
             limit: Sides::both(FIRST_LIMIT),
         }
+    }
+
+    /// The connection that is kept so.
+    pub(crate) fn state(&self) -> ConnectionState
+        ensures state { result ≡ connection_of self.now }
+        ensures room { HaveRoom (2 ^ 60) result.credit }
+    {
+        ConnectionState {
+            credit: Sides {
+                client: i64::from(self.credit.client),
+                server: i64::from(self.credit.server),
+            },
+            opened: self.opened,
+            promised: self.promised,
+            push: self.push,
+            limit: self.limit,
+        }
+    }
+
+    /// How a connection is kept, if both windows have credit, no more than the largest.
+    pub(crate) fn of(state: &ConnectionState) -> Option<Self>
+        ensures { ForSome result (λ now. connection_of now ≡ state.now) }
+    {
+        Some(KeptConnection {
+            credit: Sides {
+                client: kept(state.credit.client)?,
+                server: kept(state.credit.server)?,
+            },
+            opened: state.opened,
+            promised: state.promised,
+            push: state.push,
+            limit: state.limit,
+        })
     }
 
     /// Meets a frame, which opens its stream or not and may bring a change, and returns false if that may show
@@ -71,23 +106,36 @@ impl KeptConnection {
         true
     }
 
-    /// Meets a frame that opens no stream, promises none and brings no change, as most do, and returns false if that
-    /// may show something.
+    /// The credits of both sides after a frame that opens no stream, promises none and brings no change, as most do, if
+    /// that shows nothing.
+    #[inline(always)]
+    pub(crate) fn credit_after_lone(&self, frame: &Frame) -> Option<Sides<u32>>
+        requires { is_server_promise frame.now ≡ false }
+        ensures { ForSome result (IsLoneCredit frame.now self.now) }
+    {
+        if self.limit.of(frame.side) < frame.length.get() {
+            return None;
+        }
+        let Some(side) = moved_side(frame) else {
+            return Some(self.credit);
+        };
+        let moved = credit_after(self.credit.of(side), side, frame)?;
+        let mut credit = self.credit;
+        *credit.of_mut(side) = moved;
+        Some(credit)
+    }
+
+    /// Meets such a frame, and returns false if that may show something.
     #[inline]
     pub(crate) fn meet_lone(&mut self, frame: &Frame) -> bool
         requires { is_server_promise frame.now ≡ false }
-        ensures { OnTrue result (IsConnectionAfter frame.now false Option.None self.old self.new) }
+        ensures quiet { OnTrue result (IsConnectionAfter frame.now false Option.None self.old self.new) }
+        ensures left { OnFalse result (self.new ≡ self.old) }
     {
-        if self.limit.of(frame.side) < frame.length.get() {
-            return false;
-        }
-        let Some(side) = moved_side(frame) else {
-            return true;
-        };
-        let Some(credit) = credit_after(self.credit.of(side), side, frame) else {
+        let Some(credit) = self.credit_after_lone(frame) else {
             return false;
         };
-        *self.credit.of_mut(side) = credit;
+        self.credit = credit;
         true
     }
 

@@ -1,17 +1,19 @@
 //! All streams of a connection, for as long as they are quiet.
 
-ghost use Rattle.std.specs.Prelude.{◌≡◌, ℕ, ◌<◌, true, false, [], IfOk};
+ghost use Rattle.std.specs.Prelude.{◌≡◌, ℕ, ◌<◌, true, false, [], IfNone, IfOk};
 ghost use Rattle.std.specs.Bool.{OnTrue};
 ghost use Rattle.std.specs.Option.{ForSome};
 ghost use Rattle.audit_terms.specs.declared.sides.Sides.{Sides as SidesTerm};
 ghost use Rattle.audit_terms.specs.declared.stream_state.Stream.{Stream};
 ghost use Rattle.audit_terms.specs.Frame.{is_server_promise};
 ghost use Rattle.quiet_pass.specs.code.Rows.{AreRising, IsMetOn};
-ghost use Rattle.quiet_pass.specs.code.Streams.{AreStreams, AreMetOn, AreAllMoved};
+ghost use Rattle.quiet_pass.specs.code.Streams.{AreStreams, AreMetOn, AreAllMoved, ArePut};
+ghost use Rattle.stream_credit.specs.code.Standings.{stream_of};
 
-use crate::opened_rows::{Row, find, meet, move_all, open};
+use crate::opened_rows::{Row, find, meet, move_all, open, put, standings_of};
 use audit_terms::{Frame, Sides};
 use std::alloc::{AllocError, Global};
+use stream_credit::Standings;
 
 /// The rows of the streams that were opened.
 #[derive(Drop)]
@@ -33,20 +35,19 @@ impl Streams {
         }
     }
 
-    /// Meets a frame on a stream, and returns whether it opens the stream; `None` if it may show something.
+    /// Meets a frame on a stream that is no promise of the server, and returns whether it opens the stream; `None` if
+    /// it may show something.
     pub(crate) fn meet(
         &mut self,
         initial: &Sides<u32>,
         frame: &Frame,
     ) -> Result<Option<bool>, AllocError>
-        requires { 0 < frame.now.stream }
-        ensures { IfOk result (λ met. ForSome met (λ opens. (streams : ℕ → Stream) → AreStreams streams self.old
+        requires streamed { 0 < frame.now.stream }
+        requires unpromised { is_server_promise frame.now ≡ false }
+        ensures quiet { IfOk result (λ met. ForSome met (λ opens. (streams : ℕ → Stream) → AreStreams streams self.old
             → AreMetOn initial.now frame.now opens streams self.new)) }
+        ensures left { IfOk result (λ met. IfNone met (self.new ≡ self.old)) }
     {
-        if frame.is_server_promise() {
-            let is_quiet = self.promise(initial, frame)?;
-            return Ok(is_quiet.then_some(false));
-        }
         if frame.stream % 2 == 1 {
             meet_on(&mut self.opened, initial, frame)
         } else {
@@ -54,9 +55,37 @@ impl Streams {
         }
     }
 
+    /// How a stream stands, if it has a row.
+    pub(crate) fn standings_of(&self, stream: u32) -> Option<Standings>
+        requires { 0 < stream }
+        ensures { ForSome result (λ standings. (streams : ℕ → Stream) → AreStreams streams self.now
+            → streams stream ≡ stream_of standings) }
+    {
+        if stream % 2 == 1 {
+            standings_of(self.opened.as_slice(), stream)
+        } else {
+            standings_of(self.promised.as_slice(), stream)
+        }
+    }
+
+    /// Says in the row of a stream how it stands, and returns false if there is no row.
+    pub(crate) fn put(&mut self, stream: u32, standings: Standings) -> bool
+        ensures { OnTrue result (ArePut stream standings self.old self.new) }
+    {
+        if stream % 2 == 1 {
+            put(&mut self.opened, stream, standings)
+        } else {
+            put(&mut self.promised, stream, standings)
+        }
+    }
+
     /// Meets a promise of the server, which opens the promised stream, and returns false if that may show something
     /// (RFC 9113, 6.6).
-    fn promise(&mut self, initial: &Sides<u32>, frame: &Frame) -> Result<bool, AllocError>
+    pub(crate) fn promise(
+        &mut self,
+        initial: &Sides<u32>,
+        frame: &Frame,
+    ) -> Result<bool, AllocError>
         requires { is_server_promise frame.now ≡ true }
         ensures { IfOk result (λ quiet. OnTrue quiet ((streams : ℕ → Stream) → AreStreams streams self.old
             → AreMetOn initial.now frame.now false streams self.new)) }
@@ -95,8 +124,9 @@ fn meet_on(
     frame: &Frame,
 ) -> Result<Option<bool>, AllocError>
     requires { is_server_promise frame.now ≡ false }
-    ensures { IfOk result (λ met. ForSome met (λ opens. AreRising rows.old.items
+    ensures quiet { IfOk result (λ met. ForSome met (λ opens. AreRising rows.old.items
         → IsMetOn frame.now.stream initial.now frame.now opens rows.old.items rows.new.items)) }
+    ensures left { IfOk result (λ met. IfNone met (rows.new ≡ rows.old)) }
 {
     if let Some(at) = find(rows.as_slice(), frame.stream) {
         let is_quiet = meet(rows, at, frame);

@@ -1,11 +1,15 @@
 //! Quiet connections, of which nothing is shown where credits are not: most are quiet. A [`QuietPass`] meets their
 //! frames one by one, in capture order, and keeps none of them. [`quiet_connection`] takes them out of both flows as it
-//! goes, and returns their number, and how many bytes are left over ([`QuietConnection`]).
+//! goes, and returns their number, and how many bytes are left over ([`QuietConnection`]). [`found_connection`] goes on
+//! where something is shown, and keeps the findings, and the frames that they name ([`FoundConnection`]).
 //!
 //! - It follows the pass of `audit_terms`, which steps from state to state. While it is quiet, only credits are said at
 //!   the frames so far, and it stands for the state after them (`IsQuietAfter`). By [`laws::quiet_frames_show_nothing`]
-//!   the pass over these frames then shows nothing. As soon as something may be shown, it gives up and stands for
-//!   nothing: then the frames have to be audited.
+//!   the pass over these frames then shows nothing. As soon as something may be shown, it gives up.
+//! - Then `found_connection` takes the frame's stream and the connection as they stand, has `fault_rules` say what the
+//!   frame shows, and puts both back. Past a connection error nothing more is met, only counted. It gives up too, and
+//!   all frames have to be audited, where they no longer fit: where a window has no credit left, say, at a stream that
+//!   is not opened, at SETTINGS and promises that show something, and past the number of frames that a caller allows.
 //! - It keeps of each side's last frame whether a field block goes on after it, and of which stream.
 //! - It keeps SETTINGS until the end (`settings_pair::Pending`): connections have few. A change that moves an initial
 //!   window updates all streams (RFC 9113, 6.9.2); after 64 of these it gives up, so that frames cost a bounded time
@@ -17,13 +21,16 @@
 //! - One rule updates a row for frames of all types, ends and resets too.
 //! - Frames take no memory, but for a new stream and SETTINGS. No sum wraps, and nothing is asked of the caller:
 //!   credits are kept in 32 bits, and each sum is made in 64.
-//! - Refused by the prover: content of a reset stream that the connection does not count (5.1); exchanged tails.
+//! - Refused by the prover: content of a reset stream that the connection does not count (5.1); exchanged tails;
+//!   credits that are told.
 //! - Tested, in `threads_test.py`: that connections of which nothing is shown go through no round, so that it does not
 //!   give up there. By whole reports: that it succeeds where there is memory.
 //! - Tested, in `crate_tests`, over random frames, and not proved: that it gives up only where something is shown.
 //!   Where it does, the rounds say what is.
 #![tactic(auto)]
 
+mod found_connections;
+mod found_passes;
 mod kept_connection;
 mod kept_streams;
 pub mod laws;
@@ -31,6 +38,8 @@ mod opened_rows;
 mod passes;
 mod quiet_connections;
 mod quiet_frames;
+mod said_frames;
 
+pub use found_connections::{FoundConnection, found_connection};
 pub use passes::QuietPass;
 pub use quiet_connections::{QuietConnection, quiet_connection};

@@ -1,11 +1,12 @@
 //! A row for each stream that was opened, in the order of identifiers, which is that of openings (RFC 9113, 5.1.1).
 
 ghost use Rattle.std.specs.Prelude.{◌≡◌, ℕ, true, false, IfOk};
-ghost use Rattle.std.specs.Bool.{OnTrue};
+ghost use Rattle.std.specs.Bool.{OnTrue, OnFalse};
 ghost use Rattle.std.specs.Option.{ForSome};
 ghost use Rattle.audit_terms.specs.declared.sides.Sides.{Sides as SidesTerm};
 ghost use Rattle.quiet_pass.specs.code.Rows.{IsRowOf, IsRowAfter, IsOpened, AreRising, IsMetOn};
-ghost use Rattle.quiet_pass.specs.code.Rows.{AreMoved, IsAboveAll, IsRowMoved};
+ghost use Rattle.quiet_pass.specs.code.Rows.{AreMoved, IsAboveAll, IsPut, IsRowMoved, entry_in};
+ghost use Rattle.stream_credit.specs.code.Standings.{stream_of};
 
 use audit_terms::{Frame, Sides};
 use std::alloc::AllocError;
@@ -90,11 +91,51 @@ fn is_row_of(rows: &[Row], at: usize, stream: u32) -> bool
     }
 }
 
+/// How a stream stands, if it has a row.
+pub(crate) fn standings_of(rows: &[Row], stream: u32) -> Option<Standings>
+    ensures { ForSome result (λ standings. AreRising rows.now → entry_in rows.now stream ≡ stream_of standings) }
+{
+    match find(rows, stream) {
+        Some(at) => Some(standings_at(rows, stream, at)),
+        None => None,
+    }
+}
+
+/// How the stream of a row stands.
+fn standings_at(rows: &[Row], stream: u32, at: usize) -> Standings
+    requires { IsRowOf rows.now stream at }
+    ensures { AreRising rows.now → entry_in rows.now stream ≡ stream_of result }
+{
+    rows[at].standings
+}
+
+/// Says in the row of a stream how it stands, and returns false if there is no row.
+pub(crate) fn put(rows: &mut Vec<Row>, stream: u32, standings: Standings) -> bool
+    ensures { OnTrue result (AreRising rows.old.items → IsPut stream standings rows.old.items rows.new.items) }
+{
+    match find(rows.as_slice(), stream) {
+        Some(at) => {
+            put_at(rows, at, Row { stream, standings });
+            true
+        }
+        None => false,
+    }
+}
+
+/// Puts a row in the place of its stream's.
+fn put_at(rows: &mut Vec<Row>, at: usize, row: Row)
+    requires { IsRowOf rows.old.items row.stream at }
+    ensures { AreRising rows.old.items → IsPut row.stream row.standings rows.old.items rows.new.items }
+{
+    rows[at] = row;
+}
+
 /// Meets a frame on the stream of a row, and returns false if that may show something.
 #[inline]
 pub(crate) fn meet(rows: &mut Vec<Row>, at: usize, frame: &Frame) -> bool
     requires { IsRowOf rows.old.items frame.now.stream at }
-    ensures { OnTrue result (AreRising rows.old.items → (initial : SidesTerm ℕ)
+    ensures left { OnFalse result (rows.new ≡ rows.old) }
+    ensures quiet { OnTrue result (AreRising rows.old.items → (initial : SidesTerm ℕ)
         → IsMetOn frame.now.stream initial frame.now false rows.old.items rows.new.items) }
 {
     let Some(next) = rows[at].after(frame) else {
@@ -122,8 +163,9 @@ pub(crate) fn open(
     initial: &Sides<u32>,
     frame: &Frame,
 ) -> Result<bool, AllocError>
-    ensures { IfOk result (λ opened. OnTrue opened (AreRising rows.old.items
+    ensures quiet { IfOk result (λ opened. OnTrue opened (AreRising rows.old.items
         → IsMetOn stream initial.now frame.now true rows.old.items rows.new.items)) }
+    ensures left { IfOk result (λ opened. OnFalse opened (rows.new ≡ rows.old)) }
 {
     if !is_above_all(rows.as_slice(), stream) {
         return Ok(false);

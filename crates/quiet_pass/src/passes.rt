@@ -1,14 +1,14 @@
 //! The machine that meets a connection's frames one by one.
 
-ghost use Rattle.std.specs.Prelude.{◌≡◌, ◌<◌, ◌&&◌, if◌then◌else◌, [], ◌∷◌, ◌++◌, List, Option, is_none, IfOk};
+ghost use Rattle.std.specs.Prelude.{◌≡◌, ◌<◌, ◌&&◌, if◌then◌else◌, true, [], ◌∷◌, ◌++◌, List, Option, is_none, IfOk};
 ghost use Rattle.std.specs.Bool.{OnTrue, OnFalse};
 ghost use Rattle.audit_terms.specs.declared.frames.Frame.{Frame as FrameTerm};
 ghost use Rattle.audit_terms.specs.Pass.{PassState};
 ghost use Rattle.audit_terms.specs.Side.{is_side};
-ghost use Rattle.audit_terms.specs.Frame.{is_ack};
+ghost use Rattle.audit_terms.specs.Frame.{is_ack, is_server_promise};
 ghost use Rattle.audit_terms.specs.code.LastFrame.{last_of};
 ghost use Rattle.quiet_pass.specs.code.QuietPass.{StandsFor, IsQuietStep, IsQuietAfter, BringsNothing, IsRestMet};
-ghost use Rattle.quiet_pass.specs.code.QuietPass.{IsBroughtInto};
+ghost use Rattle.quiet_pass.specs.code.QuietPass.{IsBroughtInto, IsLeft};
 
 use crate::kept_connection::KeptConnection;
 use crate::kept_streams::Streams;
@@ -25,15 +25,17 @@ const MOST_MOVING_CHANGES: u32 = 64;
 #[derive(Drop)]
 pub struct QuietPass {
     /// What is kept of the last frame of each side.
-    last: Sides<LastFrame>,
+    pub(crate) last: Sides<LastFrame>,
     /// The SETTINGS sent.
     pending: Pending,
     /// The initial windows in force, in bytes.
-    initial: Sides<u32>,
-    connection: KeptConnection,
-    streams: Streams,
+    pub(crate) initial: Sides<u32>,
+    pub(crate) connection: KeptConnection,
+    pub(crate) streams: Streams,
     /// How many more changes may move windows.
     moves_left: u32,
+    /// Did it give up at a frame that a part of it had met? Then it stands for nothing.
+    pub(crate) is_lost: bool,
 }
 
 impl QuietPass {
@@ -48,6 +50,7 @@ impl QuietPass {
             connection: KeptConnection::start(),
             streams: Streams::new(alloc),
             moves_left: MOST_MOVING_CHANGES,
+            is_lost: false,
         }
     }
 
@@ -66,25 +69,34 @@ impl QuietPass {
         Ok(is_quiet)
     }
 
-    /// Meets the next frame, and returns false if it may show something: from one state of the pass to the next.
-    fn step(&mut self, frame: &Frame) -> Result<bool, AllocError>
-        ensures { IfOk result (λ met. OnTrue met ((state : PassState) → StandsFor self.old state
+    /// Meets the next frame, and returns false if it may show something: from one state of the pass to the next. Then
+    /// the machine is as it was, or is lost.
+    pub(crate) fn step(&mut self, frame: &Frame) -> Result<bool, AllocError>
+        ensures quiet { IfOk result (λ met. OnTrue met ((state : PassState) → StandsFor self.old state
             → IsQuietStep state frame.now self.new)) }
+        ensures left { IfOk result (λ met. OnFalse met (IsLeft self.old self.new)) }
     {
         if !is_followed(self.last.of(frame.side), frame) {
             return Ok(false);
         }
         let is_quiet = self.meet_rest(frame)?;
-        keep_last(&mut self.last, frame);
+        if is_quiet {
+            keep_last(&mut self.last, frame);
+        }
         Ok(is_quiet)
     }
 
-    /// Meets a frame, beside what it shows by itself, and returns false if that may show something.
+    /// Meets a frame beside what it shows by itself, and returns false if that may show something.
     fn meet_rest(&mut self, frame: &Frame) -> Result<bool, AllocError>
-        ensures { IfOk result (λ met. OnTrue met (IsRestMet frame.now self.old self.new)) }
+        ensures quiet { IfOk result (λ met. OnTrue met (IsRestMet frame.now self.old self.new)) }
+        ensures left { IfOk result (λ met. OnFalse met (IsLeft self.old self.new)) }
     {
         if is_of_settings(frame) {
-            return self.meet_settings(frame);
+            let is_quiet = self.meet_settings(frame)?;
+            if !is_quiet {
+                self.is_lost = true;
+            }
+            return Ok(is_quiet);
         }
         if frame.stream == 0 {
             return Ok(self.meet_connection(frame));
@@ -96,24 +108,54 @@ impl QuietPass {
     fn meet_stream(&mut self, frame: &Frame) -> Result<bool, AllocError>
         requires streamed { 0 < frame.now.stream }
         requires plain { BringsNothing frame.now }
-        ensures { IfOk result (λ met. OnTrue met (IsRestMet frame.now self.old self.new)) }
+        ensures quiet { IfOk result (λ met. OnTrue met (IsRestMet frame.now self.old self.new)) }
+        ensures left { IfOk result (λ met. OnFalse met (IsLeft self.old self.new)) }
     {
+        if frame.is_server_promise() {
+            return self.meet_promise(frame);
+        }
+        let Some(credit) = self.connection.credit_after_lone(frame) else {
+            return Ok(false);
+        };
         let Some(opens) = self.streams.meet(&self.initial, frame)? else {
             return Ok(false);
         };
-        if opens || frame.is_server_promise() {
-            let is_quiet = self.connection.meet(frame, opens, &None);
+        if opens {
+            let is_quiet = self.connection.meet(frame, true, &None);
+            if !is_quiet {
+                self.is_lost = true;
+            }
             return Ok(is_quiet);
         }
-        let is_quiet = self.connection.meet_lone(frame);
-        Ok(is_quiet)
+        self.connection.credit = credit;
+        Ok(true)
+    }
+
+    /// Meets a promise of the server, on a stream, and returns false if that may show something.
+    fn meet_promise(&mut self, frame: &Frame) -> Result<bool, AllocError>
+        requires promised { is_server_promise frame.now ≡ true }
+        requires plain { BringsNothing frame.now }
+        ensures quiet { IfOk result (λ met. OnTrue met (IsRestMet frame.now self.old self.new)) }
+        ensures left { IfOk result (λ met. OnFalse met (IsLeft self.old self.new)) }
+    {
+        // Both are to be met, so it is lost unless both are quiet.
+        self.is_lost = true;
+        if !self.streams.promise(&self.initial, frame)? {
+            return Ok(false);
+        }
+        if !self.connection.meet(frame, false, &None) {
+            return Ok(false);
+        }
+        self.is_lost = false;
+        Ok(true)
     }
 
     /// Meets a frame on stream 0 that brings no change, and returns false if that may show something.
     fn meet_connection(&mut self, frame: &Frame) -> bool
         requires streamed { frame.now.stream ≡ 0 }
         requires plain { BringsNothing frame.now }
-        ensures { OnTrue result (IsRestMet frame.now self.old self.new) }
+        ensures quiet { OnTrue result (IsRestMet frame.now self.old self.new) }
+        ensures left { OnFalse result (self.new ≡ self.old) }
     {
         if frame.is_server_promise() {
             return false;
@@ -155,7 +197,7 @@ impl QuietPass {
 }
 
 /// Is it a SETTINGS or an acknowledgement? Other frames bring no change.
-fn is_of_settings(frame: &Frame) -> bool
+pub(crate) fn is_of_settings(frame: &Frame) -> bool
     ensures { OnFalse result (BringsNothing frame.now) }
 {
     matches!(frame.body, Body::Settings(_) | Body::SettingsAck)
@@ -168,8 +210,8 @@ fn is_unmatched(frame: &Frame, change: &Option<Change>) -> bool
     frame.body.is_ack() && change.is_none()
 }
 
-/// Keeps what the next frame of its side needs of a frame.
-fn keep_last(last: &mut Sides<LastFrame>, frame: &Frame)
+/// Keeps what the next frame of its side asks of a frame.
+pub(crate) fn keep_last(last: &mut Sides<LastFrame>, frame: &Frame)
     ensures client { last.new.client ≡ (if is_side Side.Client frame.now.side then last_of (Option.Some frame.now)
         else last.old.client) }
     ensures server { last.new.server ≡ (if is_side Side.Server frame.now.side then last_of (Option.Some frame.now)

@@ -18,7 +18,8 @@ use Rattle.report_pages.specs.code.Sections.{audited_text, outcome_text, section
 use Rattle.report_pages.specs.code.Told.{contents_in}
 use Rattle.report_pages.specs.declared.told.AuditedFrames.{AuditedFrames}
 use Rattle.report_pages.specs.declared.told.Outcome.{Outcome}
-use Rattle.report_pages.specs.declared.told.Outcome.TheVariants.{Audited, Quiet, NotHttp2, NoPreface, NoHandshake}
+use Rattle.report_pages.specs.declared.told.Outcome.TheVariants.{Audited, Found, Quiet}
+use Rattle.report_pages.specs.declared.told.Outcome.TheVariants.{NotHttp2, NoPreface, NoHandshake}
 use Rattle.report_pages.specs.declared.told.Told.{Told}
 use Rattle.split_merge.specs.code.Findings.{findings_in}
 
@@ -63,6 +64,7 @@ text-audited shown audited =
 text-outcome : (shown : Bool) (outcome : Outcome) → text-of (outcome_stretches shown outcome)
     ≡ outcome_text shown outcome
 text-outcome shown (Quiet quiet) = append-nil (end_line [])
+text-outcome shown (Found found) = text-audited shown found.value.audited
 text-outcome shown (Audited audited) = text-audited shown audited.value
 text-outcome shown NotHttp2 = refl
 text-outcome shown NoPreface = refl

@@ -4,8 +4,9 @@
 //!   connections, `told_text` of `specs/code/Sections.antt`. Only the lines, what the sections tell, and the pages are
 //!   in memory. [`Report::into_bytes`] alone makes the text whole.
 //! - What is [`Told`] of a connection is small: how far its flows reach ([`Reach`]), and its [`Outcome`], which has
-//!   frames and findings ([`AuditedFrames`]) only where something may be shown. It stands for an audit: it has all that
-//!   a report tells of that (`AreToldOf` of `specs/code/Told.antt`).
+//!   frames and findings ([`AuditedFrames`]) only where something may be shown. Where it was found as the frames were
+//!   met, these are the frames that the findings name ([`FoundFrames`]). It stands for an audit, of which it has all
+//!   that a report tells (`AreToldOf` of `specs/code/Told.antt`).
 //! - The sections are a sequence of entries: the opening of a section, with its three lines, or one line of a finding,
 //!   of a stall or of the end of an audit; the line of a credit that is not shown is an empty entry. Entries of one
 //!   kind that follow each other make a stretch (`specs/code/Entries.antt`). A cursor points at an entry, and skips
@@ -44,4 +45,4 @@ pub use fault::WriteFault;
 pub use reach::Reach;
 pub use report::Report;
 pub use report_writer::ReportWriter;
-pub use told::{AuditedFrames, Outcome, Told};
+pub use told::{AuditedFrames, FoundFrames, Outcome, Told};

@@ -3,7 +3,7 @@
 ghost use Rattle.std.specs.Prelude.{◌≡◌, ◌<◌, ◌^◌, All, IfOk, length};
 ghost use Rattle.report_pages.specs.code.Pages.{HoldsEntries};
 
-use crate::told::{Outcome, Told};
+use crate::told::{AuditedFrames, Outcome, Told};
 use audit_report::LINE_ROOM;
 use std::alloc::{AllocError, Global};
 
@@ -34,15 +34,19 @@ fn count_entries(told: &[Told]) -> usize {
 fn count_of(outcome: &Outcome) -> usize {
     match outcome {
         Outcome::Quiet(_) => 2,
-        Outcome::Audited(audited) => {
-            let mut count = audited.stalls.len().saturating_add(2);
-            for list in &audited.findings.lists {
-                count = count.saturating_add(list.len());
-            }
-            count
-        }
+        Outcome::Found(found) => count_in(&found.audited),
+        Outcome::Audited(audited) => count_in(audited),
         _ => 1,
     }
+}
+
+/// How many entries the section of a connection has of which this was found.
+fn count_in(audited: &AuditedFrames) -> usize {
+    let mut count = audited.stalls.len().saturating_add(2);
+    for list in &audited.findings.lists {
+        count = count.saturating_add(list.len());
+    }
+    count
 }
 
 /// How many pages so many workers fill side by side with the entries of all sections, and how many entries each has.

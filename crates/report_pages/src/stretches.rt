@@ -1,7 +1,7 @@
 //! Entries: what a page has whole or not at all. These are the opening of a section with its three lines, and each line
 //! of a finding, of a stall or of the end of an audit. Those of one kind that follow each other make a stretch.
 
-ghost use Rattle.std.specs.Prelude.{◌≡◌, ◌<◌, ◌≤◌, ◌-◌, ◌∷◌, ◌++◌, [], ℕ, Bool, List, drop, length, slice_get};
+ghost use Rattle.std.specs.Prelude.{◌≡◌, ◌<◌, ◌≤◌, ◌+◌, ◌-◌, ◌∷◌, ◌++◌, [], ℕ, Bool, List, drop, length, slice_get};
 ghost use Rattle.std.specs.Prelude.{slice_index_or, take};
 ghost use Rattle.std.specs.List.{concat, flat_map};
 ghost use Rattle.audit_report.specs.code.Pages.{Adds, HasRoom};
@@ -54,9 +54,17 @@ pub(crate) fn count_stretches(told: &Told) -> usize
 {
     match &told.outcome {
         Outcome::Quiet(_) => 2,
-        Outcome::Audited(audited) => audited.findings.lists.len() + 3,
+        Outcome::Found(found) => count_with(&found.audited),
+        Outcome::Audited(audited) => count_with(audited),
         _ => 1,
     }
+}
+
+/// How many stretches the section of a connection has of which this was found.
+fn count_with(audited: &AuditedFrames) -> usize
+    ensures { (frames_shown : Bool) → result ≡ length (audited_stretches frames_shown audited.now) + 1 }
+{
+    audited.findings.lists.len() + 3
 }
 
 /// One stretch of the section of a connection.
@@ -77,6 +85,7 @@ pub(crate) fn stretch_of<'a>(
         return Stretch::Opening(k, heading, told);
     }
     match &told.outcome {
+        Outcome::Found(found) => audited_stretch(&found.audited, index - 1),
         Outcome::Audited(audited) => audited_stretch(audited, index - 1),
         _ => Stretch::End(&[]),
     }

@@ -22,12 +22,23 @@ pub struct AuditedFrames {
     pub stalls: Vec<Stall>,
 }
 
-/// What came of the two flows of a connection. Of the many connections in most captures, few have frames that are kept:
-/// these are boxed, so that the others are small.
+/// What is shown of a connection whose frames were met one by one.
+#[derive(Drop)]
+pub struct FoundFrames {
+    /// How many frames the two sides sent together.
+    pub count: u32,
+    /// What was found, and of the frames those at which something is shown.
+    pub audited: AuditedFrames,
+}
+
+/// What came of the two flows of a connection. Most captures have many connections, of which few have frames that are
+/// kept: these stand in a box, so that the others are small.
 #[derive(Drop)]
 pub enum Outcome {
     /// HTTP/2, and nothing is shown.
     Quiet(QuietConnection),
+    /// HTTP/2, with what was found as the frames were met.
+    Found(Box<FoundFrames>),
     /// HTTP/2, with what was found in the frames.
     Audited(Box<AuditedFrames>),
     /// The client's bytes do not begin with the connection preface.
@@ -58,6 +69,10 @@ pub(crate) fn contents_in(outcome: &Outcome) -> Contents
         Outcome::Quiet(quiet) => Contents::Http2 {
             frames: quiet.frames as u64,
             tails: quiet.tails,
+        },
+        Outcome::Found(found) => Contents::Http2 {
+            frames: found.count as u64,
+            tails: found.audited.tails,
         },
         Outcome::Audited(audited) => Contents::Http2 {
             frames: audited.frames.len() as u64,

@@ -1,4 +1,4 @@
--- The frames that are kept of connections, and how what is found in them goes to these.
+-- The connections of which all frames are kept, and how what is found in these goes to them.
 use Rattle.std.specs.List.{flat_map}
 use Rattle.std.specs.Prelude.{◌≡◌, ◌<◌, ◌^◌, Bool, List, [], ◌∷◌, length, map}
 use Rattle.audit_report.specs.Stalls.{stalls}
@@ -13,12 +13,12 @@ use Rattle.split_merge.specs.code.Findings.{findings_in}
 use Rattle.split_merge.specs.declared.findings.Findings.{Findings}
 use Rattle.stop_desk.specs.declared.parts.Part.{Part}
 
--- the frames of a connection, where they are kept
+-- all frames of a connection, where they are kept
 abbrev pub frames_of : Outcome → List (List Frame)
 frames_of (Audited audited) = audited.value.frames.items ∷ []
 frames_of _ = []
 
--- the frames of each connection of which they are kept
+-- those of each connection of which they are kept
 abbrev pub kept_frames : List (Part Told) → List (List Frame)
 kept_frames parts = flat_map (λ (part : Part Told). frames_of part.made.outcome) parts
 
@@ -31,7 +31,7 @@ abbrev pub first_of : List Findings → List Finding
 first_of [] = []
 first_of (findings ∷ rest) = findings_in findings
 
--- the outcome has the first of these findings and their stalls, where it has frames
+-- the outcome has the first of these findings and their stalls, where it has all frames
 abbrev pub IsOutcomeWith : Outcome → List Findings → Outcome → Type 0
 IsOutcomeWith (Audited made) found (Audited audited) =
     (audited.value.frames ≡ made.value.frames) × (audited.value.tails ≡ made.value.tails)
@@ -41,7 +41,7 @@ IsOutcomeWith (Audited made) found (Audited audited) =
 IsOutcomeWith (Audited made) found _ = ⊥
 IsOutcomeWith made found outcome = outcome ≡ made
 
--- what is told of a connection, with the first of these findings where its frames are kept
+-- what is told of a connection, with the first of these findings where all its frames are kept
 pub record IsToldWith (made : Told) (found : List Findings) (told : Told) : Type 0 where
   pub reach : told.reach ≡ made.reach
   pub outcome : IsOutcomeWith made.outcome found told.outcome

@@ -4,11 +4,13 @@ use Rattle.std.specs.Prelude.{Bool, false}
 use Rattle.audit_terms.specs.Kind.{is_fault}
 use Rattle.audit_terms.specs.declared.findings.Finding.{Finding}
 use Rattle.report_pages.specs.declared.told.Outcome.{Outcome}
-use Rattle.report_pages.specs.declared.told.Outcome.TheVariants.{Audited}
+use Rattle.report_pages.specs.declared.told.Outcome.TheVariants.{Audited, Found}
 use Rattle.split_merge.specs.code.Findings.{findings_in}
 
 -- some finding is a breach of a rule
 abbrev pub has_fault_in : Outcome → Bool
+has_fault_in (Found found) =
+    list_any (λ (finding : Finding). is_fault finding.kind) (findings_in found.value.audited.findings)
 has_fault_in (Audited audited) =
     list_any (λ (finding : Finding). is_fault finding.kind) (findings_in audited.value.findings)
 has_fault_in _ = false

@@ -1,6 +1,7 @@
 -- The connection between two frames, as it is kept while nothing of it is shown. No public clause cites this.
-use Rattle.std.specs.Prelude.{◌≡◌, ℕ, ◌^◌, ◌<◌, false, pos, ◌+ℤ◌, ◌-ℤ◌, max, Bool, if◌then◌else◌, [], Option}
+use Rattle.std.specs.Prelude.{◌≡◌, ℕ, ◌^◌, ◌<◌, false, pos, ◌+ℤ◌, ◌-ℤ◌, max, Bool, if◌then◌else◌, [], None, Option}
 use Rattle.audit_terms.specs.declared.sides.Side.{Side}
+use Rattle.audit_terms.specs.declared.sides.Sides.{Sides}
 use Rattle.audit_terms.specs.declared.frames.Frame.{Frame}
 use Rattle.audit_terms.specs.declared.items.Change.{Change}
 use Rattle.audit_terms.specs.declared.items.Item.{Item}
@@ -31,6 +32,10 @@ pub record IsConnectionAfter (frame : Frame) (opens : Bool) (change : Option Cha
     (old new : KeptConnection) : Type 0 where
   pub said : AreQuiet (connection_said (connection_of old) (as_item frame opens change))
   pub after : connection_of new ≡ connection_after (connection_of old) (as_item frame opens change)
+
+-- these are the credits after a frame that moves nothing else of the connection: nothing of that is shown
+abbrev pub IsLoneCredit : Frame → KeptConnection → Sides ℕ → Type 0
+IsLoneCredit frame old credit = IsConnectionAfter frame false None old (record old { credit = credit })
 
 -- a credit after a frame, where some is left before and after it, and no more than the largest
 pub record IsCountedCredit (d : Side) (frame : Frame) (before after : ℕ) : Type 0 where

@@ -58,6 +58,10 @@ pub record IsRestMet (frame : Frame) (old new : QuietPass) : Type 0 where
   pub initial : new.initial ≡ initial_after change old.initial
   pub last : new.last ≡ old.last
 
+-- the machine is as it was, unless it is lost
+abbrev pub IsLeft : (old new : QuietPass) → Type 0
+IsLeft old new = new.is_lost ≡ false → new ≡ old
+
 -- a frame shows nothing, and the machine stands for the state after it
 pub record IsQuietStep (state : PassState) (frame : Frame) (machine : QuietPass) : Type 0 where
   pub shown : (streams : List ℕ) → AreNamed streams → AreQuiet (said streams state frame)

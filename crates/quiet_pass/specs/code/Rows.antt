@@ -8,6 +8,7 @@ use Rattle.audit_terms.specs.Life.{is_opening}
 use Rattle.audit_terms.specs.Stream.{idle_stream, stream_said, stream_after}
 use Rattle.audit_terms.specs.code.runs.Streams.{frame_step}
 use Rattle.stream_credit.specs.code.Standings.{stream_of, AreQuiet, IsNextOpened, IsOpenedBy, AreMovedBy}
+use Rattle.stream_credit.specs.declared.stream_standings.Standings.{Standings}
 use Rattle.quiet_pass.specs.declared.opened_rows.Row.{Row}
 
 -- a stream by its identifier: one without a row is not opened
@@ -50,6 +51,12 @@ pub record IsMetOn (stream : ℕ) (initial : Sides ℕ) (frame : Frame) (opens :
   pub opening : is_opening stream (entry_in old stream).life frame ≡ opens
   pub said : AreQuiet (stream_said stream initial (entry_in old stream) (frame_step frame))
   pub after : entry_in new stream ≡ stream_after stream initial (entry_in old stream) (frame_step frame)
+  pub others : (other : ℕ) → other ≢ stream → entry_in new other ≡ entry_in old other
+  pub rising : AreRising new
+
+-- a stream stands so, and no other stream changes
+pub record IsPut (stream : ℕ) (standings : Standings) (old new : List Row) : Type 0 where
+  pub own : entry_in new stream ≡ stream_of standings
   pub others : (other : ℕ) → other ≢ stream → entry_in new other ≡ entry_in old other
   pub rising : AreRising new
 

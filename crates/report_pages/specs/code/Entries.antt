@@ -20,7 +20,7 @@ use Rattle.report_pages.specs.declared.stretches.Stretch.{Stretch}
 use Rattle.report_pages.specs.declared.stretches.Stretch.TheVariants.{Opening, Findings, Stalls, End}
 use Rattle.report_pages.specs.declared.told.AuditedFrames.{AuditedFrames}
 use Rattle.report_pages.specs.declared.told.Outcome.{Outcome}
-use Rattle.report_pages.specs.declared.told.Outcome.TheVariants.{Audited, Quiet}
+use Rattle.report_pages.specs.declared.told.Outcome.TheVariants.{Audited, Found, Quiet}
 use Rattle.report_pages.specs.declared.told.Told.{Told}
 use Rattle.split_merge.specs.code.Findings.{findings_in}
 
@@ -56,6 +56,7 @@ audited_stretches frames_shown audited =
 
 abbrev pub outcome_stretches : (frames_shown : Bool) → Outcome → List Entries
 outcome_stretches frames_shown (Quiet quiet) = (end_line [] ∷ []) ∷ []
+outcome_stretches frames_shown (Found found) = audited_stretches frames_shown found.value.audited
 outcome_stretches frames_shown (Audited audited) = audited_stretches frames_shown audited.value
 outcome_stretches frames_shown _ = []
 

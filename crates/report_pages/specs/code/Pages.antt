@@ -26,7 +26,7 @@ pub record AreParts (headings : List SectionHeading) (told : List Told) (entries
   pub headed : AreHeaded 1 headings told
   pub are : ArePages entries told pages
 
--- writes took a front of these bytes, or all where none failed; with what was taken before, so many are counted
+-- writes took a prefix of these bytes, or all where none failed; with what was taken before, so many are counted
 pub record HasWritten {E : Type 0} (before after : Option (List ℕ)) (bytes : List ℕ) (count : ℕ)
     (result : ℕ × Result (Unit {0}) E) : Type 0 where
   pub n : ℕ

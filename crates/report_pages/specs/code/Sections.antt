@@ -9,7 +9,7 @@ use Rattle.report_pages.specs.code.Reach.{extents_in}
 use Rattle.report_pages.specs.code.Told.{HasOrderlyOutcome, contents_in}
 use Rattle.report_pages.specs.declared.told.AuditedFrames.{AuditedFrames}
 use Rattle.report_pages.specs.declared.told.Outcome.{Outcome}
-use Rattle.report_pages.specs.declared.told.Outcome.TheVariants.{Audited, Quiet}
+use Rattle.report_pages.specs.declared.told.Outcome.TheVariants.{Audited, Found, Quiet}
 use Rattle.report_pages.specs.declared.told.Told.{Told}
 use Rattle.split_merge.specs.code.Findings.{findings_in}
 
@@ -22,6 +22,7 @@ audited_text frames_shown audited =
 
 abbrev pub outcome_text : (frames_shown : Bool) → Outcome → List ℕ
 outcome_text frames_shown (Quiet quiet) = end_line []
+outcome_text frames_shown (Found found) = audited_text frames_shown found.value.audited
 outcome_text frames_shown (Audited audited) = audited_text frames_shown audited.value
 outcome_text frames_shown _ = []
 

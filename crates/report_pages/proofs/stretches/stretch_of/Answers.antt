@@ -1,11 +1,19 @@
-use Rattle.std.proofs.Common.{arith, length, subst, suc, sym, ◌<◌}
-use Rattle.report_pages.specs.code.Entries.{audited_stretches, outcome_stretches}
-use Rattle.report_pages.specs.declared.told.Outcome.{Outcome}
+use Rattle.std.proofs.Common.{arith, ap, length, List, suc, sym, ◌-◌, ◌<◌, ◌≡◌, ◌∙◌, ℕ}
+use Rattle.report_pages.specs.code.Entries.{Entries, audited_stretches, outcome_stretches}
+use Rattle.report_pages.specs.declared.told.FoundFrames.{FoundFrames}
 use Rattle.report_pages.proofs.stretches.stretch_of.Goals as goal
+
+-- one of those behind the opening
+behind : (index : ℕ) (all these : List Entries) → index < suc (length all) → (index ≡ 0 → ⊥) → all ≡ these
+    → index - 1 < length these
+behind index all these low some same = omega (arith, ap length same, some)
 
 pub audited_stretch-requires-clause-within : goal.audited_stretch-requires-clause-within
 audited_stretch-requires-clause-within c = λ shown.
-    let low = c.requires.within shown in
-    let here = subst (λ (o : Outcome). c.args.index < suc (length (outcome_stretches shown o))) c.in-Audited.is low in
-    let there = subst (λ a. c.args.index < suc (length (audited_stretches shown a))) (sym c.deref.ensures) here in
-    omega (arith, there, c.if-index-eq0.false)
+    behind c.args.index _ _ (c.requires.within shown) c.if-index-eq0.false (ap (outcome_stretches shown) c.in-Found.is
+    ∙ ap (λ (found : FoundFrames). audited_stretches shown found.audited) (sym c.deref.ensures))
+
+pub audited_stretch-requires-in-Audited-clause-within : goal.audited_stretch-requires-in-Audited-clause-within
+audited_stretch-requires-in-Audited-clause-within c = λ shown.
+    behind c.args.index _ _ (c.requires.within shown) c.if-index-eq0.false
+    (ap (outcome_stretches shown) c.in-Audited.is ∙ ap (audited_stretches shown) (sym c.deref-in-Audited.ensures))

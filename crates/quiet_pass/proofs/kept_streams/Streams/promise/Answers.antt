@@ -11,4 +11,4 @@ returns c =
     met-promise c.args.initial.now c.args.frame.now c.args.self.now _ streams h c.requires odd
     (λ rising. c.if-not-meet_opened.ensures rising c.args.initial.now)
     (rw c.promised.ensures at (OnTrue_at quiet was))))
-    c.open.ensures
+    c.open.ensures.quiet

@@ -1,0 +1,307 @@
+-- What the machine has said of the frames so far, and of all.
+use Rattle.std.specs.List.{list_any}
+use Rattle.std.proofs.Common.{◌≢◌, ◌≤◌, find}
+use Rattle.audit_core.specs.laws.Apart.{EachPair}
+use Rattle.audit_core.specs.laws.Streams.{StreamsAreNamedOnce, StreamsAreThoseMet}
+use Rattle.audit_terms.proofs.FindingLists.{each-append, each-weaker}
+use Rattle.audit_terms.proofs.ShownFindings.{shown-append}
+use Rattle.audit_terms.proofs.UptoStop.{upto_stop-shown}
+use Rattle.audit_terms.specs.Finding.{stops}
+use Rattle.audit_terms.specs.Frame.{meets}
+use Rattle.audit_terms.specs.Pass.{full_from, pass, pass_start, said, streams_of}
+use Rattle.audit_terms.specs.Place.{place_number}
+use Rattle.audit_terms.specs.code.runs.Orderly.{IsInRange, IsOrderly, IsOrderlyFrom}
+use Rattle.audit_terms.specs.code.runs.States.{state_after}
+use Rattle.quiet_pass.proofs.PassLemmas.{full-append, full-more, named-all, state-more}
+use Rattle.quiet_pass.specs.code.FoundConnections.{IsNamedAlike}
+use Rattle.quiet_pass.specs.code.FoundPass.{AreBelow, HasSaid, IsFoundAfter, IsNamed, Name, NameAll}
+use Rattle.quiet_pass.specs.code.QuietPass.{IsQuietStep}
+use Rattle.quiet_pass.specs.code.SaidFrames.{AreDistinct, NameOwn}
+use Rattle.quiet_pass.specs.declared.found_passes.FoundPass.{FoundPass}
+use Rattle.stream_credit.proofs.QuietSteps.{none-shown}
+use Rattle.stream_credit.proofs.Words.{◌≡◌, ℕ, ◌+◌, ◌<◌, ◌==◌, Bool, true, false, List, [], ◌∷◌, ◌++◌, Some, Option}
+use Rattle.stream_credit.proofs.Words.{refl, sym, ap, ◌∙◌, arith, append-nil, append_assoc, eq-eqb, is_some, nat_tests}
+use Rattle.stream_credit.proofs.Words.{AllByRecursion, Finding, Frame, IfOk-weaker, OnTrue_at, OnTrue_from, shown}
+use Rattle.stream_credit.proofs.Words.{subst, upto_stop}
+use Rattle.std.specs.Bool.{OnTrue}
+use Rattle.std.specs.Prelude.{IfOk, Result}
+
+-- ---- lists
+
+any-front : {X : Type 0} (test : X → Bool) (front rest : List X) → list_any test front ≡ true
+    → list_any test (front ++ rest) ≡ true
+any-front test [] rest h = cc
+any-front test (x ∷ front) rest h = grind (arith, any-front test front rest)
+
+any-back : {X : Type 0} (test : X → Bool) (front rest : List X) → list_any test rest ≡ true
+    → list_any test (front ++ rest) ≡ true
+any-back test [] rest h = h
+any-back test (x ∷ front) rest h = grind (arith, any-back test front rest h)
+
+-- nothing counts past a list in which one stops
+upto-past : (front rest : List Finding) → list_any stops front ≡ true → upto_stop (front ++ rest) ≡ upto_stop front
+upto-past [] rest h = cc
+upto-past (x ∷ front) rest h = grind (arith, upto-past front rest)
+
+each-upto : (P : Finding → Type 0) (found : List Finding) → AllByRecursion P found → AllByRecursion P (upto_stop found)
+each-upto P [] h = tt
+each-upto P (x ∷ found) h = grind (arith, each-upto P found h.1, h.0)
+
+-- ---- the streams that frames name
+
+name-front : {front : List Frame} (rest : List Frame) {streams : List ℕ} → NameAll (front ++ rest) streams
+    → NameAll front streams
+name-front {front} rest name = record {
+  named = name.named;
+  once = name.once;
+  all = λ stream some met. name.all stream some (any-front (meets stream) front rest met);
+}
+
+name-own : (frames : List Frame) {frame : Frame} {streams : List ℕ} → NameAll (frames ++ frame ∷ []) streams
+    → NameOwn frame streams
+name-own frames {frame} name = record {
+  named = name.named;
+  once = name.once;
+  own = λ some. name.all frame.stream some (any-back (meets frame.stream) frames (frame ∷ []) (meets-last frame));
+}
+  where
+    meets-last : (frame : Frame) → list_any (meets frame.stream) (frame ∷ []) ≡ true
+    meets-last frame = rw (eq-eqb frame.stream frame.stream refl) refl
+
+distinct-pairs : (streams : List ℕ) → EachPair (λ stream other. stream ≢ other) streams → AreDistinct streams
+distinct-pairs [] h = tt
+distinct-pairs (stream ∷ streams) h = (h.0, distinct-pairs streams h.1)
+
+name-all : StreamsAreThoseMet → StreamsAreNamedOnce → (frames : List Frame) → NameAll frames (streams_of frames)
+name-all met once frames = record {
+  named = named-all frames;
+  once = distinct-pairs (streams_of frames) (once frames);
+  all = λ stream some meeting. met stream frames ∙ grind (arith, nat_tests, some, meeting);
+}
+
+-- ---- frames of rising numbers
+
+orderly-least : (low : ℕ) (frames : List Frame) (frame : Frame) → IsOrderlyFrom low (frames ++ frame ∷ [])
+    → low ≤ frame.number
+orderly-least low [] frame h = h.0
+orderly-least low (one ∷ frames) frame h = omega (arith, h.0, orderly-least (one.number + 1) frames frame h.2)
+
+orderly-front : (low : ℕ) (frames : List Frame) (frame : Frame) → IsOrderlyFrom low (frames ++ frame ∷ [])
+    → IsOrderlyFrom low frames
+orderly-front low [] frame h = tt
+orderly-front low (one ∷ frames) frame h = (h.0, h.1, orderly-front (one.number + 1) frames frame h.2)
+
+orderly-below : (low : ℕ) (frames : List Frame) (frame : Frame) → IsOrderlyFrom low (frames ++ frame ∷ [])
+    → AreBelow frame.number frames
+orderly-below low [] frame h = tt
+orderly-below low (one ∷ frames) frame h =
+    (omega (arith, orderly-least (one.number + 1) frames frame h.2), orderly-below (one.number + 1) frames frame h.2)
+
+orderly-range : (low : ℕ) (frames : List Frame) (frame : Frame) → IsOrderlyFrom low (frames ++ frame ∷ [])
+    → IsInRange frame
+orderly-range low [] frame h = h.1
+orderly-range low (one ∷ frames) frame h = orderly-range (one.number + 1) frames frame h.2
+
+orderly-more : (low : ℕ) (frames : List Frame) (frame : Frame) → IsOrderlyFrom low frames
+    → AreBelow frame.number frames → IsInRange frame → low ≤ frame.number → IsOrderlyFrom low (frames ++ frame ∷ [])
+orderly-more low [] frame h below range least = (least, range, tt)
+orderly-more low (one ∷ frames) frame h below range least =
+    (h.0, h.1, orderly-more (one.number + 1) frames frame h.2 below.1 range (omega (arith, below.0)))
+
+-- ---- the frames that findings name
+
+module _ (n : ℕ) where
+  abbrev found-in : List Frame → Option Frame
+  found-in frames = find (λ (frame : Frame). frame.number == n) frames
+
+  find-more : (frames : List Frame) (frame : Frame) → is_some (found-in frames) ≡ true
+      → found-in (frames ++ frame ∷ []) ≡ found-in frames
+  find-more [] frame h = cc
+  find-more (one ∷ frames) frame h = grind (arith, nat_tests, find-more frames frame)
+
+  find-new : (frames : List Frame) (frame : Frame) → AreBelow frame.number frames → n ≡ frame.number
+      → found-in (frames ++ frame ∷ []) ≡ Some frame
+  find-new [] frame below e = grind (arith, nat_tests, e)
+  find-new (one ∷ frames) frame below e = grind (arith, nat_tests, find-new frames frame below.1 e, below.0, e)
+
+named-past : (all some : List Frame) (frame : Frame) (finding : Finding) → IsNamed all some finding
+    → IsNamed (all ++ frame ∷ []) some finding
+named-past all some frame finding h = record {
+  alike = h.alike ∙ sym (find-more (place_number finding.place) all frame (ap is_some (sym h.alike) ∙ h.there));
+  there = h.there;
+}
+
+named-both : (all some : List Frame) (frame : Frame) (finding : Finding) → IsNamed all some finding
+    → IsNamed (all ++ frame ∷ []) (some ++ frame ∷ []) finding
+named-both all some frame finding h =
+    let same = find-more (place_number finding.place) some frame h.there in record {
+      alike = same ∙ (named-past all some frame finding h).alike;
+      there = ap is_some same ∙ h.there;
+    }
+
+named-new : (all some : List Frame) (frame : Frame) (finding : Finding) → AreBelow frame.number all
+    → AreBelow frame.number some → place_number finding.place ≡ frame.number
+    → IsNamed (all ++ frame ∷ []) (some ++ frame ∷ []) finding
+named-new all some frame finding low lows e =
+    let here = find-new (place_number finding.place) some frame lows e in record {
+      alike = here ∙ sym (find-new (place_number finding.place) all frame low e);
+      there = ap is_some here;
+    }
+
+below-front : (number : ℕ) (frames : List Frame) (frame : Frame) → AreBelow number (frames ++ frame ∷ [])
+    → AreBelow number frames
+below-front number [] frame h = tt
+below-front number (one ∷ frames) frame h = (h.0, below-front number frames frame h.1)
+
+below-last : (number : ℕ) (frames : List Frame) (frame : Frame) → AreBelow number (frames ++ frame ∷ [])
+    → frame.number < number
+below-last number [] frame h = h.0
+below-last number (one ∷ frames) frame h = below-last number frames frame h.1
+
+-- one frame more, of which nothing is found
+past : {all some : List Frame} {found : List Finding} (frame : Frame) → Name all some found
+    → Name (all ++ frame ∷ []) some found
+past {all} {some} {found} frame name = record {
+  named = each-weaker (IsNamed all some) (IsNamed (all ++ frame ∷ []) some) (named-past all some frame) found
+      name.named;
+  orderly = name.orderly;
+  below = λ number low. name.below number (below-front number all frame low);
+}
+
+-- one frame more, at which this is found
+more : {all some : List Frame} {found : List Finding} (found-here : List Finding) (frame : Frame) → Name all some found
+    → IsOrderly (all ++ frame ∷ [])
+    → AllByRecursion (λ (finding : Finding). place_number finding.place ≡ frame.number) found-here
+    → Name (all ++ frame ∷ []) (some ++ frame ∷ []) (found ++ found-here)
+more {all} {some} {found} found-here frame name orderly here =
+    let low = orderly-below 0 all frame orderly in
+    let lows = name.below frame.number low in record {
+      named = each-append (IsNamed (all ++ frame ∷ []) (some ++ frame ∷ [])) found found-here
+          (each-weaker (IsNamed all some) _ (named-both all some frame) found name.named)
+          (each-weaker (λ (finding : Finding). place_number finding.place ≡ frame.number) _
+          (λ finding e. named-new all some frame finding low lows e) found-here here);
+      orderly = orderly-more 0 some frame name.orderly lows (orderly-range 0 all frame orderly) (omega arith);
+      below = λ number all-low. each-append (λ (one : Frame). one.number < number) some (frame ∷ [])
+          (name.below number (below-front number all frame all-low)) (below-last number all frame all-low, tt);
+    }
+
+-- ---- one frame
+
+-- the audit has stopped
+pub stays : {frames : List Frame} {machine : FoundPass} (frame : Frame) → machine.has_stopped ≡ true
+    → IsFoundAfter frames machine → IsOrderly (frames ++ frame ∷ []) → IsFoundAfter (frames ++ frame ∷ []) machine
+stays {frames} {machine} frame stopped h orderly = record {
+  met = h.met;
+  rest = h.rest ++ frame ∷ [];
+  parts = ap (λ l. l ++ frame ∷ []) h.parts ∙ append_assoc h.met h.rest (frame ∷ []);
+  shown = h.shown;
+  goes_on = λ e. absurd (differ machine.has_stopped stopped e);
+  stopped = h.stopped;
+  name = λ _. past frame (h.name (orderly-front 0 frames frame orderly));
+}
+  where
+    differ : (b : Bool) → b ≡ true → b ≡ false → ⊥
+    differ true p q = cc
+    differ false p q = cc
+
+module _ {frames : List Frame} {old : FoundPass} (frame : Frame) (h : IsFoundAfter frames old)
+    (on : old.has_stopped ≡ false) (orderly : IsOrderly (frames ++ frame ∷ [])) where
+  whole : frames ++ frame ∷ [] ≡ (h.met ++ frame ∷ []) ++ []
+  whole =
+      ap (λ l. l ++ frame ∷ []) (h.parts ∙ ap (λ l. h.met ++ l) (h.goes_on on).0 ∙ append-nil h.met)
+      ∙ sym (append-nil (h.met ++ frame ∷ []))
+
+  shown-here : (streams : List ℕ) (here : List Finding)
+      → shown false (said streams (state_after h.met) frame) ≡ here → NameAll (h.met ++ frame ∷ []) streams
+      → shown false (full_from streams pass_start (h.met ++ frame ∷ [])) ≡ old.found.items ++ here
+  shown-here streams here e name =
+      ap (shown false) (full-more streams frame pass_start h.met)
+      ∙ shown-append false (full_from streams pass_start h.met) (said streams (state_after h.met) frame)
+      ∙ ap (λ l. l ++ shown false (said streams (state_after h.met) frame))
+      (h.shown streams (name-front (frame ∷ []) name))
+      ∙ ap (λ l. old.found.items ++ l) e
+
+  pub quiet-more : {new : FoundPass} → IsQuietStep (state_after h.met) frame new.pass → new.found ≡ old.found
+      → new.shown_at ≡ old.shown_at → new.has_stopped ≡ old.has_stopped → IsFoundAfter (frames ++ frame ∷ []) new
+  quiet-more step found shown_at stopped = record {
+    met = h.met ++ frame ∷ [];
+    rest = [];
+    parts = whole;
+    shown = λ streams name.
+        shown-here streams [] (none-shown _ (step.shown streams name.named)) name
+        ∙ append-nil old.found.items ∙ ap (λ l. l.items) (sym found);
+    goes_on = λ e. (refl, rw (state-more frame pass_start h.met) step.stands);
+    stopped = λ e. rw found (h.stopped (sym stopped ∙ e));
+    name = λ _. rw (found, shown_at) (past frame (h.name (orderly-front 0 frames frame orderly)));
+  }
+
+  pub said-more : {new : FoundPass} → HasSaid frame old new → IsFoundAfter (frames ++ frame ∷ []) new
+  said-more has =
+      let step = has.step (state_after h.met) (h.goes_on on).1 in record {
+        met = h.met ++ frame ∷ [];
+        rest = [];
+        parts = whole;
+        shown = λ streams name.
+            shown-here streams has.said (step.shown streams (name-own h.met name)) name ∙ sym has.found;
+        goes_on = λ e. (refl, rw (state-more frame pass_start h.met) (step.goes_on (sym has.stopped ∙ e)));
+        stopped = λ e. rw has.found (any-back stops old.found.items has.said (sym has.stopped ∙ e));
+        name = λ _. rw (has.found, has.shown_at)
+            (more has.said frame (h.name (orderly-front 0 frames frame orderly)) orderly step.numbered);
+      }
+
+-- the same of what the code says, whose machine gave up quietly just before
+pub said-after : {E : Type 0} (frame : Frame) (old mid new : FoundPass) (result : Result Bool E)
+    → old.has_stopped ≡ false → (mid.pass.is_lost ≡ false → mid.pass ≡ old.pass)
+    → IfOk result (λ said. OnTrue said (HasSaid frame mid new)) → mid.found ≡ old.found → mid.shown_at ≡ old.shown_at
+    → IfOk result (λ met. OnTrue met ((frames : List Frame) → IsFoundAfter frames old
+    → IsOrderly (frames ++ frame ∷ []) → IsFoundAfter (frames ++ frame ∷ []) new))
+said-after frame old mid new result on left spoken found shown_at =
+    IfOk-weaker result _ _ (λ b h. OnTrue_from b _ (λ e. λ frames before orderly.
+    let has = OnTrue_at e h in
+    said-more frame before on orderly (record {
+      said = has.said;
+      sound = ap (λ pass. pass.is_lost) (sym (left has.sound)) ∙ has.sound;
+      step = λ state stands. has.step state (rw (left has.sound) stands);
+      found = rw (← found) has.found;
+      shown_at = rw (← shown_at) has.shown_at;
+      stopped = has.stopped;
+    }))) spoken
+
+-- ---- all frames
+
+module _ (met : StreamsAreThoseMet) (once : StreamsAreNamedOnce) {frames : List Frame} {machine : FoundPass}
+    (h : IsFoundAfter frames machine) where
+  past-shown : List Finding
+  past-shown = shown false (full_from (streams_of frames) (state_after h.met) h.rest)
+
+  all-shown : shown false (full_from (streams_of frames) pass_start frames) ≡ machine.found.items ++ past-shown
+  unfolding past-shown
+  all-shown =
+      ap (λ l. shown false (full_from (streams_of frames) pass_start l)) h.parts
+      ∙ ap (shown false) (full-append (streams_of frames) pass_start h.met h.rest)
+      ∙ shown-append false (full_from (streams_of frames) pass_start h.met)
+      (full_from (streams_of frames) (state_after h.met) h.rest)
+      ∙ ap (λ l. l ++ shown false (full_from (streams_of frames) (state_after h.met) h.rest))
+      (h.shown (streams_of frames)
+      (name-front h.rest (subst (λ l. NameAll l (streams_of frames)) h.parts (name-all met once frames))))
+
+  upto-met : (stopped : Bool) → machine.has_stopped ≡ stopped
+      → upto_stop machine.found.items ≡ upto_stop (machine.found.items ++ past-shown)
+  unfolding past-shown
+  upto-met true e = sym (upto-past machine.found.items past-shown (h.stopped e))
+  upto-met false e =
+      ap upto_stop (sym (append-nil machine.found.items)
+      ∙ ap (λ l. machine.found.items ++ shown false (full_from (streams_of frames) (state_after h.met) l))
+      (sym (h.goes_on e).0))
+
+  pub all-found : upto_stop machine.found.items ≡ shown false (pass frames)
+  all-found =
+      upto-met machine.has_stopped refl ∙ ap upto_stop (sym all-shown)
+      ∙ upto_stop-shown false (full_from (streams_of frames) pass_start frames)
+
+  pub all-named : IsOrderly frames
+      → AllByRecursion (IsNamedAlike frames machine.shown_at.items) (upto_stop machine.found.items)
+  all-named orderly =
+      each-upto (IsNamedAlike frames machine.shown_at.items) machine.found.items
+      (each-weaker (IsNamed frames machine.shown_at.items) (IsNamedAlike frames machine.shown_at.items)
+      (λ finding named. named.alike) machine.found.items (h.name orderly).named)

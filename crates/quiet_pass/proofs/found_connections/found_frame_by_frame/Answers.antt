@@ -1,0 +1,22 @@
+use Rattle.std.proofs.Common.{[], ◌∷◌, ◌++◌}
+use Rattle.quiet_pass.proofs.found_connections.found_frame_by_frame.Goals as goal
+
+pub loop-pass-preserved : goal.loop-pass-preserved
+loop-pass-preserved c = record {
+  ready = c.in_ok-frame.ensures.ready;
+  met = λ client server before.
+      let next = rw c.in-Some.is at c.in_ok-frame.ensures.next in
+      let met = c.loop-pass.invariant.met client server before in
+      let taken = next client server met.frames met.taken in
+      record {
+        frames = met.frames ++ c.in-Some.frame ∷ [];
+        taken = taken;
+        found = (rw c.if-not-branch.false at c.in_ok-meet.ensures) met.frames met.found taken.orderly;
+      };
+}
+
+pub returns : goal.returns
+returns c = λ client server fresh.
+    let met = c.loop-pass.invariant.met client server fresh.whole in
+    let over = rw c.in_default.is at c.in_ok-frame.ensures.over in
+    c.found_after.ensures client server met.frames fresh.started (over client server met.frames met.taken) met.found

@@ -1,0 +1,8 @@
+use Rattle.stream_credit.proofs.Words.{refl}
+use Rattle.quiet_pass.proofs.PassLemmas.{rest-stream}
+use Rattle.quiet_pass.proofs.passes.QuietPass.meet_promise.Goals as goal
+
+pub returns-clause-quiet : goal.returns-clause-quiet
+returns-clause-quiet c =
+    rest-stream c.requires.plain (rw c.if-not-branch.false at c.in_ok-promise.ensures) c.if-not-meet.ensures refl
+    refl refl

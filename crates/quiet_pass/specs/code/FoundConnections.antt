@@ -1,0 +1,37 @@
+-- A connection of which something may be shown, and the frames at which it is.
+use Rattle.std.specs.List.{AllByRecursion}
+use Rattle.std.specs.Prelude.{◌≡◌, ◌==◌, false, List, find, length, IsTrue, IfOk, IfSome, Option, Result}
+use Rattle.audit_terms.specs.Finding.{shown}
+use Rattle.audit_terms.specs.Pass.{pass}
+use Rattle.audit_terms.specs.Place.{place_number}
+use Rattle.audit_terms.specs.code.runs.Orderly as runs
+use Rattle.audit_terms.specs.declared.findings.Finding.{Finding}
+use Rattle.audit_terms.specs.declared.frames.Frame.{Frame}
+use Rattle.h2_frames.specs.Cut.{IsHttp2}
+use Rattle.h2_frames.specs.code.Walk.{IsFreshWalk}
+use Rattle.h2_frames.specs.declared.walk.FrameWalk.{FrameWalk}
+use Rattle.quiet_pass.specs.declared.found_connections.FoundConnection.{FoundConnection}
+use Rattle.tcp_streams.specs.declared.flows.Flow.{Flow}
+
+-- the frame that the finding names is the same in both lists
+abbrev pub IsNamedAlike : (all some : List Frame) → Finding → Type 0
+IsNamedAlike all some finding =
+    find (λ (frame : Frame). frame.number == place_number finding.place) some
+    ≡ find (λ (frame : Frame). frame.number == place_number finding.place) all
+
+-- the flows hold so many frames, and tails; this is what one pass over the frames shows, where credits are not shown,
+-- and these are the frames that it names
+pub record IsFoundOf (client server : Flow) (found : FoundConnection) : Type 0 where
+  pub frames : List Frame
+  pub started : IsTrue server.started
+  pub http2 : IsHttp2 client server frames found.tails
+  pub orderly : runs.IsOrderly frames
+  pub count : found.frames ≡ length frames
+  pub findings : found.findings.items ≡ shown false (pass frames)
+  pub some_orderly : runs.IsOrderly found.shown_at.items
+  pub named : AllByRecursion (IsNamedAlike frames found.shown_at.items) found.findings.items
+
+-- what is found of a connection of which no frame was taken is so
+abbrev pub IsFoundFrom : {E : Type 0} → FrameWalk → Result (Option FoundConnection) E → Type 0
+IsFoundFrom walk result = (client server : Flow) → IsFreshWalk client server walk
+    → IfOk result (λ found. IfSome found (IsFoundOf client server))
