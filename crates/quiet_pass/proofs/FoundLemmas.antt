@@ -1,5 +1,5 @@
 -- What the machine has said of the frames so far, and of all.
-use Rattle.std.specs.List.{list_any}
+use Rattle.std.specs.List.{IsDistinct, list_any}
 use Rattle.std.proofs.Common.{◌≢◌, ◌≤◌, find}
 use Rattle.audit_core.specs.laws.Apart.{EachPair}
 use Rattle.audit_core.specs.laws.Streams.{StreamsAreNamedOnce, StreamsAreThoseMet}
@@ -14,15 +14,15 @@ use Rattle.audit_terms.specs.code.runs.Orderly.{IsInRange, IsOrderly, IsOrderlyF
 use Rattle.audit_terms.specs.code.runs.States.{state_after}
 use Rattle.quiet_pass.proofs.PassLemmas.{full-append, full-more, named-all, state-more}
 use Rattle.quiet_pass.specs.code.FoundConnections.{IsNamedAlike}
-use Rattle.quiet_pass.specs.code.FoundPass.{AreBelow, HasSaid, IsFoundAfter, IsNamed, Name, NameAll}
+use Rattle.quiet_pass.specs.code.FoundPass.{AreBelow, AreFramesKept, HasSaid, HaveAllMet, IsFoundAfter, IsFrameKept}
 use Rattle.quiet_pass.specs.code.QuietPass.{IsQuietStep}
-use Rattle.quiet_pass.specs.code.SaidFrames.{AreDistinct, NameOwn}
+use Rattle.quiet_pass.specs.code.SaidFrames.{HaveOwn}
 use Rattle.quiet_pass.specs.declared.found_passes.FoundPass.{FoundPass}
 use Rattle.stream_credit.proofs.QuietSteps.{none-shown}
 use Rattle.stream_credit.proofs.Words.{◌≡◌, ℕ, ◌+◌, ◌<◌, ◌==◌, Bool, true, false, List, [], ◌∷◌, ◌++◌, Some, Option}
-use Rattle.stream_credit.proofs.Words.{refl, sym, ap, ◌∙◌, arith, append-nil, append_assoc, eq-eqb, is_some, nat_tests}
+use Rattle.stream_credit.proofs.Words.{refl, sym, ap, ◌∙◌, arith, append-nil, append_assoc, eq-eqb, is_some}
 use Rattle.stream_credit.proofs.Words.{AllByRecursion, Finding, Frame, IfOk-weaker, OnTrue_at, OnTrue_from, shown}
-use Rattle.stream_credit.proofs.Words.{subst, upto_stop}
+use Rattle.stream_credit.proofs.Words.{nat_tests, ne_eqb, subst, upto_stop}
 use Rattle.std.specs.Bool.{OnTrue}
 use Rattle.std.specs.Prelude.{IfOk, Result}
 
@@ -49,17 +49,17 @@ each-upto P (x ∷ found) h = grind (arith, each-upto P found h.1, h.0)
 
 -- ---- the streams that frames name
 
-name-front : {front : List Frame} (rest : List Frame) {streams : List ℕ} → NameAll (front ++ rest) streams
-    → NameAll front streams
-name-front {front} rest name = record {
+have-front : {front : List Frame} (rest : List Frame) {streams : List ℕ} → HaveAllMet (front ++ rest) streams
+    → HaveAllMet front streams
+have-front {front} rest name = record {
   named = name.named;
   once = name.once;
   all = λ stream some met. name.all stream some (any-front (meets stream) front rest met);
 }
 
-name-own : (frames : List Frame) {frame : Frame} {streams : List ℕ} → NameAll (frames ++ frame ∷ []) streams
-    → NameOwn frame streams
-name-own frames {frame} name = record {
+have-own : (frames : List Frame) {frame : Frame} {streams : List ℕ} → HaveAllMet (frames ++ frame ∷ []) streams
+    → HaveOwn frame streams
+have-own frames {frame} name = record {
   named = name.named;
   once = name.once;
   own = λ some. name.all frame.stream some (any-back (meets frame.stream) frames (frame ∷ []) (meets-last frame));
@@ -68,12 +68,18 @@ name-own frames {frame} name = record {
     meets-last : (frame : Frame) → list_any (meets frame.stream) (frame ∷ []) ≡ true
     meets-last frame = rw (eq-eqb frame.stream frame.stream refl) refl
 
-distinct-pairs : (streams : List ℕ) → EachPair (λ stream other. stream ≢ other) streams → AreDistinct streams
+distinct-pairs : (streams : List ℕ) → EachPair (λ stream other. stream ≢ other) streams
+    → IsDistinct ◌==◌ streams
+unfolding IsDistinct
 distinct-pairs [] h = tt
-distinct-pairs (stream ∷ streams) h = (h.0, distinct-pairs streams h.1)
+distinct-pairs (stream ∷ streams) h = (
+  each-weaker (λ other. stream ≢ other) (λ other. (stream == other) ≡ false) (λ other. ne_eqb stream other) streams
+      h.0,
+  distinct-pairs streams h.1,
+)
 
-name-all : StreamsAreThoseMet → StreamsAreNamedOnce → (frames : List Frame) → NameAll frames (streams_of frames)
-name-all met once frames = record {
+have-all : StreamsAreThoseMet → StreamsAreNamedOnce → (frames : List Frame) → HaveAllMet frames (streams_of frames)
+have-all met once frames = record {
   named = named-all frames;
   once = distinct-pairs (streams_of frames) (once frames);
   all = λ stream some meeting. met stream frames ∙ grind (arith, nat_tests, some, meeting);
@@ -124,25 +130,25 @@ module _ (n : ℕ) where
   find-new [] frame below e = grind (arith, nat_tests, e)
   find-new (one ∷ frames) frame below e = grind (arith, nat_tests, find-new frames frame below.1 e, below.0, e)
 
-named-past : (all some : List Frame) (frame : Frame) (finding : Finding) → IsNamed all some finding
-    → IsNamed (all ++ frame ∷ []) some finding
-named-past all some frame finding h = record {
+kept-past : (all some : List Frame) (frame : Frame) (finding : Finding) → IsFrameKept all some finding
+    → IsFrameKept (all ++ frame ∷ []) some finding
+kept-past all some frame finding h = record {
   alike = h.alike ∙ sym (find-more (place_number finding.place) all frame (ap is_some (sym h.alike) ∙ h.there));
   there = h.there;
 }
 
-named-both : (all some : List Frame) (frame : Frame) (finding : Finding) → IsNamed all some finding
-    → IsNamed (all ++ frame ∷ []) (some ++ frame ∷ []) finding
-named-both all some frame finding h =
+kept-both : (all some : List Frame) (frame : Frame) (finding : Finding) → IsFrameKept all some finding
+    → IsFrameKept (all ++ frame ∷ []) (some ++ frame ∷ []) finding
+kept-both all some frame finding h =
     let same = find-more (place_number finding.place) some frame h.there in record {
-      alike = same ∙ (named-past all some frame finding h).alike;
+      alike = same ∙ (kept-past all some frame finding h).alike;
       there = ap is_some same ∙ h.there;
     }
 
-named-new : (all some : List Frame) (frame : Frame) (finding : Finding) → AreBelow frame.number all
+kept-new : (all some : List Frame) (frame : Frame) (finding : Finding) → AreBelow frame.number all
     → AreBelow frame.number some → place_number finding.place ≡ frame.number
-    → IsNamed (all ++ frame ∷ []) (some ++ frame ∷ []) finding
-named-new all some frame finding low lows e =
+    → IsFrameKept (all ++ frame ∷ []) (some ++ frame ∷ []) finding
+kept-new all some frame finding low lows e =
     let here = find-new (place_number finding.place) some frame lows e in record {
       alike = here ∙ sym (find-new (place_number finding.place) all frame low e);
       there = ap is_some here;
@@ -159,30 +165,31 @@ below-last number [] frame h = h.0
 below-last number (one ∷ frames) frame h = below-last number frames frame h.1
 
 -- one frame more, of which nothing is found
-past : {all some : List Frame} {found : List Finding} (frame : Frame) → Name all some found
-    → Name (all ++ frame ∷ []) some found
-past {all} {some} {found} frame name = record {
-  named = each-weaker (IsNamed all some) (IsNamed (all ++ frame ∷ []) some) (named-past all some frame) found
-      name.named;
-  orderly = name.orderly;
-  below = λ number low. name.below number (below-front number all frame low);
+past : {all some : List Frame} {found : List Finding} (frame : Frame) → AreFramesKept all some found
+    → AreFramesKept (all ++ frame ∷ []) some found
+past {all} {some} {found} frame kept = record {
+  each = each-weaker (IsFrameKept all some) (IsFrameKept (all ++ frame ∷ []) some) (kept-past all some frame) found
+      kept.each;
+  orderly = kept.orderly;
+  below = λ number low. kept.below number (below-front number all frame low);
 }
 
 -- one frame more, at which this is found
-more : {all some : List Frame} {found : List Finding} (found-here : List Finding) (frame : Frame) → Name all some found
+more : {all some : List Frame} {found : List Finding} (found-here : List Finding) (frame : Frame)
+    → AreFramesKept all some found
     → IsOrderly (all ++ frame ∷ [])
     → AllByRecursion (λ (finding : Finding). place_number finding.place ≡ frame.number) found-here
-    → Name (all ++ frame ∷ []) (some ++ frame ∷ []) (found ++ found-here)
-more {all} {some} {found} found-here frame name orderly here =
+    → AreFramesKept (all ++ frame ∷ []) (some ++ frame ∷ []) (found ++ found-here)
+more {all} {some} {found} found-here frame kept orderly here =
     let low = orderly-below 0 all frame orderly in
-    let lows = name.below frame.number low in record {
-      named = each-append (IsNamed (all ++ frame ∷ []) (some ++ frame ∷ [])) found found-here
-          (each-weaker (IsNamed all some) _ (named-both all some frame) found name.named)
+    let lows = kept.below frame.number low in record {
+      each = each-append (IsFrameKept (all ++ frame ∷ []) (some ++ frame ∷ [])) found found-here
+          (each-weaker (IsFrameKept all some) _ (kept-both all some frame) found kept.each)
           (each-weaker (λ (finding : Finding). place_number finding.place ≡ frame.number) _
-          (λ finding e. named-new all some frame finding low lows e) found-here here);
-      orderly = orderly-more 0 some frame name.orderly lows (orderly-range 0 all frame orderly) (omega arith);
+          (λ finding e. kept-new all some frame finding low lows e) found-here here);
+      orderly = orderly-more 0 some frame kept.orderly lows (orderly-range 0 all frame orderly) (omega arith);
       below = λ number all-low. each-append (λ (one : Frame). one.number < number) some (frame ∷ [])
-          (name.below number (below-front number all frame all-low)) (below-last number all frame all-low, tt);
+          (kept.below number (below-front number all frame all-low)) (below-last number all frame all-low, tt);
     }
 
 -- ---- one frame
@@ -197,7 +204,7 @@ stays {frames} {machine} frame stopped h orderly = record {
   shown = h.shown;
   goes_on = λ e. absurd (differ machine.has_stopped stopped e);
   stopped = h.stopped;
-  name = λ _. past frame (h.name (orderly-front 0 frames frame orderly));
+  kept = λ _. past frame (h.kept (orderly-front 0 frames frame orderly));
 }
   where
     differ : (b : Bool) → b ≡ true → b ≡ false → ⊥
@@ -212,13 +219,13 @@ module _ {frames : List Frame} {old : FoundPass} (frame : Frame) (h : IsFoundAft
       ∙ sym (append-nil (h.met ++ frame ∷ []))
 
   shown-here : (streams : List ℕ) (here : List Finding)
-      → shown false (said streams (state_after h.met) frame) ≡ here → NameAll (h.met ++ frame ∷ []) streams
+      → shown false (said streams (state_after h.met) frame) ≡ here → HaveAllMet (h.met ++ frame ∷ []) streams
       → shown false (full_from streams pass_start (h.met ++ frame ∷ [])) ≡ old.found.items ++ here
   shown-here streams here e name =
       ap (shown false) (full-more streams frame pass_start h.met)
       ∙ shown-append false (full_from streams pass_start h.met) (said streams (state_after h.met) frame)
       ∙ ap (λ l. l ++ shown false (said streams (state_after h.met) frame))
-      (h.shown streams (name-front (frame ∷ []) name))
+      (h.shown streams (have-front (frame ∷ []) name))
       ∙ ap (λ l. old.found.items ++ l) e
 
   pub quiet-more : {new : FoundPass} → IsQuietStep (state_after h.met) frame new.pass → new.found ≡ old.found
@@ -232,7 +239,7 @@ module _ {frames : List Frame} {old : FoundPass} (frame : Frame) (h : IsFoundAft
         ∙ append-nil old.found.items ∙ ap (λ l. l.items) (sym found);
     goes_on = λ e. (refl, rw (state-more frame pass_start h.met) step.stands);
     stopped = λ e. rw found (h.stopped (sym stopped ∙ e));
-    name = λ _. rw (found, shown_at) (past frame (h.name (orderly-front 0 frames frame orderly)));
+    kept = λ _. rw (found, shown_at) (past frame (h.kept (orderly-front 0 frames frame orderly)));
   }
 
   pub said-more : {new : FoundPass} → HasSaid frame old new → IsFoundAfter (frames ++ frame ∷ []) new
@@ -242,11 +249,11 @@ module _ {frames : List Frame} {old : FoundPass} (frame : Frame) (h : IsFoundAft
         rest = [];
         parts = whole;
         shown = λ streams name.
-            shown-here streams has.said (step.shown streams (name-own h.met name)) name ∙ sym has.found;
-        goes_on = λ e. (refl, rw (state-more frame pass_start h.met) (step.goes_on (sym has.stopped ∙ e)));
-        stopped = λ e. rw has.found (any-back stops old.found.items has.said (sym has.stopped ∙ e));
-        name = λ _. rw (has.found, has.shown_at)
-            (more has.said frame (h.name (orderly-front 0 frames frame orderly)) orderly step.numbered);
+            shown-here streams has.said (step.shown streams (have-own h.met name)) name ∙ sym has.added.found;
+        goes_on = λ e. (refl, rw (state-more frame pass_start h.met) (step.goes_on (sym has.added.stopped ∙ e)));
+        stopped = λ e. rw has.added.found (any-back stops old.found.items has.said (sym has.added.stopped ∙ e));
+        kept = λ _. rw (has.added.found, has.added.shown_at)
+            (more has.said frame (h.kept (orderly-front 0 frames frame orderly)) orderly step.numbered);
       }
 
 -- the same of what the code says, whose machine gave up quietly just before
@@ -262,9 +269,11 @@ said-after frame old mid new result on left spoken found shown_at =
       said = has.said;
       sound = ap (λ pass. pass.is_lost) (sym (left has.sound)) ∙ has.sound;
       step = λ state stands. has.step state (rw (left has.sound) stands);
-      found = rw (← found) has.found;
-      shown_at = rw (← shown_at) has.shown_at;
-      stopped = has.stopped;
+      added = record {
+        found = rw (← found) has.added.found;
+        shown_at = rw (← shown_at) has.added.shown_at;
+        stopped = has.added.stopped;
+      };
     }))) spoken
 
 -- ---- all frames
@@ -283,7 +292,7 @@ module _ (met : StreamsAreThoseMet) (once : StreamsAreNamedOnce) {frames : List 
       (full_from (streams_of frames) (state_after h.met) h.rest)
       ∙ ap (λ l. l ++ shown false (full_from (streams_of frames) (state_after h.met) h.rest))
       (h.shown (streams_of frames)
-      (name-front h.rest (subst (λ l. NameAll l (streams_of frames)) h.parts (name-all met once frames))))
+      (have-front h.rest (subst (λ l. HaveAllMet l (streams_of frames)) h.parts (have-all met once frames))))
 
   upto-met : (stopped : Bool) → machine.has_stopped ≡ stopped
       → upto_stop machine.found.items ≡ upto_stop (machine.found.items ++ past-shown)
@@ -303,5 +312,5 @@ module _ (met : StreamsAreThoseMet) (once : StreamsAreNamedOnce) {frames : List 
       → AllByRecursion (IsNamedAlike frames machine.shown_at.items) (upto_stop machine.found.items)
   all-named orderly =
       each-upto (IsNamedAlike frames machine.shown_at.items) machine.found.items
-      (each-weaker (IsNamed frames machine.shown_at.items) (IsNamedAlike frames machine.shown_at.items)
-      (λ finding named. named.alike) machine.found.items (h.name orderly).named)
+      (each-weaker (IsFrameKept frames machine.shown_at.items) (IsNamedAlike frames machine.shown_at.items)
+      (λ finding kept. kept.alike) machine.found.items (h.kept orderly).each)

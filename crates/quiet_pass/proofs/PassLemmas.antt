@@ -72,6 +72,22 @@ rest-settings {frame} {change} {old} {new} mid brought answered zero unpromised 
   last = b.last ∙ l;
 }
 
+-- the same, where no acknowledgement brings anything
+pub rest-unbrought : {frame : Frame} (change : Option Change) {old new : QuietPass} → is_some change ≡ false
+    → ((now : InForce) → IsPending now old.pending → IsBrought now frame change new.pending)
+    → (is_ack frame.body && is_none change) ≡ false → frame.stream ≡ 0 → is_server_promise frame ≡ false
+    → IsConnectionAfter frame false None old.connection new.connection → new.last ≡ old.last
+    → new.initial ≡ old.initial → new.streams ≡ old.streams → IsRestMet frame old new
+rest-unbrought None {old} {new} none brought answered zero unpromised c l i s =
+    rest-settings new brought answered zero unpromised c l i s (record {
+      initial = refl;
+      moved = unmoved new.initial new.streams;
+      connection = refl;
+      last = refl;
+      pending = refl;
+    })
+rest-unbrought (Some change) none brought answered zero unpromised c l i s = cc
+
 pub rest-stream : {frame : Frame} {opens : Bool} {old new : QuietPass} → BringsNothing frame
     → ((streams : ℕ → Stream) → AreStreams streams old.streams → AreMetOn old.initial frame opens streams new.streams)
     → IsConnectionAfter frame opens None old.connection new.connection → new.pending ≡ old.pending

@@ -1,6 +1,7 @@
 -- What a frame shows, and the machine after it.
 use Rattle.std.proofs.Common.{◌%◌, ◌≢◌}
-use Rattle.std.specs.List.{list_any}
+use Rattle.std.proofs.lemmas.Bool.{eqb-false}
+use Rattle.std.specs.List.{IsDistinct, list_any}
 use Rattle.audit_terms.proofs.SaidPlaces.{AreAt, at-append, at-connection, at-in_order, at-local, at-stream}
 use Rattle.audit_terms.proofs.SaidPlaces.{at-nil, numbered-at}
 use Rattle.audit_terms.proofs.FindingLists.{each-filter}
@@ -19,8 +20,8 @@ use Rattle.quiet_pass.proofs.StreamLemmas.{meets-own, step-past}
 use Rattle.quiet_pass.specs.code.Connection.{as_item, connection_of}
 use Rattle.quiet_pass.specs.code.QuietPass.{AreNamed, BringsNothing, StandsFor}
 use Rattle.quiet_pass.specs.code.Rows.{IsPut, entry_in}
-use Rattle.quiet_pass.specs.code.SaidFrames.{AreDistinct, IsConnectionSaid, IsKeptAfter, IsSaidStep}
-use Rattle.quiet_pass.specs.code.SaidFrames.{IsKeptOn, NameOwn}
+use Rattle.quiet_pass.specs.code.SaidFrames.{HaveOwn, IsConnectionKept, IsConnectionSaid, IsKeptAfter, IsSaidStep}
+use Rattle.quiet_pass.specs.code.SaidFrames.{MovesOneStream}
 use Rattle.quiet_pass.specs.code.Streams.{ArePut, AreStreams, as_step}
 use Rattle.audit_terms.specs.declared.items.Item.{Item}
 use Rattle.quiet_pass.specs.declared.kept_streams.Streams.{Streams}
@@ -50,23 +51,25 @@ alike front one other e =
 -- ---- of all streams one alone shows something
 
 module _ (rule : ℕ → List Finding) (s : ℕ) (others : (o : ℕ) → 0 < o → o ≢ s → shown false (rule o) ≡ []) where
-  none-of : (streams : List ℕ) → AreNamed streams → AllByRecursion (λ other. s ≢ other) streams
+  none-of : (streams : List ℕ) → AreNamed streams → AllByRecursion (λ other. (s == other) ≡ false) streams
       → shown false (flat_map rule streams) ≡ []
   none-of [] named none = refl
   none-of (o ∷ streams) named none =
       shown-append false (rule o) (flat_map rule streams)
-      ∙ ap (λ l. l ++ shown false (flat_map rule streams)) (others o named.0 (λ e. none.0 (sym e)))
+      ∙ ap (λ l. l ++ shown false (flat_map rule streams)) (others o named.0 (λ e. eqb-false s o none.0 (sym e)))
       ∙ none-of streams named.1 none.1
 
-  one-of : (streams : List ℕ) → AreNamed streams → AreDistinct streams
+  one-of : (streams : List ℕ) → AreNamed streams → IsDistinct ◌==◌ streams
       → list_any (λ other. other == s) streams ≡ true → shown false (flat_map rule streams) ≡ shown false (rule s)
+  unfolding IsDistinct
   one-of [] named once there = cc
   one-of (o ∷ streams) named once there =
       elim (cases_eq o s) [
         | inl own ↦
             shown-append false (rule o) (flat_map rule streams)
             ∙ ap (λ l. shown false (rule o) ++ l)
-            (none-of streams named.1 (subst (λ (n : ℕ). AllByRecursion (λ (other : ℕ). n ≢ other) streams) own once.0))
+            (none-of streams named.1
+            (subst (λ (n : ℕ). AllByRecursion (λ (other : ℕ). (n == other) ≡ false) streams) own once.0))
             ∙ append-nil (shown false (rule o)) ∙ ap (λ n. shown false (rule n)) own
         | inr differ ↦
             shown-append false (rule o) (flat_map rule streams)
@@ -98,20 +101,17 @@ module _ (frame : Frame) (old : QuietPass) (state : PassState) (stands : StandsF
   rule s = stream_said s state.in_force.initial (state.streams s) (step_of state.in_force frame s)
 
   -- the machine after the frame
-  next-stands : (new : QuietPass)
-      → new.last.client ≡ (if is_side Client frame.side then last_of (Some frame) else old.last.client)
-      → new.last.server ≡ (if is_side Server frame.side then last_of (Some frame) else old.last.server)
-      → new.pending ≡ old.pending → new.initial ≡ old.initial
-      → connection_of new.connection ≡ connection_after state.connection (item_of state frame)
+  next-stands : (new : QuietPass) {connection : ConnectionState} → IsConnectionKept frame connection old new
+      → connection ≡ connection_after state.connection (item_of state frame)
       → AreStreams (λ s. stream_after s state.in_force.initial (state.streams s) (as_step frame None s)) new.streams
       → StandsFor new (next state frame)
-  next-stands new client server pending initial connection streams = record {
-    client = client ∙ last-if _ frame state.previous.client old.last.client stands.client;
-    server = server ∙ last-if _ frame state.previous.server old.last.server stands.server;
-    pending = rw pending (plain-brought frame state.in_force old.pending plain stands.pending).kept;
-    initial = initial ∙ stands.initial
+  next-stands new keeps connection streams = record {
+    client = keeps.client ∙ last-if _ frame state.previous.client old.last.client stands.client;
+    server = keeps.server ∙ last-if _ frame state.previous.server old.last.server stands.server;
+    pending = rw keeps.pending (plain-brought frame state.in_force old.pending plain stands.pending).kept;
+    initial = keeps.initial ∙ stands.initial
         ∙ ap (λ (change : Option Change). initial_after change state.in_force.initial) (sym no-change);
-    connection = connection;
+    connection = keeps.kept ∙ connection;
     streams = subst (λ (change : Option Change). AreStreams (λ s.
         stream_after s state.in_force.initial (state.streams s) (as_step frame change s)) new.streams) (sym no-change)
         streams;
@@ -173,7 +173,7 @@ module _ (frame : Frame) (old : QuietPass) (state : PassState) (stands : StandsF
         meets-own state.in_force.initial frame false old.streams old.streams state.streams stands.streams unpromised s
         ∙ ne_eqb frame.stream s (λ e. differ (sym e))
 
-    shown-on-stream : (streams : List ℕ) → NameOwn frame streams
+    shown-on-stream : (streams : List ℕ) → HaveOwn frame streams
         → shown false (streams_said streams state frame)
         ≡ shown false (stream_said frame.stream state.in_force.initial (state.streams frame.stream) (frame_step frame))
     shown-on-stream streams name =
@@ -255,35 +255,36 @@ spoken-front frame old state opens spoken empty stands item =
 
 -- of a frame on stream 0
 pub said-on-connection : {frame : Frame} {old new : QuietPass} {connection : ConnectionState}
-    {start before found : List Finding} → BringsNothing frame → is_server_promise frame ≡ false → frame.stream ≡ 0
-    → IsInRange frame → IsConnectionSaid old frame false start before connection → start ≡ []
+    {start before found : List Finding} → MovesOneStream frame → frame.stream ≡ 0
+    → IsConnectionSaid old frame false start before connection → start ≡ []
     → found ≡ shown false (in_order before)
-    → (list_any stops found ≡ false → IsKeptOn frame connection old new)
+    → (list_any stops found ≡ false → IsConnectionKept frame connection old new × (new.streams ≡ old.streams))
     → (state : PassState) → StandsFor old state → IsSaidStep state frame found new
-said-on-connection {frame} {old} {new} {connection} {start} {before} {found} plain unpromised zero range spoken empty is
-    kept state stands =
+said-on-connection {frame} {old} {new} {connection} {start} {before} {found} moves zero spoken empty is kept state
+    stands =
     let opens : false ≡ opens_stream state frame = sym (unopened-zero frame state zero) in
-    let item = item-is frame old state stands plain unpromised false opens in
+    let item = item-is frame old state stands moves.plain moves.unpromised false opens in
     let front : before ≡ (local_said (side_of frame.side state.previous) frame
     ++ connection_said state.connection (item_of state frame)) ++ [] =
     spoken-front frame old state false spoken empty stands item ∙ sym (append-nil _) in
     let all : found ≡ shown false (in_order ((local_said (side_of frame.side state.previous) frame
     ++ connection_said state.connection (item_of state frame)) ++ [])) =
     rw is (ap (λ l. shown false (in_order l)) front) in record {
-      shown = λ streams name. shown-all frame old state stands plain unpromised [] streams
-          (shown-on-connection frame old state stands plain unpromised zero streams name.named) ∙ sym all;
+      shown = λ streams name. shown-all frame old state stands moves.plain moves.unpromised [] streams
+          (shown-on-connection frame old state stands moves.plain moves.unpromised zero streams name.named) ∙ sym all;
       goes_on = λ on.
           let keeps = kept on in
-          next-stands frame old state stands plain unpromised new keeps.client keeps.server keeps.pending keeps.initial
-          (keeps.kept ∙ spoken.next state stands ∙ ap (connection_after state.connection) item)
-          (rw keeps.streams (streams-past frame old state stands plain unpromised zero));
-      numbered = rw all (numbered frame old state stands plain unpromised range [] (at-nil frame.number));
+          next-stands frame old state stands moves.plain moves.unpromised new keeps.0
+          (spoken.next state stands ∙ ap (connection_after state.connection) item)
+          (rw keeps.1 (streams-past frame old state stands moves.plain moves.unpromised zero));
+      numbered = rw all
+          (numbered frame old state stands moves.plain moves.unpromised moves.range [] (at-nil frame.number));
     }
 
 -- of a frame on a stream
 pub said-on-stream : {frame : Frame} {old new : QuietPass} {opens : Bool} {connection : ConnectionState}
-    {start before found : List Finding} {entry : Stream} (standings : Standings) → BringsNothing frame
-    → is_server_promise frame ≡ false → 0 < frame.stream → IsInRange frame
+    {start before found : List Finding} {entry : Stream} (standings : Standings) → MovesOneStream frame
+    → 0 < frame.stream
     → ((streams : ℕ → Stream) → AreStreams streams old.streams → streams frame.stream ≡ stream_of standings)
     → opens ≡ is_opening frame.stream (stream_of standings).life frame
     → IsConnectionSaid old frame opens start before connection → start ≡ []
@@ -292,12 +293,12 @@ pub said-on-stream : {frame : Frame} {old new : QuietPass} {opens : Bool} {conne
     → entry ≡ stream_after frame.stream old.initial (stream_of standings) (frame_step frame)
     → (list_any stops found ≡ false → IsKeptAfter frame connection entry old new)
     → (state : PassState) → StandsFor old state → IsSaidStep state frame found new
-said-on-stream {frame} {old} {new} {opens} {connection} {start} {before} {found} {entry} standings plain unpromised some
-    range own opening spoken empty is entered kept state stands =
+said-on-stream {frame} {old} {new} {opens} {connection} {start} {before} {found} {entry} standings moves some own
+    opening spoken empty is entered kept state stands =
     let row : stream_of standings ≡ state.streams frame.stream = sym (own state.streams stands.streams) in
     let opened : opens ≡ opens_stream state frame =
     opening ∙ ap (λ (one : Stream). is_opening frame.stream one.life frame) row ∙ sym (opens-own frame state) in
-    let item = item-is frame old state stands plain unpromised opens opened in
+    let item = item-is frame old state stands moves.plain moves.unpromised opens opened in
     let front : List Finding = local_said (side_of frame.side state.previous) frame
     ++ connection_said state.connection (item_of state frame) in
     let one : List Finding =
@@ -310,17 +311,18 @@ said-on-stream {frame} {old} {new} {opens} {connection} {start} {before} {found}
     ++ stream_said frame.stream initial (stream_of standings) (frame_step frame)))) stands.initial
     ∙ ap (λ (one : Stream). shown false (in_order (front
     ++ stream_said frame.stream state.in_force.initial one (frame_step frame)))) row in record {
-      shown = λ streams name. shown-all frame old state stands plain unpromised one streams
-          (shown-on-stream frame old state stands plain unpromised some streams name) ∙ sym all;
+      shown = λ streams name. shown-all frame old state stands moves.plain moves.unpromised one streams
+          (shown-on-stream frame old state stands moves.plain moves.unpromised some streams name) ∙ sym all;
       goes_on = λ on.
           let keeps = kept on in
-          next-stands frame old state stands plain unpromised new keeps.client keeps.server keeps.pending keeps.initial
-          (keeps.kept ∙ spoken.next state stands ∙ ap (connection_after state.connection) item)
-          (put-streams frame old state stands plain unpromised some keeps.stands.standings
+          next-stands frame old state stands moves.plain moves.unpromised new keeps.rest
+          (spoken.next state stands ∙ ap (connection_after state.connection) item)
+          (put-streams frame old state stands moves.plain moves.unpromised some keeps.stands.standings
           (keeps.stands.same ∙ entered
           ∙ ap (λ initial. stream_after frame.stream initial (stream_of standings) (frame_step frame)) stands.initial
           ∙ ap (λ (one : Stream). stream_after frame.stream state.in_force.initial one (frame_step frame)) row)
           new.streams keeps.streams);
-      numbered = rw all (numbered frame old state stands plain unpromised range one
-          (at-stream frame.stream state.in_force.initial (state.streams frame.stream) (frame_step frame) range.stream));
+      numbered = rw all (numbered frame old state stands moves.plain moves.unpromised moves.range one
+          (at-stream frame.stream state.in_force.initial (state.streams frame.stream) (frame_step frame)
+          moves.range.stream));
     }

@@ -24,7 +24,7 @@ pub struct FoundConnection {
     pub tails: Sides<u32>,
     /// What is shown, in order, up to and including the first connection error.
     pub findings: Vec<Finding>,
-    /// The frames at which something is shown, in the order of the capture.
+    /// Frames in the order of the capture, among them each that a finding names.
     pub shown_at: Vec<Frame>,
 }
 

@@ -1,10 +1,10 @@
 //! The machine that meets a connection's frames one by one, and says what they show.
 
-ghost use Rattle.std.specs.Prelude.{[], ◌∷◌, ◌++◌, List, IfOk, OnOk};
+ghost use Rattle.std.specs.Prelude.{◌≡◌, [], ◌∷◌, ◌++◌, List, IfOk, OnOk};
 ghost use Rattle.std.specs.Bool.{OnTrue};
 ghost use Rattle.audit_terms.specs.declared.frames.Frame.{Frame as FrameTerm};
 ghost use Rattle.audit_terms.specs.code.runs.Orderly.{IsInRange, IsOrderly};
-ghost use Rattle.quiet_pass.specs.code.FoundPass.{HasAdded, HasSaid, IsFoundAfter};
+ghost use Rattle.quiet_pass.specs.code.FoundPass.{HasSaid, IsAdded, IsFoundAfter};
 
 use crate::passes::QuietPass;
 use crate::said_frames::has_stop;
@@ -76,7 +76,8 @@ impl FoundPass {
 
     /// Adds what a frame shows.
     fn add(&mut self, said: Vec<Finding>, frame: &Frame) -> Result<(), AllocError>
-        ensures { OnOk result (HasAdded frame.now said.items self.old self.new) }
+        ensures added { OnOk result (IsAdded frame.now said.items self.old self.new) }
+        ensures pass { OnOk result (self.new.pass ≡ self.old.pass) }
     {
         let mut said = said;
         self.has_stopped = has_stop(said.as_slice());

@@ -6,8 +6,9 @@ ghost use Rattle.std.specs.Option.{ForSome};
 ghost use Rattle.audit_terms.specs.Frame.{is_server_promise};
 ghost use Rattle.audit_terms.specs.Connection.{connection_start};
 ghost use Rattle.audit_terms.specs.code.Room.{HaveRoom};
-ghost use Rattle.quiet_pass.specs.code.Connection.{connection_of, IsConnectionAfter, IsCountedCredit, IsCreditAfter};
-ghost use Rattle.quiet_pass.specs.code.Connection.{IsLoneCredit, IsOpenedAfter, IsPromisedAfter, LeavesCredit};
+ghost use Rattle.quiet_pass.specs.code.Connection.{connection_of, AreCreditsAfter, IsConnectionAfter};
+ghost use Rattle.quiet_pass.specs.code.Connection.{IsCountedCredit, IsCreditAfter, IsLoneCredit, IsOpenedAfter};
+ghost use Rattle.quiet_pass.specs.code.Connection.{IsPromisedAfter, LeavesCredit};
 
 use audit_terms::standings::{balance, kept};
 use audit_terms::{
@@ -86,19 +87,14 @@ impl KeptConnection {
         if longest < frame.length.get() {
             return false;
         }
-        let (Some(opened), Some(promised)) = (
+        let (Some(opened), Some(promised), Some(credit)) = (
             self.opened_after(frame, opens),
             self.promised_after(frame),
+            self.credits_after(frame),
         ) else {
             return false;
         };
-        let (Some(client), Some(server)) = (
-            credit_after(self.credit.client, Side::Client, frame),
-            credit_after(self.credit.server, Side::Server, frame),
-        ) else {
-            return false;
-        };
-        self.credit = Sides { client, server };
+        self.credit = credit;
         self.opened = opened;
         self.promised = promised;
         self.push = new_push(change, self.push);
@@ -116,13 +112,7 @@ impl KeptConnection {
         if self.limit.of(frame.side) < frame.length.get() {
             return None;
         }
-        let Some(side) = moved_side(frame) else {
-            return Some(self.credit);
-        };
-        let moved = credit_after(self.credit.of(side), side, frame)?;
-        let mut credit = self.credit;
-        *credit.of_mut(side) = moved;
-        Some(credit)
+        self.credits_after(frame)
     }
 
     /// Meets such a frame, and returns false if that may show something.
@@ -139,16 +129,18 @@ impl KeptConnection {
         true
     }
 
-    /// Meets a SETTINGS, or an acknowledgement with the change that it brings, and returns false if that may show
-    /// something.
-    pub(crate) fn meet_settings(&mut self, frame: &Frame, change: &Option<Change>) -> bool
-        requires { is_server_promise frame.now ≡ false }
-        ensures { OnTrue result (IsConnectionAfter frame.now false change.now self.old self.new) }
+    /// The credits of both sides after a frame, if that shows nothing but credits.
+    #[inline(always)]
+    fn credits_after(&self, frame: &Frame) -> Option<Sides<u32>>
+        ensures { ForSome result (AreCreditsAfter frame.now self.now.credit) }
     {
-        match change {
-            Some(_) => self.meet(frame, false, change),
-            None => self.meet_lone(frame),
-        }
+        let Some(side) = moved_side(frame) else {
+            return Some(self.credit);
+        };
+        let moved = credit_after(self.credit.of(side), side, frame)?;
+        let mut credit = self.credit;
+        *credit.of_mut(side) = moved;
+        Some(credit)
     }
 
     /// The greatest stream that the client opened, after a frame, if that is in order (5.1.1).

@@ -24,7 +24,8 @@
 //! - Refused by the prover: content of a reset stream that the connection does not count (5.1); exchanged tails;
 //!   credits that are told.
 //! - Tested, in `threads_test.py`: that connections of which nothing is shown go through no round, so that it does not
-//!   give up there. By whole reports: that it succeeds where there is memory.
+//!   give up there, and that `found_connection` tells a connection error without one. By whole reports: that both
+//!   succeed where there is memory.
 //! - Tested, in `crate_tests`, over random frames, and not proved: that it gives up only where something is shown.
 //!   Where it does, the rounds say what is.
 #![tactic(auto)]

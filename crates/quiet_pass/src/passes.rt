@@ -171,7 +171,10 @@ impl QuietPass {
         if frame.stream != 0 || is_unmatched(frame, &change) || frame.is_server_promise() {
             return Ok(false);
         }
-        if !self.connection.meet_settings(frame, &change) {
+        if change.is_none() {
+            return Ok(self.connection.meet_lone(frame));
+        }
+        if !self.connection.meet(frame, false, &change) {
             return Ok(false);
         }
         let is_quiet = self.bring(&change);

@@ -7,11 +7,11 @@ ghost use Rattle.std.specs.Option.{ForSome};
 ghost use Rattle.audit_terms.specs.code.runs.Orderly.{IsInRange};
 ghost use Rattle.audit_terms.specs.code.runs.Streams.{frame_step};
 ghost use Rattle.audit_terms.specs.Finding.{in_order, shown, stops};
-ghost use Rattle.audit_terms.specs.Frame.{is_server_promise};
 ghost use Rattle.audit_terms.specs.Pass.{PassState};
 ghost use Rattle.audit_terms.specs.Stream.{stream_after, stream_said};
-ghost use Rattle.quiet_pass.specs.code.QuietPass.{BringsNothing, StandsFor};
+ghost use Rattle.quiet_pass.specs.code.QuietPass.{StandsFor};
 ghost use Rattle.quiet_pass.specs.code.SaidFrames.{IsConnectionSaid, IsKeptAfter, IsSaidStep, IsStanding};
+ghost use Rattle.quiet_pass.specs.code.SaidFrames.{MovesOneStream};
 
 use crate::kept_connection::KeptConnection;
 use crate::passes::{QuietPass, is_of_settings, keep_last};
@@ -49,9 +49,7 @@ impl QuietPass {
         alloc: Global,
         frame: &Frame,
     ) -> Result<Option<Vec<Finding>>, AllocError>
-        requires range { IsInRange frame.now }
-        requires plain { BringsNothing frame.now }
-        requires unpromised { is_server_promise frame.now ≡ false }
+        requires moves { MovesOneStream frame.now }
         requires streamed { frame.now.stream ≡ 0 }
         ensures { IfOk result (λ said. ForSome said (λ found. (state : PassState) → StandsFor self.old state
             → IsSaidStep state frame.now found.items self.new)) }
@@ -75,9 +73,7 @@ impl QuietPass {
         alloc: Global,
         frame: &Frame,
     ) -> Result<Option<Vec<Finding>>, AllocError>
-        requires range { IsInRange frame.now }
-        requires plain { BringsNothing frame.now }
-        requires unpromised { is_server_promise frame.now ≡ false }
+        requires moves { MovesOneStream frame.now }
         requires streamed { 0 < frame.now.stream }
         ensures { IfOk result (λ said. ForSome said (λ found. (state : PassState) → StandsFor self.old state
             → IsSaidStep state frame.now found.items self.new)) }

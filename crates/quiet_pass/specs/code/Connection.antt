@@ -1,6 +1,7 @@
 -- The connection between two frames, as it is kept while nothing of it is shown. No public clause cites this.
 use Rattle.std.specs.Prelude.{◌≡◌, ℕ, ◌^◌, ◌<◌, false, pos, ◌+ℤ◌, ◌-ℤ◌, max, Bool, if◌then◌else◌, [], None, Option}
 use Rattle.audit_terms.specs.declared.sides.Side.{Side}
+use Rattle.audit_terms.specs.declared.sides.Side.TheVariants.{Client, Server}
 use Rattle.audit_terms.specs.declared.sides.Sides.{Sides}
 use Rattle.audit_terms.specs.declared.frames.Frame.{Frame}
 use Rattle.audit_terms.specs.declared.items.Change.{Change}
@@ -48,6 +49,11 @@ pub record IsCountedCredit (d : Side) (frame : Frame) (before after : ℕ) : Typ
 pub record IsCreditAfter (d : Side) (frame : Frame) (before after : ℕ) : Type 0 where
   pub moved : pos after ≡ credit_after d (pos before) frame
   pub said : AreQuiet (connection_window_said d (pos before) frame)
+
+-- the credits of both sides after a frame: nothing of that is shown
+pub record AreCreditsAfter (frame : Frame) (before after : Sides ℕ) : Type 0 where
+  pub client : IsCreditAfter Client frame before.client after.client
+  pub server : IsCreditAfter Server frame before.server after.server
 
 -- the frame moves no credit of side d
 pub record LeavesCredit (d : Side) (frame : Frame) : Type 0 where

@@ -19,8 +19,8 @@ IsNamedAlike all some finding =
     find (λ (frame : Frame). frame.number == place_number finding.place) some
     ≡ find (λ (frame : Frame). frame.number == place_number finding.place) all
 
--- the flows hold so many frames, and tails; this is what one pass over the frames shows, where credits are not shown,
--- and these are the frames that it names
+-- the flows hold so many frames, and tails; this is what one pass over the frames shows, where credits are not shown;
+-- and among these frames, in order, are those that it names
 pub record IsFoundOf (client server : Flow) (found : FoundConnection) : Type 0 where
   pub frames : List Frame
   pub started : IsTrue server.started

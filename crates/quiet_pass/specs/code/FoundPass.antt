@@ -1,5 +1,5 @@
 -- What the machine stands for that says what frames show.
-use Rattle.std.specs.List.{AllByRecursion, list_any}
+use Rattle.std.specs.List.{AllByRecursion, IsDistinct, list_any}
 use Rattle.std.specs.Prelude.{◌≡◌, ℕ, ◌<◌, ◌==◌, true, false, List, [], ◌∷◌, ◌++◌, find, is_some}
 use Rattle.audit_terms.specs.Finding.{shown, stops}
 use Rattle.audit_terms.specs.Frame.{meets}
@@ -14,13 +14,13 @@ use Rattle.h2_frames.specs.declared.walk.FrameWalk.{FrameWalk}
 use Rattle.tcp_streams.specs.declared.flows.Flow.{Flow}
 use Rattle.quiet_pass.specs.code.QuietPass.{AreNamed, StandsFor}
 use Rattle.quiet_pass.specs.code.FoundConnections.{IsNamedAlike}
-use Rattle.quiet_pass.specs.code.SaidFrames.{AreDistinct, IsSaidStep}
+use Rattle.quiet_pass.specs.code.SaidFrames.{IsSaidStep}
 use Rattle.quiet_pass.specs.declared.found_passes.FoundPass.{FoundPass}
 
 -- streams other than 0, each once, and among them all that meet one of the frames
-pub record NameAll (frames : List Frame) (streams : List ℕ) : Type 0 where
+pub record HaveAllMet (frames : List Frame) (streams : List ℕ) : Type 0 where
   pub named : AreNamed streams
-  pub once : AreDistinct streams
+  pub once : IsDistinct ◌==◌ streams
   pub all : (stream : ℕ) → 0 < stream → list_any (meets stream) frames ≡ true
       → list_any (λ other. other == stream) streams ≡ true
 
@@ -28,14 +28,14 @@ pub record NameAll (frames : List Frame) (streams : List ℕ) : Type 0 where
 abbrev pub AreBelow : (number : ℕ) → List Frame → Type 0
 AreBelow number frames = AllByRecursion (λ (frame : Frame). frame.number < number) frames
 
--- a finding names a frame of these, the same as in all
-pub record IsNamed (all some : List Frame) (finding : Finding) : Type 0 where
+-- the frame that a finding names is kept: it is one of some, the same as in all
+pub record IsFrameKept (all some : List Frame) (finding : Finding) : Type 0 where
   pub alike : IsNamedAlike all some finding
   pub there : is_some (find (λ (frame : Frame). frame.number == place_number finding.place) some) ≡ true
 
--- the findings name frames of these, the same as in all
-pub record Name (all some : List Frame) (found : List Finding) : Type 0 where
-  pub named : AllByRecursion (IsNamed all some) found
+-- the frames that these findings name are kept
+pub record AreFramesKept (all some : List Frame) (found : List Finding) : Type 0 where
+  pub each : AllByRecursion (IsFrameKept all some) found
   pub orderly : IsOrderly some
   pub below : (number : ℕ) → AreBelow number all → AreBelow number some
 
@@ -44,27 +44,24 @@ pub record IsFoundAfter (frames : List Frame) (machine : FoundPass) : Type 0 whe
   pub met : List Frame
   pub rest : List Frame
   pub parts : frames ≡ met ++ rest
-  pub shown : (streams : List ℕ) → NameAll met streams
+  pub shown : (streams : List ℕ) → HaveAllMet met streams
       → shown false (full_from streams pass_start met) ≡ machine.found.items
   pub goes_on : machine.has_stopped ≡ false → (rest ≡ []) × StandsFor machine.pass (state_after met)
   pub stopped : machine.has_stopped ≡ true → list_any stops machine.found.items ≡ true
-  pub name : IsOrderly frames → Name frames machine.shown_at.items machine.found.items
+  pub kept : IsOrderly frames → AreFramesKept frames machine.shown_at.items machine.found.items
 
 -- what a frame shows was added
-pub record HasAdded (frame : Frame) (said : List Finding) (old new : FoundPass) : Type 0 where
+pub record IsAdded (frame : Frame) (said : List Finding) (old new : FoundPass) : Type 0 where
   pub found : new.found.items ≡ old.found.items ++ said
   pub shown_at : new.shown_at.items ≡ old.shown_at.items ++ frame ∷ []
   pub stopped : new.has_stopped ≡ list_any stops said
-  pub pass : new.pass ≡ old.pass
 
 -- a frame was met, and what it shows was said
 pub record HasSaid (frame : Frame) (old new : FoundPass) : Type 0 where
   pub said : List Finding
   pub sound : old.pass.is_lost ≡ false
   pub step : (state : PassState) → StandsFor old.pass state → IsSaidStep state frame said new.pass
-  pub found : new.found.items ≡ old.found.items ++ said
-  pub shown_at : new.shown_at.items ≡ old.shown_at.items ++ frame ∷ []
-  pub stopped : new.has_stopped ≡ list_any stops said
+  pub added : IsAdded frame said old new
 
 -- the frames that were taken of a connection were met
 pub record IsFoundUpTo (client server : Flow) (walk : FrameWalk) (machine : FoundPass) : Type 0 where

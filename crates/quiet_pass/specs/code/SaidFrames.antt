@@ -1,28 +1,29 @@
 -- A frame of which something is shown, and the machine after it.
-use Rattle.std.specs.List.{AllByRecursion, list_any}
-use Rattle.std.specs.Prelude.{◌≡◌, ◌≢◌, ℕ, ◌<◌, ◌==◌, Bool, true, false, if◌then◌else◌, List, [], ◌∷◌, ◌++◌, None}
-use Rattle.std.specs.Prelude.{Some}
+use Rattle.std.specs.List.{AllByRecursion, IsDistinct, list_any}
+use Rattle.std.specs.Prelude.{◌≡◌, ℕ, ◌<◌, ◌==◌, Bool, true, false, if◌then◌else◌, List, ◌++◌, None, Some}
 use Rattle.audit_terms.specs.Connection.{connection_after, connection_said}
 use Rattle.audit_terms.specs.Finding.{shown, stops}
+use Rattle.audit_terms.specs.Frame.{is_server_promise}
 use Rattle.audit_terms.specs.LocalFault.{local_said}
 use Rattle.audit_terms.specs.Pass.{PassState, next, said}
 use Rattle.audit_terms.specs.Place.{place_number}
 use Rattle.audit_terms.specs.Side.{is_side}
 use Rattle.audit_terms.specs.Sides.{side_of}
 use Rattle.audit_terms.specs.code.LastFrame.{last_of}
+use Rattle.audit_terms.specs.code.runs.Orderly.{IsInRange}
 use Rattle.audit_terms.specs.declared.connection_state.ConnectionState.{ConnectionState}
 use Rattle.audit_terms.specs.declared.findings.Finding.{Finding}
 use Rattle.audit_terms.specs.declared.frames.Frame.{Frame}
 use Rattle.audit_terms.specs.declared.sides.Side.TheVariants.{Client, Server}
 use Rattle.audit_terms.specs.declared.stream_state.Stream.{Stream}
 use Rattle.quiet_pass.specs.code.Connection.{as_item, connection_of}
-use Rattle.quiet_pass.specs.code.QuietPass.{AreNamed, StandsFor}
+use Rattle.quiet_pass.specs.code.QuietPass.{AreNamed, BringsNothing, StandsFor}
 use Rattle.quiet_pass.specs.code.Streams.{ArePut}
 use Rattle.quiet_pass.specs.declared.passes.QuietPass.{QuietPass}
 use Rattle.stream_credit.specs.code.Standings.{stream_of}
 use Rattle.stream_credit.specs.declared.stream_standings.Standings.{Standings}
 
--- the stream is one that stands in two numbers
+-- some standings say all of the stream
 pub record IsStanding (entry : Stream) : Type 0 where
   pub standings : Standings
   pub same : stream_of standings ≡ entry
@@ -36,10 +37,15 @@ pub record IsConnectionSaid (machine : QuietPass) (frame : Frame) (opens : Bool)
   pub next : (state : PassState) → StandsFor machine state
       → connection ≡ connection_after state.connection (as_item frame opens None)
 
--- the machine keeps the connection as it is after the frame, and all streams as they are
-pub record IsKeptOn (frame : Frame) (connection : ConnectionState) (old new : QuietPass) : Type 0 where
+-- the frame has neither settings nor a promise of the server, so that it moves the connection and its own stream alone
+pub record MovesOneStream (frame : Frame) : Type 0 where
+  pub range : IsInRange frame
+  pub plain : BringsNothing frame
+  pub unpromised : is_server_promise frame ≡ false
+
+-- the machine keeps the connection as it is after the frame, which brings no settings
+pub record IsConnectionKept (frame : Frame) (connection : ConnectionState) (old new : QuietPass) : Type 0 where
   pub kept : connection_of new.connection ≡ connection
-  pub streams : new.streams ≡ old.streams
   pub client : new.last.client ≡ (if is_side Client frame.side then last_of (Some frame) else old.last.client)
   pub server : new.last.server ≡ (if is_side Server frame.side then last_of (Some frame) else old.last.server)
   pub pending : new.pending ≡ old.pending
@@ -48,28 +54,19 @@ pub record IsKeptOn (frame : Frame) (connection : ConnectionState) (old new : Qu
 -- the machine keeps the connection and the frame's stream as they are after the frame
 pub record IsKeptAfter (frame : Frame) (connection : ConnectionState) (entry : Stream) (old new : QuietPass)
     : Type 0 where
-  pub kept : connection_of new.connection ≡ connection
+  pub rest : IsConnectionKept frame connection old new
   pub stands : IsStanding entry
   pub streams : ArePut frame.stream stands.standings old.streams new.streams
-  pub client : new.last.client ≡ (if is_side Client frame.side then last_of (Some frame) else old.last.client)
-  pub server : new.last.server ≡ (if is_side Server frame.side then last_of (Some frame) else old.last.server)
-  pub pending : new.pending ≡ old.pending
-  pub initial : new.initial ≡ old.initial
-
--- no stream stands there twice
-abbrev pub AreDistinct : List ℕ → Type 0
-AreDistinct [] = Unit {0}
-AreDistinct (stream ∷ streams) = AllByRecursion (λ other. stream ≢ other) streams × AreDistinct streams
 
 -- streams other than 0, each once, and among them that of the frame
-pub record NameOwn (frame : Frame) (streams : List ℕ) : Type 0 where
+pub record HaveOwn (frame : Frame) (streams : List ℕ) : Type 0 where
   pub named : AreNamed streams
-  pub once : AreDistinct streams
+  pub once : IsDistinct ◌==◌ streams
   pub own : 0 < frame.stream → list_any (λ other. other == frame.stream) streams ≡ true
 
 -- this is what a frame shows where credits are not shown, and unless the audit stops there, the machine stands for the
 -- state after it
 pub record IsSaidStep (state : PassState) (frame : Frame) (found : List Finding) (machine : QuietPass) : Type 0 where
-  pub shown : (streams : List ℕ) → NameOwn frame streams → shown false (said streams state frame) ≡ found
+  pub shown : (streams : List ℕ) → HaveOwn frame streams → shown false (said streams state frame) ≡ found
   pub goes_on : list_any stops found ≡ false → StandsFor machine (next state frame)
   pub numbered : AllByRecursion (λ (finding : Finding). place_number finding.place ≡ frame.number) found

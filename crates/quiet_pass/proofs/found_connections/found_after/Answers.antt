@@ -11,6 +11,6 @@ returns c = λ client server frames started whole h.
       orderly = whole.orderly;
       count = c.taken.ensures ∙ whole.count;
       findings = rw c.cut_at_stop.ensures (all-found law.met law.once h);
-      some_orderly = (h.name whole.orderly).orderly;
+      some_orderly = (h.kept whole.orderly).orderly;
       named = rw c.cut_at_stop.ensures (all-named law.met law.once h whole.orderly);
     }

@@ -10,12 +10,10 @@ returns c =
     let longest = c.new_limit-longest.ensures ∙ ap (new_limit change frame.side) c.of.ensures in
     let short : nat_lt c.new_limit-longest.result frame.length ≡ false =
     grind (arith, nat_tests, c.if-longest-get.false, c.get.ensures) in
-    connection-met frame c.args.opens change old c.in-Some-Some.opened c.in-Some-Some.promised
-    c.in-Some-Some-2.client c.in-Some-Some-2.server c.new_push-self.result c.limit_after-self.result
-    (subst (λ n. nat_lt n frame.length ≡ false) longest short)
-    (c.opened_after.ensures c.in-Some-Some.opened c.in-Some-Some.is-0)
-    (c.promised_after.ensures c.in-Some-Some.promised c.in-Some-Some.is-1)
-    (c.credit_after.ensures c.in-Some-Some-2.client c.in-Some-Some-2.is-0)
-    (c.credit_after-2.ensures c.in-Some-Some-2.server c.in-Some-Some-2.is-1)
-    c.new_push-self.ensures (ap (λ (both : Sides ℕ). both.client) c.limit_after-self.ensures)
+    let here = c.in-Some-Some-Some in
+    connection-met frame c.args.opens change old here.opened here.promised c.new_push-self.result here.credit
+    c.limit_after-self.result (subst (λ n. nat_lt n frame.length ≡ false) longest short)
+    (c.opened_after.ensures here.opened here.is-0) (c.promised_after.ensures here.promised here.is-1)
+    (c.credits_after.ensures here.credit here.is-2) c.new_push-self.ensures
+    (ap (λ (both : Sides ℕ). both.client) c.limit_after-self.ensures)
     (ap (λ (both : Sides ℕ). both.server) c.limit_after-self.ensures)

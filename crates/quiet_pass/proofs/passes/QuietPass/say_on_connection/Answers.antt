@@ -8,20 +8,21 @@ use Rattle.quiet_pass.proofs.passes.QuietPass.say_on_connection.Goals as goal
 pub returns-then-branch : goal.returns-then-branch
 returns-then-branch c = λ x e.
     let same = ap (λ (found : Vec Finding Global). found.items) (sym (same_Some _ _ e)) in
-    said-on-connection c.requires.plain c.requires.unpromised c.requires.streamed c.requires.range
-    c.in_ok-connection.ensures c.new-found.ensures.items (same ∙ c.in_ok-shows_stop.ensures.shown)
+    said-on-connection c.requires.moves c.requires.streamed c.in_ok-connection.ensures c.new-found.ensures.items
+    (same ∙ c.in_ok-shows_stop.ensures.shown)
     (λ on. never _ c.if-branch.true (c.in_ok-shows_stop.ensures.stops ∙ ap (list_any stops) (sym same) ∙ on))
 
 pub returns : goal.returns
 returns c = λ x e.
-    said-on-connection c.requires.plain c.requires.unpromised c.requires.streamed c.requires.range
-    c.in_ok-connection.ensures c.new-found.ensures.items
+    said-on-connection c.requires.moves c.requires.streamed c.in_ok-connection.ensures c.new-found.ensures.items
     (ap (λ (found : Vec Finding Global). found.items) (sym (same_Some _ _ e)) ∙ c.in_ok-shows_stop.ensures.shown)
-    (λ on. record {
-      kept = c.of.ensures c.in-Some.connection c.in-Some.is;
-      streams = refl;
-      client = c.keep_last.ensures.client;
-      server = c.keep_last.ensures.server;
-      pending = refl;
-      initial = refl;
-    })
+    (λ on. (
+      record {
+        kept = c.of.ensures c.in-Some.connection c.in-Some.is;
+        client = c.keep_last.ensures.client;
+        server = c.keep_last.ensures.server;
+        pending = refl;
+        initial = refl;
+      },
+      refl,
+    ))

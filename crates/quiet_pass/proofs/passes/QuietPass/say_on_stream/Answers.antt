@@ -11,7 +11,7 @@ pub returns-then-branch : goal.returns-then-branch
 returns-then-branch c = λ x e.
     let frame = c.args.frame.now in
     let same = ap (λ (found : Vec Finding Global). found.items) (sym (same_Some _ _ e)) in
-    said-on-stream c.in-Some.standings c.requires.plain c.requires.unpromised c.requires.streamed c.requires.range
+    said-on-stream c.in-Some.standings c.requires.moves c.requires.streamed
     (c.standings_of.ensures c.in-Some.standings c.in-Some.is)
     (c.is_opening-opens.ensures
     ∙ ap (λ (one : Stream). is_opening frame.stream one.life frame) c.stream-entry.ensures)
@@ -26,7 +26,7 @@ returns-then-branch c = λ x e.
 pub returns : goal.returns
 returns c = λ x e.
     let frame = c.args.frame.now in
-    said-on-stream c.in-Some.standings c.requires.plain c.requires.unpromised c.requires.streamed c.requires.range
+    said-on-stream c.in-Some.standings c.requires.moves c.requires.streamed
     (c.standings_of.ensures c.in-Some.standings c.in-Some.is)
     (c.is_opening-opens.ensures
     ∙ ap (λ (one : Stream). is_opening frame.stream one.life frame) c.stream-entry.ensures)
