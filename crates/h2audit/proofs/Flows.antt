@@ -2,7 +2,6 @@
 use Rattle.std.proofs.Common.{◌≡◌, ℕ, suc, ◌<◌, Bool, List, [], ◌∷◌, ◌++◌, length, slice_get}
 use Rattle.std.proofs.Common.{All, IfOk, Ok, Err, Result, Option, Some, None, Bor, map, refl, sym, subst, ap, ◌∙◌}
 use Rattle.std.proofs.Common.{arith, false}
-use Rattle.std.specs.List.{AllByRecursion}
 use Rattle.std.proofs.lemmas.List.{get_or-map, length-map}
 use Rattle.std.proofs.lemmas.List.FromFn.{get_or-map-range_with_len, length-map-range_with_len}
 use Rattle.std.proofs.lemmas.Option.{get_or_from_slice_get, slice_get_within}
@@ -20,14 +19,10 @@ use Rattle.h2_frames.specs.code.Orderly.{HasOrderlyFrames}
 use Rattle.h2_frames.specs.declared.cuts.Cut.{Cut}
 use Rattle.h2_frames.specs.declared.cuts.Cut.TheVariants.{Http2, NotHttp2, NoPreface, NoHandshake}
 use Rattle.h2audit.specs.Audited.{IsFlowFrom}
-use Rattle.h2audit.proofs.Alike.{stalls-alike}
 use Rattle.h2audit.specs.code.Flows.{AreToldFlows, FlowView, IsHeldBy, IsToldFlows, KeepsCut, KeepsFound}
 use Rattle.h2audit.specs.code.Flows.{flow_job, flow_jobs}
-use Rattle.quiet_pass.specs.code.FoundConnections.{IsFoundOf, IsNamedAlike}
+use Rattle.quiet_pass.specs.code.FoundConnections.{IsFoundOf}
 use Rattle.quiet_pass.specs.declared.found_connections.FoundConnection.{FoundConnection}
-use Rattle.audit_report.specs.Stalls.{stalls}
-use Rattle.audit_terms.specs.declared.findings.Finding.{Finding}
-use Rattle.split_merge.specs.code.Findings.{findings_in}
 use Rattle.h2audit.specs.code.KeptFrames.{frames_of, kept_frames}
 use Rattle.stop_desk.specs.code.Board.{Job, IsCut}
 use Rattle.stop_desk.specs.declared.parts.Part.{Part}
@@ -83,7 +78,7 @@ module _ (credits : Bool) (capture : List ℕ) (packets : List Packet) where
       (each 0 p c refl refl, are-told opened parts (omega arith) (λ n. each (suc n)))
 
   held-orderly : (client server : Flow) (o : Outcome) → IsHeldBy credits client server o → HasOrderlyOutcome o
-  held-orderly client server (outcome.Found found) held = held.1.some_orderly
+  held-orderly client server (outcome.Found found) held = rw held.1.kept.frames held.1.of_flows.some_orderly
   held-orderly client server (outcome.Audited audited) held = held.2
   held-orderly client server _ held = tt
 
@@ -133,25 +128,7 @@ held-found client server found (outcome.Quiet quiet) keeps is = (
   },
 )
 held-found client server found (outcome.Found made) keeps is =
-    let all = is.frames in
-    let same : found.findings.items ≡ findings_in made.value.audited.findings = sym keeps.2 in
-    let kept : found.shown_at.items ≡ made.value.audited.frames.items = sym keeps.3 in (
-      refl,
-      record {
-        frames = all;
-        started = is.started;
-        http2 = subst (λ (t : Sides ℕ). h2.IsHttp2 client server all t) (sym keeps.1) is.http2;
-        orderly = is.orderly;
-        count = keeps.0 ∙ is.count;
-        findings = keeps.2 ∙ is.findings;
-        few = omega (arith, ap length same, found.findings.ok.0, found.findings.small);
-        some_orderly = subst (λ l. runs.IsOrderly l) kept is.some_orderly;
-        named = subst (λ (l : List Finding). AllByRecursion (IsNamedAlike all made.value.audited.frames.items) l) same
-            (subst (λ (l : List Frame). AllByRecursion (IsNamedAlike all l) found.findings.items) kept is.named);
-        stalls_are = keeps.4 ∙ stalls-alike all found.shown_at.items found.findings.items is.named
-            ∙ ap (stalls all) same;
-      },
-    )
+    (refl, record { found = found; of_flows = is; kept = keeps })
 held-found client server found _ keeps is = absurd keeps
 
 gap-from : (sources : ℕ → Option Source) (n : ℕ) (gap : Option ℕ) → IsGap sources n gap

@@ -6,6 +6,7 @@ use Rattle.audit_terms.specs.{Finding.shown, Kind.is_fault, Pass.pass}
 use Rattle.audit_terms.specs.declared.{findings.Finding.Finding}
 use Rattle.audit_terms.specs.declared.sides.{Side.TheVariants.Client, Side.TheVariants.Server, Sides.Sides}
 use Rattle.h2_frames.specs.{Cut.IsCut, declared.cuts.Cut.Cut}
+use Rattle.h2audit.proofs.Alike.{stalls-alike}
 use Rattle.h2audit.specs.Audited.{IsAudited, IsFlowOf, findings_of, has_fault}
 use Rattle.h2audit.specs.code.Flows.{AreToldAudits, AreToldFlows, IsHeldBy}
 use Rattle.h2audit.specs.code.KeptFrames.{AreFound, AreToldWith, IsOutcomeWith, IsToldWith, frames_of, kept_frames}
@@ -21,7 +22,8 @@ use Rattle.report_pages.specs.declared.{reach.Reach.Reach, told.Outcome.Outcome,
 use Rattle.report_pages.specs.declared.told.Outcome.TheVariants.{Audited, Found, NoHandshake, NoPreface, NotHttp2}
 use Rattle.report_pages.specs.declared.told.Outcome.TheVariants.{Quiet}
 use Rattle.packet_heads.specs.declared.packets.Packet.{Packet}
-use Rattle.std.specs.List.{flat_map}
+use Rattle.quiet_pass.specs.code.FoundConnections.{IsNamedAlike}
+use Rattle.std.specs.List.{AllByRecursion, flat_map}
 use Rattle.std.proofs.Common.{true, false, Bool, Box, Global, List, Vec, [], ap, arith, length, map, refl, subst, sym}
 use Rattle.std.proofs.Common.{ℕ, ◌++◌, ◌<◌}
 use Rattle.std.proofs.{Common.◌^◌, Common.◌||◌, Common.◌∙◌, Common.◌∷◌, Common.◌≡◌, lemmas.List.map-append}
@@ -132,13 +134,17 @@ module _ (credits : Bool) (capture : List ℕ) (packets : List Packet) (c : Conn
       (sym (ap (λ b. shown b (pass is.frames)) held.0 ∙ is.silent)) found same refl one reached (here ∙ with_them)
       (is.count, refl, refl) tt
   step-of (Found told) held found same one reached made here with_them =
-      let is = held.1 in
-      let audited = told.value.audited in
+      let is = held.1.of_flows in
+      let kept = held.1.kept in
+      let findings = held.1.found.findings in
       let fit = length-orderly 0 is.frames (omega arith) is.orderly in
       let frames = list-of c.members is.frames (omega arith) in
-      unkept (Found told) (cut.Http2 frames audited.tails) (list-of c.members (findings_in audited.findings) is.few)
-      (is.started, is.http2) (is.findings ∙ sym (ap (λ b. shown b (pass is.frames)) held.0)) found same refl one
-      reached (here ∙ with_them) (is.count, refl, refl, is.stalls_are, is.named) is.some_orderly
+      let stalls_are = kept.stalls_are ∙ stalls-alike is.frames held.1.found.shown_at.items findings.items is.named in
+      let named = subst (λ (l : List Frame). AllByRecursion (IsNamedAlike is.frames l) findings.items)
+      (sym kept.frames) is.named in
+      unkept (Found told) (cut.Http2 frames held.1.found.tails) findings (is.started, is.http2)
+      (is.findings ∙ sym (ap (λ b. shown b (pass is.frames)) held.0)) found same refl one reached (here ∙ with_them)
+      (kept.count ∙ is.count, kept.tails, kept.findings, stalls_are, named) (rw kept.frames is.some_orderly)
   step-of (Audited audited) held [] same one reached made here with_them = absurd cc
   step-of (Audited audited) held (findings ∷ found) same one reached (Audited told) here with_them =
       kept audited told held findings found same one reached here with_them

@@ -195,7 +195,7 @@ fn report_parts<R: Threads + Sync, G: Gate>(
 fn lines_and_flows<R: Threads + Sync, G: Gate>(
     team: &Team<'_, R, G>,
     frames_shown: bool,
-    most_met: usize,
+    undivided: usize,
     capture: &Capture<'_>,
     found: CapturePackets,
     strays: Vec<Stray>,
@@ -210,7 +210,7 @@ fn lines_and_flows<R: Threads + Sync, G: Gate>(
     let lines = capture_lines(team.alloc, found.cut, &packets, strays)?;
     with_flows(
         lines,
-        flows_each(team, frames_shown, most_met, capture, &packets, opened),
+        flows_each(team, frames_shown, undivided, capture, &packets, opened),
     )
 }
 

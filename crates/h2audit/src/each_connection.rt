@@ -37,7 +37,7 @@ const SHARED_PACKETS_PER_CONNECTION: usize = 4;
 pub(crate) fn flows_each<R: Threads + Sync, G: Gate>(
     team: &Team<'_, R, G>,
     frames_shown: bool,
-    most_met: usize,
+    undivided: usize,
     capture: &Capture<'_>,
     packets: &Packets<'_>,
     opened: &[Connection],
@@ -52,7 +52,7 @@ pub(crate) fn flows_each<R: Threads + Sync, G: Gate>(
         rt: team.rt,
         threads: team.workers as usize / opened.len().max(1),
         frames_shown,
-        most_met,
+        undivided,
         capture,
         packets,
         opened,

@@ -97,7 +97,7 @@ pub(crate) struct FlowRound<'a, R: Threads + Sync> {
     /// Are credits shown? Then all frames are kept.
     pub(crate) frames_shown: bool,
     /// A connection of no more frames than so many is told at once, if something is shown of it and credits are not.
-    pub(crate) most_met: usize,
+    pub(crate) undivided: usize,
     pub(crate) capture: &'a Capture<'a>,
     pub(crate) packets: &'a Packets<'a>,
     pub(crate) opened: &'a [Connection],
@@ -161,7 +161,7 @@ impl<R: Threads + Sync> Round for FlowRound<'_, R> {
             self.rt,
             self.threads,
             self.frames_shown,
-            self.most_met,
+            self.undivided,
             &sources,
         )?;
         Ok(Work {
@@ -178,7 +178,7 @@ fn told_from<R: Threads>(
     rt: &R,
     threads: usize,
     frames_shown: bool,
-    most_met: usize,
+    undivided: usize,
     sources: &Sources<'_, '_>,
 ) -> Result<Told, AllocError>
     requires { AreSources sources.now.capture.now sources.now.packets.now sources.now.connection.now }
@@ -195,7 +195,7 @@ fn told_from<R: Threads>(
         sources.alloc,
         threads,
         frames_shown,
-        most_met,
+        undivided,
         &client,
         &server,
     ) {
@@ -211,7 +211,7 @@ fn outcome_of<R: Threads>(
     alloc: Global,
     threads: usize,
     frames_shown: bool,
-    most_met: usize,
+    undivided: usize,
     client: &Flow,
     server: &Flow,
 ) -> Result<Outcome, AllocError>
@@ -219,7 +219,7 @@ fn outcome_of<R: Threads>(
     ensures { IfOk result (IsHeldBy frames_shown client.now server.now) }
 {
     if !frames_shown {
-        if let Some(outcome) = outcome_met(rt, alloc, threads, most_met, client, server)? {
+        if let Some(outcome) = outcome_met(rt, alloc, threads, undivided, client, server)? {
             return Ok(outcome);
         }
     }
@@ -233,7 +233,7 @@ fn outcome_met<R: Threads>(
     rt: &R,
     alloc: Global,
     threads: usize,
-    most_met: usize,
+    undivided: usize,
     client: &Flow,
     server: &Flow,
 ) -> Result<Option<Outcome>, AllocError>
@@ -246,7 +246,7 @@ fn outcome_met<R: Threads>(
             None => Ok(None),
         };
     }
-    match found_connection(alloc, most_met, client, server)? {
+    match found_connection(alloc, undivided, client, server)? {
         Some(found) => Ok(Some(outcome_found(alloc, found)?)),
         None => Ok(None),
     }

@@ -1,11 +1,8 @@
 ghost use Rattle.std.specs.Prelude.{◌≡◌, List};
-ghost use Rattle.std.specs.List.{list_any};
 ghost use Rattle.audit_report.specs.declared.audited.Audited.{Audited};
-ghost use Rattle.audit_terms.specs.Kind.{is_fault};
-ghost use Rattle.audit_terms.specs.declared.findings.Finding.{Finding};
 ghost use Rattle.h2audit.specs.Audited.{verdict_of};
 ghost use Rattle.report_pages.specs.code.Told.{AreToldOf};
-ghost use Rattle.h2audit.specs.code.Verdict.{has_fault_in};
+ghost use Rattle.h2audit.specs.code.Verdict.{has_fault_in, is_faulty};
 ghost use Rattle.split_merge.specs.code.Findings.{findings_in};
 
 use audit_terms::Finding;
@@ -44,13 +41,13 @@ fn has_fault_in(outcome: &Outcome) -> bool
 }
 
 fn has_fault(findings: &Findings) -> bool
-    ensures { result ≡ list_any (λ (finding : Finding). is_fault finding.kind) (findings_in findings.now) }
+    ensures { result ≡ is_faulty (findings_in findings.now) }
 {
     findings.lists.iter().any(|list| is_faulty(list.as_slice()))
 }
 
 fn is_faulty(findings: &[Finding]) -> bool
-    ensures { result ≡ list_any (λ (finding : Finding). is_fault finding.kind) findings.now }
+    ensures { result ≡ is_faulty findings.now }
 {
     findings.iter().any(|finding| finding.kind.is_fault())
 }

@@ -1,9 +1,9 @@
 //! What is written, and how many bytes the writes took.
 
-ghost use Rattle.std.specs.Prelude.{◌≡◌, ◌*◌, ◌++◌, ◌<◌, ◌^◌, All, length};
+ghost use Rattle.std.specs.Prelude.{◌≡◌, ◌++◌, All, length};
 ghost use Rattle.std.specs.List.{concat, flat_map};
 ghost use Rattle.report_pages.specs.code.Entries.{IsCursor, entries_at};
-ghost use Rattle.report_pages.specs.code.Pages.{HasWritten, HoldsEntries};
+ghost use Rattle.report_pages.specs.code.Pages.{ArePages, HasWritten, HoldsEntries};
 
 use crate::cursors::Cursor;
 use crate::fault::WriteFault;
@@ -65,9 +65,7 @@ pub(crate) fn write_entries<R: Threads + Sync, W: Write>(
     pages: &mut [Vec<u8>],
 ) -> (usize, Result<(), WriteFault>)
     requires cursor { IsCursor from }
-    requires few { entries * length pages.old < 2 ^ 64 }
-    requires some { 0 < length from.told.now → (0 < entries) × (0 < length pages.old) }
-    requires room { All (HoldsEntries entries) pages.old }
+    requires pages { ArePages entries from.told.now pages.old }
     ensures written { HasWritten (W.contents writer.old) (W.contents writer.new) (concat (entries_at from.entry)) count
         result }
     ensures room { All (HoldsEntries entries) pages.new }
@@ -97,9 +95,7 @@ pub(crate) fn write_text<R: Threads + Sync, W: Write>(
     pages: &mut [Vec<u8>],
 ) -> (usize, Result<(), WriteFault>)
     requires cursor { IsCursor from }
-    requires few { entries * length pages.old < 2 ^ 64 }
-    requires some { 0 < length from.told.now → (0 < entries) × (0 < length pages.old) }
-    requires room { All (HoldsEntries entries) pages.old }
+    requires pages { ArePages entries from.told.now pages.old }
     ensures written { HasWritten (W.contents writer.old) (W.contents writer.new)
         (text.now ++ concat (entries_at from.entry)) 0 result }
     ensures room { All (HoldsEntries entries) pages.new }

@@ -1,13 +1,10 @@
 -- The jobs of the round over connections: one for each, which finds nothing.
-use Rattle.std.specs.List.{AllByRecursion, AllZip, range_with_len}
+use Rattle.std.specs.List.{AllZip, range_with_len}
 use Rattle.std.specs.Prelude.{◌≡◌, ℕ, ◌^◌, ◌<◌, ◌≤◌, Bool, false, List, [], length, map, All, IsTrue}
 use Rattle.audit_report.specs.FlowLine.{extents_of}
 use Rattle.audit_report.specs.Stalls.{stalls}
 use Rattle.audit_report.specs.declared.audited.Audited.{Audited}
-use Rattle.audit_terms.specs.Finding.{shown}
-use Rattle.audit_terms.specs.Pass.{pass}
 use Rattle.audit_terms.specs.code.runs.Orderly as runs
-use Rattle.audit_terms.specs.declared.frames.Frame.{Frame}
 use Rattle.audit_terms.specs.declared.sides.Side.{Side}
 use Rattle.audit_terms.specs.declared.sides.Side.TheVariants.{Client, Server}
 use Rattle.audit_terms.specs.declared.sides.Sides.{Sides}
@@ -21,7 +18,7 @@ use Rattle.report_pages.specs.declared.told.FoundFrames.{FoundFrames}
 use Rattle.report_pages.specs.declared.told.Outcome.{Outcome}
 use Rattle.report_pages.specs.declared.told.Outcome.TheVariants as outcome
 use Rattle.report_pages.specs.declared.told.Told.{Told}
-use Rattle.quiet_pass.specs.code.FoundConnections.{IsNamedAlike}
+use Rattle.quiet_pass.specs.code.FoundConnections.{IsFoundOf}
 use Rattle.quiet_pass.specs.code.QuietConnections.{IsQuietOf}
 use Rattle.quiet_pass.specs.declared.found_connections.FoundConnection.{FoundConnection}
 use Rattle.split_merge.specs.code.Findings.{findings_in}
@@ -59,30 +56,26 @@ KeepsCut outcome.NoPreface NoPreface = Unit {0}
 KeepsCut outcome.NoHandshake NoHandshake = Unit {0}
 KeepsCut _ _ = ⊥
 
--- what an outcome keeps of what was found as frames were met, with its stalls
+-- this is what was found as frames were met, with its stalls
+pub record AreFramesOf (made : FoundFrames) (found : FoundConnection) : Type 0 where
+  pub count : made.count ≡ found.frames
+  pub tails : made.audited.tails ≡ found.tails
+  pub findings : findings_in made.audited.findings ≡ found.findings.items
+  pub frames : made.audited.frames.items ≡ found.shown_at.items
+  pub stalls_are : made.audited.stalls.items ≡ stalls found.shown_at.items found.findings.items
+
+-- what an outcome keeps of it
 abbrev pub KeepsFound : Outcome → FoundConnection → Type 0
 KeepsFound (outcome.Quiet quiet) found =
     (quiet.frames ≡ found.frames) × (quiet.tails ≡ found.tails) × (found.findings.items ≡ [])
-KeepsFound (outcome.Found made) found =
-    (made.value.count ≡ found.frames) × (made.value.audited.tails ≡ found.tails)
-    × (findings_in made.value.audited.findings ≡ found.findings.items)
-    × (made.value.audited.frames.items ≡ found.shown_at.items)
-    × (made.value.audited.stalls.items ≡ stalls found.shown_at.items found.findings.items)
+KeepsFound (outcome.Found made) found = AreFramesOf made.value found
 KeepsFound _ found = ⊥
 
--- the flows hold so many frames, and tails; this is what one pass over the frames shows, where credits are not shown,
--- with its stalls, and these are the frames that it names
-pub record IsFoundIn (client server : Flow) (found : FoundFrames) : Type 0 where
-  pub frames : List Frame
-  pub started : IsTrue server.started
-  pub http2 : IsHttp2 client server frames found.audited.tails
-  pub orderly : runs.IsOrderly frames
-  pub count : found.count ≡ length frames
-  pub findings : findings_in found.audited.findings ≡ shown false (pass frames)
-  pub few : length (findings_in found.audited.findings) < 2 ^ 63
-  pub some_orderly : runs.IsOrderly found.audited.frames.items
-  pub named : AllByRecursion (IsNamedAlike frames found.audited.frames.items) (findings_in found.audited.findings)
-  pub stalls_are : found.audited.stalls.items ≡ stalls frames (findings_in found.audited.findings)
+-- this was found in the flows
+pub record IsFoundIn (client server : Flow) (made : FoundFrames) : Type 0 where
+  pub found : FoundConnection
+  pub of_flows : IsFoundOf client server found
+  pub kept : AreFramesOf made found
 
 -- what an outcome keeps of two flows, before anything is found in all frames
 abbrev pub IsHeldBy : (frames_shown : Bool) → (client server : Flow) → Outcome → Type 0

@@ -1,6 +1,6 @@
 -- The verdict on what is told of connections.
 use Rattle.std.specs.List.{list_any}
-use Rattle.std.specs.Prelude.{Bool, false}
+use Rattle.std.specs.Prelude.{Bool, false, List}
 use Rattle.audit_terms.specs.Kind.{is_fault}
 use Rattle.audit_terms.specs.declared.findings.Finding.{Finding}
 use Rattle.report_pages.specs.declared.told.Outcome.{Outcome}
@@ -8,9 +8,11 @@ use Rattle.report_pages.specs.declared.told.Outcome.TheVariants.{Audited, Found}
 use Rattle.split_merge.specs.code.Findings.{findings_in}
 
 -- some finding is a breach of a rule
+abbrev pub is_faulty : List Finding → Bool
+is_faulty findings = list_any (λ (finding : Finding). is_fault finding.kind) findings
+
+-- some finding of the connection is one
 abbrev pub has_fault_in : Outcome → Bool
-has_fault_in (Found found) =
-    list_any (λ (finding : Finding). is_fault finding.kind) (findings_in found.value.audited.findings)
-has_fault_in (Audited audited) =
-    list_any (λ (finding : Finding). is_fault finding.kind) (findings_in audited.value.findings)
+has_fault_in (Found found) = is_faulty (findings_in found.value.audited.findings)
+has_fault_in (Audited audited) = is_faulty (findings_in audited.value.findings)
 has_fault_in _ = false

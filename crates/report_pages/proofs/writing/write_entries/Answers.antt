@@ -12,7 +12,7 @@ use Rattle.report_pages.proofs.writing.write_entries.Goals as goal
 pub loop-cursor-smaller : goal.loop-cursor-smaller
 loop-cursor-smaller g c =
     let left : 0 < length c.loop-cursor.cursor.told.now = grind (arith, c.is_done.ensures, c.loop-cursor-test.true) in
-    let some = c.loop-cursor.invariant.some left in
+    let some = c.loop-cursor.invariant.are.some left in
     c.skip-cursor.ensures.less (grind (arith, some, c.fill_pages.ensures.same), left)
 
 pub loop-cursor-preserved : goal.loop-cursor-preserved
@@ -32,8 +32,11 @@ loop-cursor-preserved g c =
     c.skip-cursor.ensures.entries ∙ ap (λ k. drop (c.args.entries * k) all) c.fill_pages.ensures.same in
     record {
       cursor = c.skip-cursor.ensures.cursor;
-      some = λ more. let some = now.some left in (some.0, omega (arith, some, c.fill_pages.ensures.same));
-      room = c.fill_pages.ensures.room;
+      are = record {
+        some = λ more. let some = now.are.some left in (some.0, omega (arith, some, c.fill_pages.ensures.same));
+        few = rw c.fill_pages.ensures.same now.are.few;
+        room = c.fill_pages.ensures.room;
+      };
       same = c.fill_pages.ensures.same ∙ now.same;
       done = now.done ++ text;
       whole = ap (λ l. (now.done ++ text) ++ concat l) behind

@@ -1,7 +1,7 @@
-use Rattle.std.proofs.Common.{◌≡◌, ◌++◌, ◌<◌, All, List, ℕ, length, Ok}
+use Rattle.std.proofs.Common.{◌≡◌, ◌++◌, List, ℕ, length, Ok}
 use Rattle.std.specs.List.{concat}
 use Rattle.report_pages.specs.code.Entries.{IsCursor, entries_at, steps_at}
-use Rattle.report_pages.specs.code.Pages.{HasWritten, HoldsEntries}
+use Rattle.report_pages.specs.code.Pages.{ArePages, HasWritten}
 use Rattle.report_pages.specs.declared.fault.WriteFault.{WriteFault}
 use Rattle.report_pages.proofs.writing.write_entries.Given as goal
 
@@ -9,8 +9,7 @@ use Rattle.report_pages.proofs.writing.write_entries.Given as goal
 abbrev pub invariant-loop-cursor : goal.invariant-loop-cursor
 invariant-loop-cursor g l = record {
   cursor : IsCursor l.cursor;
-  some : 0 < length l.cursor.told.now → (0 < l.entries) × (0 < length l.pages);
-  room : All (HoldsEntries l.entries) l.pages;
+  are : ArePages l.entries l.cursor.told.now l.pages;
   same : length l.pages ≡ length l.initial.pages;
   done : List ℕ;
   whole : done ++ concat (entries_at l.cursor) ≡ concat (entries_at l.from);
