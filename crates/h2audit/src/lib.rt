@@ -27,8 +27,8 @@
 //!   (`report_pages::Told`): how far the flows reach, and the number of frames where nothing is shown of them; else
 //!   what was found, the stalls, and frames: where all was found as they were met, those that findings name, else all
 //!   of them. Of all connections it is kept until the report is written.
-//! - Refused by the prover: an empty report, a verdict by errors alone, standard input read beside FILE, FILE left out,
-//!   the ends of a connection exchanged.
+//! - Refused by the prover: an empty report, a verdict by errors alone, one that does not ask what was found as frames
+//!   were met, standard input read beside FILE, FILE left out, the ends of a connection exchanged.
 //! - Tested, in `crate_tests`: the texts of faults; in `tests/` at the root: what the program answers to words, the
 //!   texts of help and of refused words, whole reports, long captures.
 #![tactic(auto)]

@@ -22,7 +22,7 @@
 //!   count as a failed write.
 //! - Refused by the prover: all bytes of a page counted as taken where the writer took fewer, the next connection under
 //!   the number of the last, a page that begins an entry further, a section without its last line, a flush after a
-//!   failed write.
+//!   failed write, as many frames as are kept where more were met.
 //! - Tested: in `crate_tests` which calls writers get, and that several workers write what one does; by whole reports
 //!   that the calls succeed where there is memory.
 //! - Trusted: that a file or a pipe keeps its bytes. No contract says that the account is honest, for which two short

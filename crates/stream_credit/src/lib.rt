@@ -25,7 +25,7 @@
 //!   `settings_pair` gives them.
 //! - Refused by the prover: settings that reach open streams only, a run that never looks, looks once or looks ahead of
 //!   its work, one that leaves out all once it is stopped, one that counts a side's last DATA as any other, initial
-//!   windows that another setting puts back.
+//!   windows that another setting puts back, a stream that frame 0 opens kept as one that no frame opens.
 //! - Tested, in `crate_tests`: that `stream_run` succeeds where there is memory, and, in numbers, when it looks and
 //!   what it keeps.
 //! - Neither proved nor tested: that a stream which shows nothing stays quiet. One that does not has a run, which finds
