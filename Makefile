@@ -31,7 +31,7 @@ run:
 	@echo 'A build without proof: about a minute on four idle cores.'
 	@captures=$$(mktemp -d) && trap 'rm -r "$$captures"' EXIT && cp $(FIRST) "$$captures" && \
 		cd crates/h2audit_cli && rt try --cases "$$captures" -- {}
-	@echo 'Nothing of this build was proved. "make build" proves the program and builds it (some 20 minutes on four processors),'
+	@echo 'Nothing of this build was proved. "make build" proves the program and builds it (20 to 30 minutes on four processors),'
 	@echo 'and "make install" puts it in place as h2audit.'
 
 # Installs the Debian packages that the programs in Rust and the tests need, as root.
