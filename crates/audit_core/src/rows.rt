@@ -8,7 +8,7 @@ ghost use Rattle.audit_terms.specs.declared.frames.Frame.{Frame as FrameTerm};
 ghost use Rattle.audit_core.specs.code.StreamRows.{idle_rows, row_opens, row_said, row_after, AreDistinctRows, IsAlone};
 ghost use Rattle.audit_core.specs.code.StreamRows.{IsRowOf, RowFits};
 
-use audit_terms::{Finding, Frame, Item, Sides, Stream};
+use audit_terms::{Finding, Frame, Item, OfStream, Sides, Stream, row_of};
 use fault_rules::say_stream;
 use std::alloc::{AllocError, Global};
 
@@ -17,6 +17,14 @@ use std::alloc::{AllocError, Global};
 pub(crate) struct StreamRow {
     pub stream: u32,
     pub entry: Stream,
+}
+
+impl OfStream for StreamRow {
+    ghost stream_of = { λ row. row.stream };
+
+    fn stream(&self) -> u32 {
+        self.stream
+    }
 }
 
 /// A row for each stream other than 0 that meets one of the frames, in order of its first frame, not opened yet.
@@ -108,7 +116,7 @@ impl RisingRows {
         ensures { IfOk result (λ rises. OnTrue rises ((streams : List ℕ) → AreRowsOf streams self.old
             → AreRowsOf (with_stream stream streams) self.new)) }
     {
-        if stream == 0 || find(&self.rows, stream).is_some() {
+        if stream == 0 || row_of(&self.rows, stream).is_some() {
             return Ok(true);
         }
         if stream <= self.last {
@@ -118,42 +126,6 @@ impl RisingRows {
         self.rows.push(StreamRow { stream, entry })?;
         self.last = stream;
         Ok(true)
-    }
-}
-
-/// The index of a stream's row. Clients mostly open every odd stream, so a guess finds most.
-#[inline]
-fn find(rows: &[StreamRow], stream: u32) -> Option<usize>
-    ensures { ForSome result (IsRowOf rows.now stream) }
-{
-    let Some(first) = rows.first() else {
-        return None;
-    };
-    let guess = stream.wrapping_sub(first.stream) as usize / 2;
-    if is_row_of(rows, guess, stream) {
-        return Some(guess);
-    }
-    search(rows, stream)
-}
-
-/// The index of a stream's row, by binary search.
-fn search(rows: &[StreamRow], stream: u32) -> Option<usize>
-    ensures { ForSome result (IsRowOf rows.now stream) }
-{
-    let at = rows.partition_point(|row| row.stream < stream);
-    if is_row_of(rows, at, stream) {
-        return Some(at);
-    }
-    None
-}
-
-/// Is the row at this index the stream's?
-fn is_row_of(rows: &[StreamRow], at: usize, stream: u32) -> bool
-    ensures { OnTrue result (IsRowOf rows.now stream at) }
-{
-    match rows.get(at) {
-        Some(row) => row.stream == stream,
-        None => false,
     }
 }
 
@@ -169,7 +141,7 @@ pub(crate) fn opens(rows: &[StreamRow], frame: &Frame) -> bool
     if frame.stream == 0 {
         return false;
     }
-    match find(rows, frame.stream) {
+    match row_of(rows, frame.stream) {
         Some(at) => rows[at].entry.life.is_opening(frame.stream, frame),
         None => opens_some(rows, frame),
     }
@@ -207,7 +179,7 @@ pub(crate) fn meet(
     if item.frame.stream == 0 {
         return Ok(());
     }
-    match find(rows, item.frame.stream) {
+    match row_of(rows, item.frame.stream) {
         Some(at) => meet_at(rows, at, found, initial, item),
         None => meet_all(rows, found, initial, item),
     }

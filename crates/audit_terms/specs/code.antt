@@ -3,6 +3,7 @@ pub mod Room
 pub mod Sides
 pub mod SeenStreams
 pub mod Standing
+pub mod StreamRows
 pub mod Stops
 pub mod LastFrame
 pub mod Watch

@@ -16,6 +16,7 @@
 //! - [`LastFrame`] is what the next frame of a side needs of the last one.
 //! - [`standings`]: how a side stands on a quiet stream, in one number, and what content, grants and changes do to it.
 //!   The quiet pass and the split keep streams so.
+//! - [`row_of`] finds what is kept of a stream ([`OfStream`]) in a list in the order of identifiers.
 //! - [`PackedSettings`], [`Word`] and [`Length`] need no alignment, so that a frame takes fewer bytes; contracts see
 //!   the settings and the numbers that they hold.
 //! - [`Place`], [`Kind`] and [`Finding`] say where a finding stands, what it says and whether it stops the audit;
@@ -48,6 +49,7 @@ mod settings;
 mod sides;
 pub mod standings;
 mod stops;
+mod stream_rows;
 mod stream_state;
 mod widths;
 mod windows;
@@ -66,6 +68,7 @@ pub use places::Place;
 pub use settings::{PackedSettings, Settings};
 pub use sides::{Side, Sides};
 pub use stops::{first_stop_place, lesser_place};
+pub use stream_rows::{OfStream, row_of};
 pub use stream_state::Stream;
 pub use widths::{Length, Word};
 pub use windows::{FIRST_WINDOW, LARGEST_WINDOW};

@@ -10,8 +10,8 @@ ghost use Rattle.quiet_pass.specs.code.Rows.{AreRising, IsMetOn};
 ghost use Rattle.quiet_pass.specs.code.Streams.{AreStreams, AreMetOn, AreAllMoved, ArePut};
 ghost use Rattle.stream_credit.specs.code.Standings.{stream_of};
 
-use crate::opened_rows::{Row, find, meet, move_all, open, put, standings_of};
-use audit_terms::{Frame, Sides};
+use crate::opened_rows::{Row, meet, move_all, open, put, standings_of};
+use audit_terms::{Frame, Sides, row_of};
 use std::alloc::{AllocError, Global};
 use stream_credit::Standings;
 
@@ -109,7 +109,7 @@ fn meet_opened(rows: &mut Vec<Row>, frame: &Frame) -> bool
     ensures { OnTrue result (AreRising rows.old.items → (initial : SidesTerm ℕ)
         → IsMetOn frame.now.stream initial frame.now false rows.old.items rows.new.items) }
 {
-    match find(rows.as_slice(), frame.stream) {
+    match row_of(rows.as_slice(), frame.stream) {
         Some(at) => meet(rows, at, frame),
         None => false,
     }
@@ -128,7 +128,7 @@ fn meet_on(
         → IsMetOn frame.now.stream initial.now frame.now opens rows.old.items rows.new.items)) }
     ensures left { IfOk result (λ met. IfNone met (rows.new ≡ rows.old)) }
 {
-    if let Some(at) = find(rows.as_slice(), frame.stream) {
+    if let Some(at) = row_of(rows.as_slice(), frame.stream) {
         let is_quiet = meet(rows, at, frame);
         return Ok(is_quiet.then_some(false));
     }

@@ -8,7 +8,7 @@ ghost use Rattle.quiet_pass.specs.code.Rows.{IsRowOf, IsRowAfter, IsOpened, AreR
 ghost use Rattle.quiet_pass.specs.code.Rows.{AreMoved, IsAboveAll, IsPut, IsRowMoved, entry_in};
 ghost use Rattle.stream_credit.specs.code.Standings.{stream_of};
 
-use audit_terms::{Frame, Sides};
+use audit_terms::{Frame, OfStream, Sides, row_of};
 use std::alloc::AllocError;
 use stream_credit::Standings;
 
@@ -21,6 +21,14 @@ pub(crate) struct Row {
 }
 
 const _: () = prove!(size_of::<Row>() == 16);
+
+impl OfStream for Row {
+    ghost stream_of = { λ row. row.stream };
+
+    fn stream(&self) -> u32 {
+        self.stream
+    }
+}
 
 impl Row {
     /// The row after a frame on its stream, if that shows nothing.
@@ -55,47 +63,11 @@ impl Row {
     }
 }
 
-/// The index of a stream's row. Clients mostly open every odd stream, so a guess finds most.
-#[inline]
-pub(crate) fn find(rows: &[Row], stream: u32) -> Option<usize>
-    ensures { ForSome result (IsRowOf rows.now stream) }
-{
-    let Some(first) = rows.first() else {
-        return None;
-    };
-    let guess = stream.wrapping_sub(first.stream) as usize / 2;
-    if is_row_of(rows, guess, stream) {
-        return Some(guess);
-    }
-    search(rows, stream)
-}
-
-/// The index of a stream's row, by binary search.
-fn search(rows: &[Row], stream: u32) -> Option<usize>
-    ensures { ForSome result (IsRowOf rows.now stream) }
-{
-    let at = rows.partition_point(|row| row.stream < stream);
-    if is_row_of(rows, at, stream) {
-        return Some(at);
-    }
-    None
-}
-
-/// Is the row at this index the stream's?
-fn is_row_of(rows: &[Row], at: usize, stream: u32) -> bool
-    ensures { OnTrue result (IsRowOf rows.now stream at) }
-{
-    match rows.get(at) {
-        Some(row) => row.stream == stream,
-        None => false,
-    }
-}
-
 /// How a stream stands, if it has a row.
 pub(crate) fn standings_of(rows: &[Row], stream: u32) -> Option<Standings>
     ensures { ForSome result (λ standings. AreRising rows.now → entry_in rows.now stream ≡ stream_of standings) }
 {
-    match find(rows, stream) {
+    match row_of(rows, stream) {
         Some(at) => Some(standings_at(rows, stream, at)),
         None => None,
     }
@@ -113,7 +85,7 @@ fn standings_at(rows: &[Row], stream: u32, at: usize) -> Standings
 pub(crate) fn put(rows: &mut Vec<Row>, stream: u32, standings: Standings) -> bool
     ensures { OnTrue result (AreRising rows.old.items → IsPut stream standings rows.old.items rows.new.items) }
 {
-    match find(rows.as_slice(), stream) {
+    match row_of(rows.as_slice(), stream) {
         Some(at) => {
             put_at(rows, at, Row { stream, standings });
             true

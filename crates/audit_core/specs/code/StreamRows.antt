@@ -1,6 +1,5 @@
 -- The streams that `one_pass` keeps, a row for each.
-use Rattle.std.specs.Prelude.{◌≡◌, ◌≢◌, ℕ, ◌^◌, ◌<◌, ◌≤◌, ◌==◌, ◌&&◌, Bool, List, [], ◌∷◌, ◌++◌, map, slice_get, None}
-use Rattle.std.specs.Prelude.{Some}
+use Rattle.std.specs.Prelude.{◌≡◌, ◌≢◌, ℕ, ◌^◌, ◌<◌, ◌≤◌, ◌==◌, ◌&&◌, Bool, List, [], ◌∷◌, ◌++◌, map, None}
 use Rattle.std.specs.List.{AllByRecursion}
 use Rattle.audit_terms.specs.declared.sides.Sides.{Sides}
 use Rattle.audit_terms.specs.declared.frames.Frame.{Frame}
@@ -10,6 +9,7 @@ use Rattle.audit_terms.specs.declared.findings.Finding.{Finding}
 use Rattle.audit_terms.specs.Frame.{promised_by}
 use Rattle.audit_terms.specs.Life.{is_opening}
 use Rattle.audit_terms.specs.Pass.{streams_of}
+use Rattle.audit_terms.specs.code.StreamRows.{IsRowWith}
 use Rattle.audit_terms.specs.Stream.{idle_stream, stream_after, stream_said}
 use Rattle.audit_terms.specs.code.Room.{WindowHasRoom}
 use Rattle.audit_terms.specs.code.SeenStreams.{without}
@@ -58,10 +58,8 @@ pub record IsAlone (item : Item) : Type 0 where
   pub promises : promised_by item.frame ≡ 0
 
 -- the row of a stream stands there
-pub record IsRowOf (rows : List StreamRow) (stream at : ℕ) : Type 0 where
-  pub row : StreamRow
-  pub there : slice_get rows at ≡ Some row
-  pub same : row.stream ≡ stream
+abbrev pub IsRowOf : List StreamRow → (stream at : ℕ) → Type 0
+IsRowOf = IsRowWith (λ row. row.stream)
 
 -- the rows are those of these streams, none of them opened
 pub record AreRowsOf (streams : List ℕ) (made : RisingRows) : Type 0 where

@@ -1,12 +1,12 @@
 -- The rows of the streams that were opened. No public clause cites this.
-use Rattle.std.specs.Prelude.{◌≡◌, ◌≢◌, ℕ, ◌<◌, Bool, ◌==◌, if◌then◌else◌, List, [], ◌∷◌, Some}
-use Rattle.std.specs.Prelude.{slice_get}
+use Rattle.std.specs.Prelude.{◌≡◌, ◌≢◌, ℕ, ◌<◌, Bool, ◌==◌, if◌then◌else◌, List, [], ◌∷◌}
 use Rattle.audit_terms.specs.declared.sides.Sides.{Sides}
 use Rattle.audit_terms.specs.declared.frames.Frame.{Frame}
 use Rattle.audit_terms.specs.declared.stream_state.Stream.{Stream}
 use Rattle.audit_terms.specs.Life.{is_opening}
 use Rattle.audit_terms.specs.Stream.{idle_stream, stream_said, stream_after}
 use Rattle.audit_terms.specs.code.runs.Streams.{frame_step}
+use Rattle.audit_terms.specs.code.StreamRows.{IsRowWith}
 use Rattle.stream_credit.specs.code.Standings.{stream_of, AreQuiet, IsNextOpened, IsOpenedBy, AreMovedBy}
 use Rattle.stream_credit.specs.declared.stream_standings.Standings.{Standings}
 use Rattle.quiet_pass.specs.declared.opened_rows.Row.{Row}
@@ -30,10 +30,8 @@ IsAboveAll [] stream = 0 < stream
 IsAboveAll (row ∷ rows) stream = (row.stream < stream) × IsAboveAll rows stream
 
 -- the row of a stream stands there
-pub record IsRowOf (rows : List Row) (stream at : ℕ) : Type 0 where
-  pub row : Row
-  pub there : slice_get rows at ≡ Some row
-  pub same : row.stream ≡ stream
+abbrev pub IsRowOf : List Row → (stream at : ℕ) → Type 0
+IsRowOf = IsRowWith (λ row. row.stream)
 
 -- a row after a frame on its stream: nothing of that is shown
 pub record IsRowAfter (frame : Frame) (old new : Row) : Type 0 where
