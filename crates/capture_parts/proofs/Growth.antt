@@ -1,10 +1,9 @@
 -- How parts grow, step by step.
 use Rattle.capture_parts.proofs.Terms.{AllGrow, Appends-nil, Appends-trans, FullPart, Grows, IsNone, IsSome, List, None}
 use Rattle.capture_parts.proofs.Terms.{OneGrows, Option, Part, Some, [], append-nil, ap, arith, both_ways, cases_eq}
-use Rattle.capture_parts.proofs.Terms.{eq-eqb, false, get_or, get_or-set_other, get_or-set_same, get_or_read}
-use Rattle.capture_parts.proofs.Terms.{if◌then◌else◌, inl, inr, length, length-append, length-set, ne_eqb, option_or}
-use Rattle.capture_parts.proofs.Terms.{option_or-none, refl, set, sym, true, ℕ, ◌++◌, ◌+◌, ◌<◌, ◌==◌}
-use Rattle.capture_parts.proofs.Terms.{◌^◌, ◌∙◌, ◌≡◌}
+use Rattle.capture_parts.proofs.Terms.{eq-eqb, false, get_or, if◌then◌else◌, inl, inr, length, length-append, ne_eqb}
+use Rattle.capture_parts.proofs.Terms.{option_or, option_or-none, refl, sym, true, ℕ, ◌++◌, ◌+◌, ◌<◌, ◌==◌, ◌^◌, ◌∙◌}
+use Rattle.capture_parts.proofs.Terms.{◌≡◌}
 
 -- ---- what is full, after one step and another
 
@@ -41,18 +40,6 @@ module _ {W : Type 0} (contents : W → Option (List ℕ)) where
         stays = stays-trans a.full b.full c.full p.stays q.stays;
         fills = λ h. fills-trans b.full c.full first second later (λ e. same e h) (p.fills h) q.stays q.fills;
       }
-
-  -- one part grows, and is put back in its place
-  pub OneGrows-put : (parts : List (Part W)) (i : ℕ) (was new : Part W) (bytes numbers : List ℕ)
-      (full : ℕ → Option FullPart) → i < length parts
-      → was ≡ get_or parts i was
-      → Grows contents (get_or parts i was) new bytes numbers (full (get_or parts i was).size)
-      → OneGrows contents parts (set parts i new) i bytes numbers full
-  OneGrows-put parts i was new bytes numbers full within is grows = record {
-    count = length-set parts i new;
-    one = λ d. rw (get_or-set_same parts i new d within, ← get_or_read parts i was within is d) (rw (← is) at grows);
-    others = λ j d other. get_or-set_other parts i j new d other;
-  }
 
   -- one part grows by a number, by which it is not full, and then by bytes
   pub OneGrows-bytes : (old mid new : List (Part W)) (p : ℕ) (bytes numbers : List ℕ) (full : ℕ → Option FullPart)

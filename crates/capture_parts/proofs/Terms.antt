@@ -1,22 +1,20 @@
 -- The names that several proofs of this crate cite, passed on from one place.
 pub use Rattle.std.proofs.Common.{Bool, Err, IfOk, IfSome, IsNone, IsSome, List, None, Option, Some, [], ap, append-nil}
 pub use Rattle.std.proofs.Common.{append_assoc, ap₂, arith}
-pub use Rattle.std.proofs.Common.{drop, false, find, get_or, if◌then◌else◌, inl, inr, is_some, length, length-append}
+pub use Rattle.std.proofs.Common.{drop, false, find, get_or, if◌then◌else◌, inl, inr, length, length-append}
 pub use Rattle.std.proofs.Common.{length-drop, min, refl, rules, slice_index, subst, sym, take, take-append-drop, true}
 pub use Rattle.std.proofs.Common.{◌||◌, of_calls, Ok, OnOk, add-one, map, Result, String, nat_lt, string_bytes, vec_len}
 pub use Rattle.std.proofs.Common.{ℕ, ◌%◌, ◌*◌, ◌++◌, ◌+◌, ◌-◌, ◌/◌, ◌<◌, ◌==◌, ◌^◌, ◌∙◌, ◌∷◌, ◌≡◌, ◌≤◌}
 pub use Rattle.std.proofs.KnownBytes.{Appends-nil, Appends-trans, Consumes-nil, Consumes-trans}
 pub use Rattle.std.proofs.Math.Seq.{drop-append_seam, map-set_same, take-add, take-append_seam, take-suc}
-pub use Rattle.std.proofs.lemmas.Bool.{both_ways, cases_Bool, cases_eq, cases_lt, cond-false, cond-true, eq-eqb}
+pub use Rattle.std.proofs.lemmas.Bool.{both_ways, cases_eq, cases_lt, cond-false, cond-true, eq-eqb}
 pub use Rattle.std.proofs.lemmas.Bool.{eqb-false, eqb-true, le-ltb, lt-ltb, ltb-false, ne_eqb, not-false}
-pub use Rattle.std.proofs.Math.ListN.{set}
 pub use Rattle.std.proofs.lemmas.List.{at_drop_more, drop-append-le, drop-take, drop_min, get_or-set_other}
-pub use Rattle.std.proofs.lemmas.List.{get_or-set_same}
-pub use Rattle.std.proofs.lemmas.List.{get_or-take, get_or_read, length-set, length-take, length-take-le}
+pub use Rattle.std.proofs.lemmas.List.{get_or-set_same, get_or-take, length-take, length-take-le}
 pub use Rattle.std.proofs.lemmas.Option.{none-some}
 pub use Rattle.std.proofs.lemmas.Result.{on_ok_weaker}
 pub use Rattle.std.proofs.lemmas.List.{nil_from_length, take-append-le, take-take, take_all, take_min, take_rest}
-pub use Rattle.std.proofs.lemmas.Slice.{take-put_mid, take-put_mid_below}
+pub use Rattle.std.proofs.lemmas.Slice.{take-put_mid}
 pub use Rattle.std.specs.Option.{option_or}
 pub use Rattle.std.specs.Io.KnownBytes.{Consumes, IsAtEnd}
 pub use Rattle.std.specs.List.{AllByRecursion, concat, copy_within}

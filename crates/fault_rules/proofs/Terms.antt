@@ -1,7 +1,7 @@
 -- The names that several proofs of this crate cite, passed on from one place.
-pub use Rattle.std.proofs.Common.{All, Bool, List, None, Option, Some, [], ap, append_assoc, arith, drop, false}
+pub use Rattle.std.proofs.Common.{All, List, None, Option, Some, [], ap, append_assoc, arith, drop}
 pub use Rattle.std.proofs.Common.{flat_map, get_or, if◌then◌else◌, inl, inr, length, length-append, length-drop, map}
-pub use Rattle.std.proofs.Common.{min, not, refl, subst, suc, sym, take, true, zero, ℕ, ◌%◌, ◌*◌, ◌++◌, ◌+◌, ◌-◌, ◌/◌}
+pub use Rattle.std.proofs.Common.{min, refl, subst, suc, sym, take, true, zero, ℕ, ◌%◌, ◌*◌, ◌++◌, ◌+◌, ◌-◌, ◌/◌}
 pub use Rattle.std.proofs.Common.{append-nil, ◌<◌, ◌∙◌, ◌∷◌, ◌≡◌, ◌≤◌, ◌⊎◌}
 pub use Rattle.std.specs.Prelude.{IfOk, Ok, Result}
 pub use Rattle.std.specs.List.{AllByRecursion, AllZip, range_with_len}

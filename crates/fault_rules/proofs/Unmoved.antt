@@ -1,28 +1,18 @@
--- A frame or a step that leaves a window as it is shows nothing of it.
-use Rattle.std.proofs.Common.{◌≡◌, ℕ, ℤ, [], arith, Some}
+-- A step that leaves a window as it is shows nothing of it.
+use Rattle.std.proofs.Common.{◌≡◌, ℕ, ℤ, [], arith}
 use Rattle.std.proofs.lemmas.Int.{ints}
-use Rattle.audit_terms.specs.Connection.{credit_after}
-use Rattle.audit_terms.specs.Stream.{live_window_said, window_after, window_step}
-use Rattle.audit_terms.specs.declared.frames.Frame.{Frame}
+use Rattle.audit_terms.specs.Stream.{live_window_said, window_step}
 use Rattle.audit_terms.specs.declared.items.Step.{Step}
 use Rattle.audit_terms.specs.declared.sides.Side.{Side}
 use Rattle.audit_terms.specs.declared.sides.Sides.{Sides}
 use Rattle.fault_rules.specs.code.StreamSteps.{credit_after_step}
-use Rattle.fault_rules.specs.code.Unmoved.{LeavesConnection, LeavesWindow}
-
--- the connection window
-pub credit_stays : (d : Side) (before : ℤ) (frame : Frame) → LeavesConnection d frame
-    → credit_after d before frame ≡ before
-credit_stays d before frame leaves = omega (arith, ints, leaves.grant, leaves.content)
+use Rattle.fault_rules.specs.code.Unmoved.{LeavesWindow}
 
 -- a window of a stream
 module _ (d : Side) (stream : ℕ) (initial : Sides ℕ) (step : Step) (before : ℤ) (leaves : LeavesWindow d stream step)
   where
     counted_stays : credit_after_step d stream initial step before ≡ before
     counted_stays = rw leaves.change (omega (arith, ints, leaves.grant, leaves.content))
-
-    pub window_stays : window_after d stream initial step (Some before) ≡ Some before
-    window_stays = grind (arith, ints, counted_stays, leaves.end, leaves.grant)
 
     pub live_says_nothing : live_window_said d stream step (window_step d stream initial step before) ≡ []
     live_says_nothing =

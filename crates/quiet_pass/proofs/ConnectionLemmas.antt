@@ -41,13 +41,6 @@ credit-stays d frame credit leaves =
     grind (arith, ints, same, leaves.nothing, leaves.content) in
     record { moved = sym same; said = rw unsaid tt }
 
-pub credits-stay : (frame : Frame) (credit : Sides ℕ) → LeavesCredit Client frame → LeavesCredit Server frame
-    → AreCreditsAfter frame credit credit
-credits-stay frame credit client server = record {
-  client = credit-stays Client frame credit.client client;
-  server = credit-stays Server frame credit.server server;
-}
-
 -- a frame moves the credit of one side alone
 pub credits-moved : (side : Side) (frame : Frame) (before : Sides ℕ) (credit : ℕ)
     → ((Some side ≡ Some Client → ⊥) → LeavesCredit Client frame)

@@ -1,5 +1,5 @@
 -- The names that several proofs of this crate cite, passed on from one place.
-pub use Rattle.audit_terms.specs.Finding.{comes_after, in_order, is_shown, shown, upto_stop}
+pub use Rattle.audit_terms.specs.Finding.{comes_after, in_order, shown, upto_stop}
 pub use Rattle.audit_terms.specs.Frame.{is_ack, meets, promised_by, promises}
 pub use Rattle.audit_terms.specs.Pass.{first_of, streams_of}
 pub use Rattle.audit_terms.specs.code.SeenStreams.{is_among, with_stream, without}
@@ -16,7 +16,7 @@ pub use Rattle.split_merge.specs.declared.{row_index.RowIndex.RowIndex, splits.S
 pub use Rattle.split_merge.specs.declared.{splits.StreamRow.StreamRow, visits.Visited.Visited}
 pub use Rattle.std.proofs.Common.{Bool, List, Option, arith, false, filter, flat_map, get_or, inl, length, rules, subst}
 pub use Rattle.std.proofs.Common.{MatchOption, append_assoc, if◌then◌else◌, mul-div_cancel, option_to_list, slice_get}
-pub use Rattle.std.proofs.Common.{None, Some, drop, inr, map, min, not, refl, set, take, true, zero, ◌++◌, ◌==◌, ◌||◌}
+pub use Rattle.std.proofs.Common.{None, Some, drop, inr, map, min, not, refl, set, take, true, zero, ◌++◌, ◌==◌}
 pub use Rattle.std.proofs.Common.{[], ap, suc, sym, ℕ, ◌*◌, ◌+◌, ◌-◌, ◌/◌, ◌<◌, ◌^◌, ◌∙◌, ◌∷◌, ◌≡◌, ◌≢◌, ◌≤◌}
 pub use Rattle.std.proofs.lemmas.Bool.{OnTrue_from, cases_lt, eq-eqb, ne_eqb, Decides.nat_tests}
 pub use Rattle.std.proofs.lemmas.List.Elements.{All-filter, All-from_recursion, filter-append}

@@ -4,7 +4,7 @@ pub use Rattle.std.proofs.Common.{append_assoc, arith, count_by, drop, eq-eqb, e
 pub use Rattle.std.proofs.Common.{get_or, get_or-set_other, get_or-set_same, if◌then◌else◌, inl, inr, le-ltb, leb-false}
 pub use Rattle.std.proofs.Common.{length, length-append, length-set, lt-ltb, ltb-true, map, min, mul_comm, nat_le}
 pub use Rattle.std.proofs.Common.{nat_lt, ne_eqb, not, refl, rules, set, slice_get, slice_set, subst, suc, sym, take}
-pub use Rattle.std.proofs.Common.{take-append-drop, true, zero, ℕ, ⊎_elim, ◌%◌, ◌*◌, ◌++◌, ◌+◌, ◌-◌, ◌/◌, ◌<◌, ◌==◌}
+pub use Rattle.std.proofs.Common.{take-append-drop, true, zero, ℕ, ⊎_elim, ◌%◌, ◌*◌, ◌++◌, ◌+◌, ◌-◌, ◌<◌, ◌==◌}
 pub use Rattle.std.proofs.Common.{◌^◌, ◌∙◌, ◌∷◌, ◌≡◌, ◌≤◌, ◌⊎◌}
 pub use Rattle.std.proofs.lemmas.Bool.{cases_lt, cond_both, not-true, Decides.nat_tests}
 pub use Rattle.std.proofs.lemmas.List.Elements.{Contains-append_cases, Contains-append_right}

@@ -47,13 +47,12 @@ pub use Rattle.stream_credit.specs.code.Changes.{AreFrom, ArePassed, IsBrought, 
 pub use Rattle.stream_credit.specs.code.Changes.{initial_at, met_after}
 pub use Rattle.stream_credit.specs.code.Looks.{is_live, is_met, met_from, opened_up_to, step_numbers}
 pub use Rattle.stream_credit.specs.code.Merged.{Acknowledge, AcknowledgesAt, frame_with, merged}
-pub use Rattle.stream_credit.specs.code.{Quiet.IsMove, Quiet.IsMovedQuietly, Quiet.IsRaised, QuietStream.IsAhead}
+pub use Rattle.stream_credit.specs.code.{Quiet.IsMove, Quiet.IsMovedQuietly, QuietStream.IsAhead}
 pub use Rattle.stream_credit.specs.code.QuietStream.{IsPassed, IsQuietToEnd, StartsAt}
-pub use Rattle.stream_credit.specs.code.Standings.{AreMovedBy, AreQuiet, IsBalanced, IsNext, IsNextOpened, IsOpenedBy}
+pub use Rattle.stream_credit.specs.code.Standings.{AreQuiet, IsBalanced, IsNext, IsNextOpened, IsOpenedBy}
 pub use Rattle.stream_credit.specs.code.Standings.{IsOpeningStanding, IsStandingAfter, IsQuiet, life_of, opened_of}
 pub use Rattle.stream_credit.specs.code.{Standings.stream_of, StreamPart.frames_at, StreamPart.frames_met}
 pub use Rattle.stream_credit.specs.code.Walk.{AreInOrder, CanCount, HasEnded, HasRoomAt, HasStopped, IsAt, IsBegun}
 pub use Rattle.stream_credit.specs.code.Walk.{HasCounted, IsNumbered, IsSound, WholeRun, met_by, numbers_of}
 pub use Rattle.stream_credit.specs.declared.{quiet_moves.Move.Move, quiet_streams.QuietStream.QuietStream}
-pub use Rattle.stream_credit.specs.declared.{walks.Walk.Walk}
-pub use Rattle.stream_credit.specs.declared.{stream_standings.Standings.Standings}
+pub use Rattle.stream_credit.specs.declared.{walks.Walk.Walk, stream_standings.Standings.Standings}
