@@ -151,16 +151,17 @@ def lemmas(crate: str, path: list[str]) -> set[str]:
 
 
 class Depth(unittest.TestCase):
-    """No proof speaks of the stack: what calls itself halves its work, or a call for each frame overflows it."""
+    """No proof speaks of the stack: what calls itself is for each worker or halves its work, or it might overflow."""
 
     # The folder of the proof of calls that go round, and how deep they go.
     BOUNDS = {
         "audit_core/rows/+idle_rows": "as there are frames: one_pass, which tests alone call",
         "audit_core/rows/+meet_all": "halves of the streams",
-        "audit_rounds/batch/+by_halves+fn-by_halves-join+arg2+fn-by_halves-join+arg3": "halves of the workers",
-        "audit_rounds/prepared/+fn-prepare_each-join+arg2+fn-prepare_each-join+arg3+prepare_each": "halves of workers",
-        "split_merge/ranges/+fn-in_ranges-join+arg2+fn-in_ranges-join+arg3+in_ranges": "halves of the workers",
-        "stop_desk/crews/+fn-fork-join+arg2+fn-fork-join+arg3+fork": "halves of the workers",
+        "audit_rounds/batch/+by_shares+fn-by_shares-join+arg2+fn-by_shares-join+arg3": "the workers, 64 at most",
+        "audit_rounds/prepared/+fn-prepare_each-join+arg2+fn-prepare_each-join+arg3+prepare_each": "the workers",
+        "report_pages/filling/+pages": "the pages, one for each worker",
+        "split_merge/ranges/+fn-in_ranges-join+arg3+in_ranges": "the workers",
+        "stop_desk/crews/+fn-fork-join+arg3+fork": "the workers",
         "tcp_streams/overlay/+set_apart_halves": "halves of the segments",
     }
 

@@ -2,7 +2,8 @@
 
 No contract says that threads run, since it could not say that they take turns. So each way in which
 docs/ARCHITECTURE.md divides the work has a capture here that takes it, and the number of threads that it adds,
-computed by hand. A way that is idle, or a thread that is started in vain, changes a sum. One worker starts no thread.
+computed by hand. A way that is idle, or a thread that is started in vain, changes a sum. One worker starts no thread;
+of several, the thread at hand mostly starts the others and waits.
 
 The reader begins a walk over packets where the one before it is done. Here a read waits for the threads that were
 started before it (count.c), so there is a walk for each MiB but the last.
@@ -66,36 +67,32 @@ SHORT, LONG, LONGER = pings(3904, AT_ONCE), pings(4096, AT_ONCE), pings(20004, A
 Ways = dict[str, int]
 # The words, the capture, and how many threads each way adds beside the one at hand.
 ROWS: list[tuple[str, bytes, Ways]] = [
-    ("--workers 2", TWO_STREAMS, {"one side's flow": 1, "nothing is shown, so there is no round": 0}),
-    ("--workers 2 --frames", TWO_STREAMS, {"one side's flow": 1, "one block, so there is no round": 0}),
+    ("--workers 2", TWO_STREAMS, {"flows, of few segments": 0, "nothing is shown, so there is no round": 0}),
+    ("--workers 2 --frames", TWO_STREAMS, {"flows": 0, "one block, so there is no round": 0}),
     (
         "--workers 2 --frames --block 4",
         TWO_STREAMS,
-        {"one side's flow": 1, "one of two groups": 1, "one of two blocks is summed, and is gone through": 2},
+        {"flows": 0, "two groups": 2, "two blocks are summed, and are gone through": 4},
     ),
-    ("--workers 2", TWO_LOUD_STREAMS, {"one side's flow": 1, "one of two groups": 1}),
-    ("--workers 2", SHORT, {"a part ahead, from 256 KiB on": 1, "one side's flow": 1}),
-    ("--workers 4 --block 64", SHORT, {"a part ahead": 1, "one side's flow": 1, "61 blocks are summed": 3}),
-    (
-        "--workers 4",
-        LONG,
-        {"a part ahead": 1, "one side's flow": 1, "faults beside the split, from 4,096 frames on": 1},
-    ),
+    ("--workers 2", TWO_LOUD_STREAMS, {"flows": 0, "two groups": 2}),
+    ("--workers 2", SHORT, {"a part ahead, from 256 KiB on": 1, "flows": 0}),
+    ("--workers 4 --block 64", SHORT, {"a part ahead": 1, "flows": 0, "61 blocks are summed": 4}),
+    ("--workers 4", LONG, {"a part ahead": 1, "flows": 0, "faults, and the split, from 4,096 frames on": 2}),
     (
         "--workers 4 --block 64",
         LONG,
         {
             "a part ahead": 1,
-            "one side's flow": 1,
-            "faults beside the split": 1,
-            "two blocks of a front of 128 frames": 1,
-            "64 blocks are summed": 3,
+            "flows": 0,
+            "faults, and the split": 2,
+            "two blocks of a front of 128 frames": 2,
+            "64 blocks are summed": 4,
         },
     ),
     (
         "--workers 4 --block 64",
         pings(4096, "S WINDOW_UPDATE 9 1"),
-        {"a part ahead": 1, "one side's flow": 1, "nothing behind an error in the front": 0},
+        {"a part ahead": 1, "flows": 0, "nothing behind an error in the front": 0},
     ),
     (
         "--workers 4",
@@ -103,10 +100,10 @@ ROWS: list[tuple[str, bytes, Ways]] = [
         {
             "chunks ahead, one at each 256 KiB of the first MiB": 4,
             "packets of that MiB while reading goes on": 1,
-            "one side's flow": 1,
-            "faults beside the split": 1,
+            "flows, of 16,384 segments and more": 2,
+            "faults, and the split": 2,
             "faults in three pieces": 2,
-            "five blocks are summed": 3,
+            "five blocks are summed": 4,
         },
     ),
     (
@@ -116,8 +113,8 @@ ROWS: list[tuple[str, bytes, Ways]] = [
             "chunks ahead": 4,
             "one more at each MiB from the second on": 4,
             "packets of five MiB": 5,
-            "one side's flow": 1,
-            "each of six batches, of 128 KiB twice and then of 256 KiB, is taken by two": 6,
+            "flows": 2,
+            "both sides of six batches, of 128 KiB twice and then of 256 KiB": 12,
             "each is met while the next one is taken": 6,
         },
     ),
@@ -128,41 +125,41 @@ ROWS: list[tuple[str, bytes, Ways]] = [
             "chunks ahead": 4,
             "one more at each MiB from the second on": 4,
             "packets of five MiB": 5,
-            "one side's flow": 1,
-            "two batches are taken by two, and the first is met beside the second: then a line may be shown": 3,
-            "each of six batches for the list is taken by two": 6,
+            "flows": 2,
+            "both sides of two batches, and the first is met beside the second: then a line may be shown": 5,
+            "both sides of six batches for the list": 12,
             "each is appended while the next one is taken": 6,
-            "faults beside the split": 1,
+            "faults, and the split": 2,
             "faults in three pieces": 2,
             "one block, so none is summed": 0,
         },
     ),
-    ("--workers 2", connections(2), {"flows of one": 1, "nothing is shown, so there is no round": 0}),
+    ("--workers 2", connections(2), {"flows of two": 2, "nothing is shown, so there is no round": 0}),
     (
         "--workers 2",
         connections(2, UNMATCHED),
-        {"flows of one": 1, "one is made ready": 1, "one of two blocks is summed": 1},
+        {"flows of two": 2, "one is made ready beside the other": 1, "two blocks are summed": 2},
     ),
-    ("--workers 2", connections(2, NOTHING_GRANTED), {"flows of one": 1, "told as met, so there is no round": 0}),
+    ("--workers 2", connections(2, NOTHING_GRANTED), {"flows of two": 2, "told as met, so there is no round": 0}),
     (
         "--workers 2 --block 4",
         connections(2, NOTHING_GRANTED),
         {
-            "flows of one": 1,
+            "flows of two": 2,
             "one is made ready, having more frames than a block": 1,
-            "one of two blocks is summed, and one of two is gone through": 2,
+            "two blocks are summed, and two are gone through": 4,
         },
     ),
-    ("--workers 4", connections(63), {"flows": 3}),
-    ("--workers 4", connections(63, UNMATCHED), {"flows": 3, "made ready by halves": 3, "blocks are summed": 3}),
+    ("--workers 4", connections(63), {"flows": 4}),
+    ("--workers 4", connections(63, UNMATCHED), {"flows": 4, "three are made ready beside one": 3, "sums": 4}),
     (
         "--workers 4",
         connections(64, UNMATCHED),
         {
-            "flows": 3,
-            "halves, from 64 connections on": 1,
-            "each is made ready by halves": 2,
-            "blocks of each are summed": 2,
+            "flows": 4,
+            "a share of 16, from 64 connections on": 1,
+            "of the others two shares are made ready beside one": 2,
+            "blocks of these are summed by three": 3,
         },
     ),
     (
@@ -172,13 +169,13 @@ ROWS: list[tuple[str, bytes, Ways]] = [
             "chunks ahead": 4,
             "one more at the second MiB": 1,
             "packets of two MiB": 2,
-            "flows": 3,
-            "halves of one batch, and halves of these": 3,
-            "four pages, each filled once": 3,
+            "flows": 4,
+            "three shares of one batch beside one": 3,
+            "four pages, each filled once": 4,
         },
     ),
-    ("--workers 4", connections(1023), {"a part ahead": 1, "flows": 3, "2,046 entries are one worker's": 0}),
-    ("--workers 4", connections(1024), {"a part ahead": 1, "flows": 3, "two pages, from 2,048 entries on": 1}),
+    ("--workers 4", connections(1023), {"a part ahead": 1, "flows": 4, "2,046 entries are one worker's": 0}),
+    ("--workers 4", connections(1024), {"a part ahead": 1, "flows": 4, "two pages, from 2,048 entries on": 2}),
     (
         "--workers 4",
         connections(8192),
@@ -186,14 +183,14 @@ ROWS: list[tuple[str, bytes, Ways]] = [
             "chunks ahead": 4,
             "one more at the second and the third MiB": 2,
             "packets of three MiB": 3,
-            "flows": 3,
-            "four pages, each filled once": 3,
+            "flows": 4,
+            "four pages, each filled once": 4,
         },
     ),
-    ("--workers 4 --frames --block 100000", credits(1021), {"one side's flow": 1, "2,046 entries": 0}),
-    ("--workers 4 --frames --block 100000", credits(1022), {"one side's flow": 1, "two pages of 1,025 entries": 1}),
-    ("--workers 4 --frames --block 100000", credits(8190), {"one side's flow": 1, "four pages of 4,096 entries": 3}),
-    ("--workers 4 --frames --block 100000", credits(8191), {"one side's flow": 1, "four pages, filled twice": 6}),
+    ("--workers 4 --frames --block 100000", credits(1021), {"flows": 0, "2,046 entries": 0}),
+    ("--workers 4 --frames --block 100000", credits(1022), {"flows": 0, "two pages of 1,025 entries": 2}),
+    ("--workers 4 --frames --block 100000", credits(8190), {"flows": 0, "four pages of 4,096 entries": 4}),
+    ("--workers 4 --frames --block 100000", credits(8191), {"flows": 0, "four pages, filled twice": 8}),
 ]
 
 

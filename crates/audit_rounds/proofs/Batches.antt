@@ -117,7 +117,7 @@ made-more frames_shown all frames ready before after e f is p h = record {
   before = rw (e, f) (simp (map-append, h.before));
 }
 
--- those of one half, and then those of the other
+-- those of one share, and then those of the rest
 pub made-whole : (frames_shown : Bool) (front back : List (Bor (List Frame))) (one other both : MadeReady)
     → both.prepared.items ≡ one.prepared.items ++ other.prepared.items
     → both.found.items ≡ one.found.items ++ other.found.items → AreMadeReady frames_shown front one

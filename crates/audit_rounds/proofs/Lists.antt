@@ -40,10 +40,10 @@ module _ {X Y Z : Type 0} (f : X → Z) (g : Y → Z) where
       sum_by (λ x. h (f x)) xs ≡ sum_by (λ y. h (g y)) ys
   sums-alike h xs ys e = sym (sum-map (λ x. h (f x)) xs) ∙ ap sum (maps-alike h xs ys e) ∙ sum-map (λ y. h (g y)) ys
 
-  -- both halves
-  pub halves-whole : (all front back : List Y) (found more : List X) → front ++ back ≡ all
+  -- a share and the rest
+  pub shares-whole : (all front back : List Y) (found more : List X) → front ++ back ≡ all
       → map f found ≡ map g front → map f more ≡ map g back → map f (found ++ more) ≡ map g all
-  halves-whole all front back found more whole one other = rw (← whole) (simp (map-append, one, other))
+  shares-whole all front back found more whole one other = rw (← whole) (simp (map-append, one, other))
 
   -- one batch more
   pub batch-more : (all found after : List X) (connections batch rest : List Y) (done k : ℕ) → length batch ≡ k

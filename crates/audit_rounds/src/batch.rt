@@ -1,4 +1,4 @@
-//! A batch of connections. Many short ones are audited in halves, side by side: then no part of the work is left to one
+//! A batch of connections. Many short ones are audited in shares, side by side: then no part of the work is left to one
 //! thread, and threads start once.
 
 ghost use Rattle.std.specs.Prelude.{◌≡◌, ◌<◌, ◌≤◌, All, IfOk, length, take};
@@ -9,7 +9,7 @@ ghost use Rattle.audit_rounds.specs.code.Batch.{AreJoined, AreShown, IsBatch};
 
 use crate::division::{Division, LONG_FRAMES};
 use crate::fronts::fronts_first;
-use crate::halves::{in_halves, total_frames};
+use crate::shares::{first_share, total_frames};
 use audit_terms::Frame;
 use split_merge::Findings;
 use std::alloc::AllocError;
@@ -40,9 +40,9 @@ pub(crate) fn next_batch<'a, 'b>(connections: &'b [&'a [Frame]]) -> &'b [&'a [Fr
     batch
 }
 
-/// So many connections or more are halved: then halves of as many frames are about as much work.
+/// So many connections or more are shared: then shares of as many frames are about as much work.
 /// (Measured: bench/README.md, Thresholds.)
-const HALVED_CONNECTIONS: usize = 64;
+const SHARED_CONNECTIONS: usize = 64;
 
 /// Is each connection short beside a worker's share? Else jobs that are drawn divide the work better.
 fn are_short(workers: u32, connections: &[&[Frame]]) -> bool
@@ -59,8 +59,8 @@ fn are_undivided(division: &Division, connections: &[&[Frame]]) -> bool {
         .all(|frames| division.is_undivided(*frames))
 }
 
-/// Is it worth while to audit halves of these connections side by side?
-fn are_halved(workers: u32, division: &Division, connections: &[&[Frame]]) -> bool
+/// Is it worth while to audit shares of these connections side by side?
+fn are_shared(workers: u32, division: &Division, connections: &[&[Frame]]) -> bool
     ensures { OnTrue result ((2 ≤ workers) × (2 ≤ length connections.now)) }
 {
     if workers < 2 || connections.len() < 2 {
@@ -69,7 +69,7 @@ fn are_halved(workers: u32, division: &Division, connections: &[&[Frame]]) -> bo
     if are_undivided(division, connections) {
         return LONG_FRAMES <= total_frames(connections);
     }
-    HALVED_CONNECTIONS <= connections.len() && are_short(workers, connections)
+    SHARED_CONNECTIONS <= connections.len() && are_short(workers, connections)
 }
 
 /// What each connection shows, one audited after the other.
@@ -93,7 +93,7 @@ fn one_by_one<R: Threads + Sync, G: Gate>(
     Ok(all)
 }
 
-/// What the connections of both halves show.
+/// What the connections of a share and the rest show.
 fn both_shown(
     one: Result<Vec<Findings>, AllocError>,
     other: Result<Vec<Findings>, AllocError>,
@@ -106,8 +106,9 @@ fn both_shown(
     Ok(found)
 }
 
-/// What each connection of a batch shows.
-pub(crate) fn by_halves<R: Threads + Sync, G: Gate>(
+/// What each connection of a batch shows. Each worker but one has a share on a thread of its own; this thread starts
+/// them, one after the other, and has the last share (`stop_desk` says why they do not start each other).
+pub(crate) fn by_shares<R: Threads + Sync, G: Gate>(
     team: &Team<'_, R, G>,
     division: &Division,
     connections: &[&[Frame]],
@@ -115,31 +116,30 @@ pub(crate) fn by_halves<R: Threads + Sync, G: Gate>(
     requires { IsBatch connections.now }
     ensures { IfOk result (λ found. AreShown division.now.frames_shown connections.now found.items) }
 {
-    if !are_halved(team.workers, division, connections) {
+    if !are_shared(team.workers, division, connections) {
         return if are_undivided(division, connections) {
             one_by_one(team, division, connections)
         } else {
             fronts_first(team, division, connections)
         };
     }
-    let (front, back) = in_halves(connections);
+    let (front, back) = first_share(team.workers, connections);
     // `join` passes on no contract of a closure that holds a team, which has a lifetime and an invariant.
     let (rt, alloc, gate) = (team.rt, team.alloc, team.gate);
-    let few = team.workers / 2;
-    let others = team.workers - few;
+    let others = team.workers - 1;
     let (one, other) = join(
         rt,
         || -> Result<Vec<Findings>, AllocError>
-            requires { IsSync R.row × IsSync G.row × (0 < few) × IsBatch front.now }
+            requires { IsSync R.row × IsSync G.row × IsBatch front.now }
             ensures { IfOk result (λ found. AreShown division.entry.now.frames_shown front.entry.now found.items) }
         {
             let team = Team {
                 rt,
                 alloc,
-                workers: few,
+                workers: 1,
                 gate,
             };
-            by_halves(&team, division, front)
+            by_shares(&team, division, front)
         },
         || -> Result<Vec<Findings>, AllocError>
             requires { IsSync R.row × IsSync G.row × (0 < others) × IsBatch back.now }
@@ -151,7 +151,7 @@ pub(crate) fn by_halves<R: Threads + Sync, G: Gate>(
                 workers: others,
                 gate,
             };
-            by_halves(&team, division, back)
+            by_shares(&team, division, back)
         },
     );
     both_shown(one, other)

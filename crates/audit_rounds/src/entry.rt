@@ -4,7 +4,7 @@ ghost use Rattle.audit_terms.specs.Finding.{shown};
 ghost use Rattle.audit_terms.specs.Pass.{pass};
 ghost use Rattle.split_merge.specs.code.Findings.{findings_in};
 
-use crate::batch::{by_halves, next_batch};
+use crate::batch::{by_shares, next_batch};
 use crate::division::Division;
 use audit_terms::Frame;
 use split_merge::Findings;
@@ -28,7 +28,7 @@ pub fn findings_of_each<R: Threads + Sync, G: Gate>(
     while done < connections.len() {
         let (_, rest) = connections.split_at(done);
         let batch = next_batch(rest);
-        let mut found = by_halves(team, division, batch)?;
+        let mut found = by_shares(team, division, batch)?;
         all.append(&mut found)?;
         done += batch.len();
     }

@@ -42,10 +42,10 @@ mod division;
 mod entry;
 mod fronts;
 mod gathering;
-mod halves;
 pub mod laws;
 mod pending;
 mod prepared;
+mod shares;
 mod stream_jobs;
 mod stream_round;
 

@@ -11,9 +11,10 @@ ghost use Rattle.audit_rounds.specs.code.MadeReady.{AddsReady, AreMadeReady};
 ghost use Rattle.audit_rounds.specs.code.Prepared.{AreForSplit};
 
 use crate::division::{Division, LONG_FRAMES};
-use crate::halves::in_halves;
+use crate::shares::first_share;
 use audit_terms::{Change, Finding, Frame};
 use fault_rules::local_faults;
+use input_output::TableHash;
 use settings_pair::{Pairs, pair};
 use split_merge::{Findings, SplitFrames, split};
 use std::alloc::{AllocError, Global};
@@ -81,8 +82,31 @@ fn faults_and_split<R: Threads + Sync, G: Gate>(
         || -> Result<SplitFrames, AllocError>
             requires { AreForSplit frames.now changes.now }
             ensures { IfOk result (IsSplit frames_shown changes.entry.now frames.entry.now) }
-        { split(alloc, hash, frames_shown, changes, frames) },
+        { split_apart(rt, alloc, hash, frames_shown, changes, frames) },
     )
+}
+
+/// The frames by stream, split on a thread of its own, while this one waits (`stop_desk` says why).
+fn split_apart<R: Threads>(
+    rt: &R,
+    alloc: Global,
+    hash: TableHash,
+    frames_shown: bool,
+    changes: &[Change],
+    frames: &[Frame],
+) -> Result<SplitFrames, AllocError>
+    requires { AreForSplit frames.now changes.now }
+    ensures { IfOk result (IsSplit frames_shown changes.now frames.now) }
+{
+    let (made, ()) = join(
+        rt,
+        || -> Result<SplitFrames, AllocError>
+            requires { AreForSplit frames.now changes.now }
+            ensures { IfOk result (IsSplit frames_shown changes.entry.now frames.entry.now) }
+        { split(alloc, hash, frames_shown, changes, frames) },
+        || (),
+    );
+    made
 }
 
 /// Adds a connection with what was made of it. Its findings are these faults, and those of its pairs.
@@ -127,7 +151,7 @@ fn prepare<'a, R: Threads + Sync, G: Gate>(
     add_ready(team.alloc, made, frames, pairs, faults, split)
 }
 
-/// The connections of both halves, made ready.
+/// The connections of a share and the rest, made ready.
 fn both_ready<'a>(
     one: Result<MadeReady<'a>, AllocError>,
     other: Result<MadeReady<'a>, AllocError>,
@@ -157,7 +181,7 @@ fn prepare_one_by_one<'a, R: Threads + Sync, G: Gate>(
     Ok(made)
 }
 
-/// Makes each connection ready, halves of them side by side where there are workers, and returns what is found of each
+/// Makes each connection ready, shares of them side by side where there are workers, and returns what is found of each
 /// before the rounds.
 pub(crate) fn prepare_each<'a, R: Threads + Sync, G: Gate>(
     team: &Team<'_, R, G>,
@@ -170,21 +194,20 @@ pub(crate) fn prepare_each<'a, R: Threads + Sync, G: Gate>(
     if team.workers == 1 || connections.len() < 2 {
         return prepare_one_by_one(team, division, connections);
     }
-    let (front, back) = in_halves(connections);
+    let (front, back) = first_share(team.workers, connections);
     // `join` passes on no contract of a closure that holds a team, which has a lifetime and an invariant.
     let (rt, alloc, gate) = (team.rt, team.alloc, team.gate);
-    let few = team.workers / 2;
-    let others = team.workers - few;
+    let others = team.workers - 1;
     let (one, other) = join(
         rt,
         || -> Result<MadeReady<'_>, AllocError>
-            requires { IsSync R.row × IsSync G.row × (0 < few) × IsBatch front.now }
+            requires { IsSync R.row × IsSync G.row × IsBatch front.now }
             ensures { IfOk result (AreMadeReady division.entry.now.frames_shown front.entry.now) }
         {
             let team = Team {
                 rt,
                 alloc,
-                workers: few,
+                workers: 1,
                 gate,
             };
             prepare_each(&team, division, front)

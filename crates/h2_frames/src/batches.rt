@@ -1,6 +1,6 @@
 ghost use Rattle.std.specs.Prelude.{◌≡◌, ◌+◌, ◌<◌, ◌^◌, [], ◌∷◌, ◌++◌, length, IfOk, IfSome, IfNone, OnOk};
 ghost use Rattle.h2_frames.specs.code.Batch.{IsNumbered, IsReadyMerge, frames_of, left_of};
-ghost use Rattle.h2_frames.specs.code.Limit.{AreBothTaken};
+ghost use Rattle.h2_frames.specs.code.Limit.{AreBothTaken, AreTakenUpTo};
 ghost use Rattle.h2_frames.specs.code.Merge.{is_first_of_server};
 ghost use Rattle.h2_frames.specs.code.Unread.{IsReadAhead};
 
@@ -191,7 +191,8 @@ impl<'a> Merge<'a> {
     }
 }
 
-/// Takes the frames of both sides up to a limit, each side's on a thread of its own where these can be spawned.
+/// Takes the frames of both sides up to a limit, each side's on a thread of its own where these can be spawned, while
+/// this one waits (`stop_desk` says why).
 pub(crate) fn take_side_by_side<R: Threads>(
     rt: &R,
     limit: Limit,
@@ -208,7 +209,21 @@ pub(crate) fn take_side_by_side<R: Threads>(
     let (first, second) = join_mut(
         rt,
         &mut || client.take_apart(limit, sent),
-        &mut || server.take_apart(limit, answered),
+        &mut || take_on_thread(rt, limit, server, answered),
     );
     first.and(second)
+}
+
+/// Takes the frames of a side up to a limit on a thread of its own, while this one waits.
+fn take_on_thread<R: Threads>(
+    rt: &R,
+    limit: Limit,
+    side: &mut Unread<'_>,
+    frames: &mut Vec<SideFrame>,
+) -> Result<(), AllocError>
+    requires { IsReadAhead side.old }
+    ensures { IfOk result (λ done. AreTakenUpTo limit side.old side.new frames.new.items) }
+{
+    let (taken, ()) = join_mut(rt, &mut || side.take_apart(limit, frames), &mut || ());
+    taken
 }

@@ -13,8 +13,8 @@
 //!   whole stretches.
 //! - A page has so many entries. All pages are reserved before the first write, and what fills them cannot fail: so
 //!   nothing after the first write fails for want of memory. With one worker there is one page. With several, and
-//!   entries enough, there is one for each: a thread fills it from a cursor of its own (`std::thread::for_each_mut`),
-//!   and when all are full they are written in order and filled again.
+//!   entries enough, there is one for each: a thread fills it from a cursor of its own, while the caller waits. When
+//!   all are full, they are written in order and filled again.
 //! - A [`ReportWriter`] records how many bytes of the text the writes took, and how the flush went
 //!   (`specs/Account.antt`). This holds for every writer, also for files and pipes, whose types do not tell their
 //!   bytes. Where they do, clause `bytes` says that these are the recorded ones. Each write is offered all that is left

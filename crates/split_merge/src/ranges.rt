@@ -4,7 +4,6 @@
 
 ghost use Rattle.std.specs.Prelude.{◌≡◌, ◌<◌, ◌≤◌, ◌++◌, if◌then◌else◌, IfOk, Some, length};
 ghost use Rattle.std.specs.List.{flat_map};
-ghost use Rattle.std.specs.Thread.{IsSync};
 ghost use Rattle.audit_terms.specs.declared.findings.Finding.{Finding as FindingTerm};
 ghost use Rattle.audit_terms.specs.Finding.{in_order, upto_stop};
 ghost use Rattle.split_merge.specs.code.Findings.{findings_in};
@@ -27,7 +26,7 @@ const FINDINGS_PER_SAMPLE: usize = 1 << 8;
 ///
 /// If there are many, each worker makes one list, that of a range of places. Where a list is not in order itself, one
 /// worker may have to sort all.
-pub fn merge_by<R: Threads + Sync>(
+pub fn merge_by<R: Threads>(
     rt: &R,
     alloc: Global,
     workers: u32,
@@ -63,8 +62,9 @@ fn slices_of<'a>(alloc: Global, lists: &'a [Vec<Finding>]) -> Result<Vec<&'a [Fi
     Ok(slices)
 }
 
-/// All findings of slices, in order and up to the least that stops, by so many workers.
-fn in_ranges<R: Threads + Sync>(
+/// All findings of slices, in order and up to the least that stops, by so many workers: each on a thread of its own,
+/// while this one starts them and waits (`stop_desk` says why).
+fn in_ranges<R: Threads>(
     rt: &R,
     alloc: Global,
     workers: u32,
@@ -72,12 +72,11 @@ fn in_ranges<R: Threads + Sync>(
 ) -> Result<Findings, AllocError>
     ensures { IfOk result (λ all. findings_in all ≡ upto_stop (in_order (all_in slices.now))) }
 {
-    let few = workers / 2;
-    if few == 0 {
-        return in_one_range(alloc, slices);
+    let rest = workers.saturating_sub(1);
+    if rest == 0 {
+        return in_range_apart(rt, alloc, slices);
     }
-    let others = workers - few;
-    let Some(last) = place_within(alloc, slices, others, workers)? else {
+    let Some(last) = place_within(alloc, slices, workers)? else {
         return in_one_range(alloc, slices);
     };
     let (fronts, backs) = parted(alloc, slices, last)?;
@@ -85,23 +84,39 @@ fn in_ranges<R: Threads + Sync>(
     let (one, other) = join(
         rt,
         || -> Result<Findings, AllocError>
-            requires { IsSync R.row × (0 < others) }
             ensures { IfOk result (λ all. findings_in all ≡ upto_stop (in_order (all_in fronts.entry.now))) }
-        { in_ranges(rt, alloc, others, fronts) },
+        { in_one_range(alloc, fronts) },
         || -> Result<Findings, AllocError>
-            requires { IsSync R.row × (0 < few) }
+            requires { 0 < rest }
             ensures { IfOk result (λ all. findings_in all ≡ upto_stop (in_order (all_in backs.entry.now))) }
-        { in_ranges(rt, alloc, few, backs) },
+        { in_ranges(rt, alloc, rest, backs) },
     );
     both_ranges(alloc, one?, other?)
 }
 
-/// The place of a finding up to which about `parts` of `all` parts of the findings lie, if there are findings.
+/// [`in_one_range`] on a thread of its own, while this one waits.
+fn in_range_apart<R: Threads>(
+    rt: &R,
+    alloc: Global,
+    slices: &[&[Finding]],
+) -> Result<Findings, AllocError>
+    ensures { IfOk result (λ all. findings_in all ≡ upto_stop (in_order (all_in slices.now))) }
+{
+    let (all, ()) = join(
+        rt,
+        || -> Result<Findings, AllocError>
+            ensures { IfOk result (λ all. findings_in all ≡ upto_stop (in_order (all_in slices.entry.now))) }
+        { in_one_range(alloc, slices) },
+        || (),
+    );
+    all
+}
+
+/// The place of a finding up to which about one in so many of the findings lie, if there are findings.
 fn place_within(
     alloc: Global,
     slices: &[&[Finding]],
     parts: u32,
-    all: u32,
 ) -> Result<Option<Place>, AllocError> {
     let mut places = Vec::new(alloc);
     for slice in slices {
@@ -112,7 +127,7 @@ fn place_within(
         }
     }
     places.sort_unstable();
-    let at = places.len().saturating_mul(parts as usize) / all.max(1) as usize;
+    let at = places.len() / parts.max(1) as usize;
     Ok(places.get(at).copied())
 }
 

@@ -31,7 +31,7 @@ abbrev pub AreShown : (frames_shown : Bool) → List (Bor (List Frame)) → List
 AreShown frames_shown connections found = map findings_in found
     ≡ map (λ (frames : Bor (List Frame)). shown frames_shown (pass frames.now)) connections
 
--- where something is made of either half of some connections, it is made of all
+-- where something is made of a share of some connections and of the rest, it is made of all
 abbrev pub AreJoined : {Made E : Type 0} → (are : Bool → List (Bor (List Frame)) → Made → Type 0) →
     (one other both : Result Made E) → Type 0
 AreJoined are one other both = (frames_shown : Bool) (front back : List (Bor (List Frame))) →

@@ -2,7 +2,7 @@
 use Rattle.std.specs.Global.{Global}
 use Rattle.std.specs.Io.KnownBytes.{Appends}
 use Rattle.std.specs.List.{concat, flat_map}
-use Rattle.std.specs.Prelude.{◌≡◌, ℕ, ◌+◌, ◌*◌, ◌<◌, ◌≤◌, ◌^◌, All, List, Option, OnOk, Result, Vec, drop, length, take}
+use Rattle.std.specs.Prelude.{◌≡◌, ℕ, ◌+◌, ◌*◌, ◌<◌, ◌≤◌, ◌^◌, All, List, Option, OnOk, Result, Vec, length, take}
 use Rattle.std.specs.Prelude.{vec_capacity}
 use Rattle.audit_report.specs.declared.headings.SectionHeading.{SectionHeading}
 use Rattle.report_pages.specs.code.Entries.{entries_at}
@@ -35,9 +35,9 @@ pub record HasWritten {E : Type 0} (before after : Option (List ℕ)) (bytes : L
   pub taken : Appends before after (take n bytes)
   pub whole : OnOk result.1 (n ≡ length bytes)
 
--- a page of several has its entries behind a cursor, and keeps its memory
-pub record IsFilled (cursor : Cursor) (entries index : ℕ) (page : Vec ℕ Global) : Type 0 where
-  pub text : page.items ≡ concat (take entries (drop (entries * index) (entries_at cursor)))
+-- a page has so many entries from a cursor on, and keeps its memory
+pub record IsFilled (cursor : Cursor) (entries : ℕ) (page : Vec ℕ Global) : Type 0 where
+  pub text : page.items ≡ concat (take entries (entries_at cursor))
   pub room : HoldsEntries entries page
 
 -- pages have the entries from a cursor on, so many each, and keep their memory

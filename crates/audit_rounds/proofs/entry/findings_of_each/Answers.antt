@@ -19,8 +19,8 @@ loop-done-preserved g c =
           at.invariant.shown c.in_ok-found.ensures;
     }
 
-pub by_halves-requires : goal.by_halves-requires
-by_halves-requires g c = (c.type_bounds.sync-R, (c.type_bounds.sync-G, c.next_batch-batch.ensures.batch))
+pub by_shares-requires : goal.by_shares-requires
+by_shares-requires g c = (c.type_bounds.sync-R, (c.type_bounds.sync-G, c.next_batch-batch.ensures.batch))
 
 pub returns : goal.returns
 returns g c =

@@ -3,7 +3,7 @@ use Rattle.audit_rounds.proofs.prepared.+fn-prepare_each-join+arg2+fn-prepare_ea
     goal
 
 abbrev pub decreases-join+arg2 : goal.decreases-join+arg2
-decreases-join+arg2 g l = 2 * l.few + 1
+decreases-join+arg2 g l = 3
 
 abbrev pub decreases-join+arg3 : goal.decreases-join+arg3
 decreases-join+arg3 g l = 2 * l.others + 1

@@ -1,5 +1,5 @@
 use Rattle.std.proofs.Common.{◌≤◌, ◌<◌, ◌-◌, length}
-use Rattle.audit_rounds.proofs.halves.in_halves.Given as goal
+use Rattle.audit_rounds.proofs.shares.first_share.Given as goal
 
 -- some are before, and not all
 abbrev pub invariant-loop-count : goal.invariant-loop-count

@@ -1,4 +1,4 @@
-//! The halves of a batch, which are audited side by side.
+//! The shares of a batch, which are audited side by side.
 
 ghost use Rattle.std.specs.Prelude.{◌≡◌, ◌≤◌, ◌++◌, length};
 ghost use Rattle.audit_rounds.specs.code.Batch.{IsBatch};
@@ -14,8 +14,9 @@ pub(crate) fn total_frames(connections: &[&[Frame]]) -> usize {
     total
 }
 
-/// The connections in two halves, with about as many frames each.
-pub(crate) fn in_halves<'a, 'b>(
+/// One worker's share of the connections, with about as many frames as each of the other workers has, and the rest.
+pub(crate) fn first_share<'a, 'b>(
+    workers: u32,
     connections: &'b [&'a [Frame]],
 ) -> (&'b [&'a [Frame]], &'b [&'a [Frame]])
     requires number { 2 ≤ length connections.now }
@@ -24,10 +25,10 @@ pub(crate) fn in_halves<'a, 'b>(
     ensures one { IsBatch result.0.now }
     ensures other { IsBatch result.1.now }
 {
-    let half = total_frames(connections) / 2;
+    let share = total_frames(connections) / workers.max(1) as usize;
     let mut before = connections[0].len();
     let mut count = 1;
-    while count < connections.len() - 1 && before < half {
+    while count < connections.len() - 1 && before < share {
         before = before.saturating_add(connections[count].len());
         count += 1;
     }

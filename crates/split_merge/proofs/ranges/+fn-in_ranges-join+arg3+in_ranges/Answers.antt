@@ -3,7 +3,7 @@ use Rattle.split_merge.specs.code.Findings.{findings_in}
 use Rattle.split_merge.specs.code.Ranges.{all_in}
 use Rattle.split_merge.proofs.Merged.{are-merged, merged, merged-both}
 use Rattle.split_merge.proofs.Terms.{ap, in_order, upto_stop, ◌++◌, ◌∙◌, ◌≡◌}
-use Rattle.split_merge.proofs.ranges.+fn-in_ranges-join+arg2+fn-in_ranges-join+arg3+in_ranges.Goals as goal
+use Rattle.split_merge.proofs.ranges.+fn-in_ranges-join+arg3+in_ranges.Goals as goal
 
 pub both_ranges-requires-clause-one : goal.both_ranges-requires-clause-one
 both_ranges-requires-clause-one g t c =

@@ -1,8 +1,5 @@
 use Rattle.stop_desk.proofs.Words.{◌*◌, ◌+◌}
-use Rattle.stop_desk.proofs.crews.+fn-fork-join+arg2+fn-fork-join+arg3+fork.Given as goal
-
-abbrev pub decreases-join+arg2 : goal.decreases-join+arg2
-decreases-join+arg2 g l = 2 * l.half + 1
+use Rattle.stop_desk.proofs.crews.+fn-fork-join+arg3+fork.Given as goal
 
 abbrev pub decreases-join+arg3 : goal.decreases-join+arg3
 decreases-join+arg3 g l = 2 * l.rest + 1

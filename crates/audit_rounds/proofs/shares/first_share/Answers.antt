@@ -1,5 +1,5 @@
 use Rattle.audit_rounds.proofs.Batches.{batch-parts}
-use Rattle.audit_rounds.proofs.halves.in_halves.Goals as goal
+use Rattle.audit_rounds.proofs.shares.first_share.Goals as goal
 
 pub returns-clause-one : goal.returns-clause-one
 returns-clause-one c =
