@@ -272,6 +272,19 @@ def findings(report: str) -> list[str]:
     return [re.sub(r"(client|server) [\d.:]+ |record \d+|nanos -?\d+", "", line) for line in lines]
 
 
+def settled(capture: pathlib.Path, size: int) -> int:
+    """Waits until a capture has grown past a size, and then for half a second no more; returns the size that it has."""
+    last, since = size, time.monotonic()
+    deadline = since + 20
+    while (now := time.monotonic()) < deadline:
+        if (has := capture.stat().st_size) != last:
+            last, since = has, now
+        elif size < last and 0.5 <= now - since:
+            break
+        time.sleep(0.05)
+    return last
+
+
 class Servers(Folder):
     """openssl s_server and s_client over the loopback interface, captured by tcpdump."""
 
@@ -302,13 +315,15 @@ class Servers(Folder):
     def client(self, port: int, keys: pathlib.Path, words: Sequence[tools.Word], said: Said) -> None:
         """Says one thing after the other; each goes out by itself."""
         end = f"127.0.0.1:{port}"
+        capture = keys.with_suffix(".pcap")
+        size = capture.stat().st_size
         client = started("s_client", ["-connect", end, "-keylogfile", keys, "-alpn", "h2", *words])
         assert client.stdin
-        time.sleep(0.7)
+        size = settled(capture, size)
         for one in said if isinstance(said, tuple) else (said,):
             client.stdin.write(one)
             client.stdin.flush()
-            time.sleep(0.5)
+            size = settled(capture, size)
         client.stdin.close()
         client.wait(20)
 
