@@ -22,6 +22,7 @@ pub(crate) struct StreamRow {
 impl OfStream for StreamRow {
     ghost stream_of = { λ row. row.stream };
 
+    #[inline]
     fn stream(&self) -> u32 {
         self.stream
     }

@@ -1,12 +1,12 @@
 -- A frame is found by its number, since numbers rise.
 use Rattle.std.proofs.Common.{◌≡◌, ◌≢◌, ℕ, zero, suc, ◌+◌, ◌<◌, false, List, [], ◌∷◌, length, get_or, refl}
-use Rattle.std.proofs.Common.{arith, Some, None, nat_eq, eq-eqb, sym, ⊎_elim}
-use Rattle.std.{proofs.lemmas.Bool.cases_lt, specs.List.Sorted.IsNonDecreasingBy, specs.List.Sorted.IsPartitionPoint}
+use Rattle.std.proofs.Common.{arith, Some, None, nat_eq, eq-eqb, sym}
+use Rattle.std.specs.List.Sorted.{IsNonDecreasingBy, IsPartitionPoint}
 use Rattle.std.{proofs.lemmas.Grind.common_steps, specs.Ordering.nat_cmp, specs.Ordering.ordering_index}
 use Rattle.std.specs.declared.cmp.Ordering.TheVariants.{Less, Equal, Greater}
 use Rattle.audit_terms.specs.{declared.frames.Frame.Frame, code.runs.Orderly.IsOrderlyFrom}
-use Rattle.audit_terms.proofs.FindingOrder.{nat_level}
-use Rattle.audit_terms.proofs.OrderlyFrames.{number_at_least, numbers_rise, ranks_rise}
+use Rattle.audit_terms.proofs.{FindingOrder.nat_level, KeySearch.key_missed}
+use Rattle.audit_terms.proofs.OrderlyFrames.{number_at_least, numbers_rise}
 use Rattle.audit_report.specs.FrameLookup.{frame_numbered}
 
 -- the frame at an index is the one of its number
@@ -26,12 +26,6 @@ frame_numbered_none (x ∷ xs) n h =
     let apart : nat_eq x.number n ≡ false = grind (arith, common_steps) in
     rw apart (frame_numbered_none xs n (λ i d l. h (suc i) d (omega arith)))
 
-less_apart : (a n : ℕ) → nat_cmp a n ≡ Less → a ≢ n
-less_apart a n e same = grind (arith, common_steps)
-
-greater_apart : (a n : ℕ) → nat_cmp a n ≡ Greater → a ≢ n
-greater_apart a n e same = grind (arith, common_steps)
-
 -- what a search by halving answers, where it finds the number
 pub frame_numbered_found : (frames : List Frame) (n i : ℕ) (d : Frame) → IsOrderlyFrom 0 frames → i < length frames
     → ((e : Frame) → nat_cmp (get_or frames i e).number n ≡ Equal) → Some (get_or frames i d) ≡ frame_numbered frames n
@@ -44,8 +38,4 @@ pub frame_numbered_missed : (frames : List Frame) (n i : ℕ) → IsOrderlyFrom 
     i)
     → None ≡ frame_numbered frames n
 frame_numbered_missed frames n i h at =
-    let parted = at (λ a b d le l. ranks_rise _ _ n (numbers_rise 0 frames h a b d le l)) in
-    sym (frame_numbered_none frames n (λ k d l. ⊎_elim
-    (λ below. less_apart _ _ (parted.0 k d (omega arith) below))
-    (λ above. greater_apart _ _ (parted.1 k d above l))
-    (cases_lt k i)))
+    sym (frame_numbered_none frames n (key_missed (λ (y : Frame). y.number) frames n i at (numbers_rise 0 frames h)))

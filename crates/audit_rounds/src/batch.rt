@@ -107,7 +107,7 @@ fn both_shown(
 }
 
 /// What each connection of a batch shows. Each worker but one has a share on a thread of its own; this thread starts
-/// them, one after the other, and has the last share (`stop_desk` says why they do not start each other).
+/// them, one after the other, and has the last share (docs/DECISIONS.md, D-121).
 pub(crate) fn by_shares<R: Threads + Sync, G: Gate>(
     team: &Team<'_, R, G>,
     division: &Division,

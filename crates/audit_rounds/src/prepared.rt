@@ -86,7 +86,7 @@ fn faults_and_split<R: Threads + Sync, G: Gate>(
     )
 }
 
-/// The frames by stream, split on a thread of its own, while this one waits (`stop_desk` says why).
+/// The frames by stream, split on a thread of its own, while this one waits (docs/DECISIONS.md, D-121).
 fn split_apart<R: Threads>(
     rt: &R,
     alloc: Global,

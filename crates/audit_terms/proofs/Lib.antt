@@ -7,6 +7,7 @@ pub mod FindingLists
 pub mod SaidPlaces
 mod Packing
 pub mod OrderlyFrames
+pub mod KeySearch
 pub mod SeenStreams
 pub mod LeastPlaces
 pub mod ShownFindings

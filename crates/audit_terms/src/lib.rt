@@ -28,8 +28,8 @@
 //! - Each contract gives exactly what its definition says. The order of findings goes on from the place to side, kind
 //!   and value, so it is total, and sorting needs no condition.
 //! - Refused by the prover: a cut by the frame, an order with the server first, an overflowing grant that is added,
-//!   padding that does not count, a place with four bits for the rank, a quiet credit that is used up. The calls above
-//!   test that these succeed where there is memory.
+//!   padding that does not count, a place with four bits for the rank, a quiet credit that is used up, another row than
+//!   the stream's. The calls above test that these succeed where there is memory.
 #![tactic(auto)]
 
 mod connection_state;

@@ -192,7 +192,7 @@ impl<'a> Merge<'a> {
 }
 
 /// Takes the frames of both sides up to a limit, each side's on a thread of its own where these can be spawned, while
-/// this one waits (`stop_desk` says why).
+/// this one waits (docs/DECISIONS.md, D-121).
 pub(crate) fn take_side_by_side<R: Threads>(
     rt: &R,
     limit: Limit,

@@ -36,7 +36,7 @@ trait ForSides: Sync {
 }
 
 /// What is made for both sides, each on a thread of its own if two are allowed and these can be spawned, while this one
-/// waits (`stop_desk` says why).
+/// waits (docs/DECISIONS.md, D-121).
 fn both<R: Threads, S: ForSides>(rt: &R, threads: usize, sources: &S) -> (S::Made, S::Made)
     requires { S.asks sources.now }
     ensures client { S.makes sources.now Client result.0 }

@@ -25,6 +25,7 @@ const _: () = prove!(size_of::<Row>() == 16);
 impl OfStream for Row {
     ghost stream_of = { λ row. row.stream };
 
+    #[inline]
     fn stream(&self) -> u32 {
         self.stream
     }

@@ -66,7 +66,7 @@ pub(crate) fn fill_pages<R: Threads>(
     }
 }
 
-/// Fills each of these pages by a thread of its own, while this one starts them and waits (`stop_desk` says why).
+/// Fills each of these pages by a thread of its own, while this one starts them and waits (docs/DECISIONS.md, D-121).
 #[cycle(pages)]
 fn fill_apart<R: Threads>(rt: &R, from: Cursor<'_>, entries: usize, pages: &mut [Vec<u8>])
     requires cursor { IsCursor from }

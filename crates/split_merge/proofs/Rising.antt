@@ -1,5 +1,5 @@
 -- Where a stream stands among rows: at the front, where streams rise, or behind it, in a table.
-use Rattle.audit_terms.proofs.OrderlyFrames.{ranks_rise}
+use Rattle.audit_terms.specs.code.StreamRows.{IsRowWith}
 use Rattle.indexmap.specs.IndexSet.{insert_key}
 use Rattle.split_merge.proofs.Terms.{AreBelow, IsIndex, NotAmong, RowIndex, [], cases_lt, drop_all, is_among, slice_get}
 use Rattle.split_merge.proofs.Terms.{Bool, common_steps, drop-append-le, length-append, length-take-le, position_or_len}
@@ -9,9 +9,7 @@ use Rattle.split_merge.proofs.Terms.{ap, sym, true, ℕ, ◌++◌, ◌+◌, ◌-
 use Rattle.split_merge.proofs.Terms.{get_or_append_left, get_or_from_slice_get, not, slice_get-get_or, slice_get_within}
 use Rattle.split_merge.proofs.Visited.{absent-by_index, found-passes, length-streams_in, none-from_test, not_among-push}
 use Rattle.split_merge.proofs.Visited.{distinct-push, not_among-at, stream-at}
-use Rattle.std.specs.declared.cmp.Ordering.TheVariants.{Equal, Greater, Less}
-use Rattle.std.specs.{List.Sorted.IsPartitionPoint, Ordering.nat_cmp, Ordering.ordering_index}
-use Rattle.std.{proofs.lemmas.List.Sums.position_or_len_is, specs.List.Sorted.IsNonDecreasingBy}
+use Rattle.std.{proofs.lemmas.List.Sums.position_or_len_is, specs.List.All, specs.List.Sorted.IsNonDecreasingBy}
 
 -- ---- at the front
 
@@ -19,17 +17,16 @@ module _ (rows : List Visited) (many : ℕ) (m : many ≤ length rows) where
   front-stream : (i : ℕ) (d : Visited) → i < many → (get_or (take many rows) i d).stream ≡ get_or (streams_in rows) i 0
   front-stream i d l = grind (arith, get_or-take, stream-at)
 
-  -- what a search by halving answers, where it finds the stream
-  pub row-from_front : (i stream : ℕ) → i < length (take many rows)
-      → ((e : Visited) → nat_cmp (get_or (take many rows) i e).stream stream ≡ Equal)
+  -- where a search finds the stream
+  pub row-from_front : (i stream : ℕ) → IsRowWith (λ (y : Visited). y.stream) (take many rows) stream i
       → slice_get (streams_in rows) i ≡ Some stream
-  row-from_front i stream l at =
-      let d : Visited = record { stream = 0; count = 0 } in
+  row-from_front i stream found =
       let n = length-take-le many rows m in
-      let is = front-stream i d (omega (arith, l, n)) in
-      let equal = at d in
+      let l = slice_get_within (take many rows) i found.row found.there in
+      let here = get_or_from_slice_get (take many rows) i found.row found.row found.there in
+      let is = front-stream i found.row (omega (arith, l, n)) in
       slice_get-get_or (streams_in rows) i 0 (omega (arith, l, n, m, length-streams_in rows))
-      ∙ ap Some (grind (arith, common_steps))
+      ∙ ap Some (sym is ∙ ap (λ (y : Visited). y.stream) here ∙ found.same)
 
   module _ (rises : (i j : ℕ) → i < j → j < many → get_or (streams_in rows) i 0 < get_or (streams_in rows) j 0) where
     streams-rise : (i j : ℕ) (d : Visited) → i ≤ j → j < many
@@ -37,17 +34,15 @@ module _ (rows : List Visited) (many : ℕ) (m : many ≤ length rows) where
     streams-rise i j d le l = grind (arith, nat_tests, common_steps, cases_lt, front-stream)
 
     -- and where it does not
-    pub none-from_front : (stream i : ℕ)
-        → (IsNonDecreasingBy (λ (y : Visited). ordering_index (nat_cmp y.stream stream)) (take many rows)
-        → IsPartitionPoint (λ (y : Visited). nat_cmp y.stream stream ≡ Less)
-        (λ (y : Visited). nat_cmp y.stream stream ≡ Greater) (take many rows) i)
+    pub none-from_front : (stream : ℕ)
+        → (IsNonDecreasingBy (λ (y : Visited). y.stream) (take many rows)
+        → All (λ (y : Visited). y.stream ≢ stream) (take many rows))
         → NotBefore many stream (streams_in rows)
-    none-from_front stream i at = λ k w same.
+    none-from_front stream none = λ k w same.
         let d : Visited = record { stream = 0; count = 0 } in
         let n = length-take-le many rows m in
-        let is = front-stream k d w in
-        let parted = at (λ a b e le k. ranks_rise _ _ stream (streams-rise a b e le (omega (arith, k, n)))) in
-        grind (arith, common_steps, parted.0 k d, parted.1 k d, cases_lt k i)
+        none (λ i j e le l. streams-rise i j e le (omega (arith, l, n))) k d (omega (arith, w, n))
+        (front-stream k d w ∙ same)
 
 -- all rows rise, and the last is below the stream
 pub all-below : (rows : List Visited) (index : RowIndex) (stream : ℕ) (last : Visited)

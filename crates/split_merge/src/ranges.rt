@@ -63,7 +63,7 @@ fn slices_of<'a>(alloc: Global, lists: &'a [Vec<Finding>]) -> Result<Vec<&'a [Fi
 }
 
 /// All findings of slices, in order and up to the least that stops, by so many workers: each on a thread of its own,
-/// while this one starts them and waits (`stop_desk` says why).
+/// while this one starts them and waits (docs/DECISIONS.md, D-121).
 fn in_ranges<R: Threads>(
     rt: &R,
     alloc: Global,

@@ -5,12 +5,13 @@ ghost use Rattle.std.specs.Bool.{OnTrue};
 ghost use Rattle.split_merge.specs.code.Visits.{AreBelow, IsIndex, IsRowOf, NotAmong, NotBefore, streams_in};
 
 use crate::visits::Visited;
+use audit_terms::row_of;
 use indexmap::IndexSet;
 use input_output::TableHash;
 use std::alloc::{AllocError, Global};
 
-/// Finds the row of a stream. Streams are numbered upwards (RFC 9113, 5.1.1): while they are met in that order, a
-/// binary search finds their rows, and nothing is kept beside them. From the first stream on that is met out of order,
+/// Finds the row of a stream. Streams are numbered upwards (RFC 9113, 5.1.1): while they are met in that order, their
+/// rows are found as they stand, and nothing is kept beside them. From the first stream on that is met out of order,
 /// they are in a table.
 #[derive(Drop)]
 pub(crate) struct RowIndex {
@@ -89,11 +90,8 @@ impl RowIndex {
         ensures { MatchOption result (NotBefore self.now.rising stream (streams_in rows.now))
             (λ row. slice_get (streams_in rows.now) row ≡ Some stream) }
     {
-        let front = &rows[..self.rising as usize];
-        match front.binary_search_by_key(&stream, |row| row.stream) {
-            Ok(row) => Some(row as u32),
-            Err(_) => None,
-        }
+        let row = row_of(&rows[..self.rising as usize], stream)?;
+        Some(row as u32)
     }
 }
 

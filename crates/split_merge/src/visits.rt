@@ -15,7 +15,7 @@ ghost use Rattle.split_merge.specs.code.Ahead.{AreAhead, EndQuiet, CanHaveRow, C
 ghost use Rattle.split_merge.specs.code.Ahead.{MeetsNext, with_next};
 
 use crate::row_index::RowIndex;
-use audit_terms::Frame;
+use audit_terms::{Frame, OfStream};
 use input_output::TableHash;
 use std::alloc::{AllocError, Global};
 use stream_credit::{Changes, QuietStream};
@@ -32,6 +32,15 @@ const HINTED_FRAMES: usize = 128;
 pub(crate) struct Visited {
     pub(crate) stream: u32,
     pub(crate) count: u32,
+}
+
+impl OfStream for Visited {
+    ghost stream_of = { λ row. row.stream };
+
+    #[inline]
+    fn stream(&self) -> u32 {
+        self.stream
+    }
 }
 
 /// The streams that meet the frames seen so far, in order of their first frames.

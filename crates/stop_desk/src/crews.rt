@@ -87,8 +87,8 @@ fn work_apart<R: Threads, G: Gate, P: Round>(
 /// Has workers do all jobs, each on a thread of its own, while this one starts them and waits.
 ///
 /// Linux starts about every third thread on the processor of the one that starts it: there it would wait for as long as
-/// this one works, though others idle. Measured, where this one works too, rounds of a millisecond on four processors
-/// take 1.4 times as long, and 1.9 times where halves of the workers start each other.
+/// this one works, though others idle (docs/DECISIONS.md, D-121). Measured with bare threads, four that work for a
+/// millisecond each take 1.4 times as long where this one works too, and 1.9 times where halves start each other.
 fn fork<R: Threads + Sync, G: Gate, P: Round>(
     rt: &R,
     alloc: Global,
