@@ -8,7 +8,8 @@ all proofs.
 A figure may differ from the stored one by no more than MARGINS says, to either side: less is a change too, and is to be
 stored, so that the next one is seen. --write stores the figures of this program in place of the old ones. The random
 bytes that tables are keyed with are the same in each run here, reads wait for threads that were started before, and
-there seem to be four processors (count.c), so that a figure hardly depends on the machine.
+there seem to be four processors (count.c), so that a figure hardly depends on the machine. Where the threads' turns
+decide between two, as of the memory of several for chatty with --frames, the middle of these is stored.
 
 Beside that one worker starts no thread, each thread that is started is waited for, all memory is freed but what the C
 library keeps of ended threads, and a small stack is enough: what nests as deep as a capture is long would end the
