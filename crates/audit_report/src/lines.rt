@@ -4,7 +4,7 @@
 //! Measured, that takes 0.4 times the instructions of a line that is pushed piece by piece; and numbers by `itoa` take
 //! 12 % fewer than by `write!`.
 
-ghost use Rattle.std.specs.Prelude.{◌≡◌, ◌+◌, ◌≤◌, ◌++◌, codes, drop, length};
+ghost use Rattle.std.specs.Prelude.{◌≡◌, ◌+◌, ◌≤◌, ◌++◌, drop, length};
 ghost use Rattle.std.specs.Fmt.{decimal, signed_decimal};
 ghost use Rattle.audit_report.specs.Line.{field};
 ghost use Rattle.audit_report.specs.code.Pages.{Adds, HasRoom};

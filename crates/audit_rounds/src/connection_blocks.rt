@@ -1,6 +1,6 @@
 //! The blocks of the frames of connections.
 
-ghost use Rattle.std.specs.Prelude.{◌≡◌, ◌^◌, ◌<◌, All, IfOk, OnOk, length};
+ghost use Rattle.std.specs.Prelude.{◌^◌, ◌<◌, All, IfOk, OnOk, length};
 ghost use Rattle.conn_scan.specs.code.Items.{IsBlock};
 ghost use Rattle.audit_rounds.specs.code.Blocks.{AddsBlocks, AreBlocksOf, AreShort, wholes};
 ghost use Rattle.audit_rounds.specs.code.Few.{RestsAreFew};

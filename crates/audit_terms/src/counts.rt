@@ -17,7 +17,7 @@ pub struct Count {
 
 impl Count {
     ghost use Rattle.std.specs.Ordering.{int_eq};
-    ghost use Rattle.audit_terms.specs.Window.{is_used_up, overflows, overruns, stall_begins, stall_ends};
+    ghost use Rattle.audit_terms.specs.Window.{overflows, overruns, stall_begins, stall_ends};
 
     /// Does the credit rise above the largest window, 2^31 - 1?
     pub fn overflows(&self) -> bool

@@ -1,4 +1,4 @@
-ghost use Rattle.std.specs.Prelude.{◌≡◌, ℕ};
+ghost use Rattle.std.specs.Prelude.{◌≡◌};
 
 use crate::frame_types::{
     ACK_FLAG, CONTINUATION, DATA, END_HEADERS_FLAG, END_STREAM_FLAG, GOAWAY, HEADERS, PING,

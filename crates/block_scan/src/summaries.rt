@@ -1,4 +1,4 @@
-ghost use Rattle.std.specs.Prelude.{◌≡◌, List, [], ◌∷◌, ◌++◌};
+ghost use Rattle.std.specs.Prelude.{◌≡◌, List, [], ◌++◌};
 ghost use Rattle.block_scan.specs.code.Summary.{SummaryLaws, summary_of};
 
 /// What some items do to a state, in a form that can be joined: blocks of a list are summed apart, in any order and on

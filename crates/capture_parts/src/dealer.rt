@@ -8,7 +8,6 @@ ghost use Rattle.byteorder.specs.Endian.{big_bytes};
 ghost use Rattle.pcap_records.specs.FileHeader.{format_of, link_of, number_of};
 ghost use Rattle.pcap_records.specs.Record.{BeginsWithRecord, captured_length};
 ghost use Rattle.capture_parts.specs.Dealt.{full_at};
-ghost use Rattle.capture_parts.specs.Pair.{front_of};
 ghost use Rattle.capture_parts.specs.Parts.{AreSplit};
 ghost use Rattle.capture_parts.specs.Files.{order_of};
 ghost use Rattle.capture_parts.specs.code.Standing.{IsDealt};

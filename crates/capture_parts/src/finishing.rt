@@ -1,6 +1,6 @@
 //! The end of a split: whole parts are flushed, and full ones refused.
 
-ghost use Rattle.std.specs.Prelude.{◌≡◌, ◌<◌, ◌^◌, IfOk, OnOk, Ok, length, map};
+ghost use Rattle.std.specs.Prelude.{◌≡◌, ◌<◌, IfOk, OnOk, Ok, map};
 ghost use Rattle.std.specs.List.{All};
 ghost use Rattle.capture_parts.specs.Finished.{AreRefused, IsFlushedOrFull, has_full};
 

@@ -1,6 +1,5 @@
 ghost use Rattle.std.specs.Prelude.{◌≡◌};
 ghost use Rattle.std.specs.Iterator.{YieldsFirst, item_count};
-ghost use Rattle.conn_scan.specs.code.Items.{items_in, IsBlock};
 ghost use Rattle.conn_scan.specs.code.Walk.{numbers_not_below, changes_not_below, is_first, first_change, item_at};
 ghost use Rattle.conn_scan.specs.code.Walk.{walked};
 ghost use Rattle.conn_scan.specs.code.Walk.{StartFrom, ChangesStartFrom};

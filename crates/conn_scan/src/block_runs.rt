@@ -1,8 +1,8 @@
-ghost use Rattle.std.specs.Prelude.{◌≡◌, ℕ, ◌+◌, ◌-◌, ◌^◌, ◌≤◌, ◌++◌, All, map, IfOk, OnOk};
+ghost use Rattle.std.specs.Prelude.{◌≡◌, ◌+◌, ◌-◌, ◌^◌, ◌≤◌, ◌++◌, All, map, IfOk, OnOk};
 ghost use Rattle.audit_terms.specs.declared.findings.Finding.{Finding as FindingTerm};
 ghost use Rattle.audit_terms.specs.declared.frames.Frame.{Frame as FrameTerm};
 ghost use Rattle.audit_terms.specs.Place.{place_number};
-ghost use Rattle.audit_terms.specs.code.runs.Look.{IsRun, up_to};
+ghost use Rattle.audit_terms.specs.code.runs.Look.{IsRun};
 ghost use Rattle.audit_terms.specs.code.Watch.{GoesOn, HasMetBefore};
 ghost use Rattle.audit_terms.specs.code.runs.Orderly.{IsInRange};
 ghost use Rattle.audit_terms.specs.Connection.{connection_said, connection_after};

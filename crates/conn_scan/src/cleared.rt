@@ -4,7 +4,7 @@ ghost use Rattle.audit_terms.specs.Window.{largest_window};
 ghost use Rattle.audit_terms.specs.declared.items.Item.{Item};
 ghost use Rattle.conn_scan.specs.code.ConnSum.{conn_sum_of};
 ghost use Rattle.conn_scan.specs.code.Clear.{is_usable, is_clear};
-ghost use Rattle.conn_scan.specs.code.Cleared.{credit_clear, ids_clear, push_clear, is_within, length_clear, sum_clear};
+ghost use Rattle.conn_scan.specs.code.Cleared.{credit_clear, ids_clear, push_clear, length_clear, sum_clear};
 
 use crate::credits::Credit;
 use crate::latest::Latest;

@@ -60,8 +60,6 @@ impl TestLook {
 }
 
 impl Look for TestLook {
-    ghost use Rattle.audit_terms.specs.declared.findings.Finding.{Finding as FindingTerm};
-
     ghost answers = { λ before found answer after. Unit {0} };
 
     fn look(&mut self, found: &[Finding]) -> Option<Place> {

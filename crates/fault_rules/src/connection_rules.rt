@@ -1,9 +1,8 @@
 //! What an item shows of the connection, and what it makes of it (RFC 9113, 4.2, 5.1.1, 6.9, 8.4).
 
-ghost use Rattle.std.specs.Prelude.{◌≡◌, ℕ, ℤ, pos, ◌+◌, ◌-◌, ◌^◌, ◌<◌, ◌++◌, max, if◌then◌else◌, IfOk, OnOk};
-ghost use Rattle.std.specs.Prelude.{OnErr, not, ◌≤◌};
+ghost use Rattle.std.specs.Prelude.{◌≡◌, ℕ, pos, ◌+◌, ◌-◌, ◌^◌, ◌<◌, ◌++◌, max, if◌then◌else◌, IfOk, OnOk};
+ghost use Rattle.std.specs.Prelude.{OnErr};
 ghost use Rattle.std.specs.Bool.{OnTrue};
-ghost use Rattle.std.specs.Ordering.{int_eq};
 ghost use Rattle.audit_terms.specs.Finding.{finding_at, say};
 ghost use Rattle.audit_terms.specs.Window.{overflows, overruns, stall_begins, stall_ends};
 ghost use Rattle.audit_terms.specs.declared.kinds.Kind.TheVariants.{ConnectionCredit, ConnectionOverflow};

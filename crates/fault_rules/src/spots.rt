@@ -1,6 +1,6 @@
 //! Where a finding stands before its rank is known.
 
-ghost use Rattle.std.specs.Prelude.{◌≡◌, ℕ, ◌-◌, ◌^◌, ◌<◌, ◌≤◌, ◌++◌, pos, OnOk};
+ghost use Rattle.std.specs.Prelude.{◌≡◌, ◌-◌, ◌^◌, ◌<◌, ◌≤◌, ◌++◌, pos, OnOk};
 ghost use Rattle.audit_terms.specs.Finding.{finding_at, say};
 ghost use Rattle.audit_terms.specs.code.runs.Orderly.{IsInRange};
 ghost use Rattle.fault_rules.specs.code.Said.{said_by};

@@ -3,7 +3,6 @@
 ghost use Rattle.std.specs.Prelude.{◌≡◌, ℕ, ◌+◌, ◌-◌, ◌^◌, ◌<◌, ◌≤◌, ◌++◌, pos, ◌+ℤ◌, ◌-ℤ◌, nat_lt, ◌&&◌, None};
 ghost use Rattle.std.specs.Prelude.{if◌then◌else◌, IfOk, OnOk};
 ghost use Rattle.std.specs.Bool.{OnTrue};
-ghost use Rattle.audit_terms.specs.Sides.{side_of};
 ghost use Rattle.audit_terms.specs.Change.{new_initial};
 ghost use Rattle.audit_terms.specs.Finding.{say_of};
 ghost use Rattle.audit_terms.specs.Frame.{content_by, grant_to};
@@ -203,11 +202,8 @@ impl LiveStep {
     ghost use Rattle.std.specs.Prelude.{◌&&◌, not, is_some};
     ghost use Rattle.audit_terms.specs.Frame.{content_by, grant_to};
     ghost use Rattle.audit_terms.specs.Window.{overflows, overruns};
-    ghost use Rattle.audit_terms.specs.Finding.{finding_at, say};
-    ghost use Rattle.audit_terms.specs.Stream.{stream_finding};
     ghost use Rattle.audit_terms.specs.declared.kinds.Kind.TheVariants.{SettingOverflow, StreamOverrun, StreamOverflow};
     ghost use Rattle.audit_terms.specs.declared.kinds.Kind.TheVariants.{StreamStallEnd, StreamStallBegin, StreamCredit};
-    ghost use Rattle.std.specs.Ordering.{int_eq};
 
     fn of(before: &i64, met: &WindowStep<'_>) -> Self
         requires acknowledged { IsAcknowledged met.now.step.now }

@@ -1,5 +1,3 @@
-ghost use Rattle.std.specs.Prelude.{◌≡◌, ℕ, List};
-ghost use Rattle.h2_frames.specs.Preface.{BeginsWithPreface, IsPrefaceCutShort, preface};
 ghost use Rattle.h2_frames.specs.code.Beginning.{IsBeginning};
 ghost use Rattle.h2_frames.specs.code.Pieces.{bytes_left, IsMeasured};
 

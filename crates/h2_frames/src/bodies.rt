@@ -1,4 +1,4 @@
-ghost use Rattle.std.specs.Prelude.{◌≡◌, ℕ, ◌+◌, ◌-◌, ◌<◌, ◌≤◌, ◌^◌, ◌==◌, nat_lt, if◌then◌else◌, List, drop, length};
+ghost use Rattle.std.specs.Prelude.{◌≡◌, ℕ, ◌+◌, ◌-◌, ◌<◌, ◌^◌, ◌==◌, nat_lt, if◌then◌else◌, List, drop, length};
 ghost use Rattle.std.specs.Prelude.{IsTrue};
 ghost use Rattle.audit_terms.specs.declared.frames.Body.TheVariants.{Content, GoAway, Headers, Priority, PushPromise};
 ghost use Rattle.audit_terms.specs.declared.frames.Body.TheVariants.{Unreadable, WindowUpdate};

@@ -1,4 +1,4 @@
-ghost use Rattle.std.specs.Prelude.{◌≡◌, ◌+◌, ◌-◌, ◌*◌, ◌<◌, ◌≤◌, ◌^◌, ℕ, List, ◌∷◌, length, IfSome, IfNone, OnOk};
+ghost use Rattle.std.specs.Prelude.{◌≡◌, ◌+◌, ◌-◌, ◌<◌, ◌^◌, ℕ, List, ◌∷◌, length, IfSome, IfNone, OnOk};
 ghost use Rattle.h2_frames.specs.declared.unread.Next.TheVariants.{Over, Read, Unread as ToRead};
 ghost use Rattle.tcp_streams.specs.code.Orderly.{AreTimely};
 ghost use Rattle.tcp_streams.specs.Arrivals.{Rises};

@@ -10,7 +10,7 @@ ghost use Rattle.report_pages.specs.Account.{IsUnwritten, written};
 ghost use Rattle.h2audit.specs.Asked.{Asks};
 ghost use Rattle.h2audit.specs.Account.{HasGiven, Tells};
 ghost use Rattle.h2audit.specs.Ending.{ending_of};
-ghost use Rattle.h2audit.specs.Program.{AreAsked, AreBehindName, Does, Ends, IsShown, IsUnopened};
+ghost use Rattle.h2audit.specs.Program.{AreAsked, AreBehindName, Ends, IsShown, IsUnopened};
 ghost use Rattle.h2audit.specs.code.Inputs.{HasAuditedFile, HasAuditedInput};
 
 use crate::command_line::{Options, Parsed, parse};

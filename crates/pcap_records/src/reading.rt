@@ -1,5 +1,5 @@
 ghost use Rattle.std.specs.Prelude.{◌≡◌, ◌<◌, ◌^◌, ◌⊎◌, IfOk, IfErr, IfNone, IfSome, IsTrue, None, OnOk, Some, length};
-ghost use Rattle.std.specs.Prelude.{List, []};
+ghost use Rattle.std.specs.Prelude.{[]};
 ghost use Rattle.pcap_records.specs.LinkType.{is_read};
 ghost use Rattle.pcap_records.specs.code.Place.{AreWithin, AreTimely};
 ghost use Rattle.pcap_records.specs.code.Walk.{HasPassed};

@@ -1,9 +1,7 @@
 //! A walk over the records of a capture that is still being read.
 
 ghost use Rattle.std.specs.Prelude.{◌≡◌, ◌<◌, ◌≤◌, ◌+◌, ◌^◌, List, [], IfErr, IfOk, IfSome, OnOk, Some, length};
-ghost use Rattle.std.specs.Prelude.{IsTrue};
-ghost use Rattle.pcap_records.specs.FileHeader.{header_of, link_of, number_of};
-ghost use Rattle.pcap_records.specs.LinkType.{is_read};
+ghost use Rattle.pcap_records.specs.FileHeader.{link_of, number_of};
 ghost use Rattle.pcap_records.specs.Refusal.{refusal};
 ghost use Rattle.pcap_records.specs.code.Walk.{AreAll, HasPassed, HasStepped};
 

@@ -7,7 +7,7 @@ ghost use Rattle.std.specs.List.{concat, flat_map};
 ghost use Rattle.audit_report.specs.code.Pages.{Adds, HasRoom};
 ghost use Rattle.audit_terms.specs.code.runs.Orderly.{IsOrderly};
 ghost use Rattle.audit_terms.specs.declared.findings.Finding.{Finding as FindingTerm};
-ghost use Rattle.report_pages.specs.code.Entries.{Entries, IsOrderlyStretch, IsPiece, audited_stretches};
+ghost use Rattle.report_pages.specs.code.Entries.{IsOrderlyStretch, IsPiece, audited_stretches};
 ghost use Rattle.report_pages.specs.code.Entries.{entries_of, section_stretches};
 ghost use Rattle.audit_report.specs.EndLine.{end_line};
 ghost use Rattle.audit_report.specs.code.Contents.{opening_text};

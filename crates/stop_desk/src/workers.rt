@@ -1,11 +1,11 @@
 //! What one worker does: it draws jobs until none is left.
 
-ghost use Rattle.std.specs.Prelude.{◌≡◌, ℕ, ◌+◌, ◌-◌, ◌^◌, ◌<◌, ◌≤◌, [], ◌++◌, All, IfOk, length, slice_get, Some};
+ghost use Rattle.std.specs.Prelude.{◌≡◌, ◌+◌, ◌-◌, ◌^◌, ◌<◌, ◌≤◌, [], ◌++◌, All, IfOk, length};
 ghost use Rattle.audit_terms.specs.declared.findings.Finding.{Finding as FindingTerm};
 ghost use Rattle.audit_terms.specs.Place.{place_number};
 ghost use Rattle.stop_desk.specs.code.Desk.{pass_of, IsConnection};
 ghost use Rattle.stop_desk.specs.code.Board.{Job};
-ghost use Rattle.stop_desk.specs.code.Worked.{stops_on, DoesJob, IsWorked, IsAllWorked};
+ghost use Rattle.stop_desk.specs.code.Worked.{stops_on, DoesJob, IsAllWorked};
 
 use crate::audit_round::AuditRound;
 use crate::claims::Claim;

@@ -1,7 +1,7 @@
 //! Frames that show nothing of a stream where credits are not shown: DATA, HEADERS and grants that move one window of
 //! an open stream, and no more. Most frames are of this kind, so a run meets them without a step.
 
-ghost use Rattle.std.specs.Prelude.{◌≡◌, ℕ, ◌^◌, ◌<◌, false};
+ghost use Rattle.std.specs.Prelude.{◌≡◌, ◌^◌, ◌<◌, false};
 ghost use Rattle.std.specs.Bool.{OnTrue, OnFalse};
 ghost use Rattle.std.specs.Option.{ForSome};
 ghost use Rattle.audit_terms.specs.Side.{other};

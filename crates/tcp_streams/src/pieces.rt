@@ -1,4 +1,4 @@
-ghost use Rattle.std.specs.Prelude.{◌≡◌, ◌+◌, ◌-◌, ◌%◌, ◌<◌, ◌≤◌, ◌^◌, if◌then◌else◌, length, Option, IfOk};
+ghost use Rattle.std.specs.Prelude.{◌≡◌, ◌+◌, ◌-◌, ◌%◌, ◌<◌, ◌≤◌, ◌^◌, if◌then◌else◌, Option, IfOk};
 ghost use Rattle.std.specs.List.{filter_map};
 ghost use Rattle.tcp_streams.specs.code.Interval.{PayloadsFit, member_piece, piece, stretch};
 ghost use Rattle.tcp_streams.specs.Members.{is_sent_by};

@@ -1,4 +1,4 @@
-ghost use Rattle.std.specs.Prelude.{◌≡◌, ◌+◌, ◌<◌, ◌^◌, [], List, IfOk, OnOk};
+ghost use Rattle.std.specs.Prelude.{◌≡◌, ◌+◌, ◌<◌, [], List, OnOk};
 ghost use Rattle.tcp_streams.specs.Membership.{is_request};
 
 use crate::members::{Connection, Connections, Stray};
