@@ -138,8 +138,8 @@ def is_imported(file: int, order: Order) -> bool:
 def has_more(file: int, order: Order, answer: Answer) -> bool:
     """Whether an import may read more of a capture than h2audit did.
 
-    It may where h2audit found a connection that is none of HTTP/2, which may be TLS, or no connection at all; and where
-    it passed over packets that an import reads.
+    It may where h2audit found a connection that is none of HTTP/2, which may be TLS; where it found none of HTTP/2,
+    but packets that are not IPv4 or not TCP; and where it passed over packets that an import reads.
     """
     if order["imports"] != "auto" or not programs.is_there(IMPORT):
         return False

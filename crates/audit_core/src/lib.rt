@@ -4,10 +4,10 @@
 //! - [`one_pass`] gives the findings of the pass: all, of every kind, in order, up to and including the first that
 //!   stops. It is for tests: where credits are shown, the audit calls [`shown_in_one_pass`] for a connection that is
 //!   not divided; else, and where that has no answer, it runs the rounds of `audit_rounds`.
-//! - [`shown_in_one_pass`] gives those that are shown. It reads the frames once, keeps a row for each stream, and ends
-//!   at the first frame at which the audit stops. One stream meets most frames: a guess finds its row, else a binary
-//!   search. Where streams first come out of order (RFC 9113, 5.1.1), or many acknowledgements and promises meet many
-//!   streams, it has no answer: so its time is about linear in the frames.
+//! - [`shown_in_one_pass`] gives those that are shown. It goes over the frames for its rows and for the settings, and
+//!   then meets them one by one, up to the first at which the audit stops. One stream meets most frames: a guess finds
+//!   its row, else a binary search. Where streams first come out of order (RFC 9113, 5.1.1), or many acknowledgements
+//!   and promises meet many streams, it has no answer: so its time is about linear in the frames.
 //! - [`laws`] say what follows from the definitions, and nothing of code. Each credit is the closed sum of RFC 9113,
 //!   6.9, and a live window belongs to an opened stream that its side has not ended. The streams of a connection are
 //!   those that its frames meet, each once, and the steps of a stream are its frames and the changes, in order. The
