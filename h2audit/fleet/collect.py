@@ -40,9 +40,17 @@ def read_job(named: Path, version: str) -> tuple[bytes, Answer] | None:
     answer: Answer = {"program": tasks.IMPORT, "version": version, "options": "collected", "tries": 1}
     answer |= {"seconds": float(status[2])} | file_of(named) | tasks.verdict(run_of(int(status[1]), named))
     if answer["outcome"] == "audited":
-        with open(named.with_suffix(".report"), "rb") as report:
-            answer |= tasks.kept(report) | ends_of(named, report)
+        answer |= report_of(named)
     return os.path.abspath(path), answer
+
+
+def report_of(named: Path) -> Answer:
+    """The report of a job, which may have lost it since."""
+    try:
+        with os.fdopen(tasks.opened(os.fsencode(named.with_suffix(".report"))), "rb") as report:
+            return tasks.kept(report) | ends_of(named, report)
+    except (tasks.Unread, OSError) as why:
+        return {"outcome": "failed", "status": None, "reason": f"bad-report: {tasks.named(why)}"}
 
 
 def ends_of(named: Path, report: BinaryIO) -> Answer:
@@ -62,7 +70,7 @@ def run_of(status: int, named: Path) -> programs.Run:
 def file_of(named: Path) -> Answer:
     answer: Answer = {}
     if found := re.fullmatch(r"(\d{1,18}) (\d{1,10})\.(\d{9})\s*", text_of(named.with_suffix(".file"))):
-        answer |= {"size": int(found[1]), "modified": int(found[2] + found[3])}
+        answer |= {"size": int(found[1]), "modified": tasks.nearest_time(int(found[2] + found[3]))}
     if found := re.match(r"([0-9a-f]{64})\b", text_of(named.with_suffix(".sha256"))):
         answer["sha256"] = found[1]
     return answer

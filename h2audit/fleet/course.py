@@ -10,8 +10,8 @@ import shutil
 import tempfile
 import time
 from collections import deque
-from collections.abc import Callable, Iterable
-from contextlib import suppress
+from collections.abc import Callable, Iterable, Iterator
+from contextlib import contextmanager, suppress
 from dataclasses import dataclass, field
 from functools import partial
 from typing import Any
@@ -24,6 +24,8 @@ from h2audit.fleet.walk import Found
 TICK_SECONDS = 0.5
 RESULT_SECONDS = 10.0
 LOOK_SECONDS = 2.0
+# How often a folder is removed that a worker still puts files into, and the seconds between.
+REMOVALS, REMOVAL_SECONDS = 20, 0.1
 NO_WORKER_SECONDS = 60.0
 # Tasks that wait at the workers, for each that runs; and large captures whose parts take room at once.
 AHEAD = 3
@@ -66,7 +68,7 @@ class Capture:
 
 @dataclass(frozen=True)
 class Limits:
-    """How often each task is tried, and in which shared folder imports and parts stand."""
+    """How often each task is tried, and in which folder, of this run alone, imports and parts stand."""
 
     tries: int
     scratch: str | None
@@ -80,33 +82,26 @@ class Course:
     """Captures on their way over the workers of a client, each entered once."""
 
     def __init__(self, client: Client, order: Order, limits: Limits, enter: Enter) -> None:
-        self.client, self.order, self.limits, self.enter = client, order, limits, enter
+        self.client, self.order, self.limits, self.enter = client, order.copy(), limits, enter
+        if limits.scratch is not None:
+            self.order["scratch"] = limits.scratch
         self.done: queue.SimpleQueue[Future] = queue.SimpleQueue()
         self.flying: dict[Future, Follow] = {}
         self.waiting: deque[Capture] = deque()
         self.held: deque[Capture] = deque()
         self.suspects: deque[Capture] = deque()
         self.on_way = self.large = 0
-        self.scratch: str | None = None
         self.threads, self.last_seen, self.next_look = 0, time.monotonic(), 0.0
 
     def run(self, captures: Iterable[Found], tick: Callable[[], bool]) -> bool:
         """Audits all captures. Ends early, with False, where a tick says so."""
         self.waiting.extend(Capture(found, tasks.parts_of(found.size, self.order)) for found in captures)
-        if self.limits.scratch is not None:
-            self.scratch = tempfile.mkdtemp(prefix="h2audit-fleet-", dir=self.limits.scratch)
-            self.order = self.order.copy()
-            self.order["scratch"] = self.scratch
-        try:
-            while tick():
-                self.fill()
-                if not self.on_way:
-                    return True
-                self.take()
-            return False
-        finally:
-            if self.scratch:
-                shutil.rmtree(self.scratch, ignore_errors=True)
+        while tick():
+            self.fill()
+            if not self.on_way:
+                return True
+            self.take()
+        return False
 
     def fill(self) -> None:
         """Begins as many captures as keep all workers busy; of large ones a few, since their parts take room."""
@@ -174,11 +169,11 @@ class Course:
             return
         self.large += 1
         parts = 0 if capture.is_imported else capture.parts
-        if self.scratch is None:
+        if self.limits.scratch is None:
             self.submit(capture, self.after_whole, large.in_parts, path, parts, self.order)
             return
         try:
-            capture.folder = tempfile.mkdtemp(dir=self.scratch)
+            capture.folder = tempfile.mkdtemp(dir=self.limits.scratch)
         except OSError as why:
             self.after_whole(capture, {"outcome": "failed", "status": None, "reason": tasks.named(why)})
             return
@@ -349,6 +344,28 @@ class Course:
         if capture.folder:
             shutil.rmtree(capture.folder, ignore_errors=True)
         capture.futures, capture.folder, capture.divided = set(), None, {}
+
+
+@contextmanager
+def scratch_in(shared: str | None) -> Iterator[str | None]:
+    """A folder of this run alone in a shared one. Workers have to end before it does: they would put more into it."""
+    if shared is None:
+        yield None
+        return
+    folder = tempfile.mkdtemp(prefix="h2audit-fleet-", dir=shared)
+    try:
+        yield folder
+    finally:
+        remove(folder)
+
+
+def remove(folder: str) -> None:
+    """Removes a folder, again where a program of a worker that was ended still made a file in it meanwhile."""
+    for _ in range(REMOVALS):
+        shutil.rmtree(folder, ignore_errors=True)
+        if not os.path.lexists(folder):
+            return
+        time.sleep(REMOVAL_SECONDS)
 
 
 def folder_of_parts(capture: Capture) -> str:

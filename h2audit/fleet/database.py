@@ -18,6 +18,7 @@ from pathlib import Path
 from typing import Any
 
 from h2audit.fleet import names
+from h2audit.fleet.answers import NAMED, UNNAMED
 from h2audit.fleet.rows import HTTP2, REQUESTS, Row, Rows, Told, rows_of, unpacked
 from h2audit.fleet.verdicts import Verdicts
 from h2audit.report.blame import KINDS
@@ -29,6 +30,8 @@ APPLICATION = 1748123206
 # Those that h2audit-why tells of, and those of reports.
 TOLD = (REQUESTS, "directions", "certainty")
 TABLES = (*TOLD, "passed_over", "unopened", "findings", "stalls", "connections")
+# What of a request is entered where names are asked for alone.
+OF_NAMES = ("name", "method", "request_path", "authority", "status", "grpc_status")
 HEADS = ("records", "segments", "snapped", "not_ipv4", "fragments", "not_tcp", "refused")
 COLUMNS = (
     "path",
@@ -135,6 +138,34 @@ class Database:
         with self.transaction():
             words = [(names.word_of(path),) for path in paths]
             self.base.executemany("DELETE FROM captures WHERE path = ? AND outcome = 'failed'", words)
+
+    def forget_names(self, requests: str | None) -> None:
+        """Takes the names of all requests away, or where none are wanted the requests themselves."""
+        with self.transaction():
+            if requests is None:
+                for table in TOLD:
+                    self.base.execute(f"DELETE FROM {table}")
+                self.base.execute(f"UPDATE captures SET {REQUESTS} = NULL WHERE {REQUESTS} IS NOT NULL")
+            elif self.has_names():
+                self.blank_names()
+            # A later run that wants more audits them anew.
+            for asked in (NAMED, UNNAMED) if requests is None else (NAMED,):
+                before, after = f" {REQUESTS} {asked}", f" {REQUESTS} {requests or 'taken away'}"
+                change = "UPDATE captures SET options = replace(options, ?, ?) WHERE options LIKE '%' || ?"
+                self.base.execute(change, (before, after, before))
+
+    def has_names(self) -> bool:
+        some = " OR ".join(f"{column} IS NOT NULL" for column in OF_NAMES)
+        return self.base.execute(f"SELECT 1 FROM {REQUESTS} WHERE {some} LIMIT 1").fetchone() is not None
+
+    def blank_names(self) -> None:
+        """Writes all requests anew without names: an update leaves bytes of them in pages from which it moves rows."""
+        columns = [row[1] for row in self.base.execute(f"PRAGMA table_info({REQUESTS})")]
+        blank = ", ".join("NULL" if column in OF_NAMES else column for column in columns)
+        self.base.execute(f"CREATE TEMP TABLE unnamed AS SELECT {blank} FROM {REQUESTS}")
+        self.base.execute(f"DELETE FROM {REQUESTS}")
+        self.base.execute(f"INSERT INTO {REQUESTS} SELECT * FROM unnamed")
+        self.base.execute("DROP TABLE unnamed")
 
     def enter(self, path: bytes, answer: dict[str, Any]) -> dict[str, Any]:
         """Enters a capture with all that its report says; what was there of it goes. Answers with the row."""

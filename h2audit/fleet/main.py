@@ -13,9 +13,10 @@ from types import FrameType
 from h2audit.fleet import collect, names, tasks
 from h2audit.fleet.answers import NAMED, NO_REQUESTS
 from h2audit.fleet.carrier import Client
-from h2audit.fleet.course import Capture, Course, Limits, Lost
+from h2audit.fleet.course import Capture, Course, Limits, Lost, scratch_in
 from h2audit.fleet.database import Database, Unusable
 from h2audit.fleet.progress import Progress
+from h2audit.fleet.rows import REQUESTS
 from h2audit.fleet.verdicts import FAULTS, Verdicts
 from h2audit.fleet.walk import Found, NotThere, Walk, found_in
 from h2audit.fleet.words import MEGABYTE, Asked, read_words
@@ -97,12 +98,16 @@ def audited(asked: Asked, interruption: Interruption) -> int:
     try:
         interruption.is_asked_for = True
         database.forget(walk.folders.values())
-        with workers as client:
+        if asked.requests != NAMED:
+            database.forget_names(asked.requests)
+        with scratch_in(shared_of(asked)) as scratch, workers as client:
             if not has_worker(client, lambda: bool(interruption.signal)):
                 return interruption.ended(GOES_ON)
             version = version_of(client)
             captures = missing_in(database, walk, version, options)
-            return run(asked, client, database, walk, captures, {"version": version, "options": options}, interruption)
+            limits = Limits(asked.retries + 1, scratch)
+            more = {"version": version, "options": options}
+            return run(asked, client, limits, database, walk, captures, more, interruption)
     except (NoWorkers, Lost) as why:
         return interruption.ended(GOES_ON) if interruption.signal else failed(NAME, MISSING, str(why))
     finally:
@@ -112,6 +117,7 @@ def audited(asked: Asked, interruption: Interruption) -> int:
 def run(
     asked: Asked,
     client: Client,
+    limits: Limits,
     database: Database,
     walk: Walk,
     captures: list[Found],
@@ -136,8 +142,6 @@ def run(
         "split_above": asked.split_above * MEGABYTE,
         "requests": asked.requests,
     }
-    shared = asked.scratch or (tempfile.gettempdir() if asked.scheduler is None else None)
-    limits = Limits(asked.retries + 1, os.path.abspath(shared) if shared else None)
     course = Course(client, order, limits, enter)
     is_whole = course.run(captures, tick)
     progress.clear()
@@ -145,6 +149,12 @@ def run(
     standing = len(walk.captures) - len(captures)
     print(verdicts.summary() + f"; {standing:,} were there" * bool(standing) + passed_over(walk), flush=True)
     return status_of(verdicts, walk, asked) if is_whole else interruption.ended(GOES_ON)
+
+
+def shared_of(asked: Asked) -> str | None:
+    """The folder that all workers share, if there is one."""
+    shared = asked.scratch or (tempfile.gettempdir() if asked.scheduler is None else None)
+    return os.path.abspath(shared) if shared else None
 
 
 def passed_over(walk: Walk) -> str:
@@ -157,7 +167,7 @@ def options_of(asked: Asked) -> str:
     for key in asked.keys:
         with open(key, "rb") as file:
             digest.update(hashlib.sha256(file.read()).digest())
-    requests = f" requests {asked.requests}" * bool(asked.requests)
+    requests = f" {REQUESTS} {asked.requests}" * bool(asked.requests)
     return f"import {asked.imports}" + f" keys {digest.hexdigest()}" * bool(asked.keys) + requests
 
 
@@ -169,7 +179,8 @@ def missing_in(database: Database, walk: Walk, version: str, options: str) -> li
 
     def stands(found: Found) -> bool:
         outcome, reason, *row = standing.get(names.word_of(found.path), ("failed", None))
-        has_failed = outcome == "failed" or NO_REQUESTS in (reason or "")
+        # A database that others wrote to may have bytes for a reason.
+        has_failed = outcome == "failed" or NO_REQUESTS in str(reason)
         return not has_failed and row == [found.size, found.modified, version, options]
 
     return [found for found in walk.in_order() if not stands(found)]

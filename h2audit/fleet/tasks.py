@@ -35,6 +35,9 @@ TOO_LARGE = "too-large"
 OF_ANOTHER_FORM = ("bad-magic", "bad-version", "link-type")
 WRITE_FAILED = "write-failed"
 NOTHING_COULD_BE_READ = "no connection could be read"
+# The least and the most nanoseconds since 1970 that a column of the database holds: from 1677 to 2262.
+FIRST_TIME, LAST_TIME = -(1 << 63), (1 << 63) - 1
+VERSION_SECONDS = 60
 # What stands in no other line of a report than that of such a connection, or of such a stall.
 HTTP2, NOT_HTTP2, OPEN_STALL = b" http2 frames ", b" not-http2\n", b" open\n"
 
@@ -200,7 +203,12 @@ def while_unchanged(file: int, work: Callable[[str], Answer]) -> Answer:
 def state_of(file: int) -> tuple[int, int]:
     """Size, and the time of the last change."""
     found = os.fstat(file)
-    return found.st_size, found.st_mtime_ns
+    return found.st_size, nearest_time(found.st_mtime_ns)
+
+
+def nearest_time(nanos: int) -> int:
+    """A time, or where no column holds it the nearest that one does."""
+    return max(FIRST_TIME, min(nanos, LAST_TIME))
 
 
 def by_program(words: list[str], file: int, order: Order, is_fed: bool = True) -> Answer:
@@ -323,7 +331,9 @@ def version() -> str:
     """What h2audit says of itself on this worker."""
     if not programs.is_there(AUDIT):
         return ""
-    said = subprocess.run(
-        [AUDIT, "--version"], capture_output=True, text=True, errors="replace", timeout=60, check=False
-    )
+    words = [AUDIT, "--version"]
+    try:
+        said = subprocess.run(words, capture_output=True, text=True, errors="replace", timeout=VERSION_SECONDS)
+    except subprocess.TimeoutExpired:
+        raise TimeoutError(f"{' '.join(words)} did not end within {VERSION_SECONDS} seconds") from None
     return (said.stdout.splitlines() or ["unknown"])[0]

@@ -10,7 +10,7 @@ from collections import deque
 from collections.abc import Iterable, Iterator
 from dataclasses import dataclass, field
 
-from h2audit.fleet import sniff
+from h2audit.fleet import sniff, tasks
 
 # Names that captures have, with the numbers that rotation adds: a.pcap, a.pcap3, a.pcapng.gz, a.cap.
 USUAL_NAME = re.compile(rb"\.(?:pcap|pcapng|cap|ntar|dmp)[0-9]*(?:\.(?:gz|zst|xz|lz4|bz2))?$")
@@ -99,10 +99,10 @@ class Walk:
         self.met += 1
         try:
             found = os.stat(path)
-        except OSError:
+        except (OSError, ValueError):  # a name with a zero byte, which a job may have, is that of no file
             self.captures[path] = Found(path, None, None)
         else:
-            self.captures[path] = Found(path, found.st_size, found.st_mtime_ns)
+            self.captures[path] = Found(path, found.st_size, tasks.nearest_time(found.st_mtime_ns))
 
     def in_order(self) -> list[Found]:
         """The largest first, so that none is begun when the others are done."""

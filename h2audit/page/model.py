@@ -24,6 +24,8 @@ from h2audit.report.notes import Note, Pairing
 
 # The credit of a connection's window before any line (RFC 9113, 6.9.2).
 FIRST_CONNECTION_CREDIT = 65535
+# Lists of frames and times hold numbers below it.
+PAST_NUMBERS = 1 << 63
 
 
 @dataclass(slots=True)
@@ -88,6 +90,8 @@ class Connection:
         return [note for note in self.notes if note.finding.kind in STALL_BEGIN]
 
     def add(self, finding: Finding) -> None:
+        if max(finding.frame, finding.time) >= PAST_NUMBERS:
+            raise OverflowError
         if not self.has_findings:
             self.start, self.has_findings = finding.time, True
         if finding.frame < self.last_frame:

@@ -1,5 +1,6 @@
 """The picture: a panel for each window, with its credit over time, its stalls and its faults."""
 
+import warnings
 from collections.abc import Sequence
 from typing import TYPE_CHECKING, BinaryIO
 
@@ -60,7 +61,7 @@ def draw(windows: list[Window], left_out: int, by_frame: bool, title: str = "") 
         draw_faults(panel, window, window.faults + window.connection.other_faults * is_first, axis)
         panel.set_title(connection_name(window.connection) * is_first + window.name, loc="left", fontsize=9)
     if title:
-        figure.suptitle(title.replace("$", r"\$"), fontsize=11)
+        figure.suptitle(plain(title), fontsize=11)
     draw_legend(panels[0], windows)
     note = f"\n{left_out} more windows: choose with --connection, --stream or --panels" if left_out else ""
     panels[-1].set_xlabel(axis.label + note, fontsize=8)
@@ -68,7 +69,12 @@ def draw(windows: list[Window], left_out: int, by_frame: bool, title: str = "") 
 
 
 def connection_name(one: Connection) -> str:
-    return f"connection {one.number}: client {one.client}, server {one.server}\n"
+    return plain(f"connection {one.number}: client {one.client}, server {one.server}\n")
+
+
+def plain(text: str) -> str:
+    """The text, of which matplotlib is to read no part as a formula."""
+    return text.replace("$", r"\$")
 
 
 def draw_legend(panel: "Axes", windows: list[Window]) -> None:
@@ -218,5 +224,7 @@ def save(figure: "Figure", target: BinaryIO, form: str) -> None:
     import matplotlib
 
     metadata = {"Date": None} if form == "svg" else None
-    with matplotlib.rc_context({"svg.hashsalt": "h2audit", "svg.fonttype": "none"}):
+    with matplotlib.rc_context({"svg.hashsalt": "h2audit", "svg.fonttype": "none"}), warnings.catch_warnings():
+        # Of letters that its font does not have; another one may show them.
+        warnings.simplefilter("ignore")
         figure.savefig(target, format=form, metadata=metadata, dpi=120)

@@ -107,6 +107,8 @@ def opened(path: str) -> Iterator[BinaryIO]:
 def hold_standard_files() -> None:
     """Puts something in the place of standard files that are closed, so that no other file gets their number. It does
     not let them be used: reading or writing fails, but for messages, which are lost.
+
+    Letters that the terminal's encoding has not are written as escapes, since captures and names of files bring any.
     """
     for number, flags in enumerate((os.O_WRONLY, os.O_RDONLY, os.O_WRONLY)):
         try:
@@ -115,6 +117,9 @@ def hold_standard_files() -> None:
             os.open(os.devnull, flags)
     sys.stdout = sys.stdout or open(1, "w", closefd=False)
     sys.stderr = sys.stderr or open(2, "w", closefd=False)
+    for file in (sys.stdout, sys.stderr):
+        if isinstance(file, io.TextIOWrapper):
+            file.reconfigure(errors="backslashreplace")
 
 
 def run(main: Callable[[list[str]], int]) -> NoReturn:

@@ -16,15 +16,16 @@ from h2audit.report.command import REFUSED, Failed
 NUMBER = r"\d{1,20}"
 LONGEST_LINE = 4096
 SIDE = "(client|server)"
+ENDPOINT = "([!-~]+)"
 
 CAPTURE = re.compile(
     rf"capture records ({NUMBER}) segments ({NUMBER}) snapped ({NUMBER}) not-ipv4 ({NUMBER}) fragments ({NUMBER}) "
     rf"not-tcp ({NUMBER}) refused ({NUMBER})"
 )
 PASSED_OVER = re.compile(rf"record ({NUMBER}) (fragment|cut|refused [a-z0-9-]+)")
-UNOPENED = re.compile(rf"unopened (\S+) (\S+) segments ({NUMBER})")
+UNOPENED = re.compile(rf"unopened {ENDPOINT} {ENDPOINT} segments ({NUMBER})")
 CONNECTION = re.compile(
-    rf"connection ({NUMBER}) client (\S+) server (\S+) record ({NUMBER}) "
+    rf"connection ({NUMBER}) client {ENDPOINT} server {ENDPOINT} record ({NUMBER}) "
     rf"(?:(http2) frames ({NUMBER})|(not-http2|no-preface|no-handshake|refused [a-z0-9-]+(?: [a-z0-9-]+)?))"
 )
 FLOW = re.compile(rf"flow {SIDE} bytes ({NUMBER}) gap (none|{NUMBER}) tail ({NUMBER})(?: end ([a-z0-9-]+))?")
@@ -33,6 +34,11 @@ FINDING = re.compile(
     rf"frame ({NUMBER}) record ({NUMBER}) time ({NUMBER}) {SIDE} ([a-z-]+) stream ({NUMBER}) value (-?{NUMBER})"
 )
 STALL = re.compile(rf"stall {SIDE} stream ({NUMBER}) from ({NUMBER}) (?:open|to ({NUMBER}) nanos (-?{NUMBER}))")
+# A line of credit by itself; these numbers are held in 64 bits.
+CREDIT = re.compile(
+    rf"frame (\d{{1,18}}) record {NUMBER} time {NUMBER} {SIDE} (?:connection|stream)-credit stream (\d{{1,18}}) "
+    r"value (-?\d{1,18})[\r\n]*".encode()
+)
 AUDIT = re.compile(rf"audit (?:of all frames|stopped at frame ({NUMBER}))")
 
 
@@ -141,26 +147,31 @@ TakesCredit = Callable[[int, bytes, int, int], None]
 def read_lines(report: BinaryIO, take_credit: TakesCredit | None = None) -> Iterator[Line]:
     """What each line of a report says; Refused with the first that is none.
 
-    With --frames nearly all lines are of credit. Where they are handed on by themselves, they are taken by their words,
-    as of a report that this run made, at a third of the time.
+    With --frames nearly all lines are of credit. Where they are handed on by themselves, that takes half of the time.
     """
     number = 0
     has_connection = False
     while raw := report.readline(LONGEST_LINE + 1):
         number += 1
         if take_credit and has_connection and b"-credit stream " in raw:
-            words = raw.split()
-            take_credit(int(words[1]), words[6], int(words[9]), int(words[11]))
+            if not (credit := CREDIT.fullmatch(raw)):
+                raise no_line(number)
+            frame, side, stream, value = credit.groups()
+            take_credit(int(frame), side, int(stream), int(value))
             continue
         text = text_of(raw)
         said = read_line(text) if number > 1 else first_line(text)
         if said is None or not (has_connection or type(said) not in PARTS_OF_CONNECTION):
-            raise Refused(f"line {number} is no line of a report")
+            raise no_line(number)
         has_connection = has_connection or type(said) is Opening
         if not isinstance(said, Fragments):  # it is for people
             yield said
     if not number:
         raise Refused("not a report of h2audit")
+
+
+def no_line(number: int) -> Refused:
+    return Refused(f"line {number} is no line of a report")
 
 
 PARTS_OF_CONNECTION = (Flow, Fragments, Finding, Stall, Audited)

@@ -11,7 +11,7 @@ from h2audit.why.audit import Audit, read_audits
 from h2audit.why.capture import CLIENT, SIDES, Broken, Made, Opened
 from h2audit.why.causes import Causes
 from h2audit.why.certainty import fault_said
-from h2audit.why.course import Course, Courses
+from h2audit.why.course import NEVER, Course, Courses
 from h2audit.why.doubts import doubts_of, limits_of, not_audited
 from h2audit.why.endings import ended_of, notes_of, settings_said, signals_of
 from h2audit.why.frames import Frames, frames_of
@@ -153,10 +153,22 @@ def connection_said(outcome: Outcome, audit: Audit, opened: Opened, course: Cour
         return Connection(said)
     if len(frames) != audit.opening.frames:
         raise Broken(f"connection {number} has {audit.opening.frames} frames by the report, and {len(frames)} here")
+    if not has_places(audit, len(frames), len(sources.made.times)):
+        raise Broken(f"the report is not about it: connection {number} has places that are not in the capture")
     told = Reader(frames, wanted.names).read()
     seen = seen_of(sources, opened, frames, told, audit, course)
     fill(said, seen)
     return Connection(said, seen)
+
+
+def has_places(audit: Audit, frames: int, records: int) -> bool:
+    """Whether all frames, records and times that the report names are there; it may have been changed since."""
+    stalls = [stall for some in audit.stalls.values() for stall in some]
+    findings = audit.faults + [one for stall in stalls for one in (stall.begin, stall.end) if one]
+    stopped = [audit.stopped_at] if audit.stopped_at is not None else []
+    return all(0 < frame <= frames for frame in [*stopped, *(one.frame for one in findings)]) and all(
+        one.record < records and one.time < NEVER for one in findings
+    )
 
 
 def seen_of(sources: Sources, opened: Opened, frames: Frames, told: Told, audit: Audit, course: Course) -> Seen:

@@ -8,6 +8,7 @@ from h2audit.report.command import IO_FAILED, Failed
 from h2audit.why.capture import SIDES
 
 FIRST_LINE = "h2audit-course 1"
+NEVER = (1 << 63) - 1
 
 
 class NoCourse(Failed):
@@ -101,7 +102,14 @@ class Courses:
 def place_of(words: list[str]) -> Place:
     if words[0:5:2] != ["file", "packet", "time"]:
         raise ValueError
-    return Place(int(words[1]), int(words[3]), int(words[5]))
+    return Place(int(words[1]), int(words[3]), time_of(words[5]))
+
+
+def time_of(word: str) -> int:
+    """A time is held in 64 bits."""
+    if not 0 <= int(word) < NEVER:
+        raise ValueError
+    return int(word)
 
 
 def side_of(word: str) -> int:
@@ -141,9 +149,6 @@ def stretch(words: list[str]) -> tuple[Place, Place | None]:
     return place_of(words[1:7]), None if words[8:] == ["none"] else place_of(words[8:])
 
 
-NEVER = (1 << 63) - 1
-
-
 def take_window_zero(course: Course, words: list[str]) -> None:
     """A side's receive window of zero holds what the other side sends."""
     first, last = stretch(words[1:])
@@ -159,7 +164,7 @@ def take_hole(course: Course, words: list[str]) -> None:
 
 def take_resent(course: Course, words: list[str]) -> None:
     place = place_of(words[1:7])
-    after = int(words[10]) if len(words) > 10 else place.time
+    after = time_of(words[10]) if len(words) > 10 else place.time
     course.held.append(Held(after, place.time, side_of(words[0]), "resent", place, place))
 
 

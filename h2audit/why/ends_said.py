@@ -47,12 +47,17 @@ def of_connection(both: Both, page: Page) -> Iterator[str]:
     if not stalls:
         yield "  no side used up its credit"
     most = len(stalls) if page.is_all else MOST_STALLS
-    names = [{request.stream: request.name for request in end.said.requests} for end in both.ends]
+    names = names_by_stream(both)
     for one in stalls[:most]:
         name = names[one.stall.side].get(one.stall.stream)
         yield from page.folded(f"  {stall_words(one, name, page)}", "      ")
     if len(stalls) > most:
         yield f"  {count(len(stalls) - most, 'stall')} more: --all"
+
+
+def names_by_stream(both: Both) -> list[dict[int, str | None]]:
+    """The names of the requests at each end."""
+    return [{request.stream: request.name for request in end.said.requests} for end in both.ends]
 
 
 def head_of(both: Both) -> str:
@@ -100,9 +105,9 @@ def by_place(found: Joined, page: Page) -> list[dict[Place, list[str]]]:
         for side, end in enumerate(both.ends):
             faults = [fault_words(both, one) for one in faults_of(both) if one.shown_by in ("both", SIDES[side])]
             said[side][end.said.number, None] = [head_of(both), *doubts(both), *faults, *lost_words(both)]
+        names_of_both = names_by_stream(both)  # once for all stalls, of which each stream may have one
         for stall in stalls_of(both):
-            of_sender, requests = said[stall.stall.side], both.ends[stall.stall.side].said.requests
-            names = {request.stream: request.name for request in requests}
+            of_sender, names = said[stall.stall.side], names_of_both[stall.stall.side]
             stream = stall.stall.stream if stall.stall.stream in names else None
             place = both.ends[stall.stall.side].said.number, stream
             of_sender.setdefault(place, []).append(stall_words(stall, names.get(stall.stall.stream), page))

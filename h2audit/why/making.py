@@ -8,6 +8,7 @@ import subprocess
 import sys
 import tempfile
 from collections.abc import Iterator, Sequence
+from functools import partial
 from pathlib import Path
 from typing import IO
 
@@ -23,6 +24,8 @@ BUILT = {
     "h2audit-import": IN_RUST / "h2audit-import",
 }
 MOST_SAID = 1 << 16
+# How long a program may take to remove its files.
+MOST_SECONDS = 10
 # What an import leaves in a folder, and the report of an audit of what it made.
 MADE, MAP, COURSE, REPORT = (f"imported.{kind}" for kind in ("pcap", "map", "course", "report"))
 VARIABLES = {name: name.upper().replace("-", "_") for name in (*BUILT, "h2audit-why")}
@@ -61,12 +64,25 @@ def running(words: Sequence[str], output: Path | None = None) -> "Iterator[Runni
     with contextlib.ExitStack() as stack:
         out = stack.enter_context(open(output or os.devnull, "wb"))
         said = stack.enter_context(tempfile.TemporaryFile())
-        child = subprocess.Popen(words, stdout=out, stderr=said)
+        before = signal.pthread_sigmask(signal.SIG_BLOCK, SIGNALS)
+        stack.callback(signal.pthread_sigmask, signal.SIG_SETMASK, before)
+        unblock = partial(signal.pthread_sigmask, signal.SIG_SETMASK, before)
+        child = subprocess.Popen(words, stdout=out, stderr=said, preexec_fn=unblock)
         try:
+            unblock()
             yield Running(child, said)
         finally:
-            child.kill()
-            child.wait()
+            end(child)
+
+
+def end(child: subprocess.Popen[bytes]) -> None:
+    """Ends a program that may hold plaintext in files of its own: only a signal that it knows lets it remove them."""
+    try:
+        child.terminate()
+        child.wait(MOST_SECONDS)
+    except subprocess.TimeoutExpired:
+        child.kill()
+        child.wait()
 
 
 class Running:

@@ -80,6 +80,8 @@ class Origin:
 
     def packet(self, record: int) -> tuple[int, int]:
         """The file and the packet of the original that made a record."""
+        if record >= len(self.record_packets):
+            raise NoMap(f"the map of h2audit-import has no record {record}")
         return self.record_files[record], self.record_packets[record]
 
 
@@ -90,6 +92,6 @@ def read_map(lines: Iterable[str]) -> Origin:
     for line in rest:
         try:
             origin.take(line)
-        except (ValueError, IndexError):
+        except (ValueError, IndexError, OverflowError):
             raise NoMap("what h2audit-import wrote is no map of it") from None
     return origin

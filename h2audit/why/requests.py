@@ -1,7 +1,9 @@
 """The requests of a connection: their names, lives, ends and shares."""
 
+import sys
 from collections.abc import Iterator
 from dataclasses import dataclass
+from functools import lru_cache
 from itertools import chain
 
 from h2audit.why.answer import At, Cause, DirectionSaid, Ended, Request
@@ -60,11 +62,16 @@ def give_names(request: Request, stream: Stream, has_query: bool) -> None:
     fields = stream.request
     path = text_of(fields.get(b":path"))
     if path is not None and not has_query:
-        path = path.partition("?")[0]
+        path = sys.intern(path.partition("?")[0])
     request.method, request.authority = text_of(fields.get(b":method")), text_of(fields.get(b":authority"))
     request.path = path
-    named = [word for word in (request.method, path if path is not None else request.authority) if word]
-    request.name = escaped(" ".join(named)) or None
+    request.name = name_of(request.method, path if path is not None else request.authority)
+
+
+@lru_cache(maxsize=1024)
+def name_of(method: str | None, target: str | None) -> str | None:
+    """The same object for the same words: a long name may stand in many requests that refer to it by a byte."""
+    return sys.intern(escaped(" ".join(word for word in (method, target) if word))) or None
 
 
 def give_statuses(request: Request, stream: Stream) -> None:

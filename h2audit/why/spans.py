@@ -70,6 +70,7 @@ class Course:
         self.marked = sorted(marked)
         self.begins = array("q", (span.begin for span in self.marked))
         self.sums = [self.sums_of(kind) for kind in (CONNECTION_STALL, TCP, SENDING, IDLE)]
+        self.runs = self.runs_of()
 
     def sums_of(self, kind: int) -> list[int]:
         """What of a kind lies before each marked span; what lies between two of them is free."""
@@ -79,6 +80,17 @@ class Course:
             free = [after.begin - span.end for span, after in zip(self.marked, self.marked[1:])]
             lengths = [one if (one <= self.pause) == (kind == SENDING) else 0 for one in free]
         return [0, *accumulate(lengths)]
+
+    def runs_of(self) -> "array[int]":
+        """For each marked span the last one of its run: spans of TCP with longer pauses between them. Within a frame
+        all of a run is TCP, which the spans of many directions would else go along, each one by one.
+        """
+        runs = array("q", range(len(self.marked)))
+        for at in reversed(range(len(runs) - 1)):
+            span, after = self.marked[at], self.marked[at + 1]
+            if span.kind == after.kind == TCP and after.begin - span.end > self.pause:
+                runs[at] = runs[at + 1]
+        return runs
 
     def free(self, begin: int, end: int) -> int:
         """A stretch in which nothing holds back: a pause as between packets, or one in which nothing was sent."""
@@ -112,9 +124,10 @@ class Course:
         if until < end:
             shares[self.free(until, end)] += end - until
 
-    def spans(self, begin: int, end: int) -> Iterator[Span]:
-        """The same, one span after the other."""
+    def spans(self, begin: int, end: int, is_within: bool = False) -> Iterator[Span]:
+        """The same, one span after the other; within a frame one for each run."""
         at = max(bisect_right(self.begins, begin) - 1, 0)
+        last = bisect_right(self.begins, end - 1) - 1 if is_within else -1
         while begin < end and at < len(self.marked):
             span = self.marked[at]
             if span.begin >= end:
@@ -123,7 +136,9 @@ class Course:
                 yield Span(begin, span.begin, self.free(begin, span.begin))
                 begin = span.begin
             if span.end > begin:
-                until = min(span.end, end)
+                if is_within:
+                    at = min(self.runs[at], last)
+                until = min(self.marked[at].end, end)
                 yield Span(begin, until, span.kind)
                 begin = until
             at += 1
@@ -192,7 +207,7 @@ class Life:
             return
         seen = min(end, max(begin, course.unseen))
         if self.is_told:
-            for span in self.course.spans(begin, seen):
+            for span in self.course.spans(begin, seen, self.is_within):
                 self.put(span.begin, span.end, long if span.kind == IDLE else span.kind)
                 if not self.is_told:  # the rest of this stretch is measured
                     begin = span.end

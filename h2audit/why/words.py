@@ -89,4 +89,6 @@ def printable_list(names: Sequence[str]) -> str:
 
 def escaped(text: str) -> str:
     """What a terminal would act on, or what is no text, as an escape."""
+    if text.isprintable():  # nearly always, and much faster than letter by letter
+        return text
     return "".join(letter if letter.isprintable() else ascii(letter)[1:-1] for letter in text)

@@ -164,6 +164,22 @@ class Misfortunes(OnMachine):
         self.assertEqual(self.run_fleet("--resume"), 1)
         self.assertGreater(self.told(), 0)
 
+    def test_interrupted_import(self) -> None:
+        """Ctrl-C while imports put one file after the other into the folder of the run: none is left."""
+        self.machine.script(
+            "h2audit-import",
+            'while [ "$1" != -o ]; do shift; done\n'
+            'while :; do n=$(((n + 1) % 200)); : > "$2.$n"; [ $n != 199 ] || : > "$FLEET_ORDERS.at"; done\n',
+        )
+        for number in (signal.SIGINT, signal.SIGTERM):
+            (self.machine.folder / "orders.json.at").unlink(missing_ok=True)
+            child = self.machine.start("--jobs", "2", "--requests", "--resume", "captures", start_new_session=True)
+            until((self.machine.folder / "orders.json.at").exists)
+            os.killpg(child.pid, number)
+            _, error = child.communicate(timeout=PATIENCE)
+            self.assertEqual((child.returncode, error.count("\n")), (128 + number, 1), error)
+            self.check_nothing_left()
+
     def test_refused(self) -> None:
         """Files that are no capture are refused as ever, and have no requests."""
         for name, octets in (("empty.pcap", b""), ("text.pcap", b"no capture at all, but text of some length")):
@@ -251,6 +267,41 @@ class Names(OnMachine):
             self.assertEqual(self.machine.ask("SELECT requests FROM captures"), [(2000 if words else None,)])
             left = sorted(path.name for path in self.machine.folder.iterdir())
             self.assertEqual([name for name in left if "sqlite" in name], ["audits.sqlite"])
+
+    def test_taken_away_of_others(self) -> None:
+        """So it is with captures that are not named again, and with names are audited anew when they are."""
+        fields = [
+            block((b":method", b"GET"), (b":path", b"/secret-name" * length), (b":authority", b"secret.example"))
+            for length in (1, 9, 3, 10, 7, 2)
+        ]
+        named = self.capture_of("a.pcap", [frame(1, 5, one, fields[one % 11 % 6]) for one in range(1, 4001, 2)])
+        self.add(EXAMPLES[1])
+        other = self.machine.captures / f"{EXAMPLES[1]}.pcap"
+        columns = "name, method, request_path, authority, requests.status, grpc_status"
+        life = "connection, stream, nanos, cause, text"
+        for words in (("--unnamed-requests",), ()):
+            self.assertEqual(self.run_fleet("--resume"), 1)
+            self.assertIn(b"secret", self.machine.database.read_bytes())
+            before = self.machine.ask(
+                f"SELECT {life} FROM requests JOIN captures ON id = capture WHERE path LIKE '%/a.%'"
+            )
+            status, said, error = self.machine.run("--jobs", "1", "--resume", *words, other)
+            self.assertEqual((status, error), (1, ""), said)
+            self.assertNotIn(b"secret", self.machine.database.read_bytes())
+            self.assertEqual(self.machine.ask(f"SELECT DISTINCT {columns} FROM requests"), [(None,) * 6] * len(words))
+            after = self.machine.ask(
+                f"SELECT {life} FROM requests JOIN captures ON id = capture WHERE path LIKE '%/a.%'"
+            )
+            self.assertEqual(after, before if words else [])
+            self.assertEqual(
+                self.machine.ask("SELECT requests FROM captures WHERE path LIKE '%/a.%'"), [(2000 if words else None,)]
+            )
+            if not words:
+                self.assertEqual([self.machine.ask(f"SELECT * FROM {table}") for table in NEW_TABLES], [[], [], []])
+            self.assertEqual(self.machine.ask("PRAGMA foreign_key_check") + self.machine.ask("PRAGMA integrity_check"),
+                             [("ok",)])  # fmt: skip
+            self.assertEqual(self.machine.run("--resume", "--requests", named)[0], 0)
+            self.assertIn(b"secret", self.machine.database.read_bytes())
 
     def test_older(self) -> None:
         """A database of the version before is refused by name, and is not changed."""

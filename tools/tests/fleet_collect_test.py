@@ -142,6 +142,36 @@ class Collected(unittest.TestCase):
         for table in ("connections", "findings", "stalls", "unopened", "passed_over"):
             self.assertEqual(self.machine.ask(f"SELECT * FROM {table}"), [])
 
+    def test_odd_jobs(self) -> None:
+        """A job without its report, one with a folder or a pipe in its place, one of a name that no file has, and one
+        of a time that no column holds: all others stand.
+        """
+        sample = self.machine.samples[0]
+        report = sample.report.encode()
+        for name in ("a", "b", "c", "d", "e", "f"):
+            self.job(name, f"{sample.status} 1\n", report)
+        for name in ("a", "b", "c"):
+            (self.jobs / f"{name}.report").unlink()
+        (self.jobs / "b.report").mkdir()
+        os.mkfifo(self.jobs / "c.report")
+        (self.jobs / "d.path").write_bytes(b"/captures/d.pcap\0")
+        (self.jobs / "e.file").write_text("10 9999999999.999999999\n")
+        status, said, error = self.machine.run("--collect", "jobs")
+        wanted = "6 captures: 3 with faults, 3 in which nothing was audited (3 failed)\n"
+        self.assertEqual((status, said, error), (3, wanted, ""))
+        rows = self.machine.ask(f"SELECT {PATHS}, outcome, reason, size, modified FROM captures ORDER BY path")
+        self.assertEqual(
+            rows,
+            [
+                ("a", "failed", "bad-report: not-there", None, None),
+                ("b", "failed", "bad-report: not-a-file", None, None),
+                ("c", "failed", "bad-report: not-a-file", None, None),
+                ("d%00", "audited", None, None, None),
+                ("e", "audited", None, 10, (1 << 63) - 1),
+                ("f", "audited", None, None, None),
+            ],
+        )
+
 
 if __name__ == "__main__":
     unittest.main()

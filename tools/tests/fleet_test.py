@@ -15,8 +15,10 @@ import subprocess
 import threading
 import unittest
 from typing import ClassVar
+from unittest import mock
 
 from h2audit.fleet import database, names, pool, programs, tasks
+from h2audit.fleet import workers as of_run
 from h2audit.report import VERSION
 from tools.tests.fleet_captures import (
     PATIENCE,
@@ -466,6 +468,31 @@ class Writer(OneCapture):
                 database.Database(str(self.machine.database), True)
             self.assertEqual(self.machine.database.read_bytes(), before)
 
+    def test_time_of_no_column(self) -> None:
+        """A file of a year that no column holds stands with the nearest time, and a later run finds it there."""
+        name = self.machine.captures / f"{self.machine.samples[0].name}.pcap"
+        (self.machine.captures / "b.pcap").write_bytes(self.capture)
+        for seconds, nanos in ((13569465600, (1 << 63) - 1), (-10413792000, -(1 << 63))):
+            os.utime(name, (seconds, seconds))
+            if os.stat(name).st_mtime_ns != seconds * 10**9:
+                continue  # this file system holds no such time
+            status, _, error = self.machine.run("--jobs", "1", "--resume", "captures")
+            self.assertEqual((status, error), (1, ""))
+            row = self.machine.ask("SELECT outcome, modified FROM captures WHERE path NOT LIKE '%/b.pcap'")
+            self.assertEqual(row, [("audited", nanos)])
+            _, said, error = self.machine.run("--jobs", "1", "--resume", "captures")
+            self.assertEqual((said.partition("; ")[2], error), ("2 were there\n", ""))
+
+    def test_reason_of_bytes(self) -> None:
+        """A reason that others wrote as bytes ends no run."""
+        self.assertEqual(self.machine.run("--jobs", "1", "captures")[0], 1)
+        for outcome in ("failed", "audited"):
+            with contextlib.closing(sqlite3.connect(self.machine.database)) as base:
+                base.execute("UPDATE captures SET reason = x'00ff', outcome = ?", (outcome,))
+                base.commit()
+            status, _, error = self.machine.run("--jobs", "1", "--resume", "captures")
+            self.assertEqual((status, error), (1, ""))
+
     def test_changed_while_read(self) -> None:
         """A capture that is written to while it is imported is tried again, and is then entered as such."""
         (self.machine.captures / "a.pcapng").write_bytes(bytes.fromhex("0a0d0d0a") + bytes(40))
@@ -510,6 +537,15 @@ class Workers(unittest.TestCase):
             (after,) = workers.workers
         self.assertNotEqual(before.process.pid, after.process.pid)
         self.assertEqual([one.process.poll() for one in (before, after)], [-signal.SIGKILL] * 2)
+
+    def test_no_version(self) -> None:
+        """An h2audit that says no version within its time is named, as are workers that do not answer."""
+        with Machine([], None) as machine:
+            machine.script("h2audit", "exec sleep 60\n")
+            changed = mock.patch.dict(os.environ, machine.surroundings), mock.patch.object(tasks, "VERSION_SECONDS", 1)
+            why = "the workers do not answer: h2audit --version did not end within 1 seconds"
+            with changed[0], changed[1], self.assertRaisesRegex(of_run.NoWorkers, f"^{why}$"):
+                of_run.version_of(pool.Pool(1))
 
     def test_order(self) -> None:
         """The most urgent goes first, and what was given up is not done."""

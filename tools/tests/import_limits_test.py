@@ -37,12 +37,28 @@ def record(data: bytes, nanos: int = 0) -> bytes:
     return struct.pack("<IIII", nanos // 10**9, nanos % 10**9, len(data), len(data)) + data
 
 
+def handshake(kind: int, body: bytes) -> bytes:
+    """A record with a message of the handshake."""
+    message = bytes([kind]) + len(body).to_bytes(3, "big") + body
+    return b"\x16\x03\x01" + struct.pack(">H", len(message)) + message
+
+
 def client_hello(number: int) -> bytes:
     """A record with a ClientHello of a random of this number, and a session and extensions of common size."""
     body = b"\x03\x03" + number.to_bytes(32, "big") + b"\x20" + bytes(32) + b"\x00\x02\x13\x01" + b"\x01\x00"
-    body += struct.pack(">H", 204) + struct.pack(">HH", 21, 200) + bytes(200)
-    message = b"\x01" + len(body).to_bytes(3, "big") + body
-    return b"\x16\x03\x01" + struct.pack(">H", len(message)) + message
+    return handshake(1, body + struct.pack(">H", 204) + struct.pack(">HH", 21, 200) + bytes(200))
+
+
+def server_hello() -> bytes:
+    """A record with a ServerHello of TLS 1.3."""
+    body = b"\x03\x03" + b"\x11" * 32 + b"\x20" + bytes(32) + b"\x13\x01" + b"\x00"
+    return handshake(2, body + struct.pack(">HHHH", 6, 43, 2, 0x0304))
+
+
+def secrets(text: bytes) -> bytes:
+    """A block of pcapng with lines of a key log."""
+    text += b" " * (-len(text) % 4)
+    return block("<", 0xA, struct.pack("<II", 0x544C534B, len(text)) + text)
 
 
 class Limits(unittest.TestCase):
@@ -125,12 +141,40 @@ class Limits(unittest.TestCase):
                 for data in (datagram(client, 0, SYN), datagram(client, 1, ACK, client_hello(client))):
                     file.write(packet("<", 0, 0, (0, 0, len(data), data)))
             for number in range(count):
-                text = b"CLIENT_RANDOM %064x %096x\n" % (number, number)
-                text += b" " * (-len(text) % 4)
-                file.write(block("<", 0xA, struct.pack("<II", 0x544C534B, len(text)) + text))
+                file.write(secrets(b"CLIENT_RANDOM %064x %096x\n" % (number, number)))
         status, peak = self.imported("-", given=path)
         self.assertEqual((status, self.lines("connection ")), (6, count))
         self.assertLess(peak, 260)
+
+    def test_secrets_of_one_random(self) -> None:
+        """Connections of one random wait for a key on standard input, and as many blocks have another secret of that
+        random: each twice, and then another in its place."""
+        count = 20_000
+        with self.written("one.pcapng") as (path, file):
+            file.writelines([section(), interface("<", RAW)])
+            waiting = server_hello() + b"\x17\x03\x03\x00\x14" + bytes(20)
+            for client in range(count):
+                opening = datagram(client, 0, SYN), datagram(client, 0, SYN | ACK, is_server=True)
+                said = datagram(client, 1, ACK, client_hello(0)), datagram(client, 1, ACK, waiting, is_server=True)
+                for data in opening + said:
+                    file.write(packet("<", 0, 0, (0, 0, len(data), data)))
+            for number in range(count):
+                file.write(secrets(b"CLIENT_EARLY_TRAFFIC_SECRET %064x %064x\n" % (0, number // 2)))
+        status, peak = self.imported("-", given=path)
+        self.assertEqual((status, self.lines("connection ")), (6, count))
+        self.assertLess(peak, 100)
+
+    def test_repeated_answers(self) -> None:
+        """A server answers a SYN again and again, while what its client has said may still become a CONNECT."""
+        count = 200_000
+        with self.written("answers.pcap") as (path, file):
+            answer = record(datagram(0, 0, SYN | ACK, is_server=True))
+            file.writelines([HEADER, record(datagram(0, 0, SYN)), answer])
+            file.write(record(datagram(0, 1, ACK, b"CONNECT a")))
+            file.write(answer * count)
+        status, peak = self.imported(path)
+        self.assertEqual((status, self.lines("connection ")), (0, 1))
+        self.assertLess(peak, 100)
 
     def test_key_updates_and_tiny_records(self) -> None:
         """A record of no bytes, a million times, in the clear."""

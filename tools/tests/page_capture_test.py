@@ -140,6 +140,21 @@ class Endings(unittest.TestCase):
             if running.stderr:
                 running.stderr.close()
 
+    def test_a_signal_leaves_no_plaintext(self) -> None:
+        """h2audit-why has a folder of its own, which it removes itself."""
+        with tempfile.TemporaryDirectory() as folder, tempfile.TemporaryDirectory() as place:
+            slow = pathlib.Path(place, "slow")
+            slow.write_text("#!/bin/sh\nexec sleep 100\n")
+            slow.chmod(0o755)
+            # h2audit-why waits for the audit of what it has imported.
+            words = [str(PAGE), str(EXAMPLES[0]), "-o", "/dev/null"]
+            with subprocess.Popen(words, env={**os.environ, "TMPDIR": folder, "H2AUDIT": str(slow)}) as running:
+                while not list(pathlib.Path(folder).glob("h2audit-why-*/imported.pcap")):
+                    self.assertIsNone(running.poll())
+                    time.sleep(0.02)
+                running.terminate()
+            self.assertEqual((running.returncode, os.listdir(folder)), (-signal.SIGTERM, []))
+
     def test_nothing_audited(self) -> None:
         """The page says so, and which connections were not audited, and why."""
         capture = TOP / "examples" / "stream_overrun_go.pcap"

@@ -216,10 +216,12 @@ class Hostile(unittest.TestCase):
 
     def test_addresses(self) -> None:
         plain = Tags(self.page("1.2.3.4:5")).elements
-        for evil in self.EVIL:
+        for evil in self.EVIL[:-1]:
             tags = Tags(self.page(evil))
             self.assertEqual([tag for tag, _ in tags.elements], [tag for tag, _ in plain], evil)
             self.assertEqual([sorted(one) for _, one in tags.elements], [sorted(one) for _, one in plain], evil)
+        with self.assertRaisesRegex(AssertionError, "line 2 is no line of a report"):
+            self.page(self.EVIL[-1])
 
     def page(self, address: str) -> str:
         return page_of(
@@ -279,6 +281,20 @@ class Hostile(unittest.TestCase):
             answer(HEAD + opening + line.format(2) + line.format(1)),
             (3, "h2audit-page: report refused: the frames of connection 1 go back\n"),
         )
+
+    def test_numbers_that_are_too_large(self) -> None:
+        """No credit line, and a frame or a time that a list does not hold."""
+        opening = "connection 1 client 1.2.3.4:5 server 1.2.3.4:6 record 1 http2 frames 2\n"
+        for frame, time, kind in (
+            ("9" * 20, 1, "stream-overrun"),
+            (1, "9" * 20, "stream-overrun"),
+            (1, 1 << 63, "stream-stall-begin"),
+        ):
+            line = f"frame {frame} record 1 time {time} client {kind} stream 1 value -5\n"
+            self.assertEqual(
+                answer(HEAD + opening + line),
+                (3, "h2audit-page: report refused: line 3 has a number that is too large\n"),
+            )
 
 
 def answer(report: str, *words: str) -> tuple[int, str]:

@@ -159,6 +159,18 @@ class Reading(unittest.TestCase):
         self.assertIn("Ticket <4711> & $x$ of today", texts)
         self.assertNotIn("Ticket", self.drawn(self.REPORT))
 
+    def test_letters_of_another_font(self) -> None:
+        """Nothing is said of letters that the font does not have."""
+        self.assertEqual(answer(str(self.REPORT), "-o", "/dev/null", "--format", "png", "--title", "漢字"), (0, ""))
+
+    def test_endpoints_are_no_formulas(self) -> None:
+        report = self.REPORT.read_text().replace(" client 127.0.0.1:", " client $\\q$:")
+        with tempfile.NamedTemporaryFile("w") as file:
+            file.write(report)
+            file.flush()
+            texts = [text.text or "" for text in xml.fromstring(self.drawn(pathlib.Path(file.name))).iter()]
+        self.assertTrue(any("client $\\q$:" in text for text in texts))
+
     def test_legend(self) -> None:
         """Shades of stalls are named, and faults, where there are some."""
         marks = {"credit": True, "stalled: credit used up": True, "fault": False}
@@ -204,6 +216,7 @@ class BadInput(unittest.TestCase):
             "line 2 is no line of a report",
         )
         self.refuses(good[:-12], "line 17 is no line of a report")
+        self.refuses(good.replace(b" client 127", b" client \x1b127"), "line 2 is no line of a report")
         self.refuses(good.replace(b"value 10000", b"value " + b"9" * 5000), "line 5 is no line of a report")
 
     def test_nothing_to_draw(self) -> None:

@@ -147,9 +147,33 @@ class Words(OnCaptures):
         words = ["-o", "imported.pcap", "-m", "imported.map", "--course", "imported.course", *captures]
         subprocess.run([os.environ["H2AUDIT_IMPORT"], *words], cwd=self.folder, check=True, capture_output=True)
 
-    def refuses(self, why: str) -> None:
+    def test_damaged_import(self) -> None:
+        """A report or a map that was cut or changed is refused by name."""
+        self.imported(str(TOP / "examples" / "paused_stream_node.pcap"))
+        self.audited()
+        whole = {name: (self.folder / f"imported.{name}").read_bytes() for name in ("report", "map", "course")}
+        is_other = "the report is not about it: connection 1 has places that are not in the capture"
+        huge = b" 99999999999999999999 "
+        for name, octets, status, why in (
+            ("report", whole["report"][:322], 3, "report refused: line 5 is no line of a report"),
+            ("report", re.sub(rb"frame 7 (.*-credit)", rb"frame x \1", whole["report"]), 3, "line 6 is no line"),
+            ("report", re.sub(rb"frame 7 (.*-credit)", rb"frame" + huge + rb"\1", whole["report"]), 3, "line 6 is no"),
+            ("report", whole["report"].replace(b"of all frames", b"stopped at frame 99999"), 4, is_other),
+            ("report", re.sub(rb"frame \d+ (.*stall-begin)", rb"frame 99999 \1", whole["report"]), 4, is_other),
+            ("report", re.sub(rb"time \d+ (.*stall-begin)", b"time" + huge + rb"\1", whole["report"]), 4, is_other),
+            ("map", re.sub(rb"packet 1\n", b"packet" + huge + b"\n", whole["map"]), 4, "is no map of it"),
+            ("map", re.sub(rb"record .*\n", b"", whole["map"]), 4, "the map of h2audit-import has no record 1"),
+            ("course", re.sub(rb" time \d+", b" time" + huge.rstrip(), whole["course"]), 4, "is no course of it"),
+        ):
+            self.assertNotEqual(octets, whole[name], why)
+            (self.folder / f"imported.{name}").write_bytes(octets)
+            self.refuses(why, status)
+            (self.folder / f"imported.{name}").write_bytes(whole[name])
+        self.assertEqual(ran("--rows", self.folder).returncode, 0)
+
+    def refuses(self, why: str, status: int = 4) -> None:
         run = ran("--rows", self.folder)
-        self.assertEqual(run.returncode, 4)
+        self.assertEqual(run.returncode, status)
         self.assertRegex(run.stderr.decode(), f"^h2audit-why: .*{why}.*\n$")
 
     def test_full(self) -> None:

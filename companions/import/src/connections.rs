@@ -120,7 +120,7 @@ impl Connection {
             self.numbers.initial[SERVER] = Some(segment.sequence);
         }
         match &self.mode {
-            Mode::Undecided(_) => self.take_undecided(shared, sink, arrival, side, segment),
+            Mode::Undecided(_) => self.take_undecided(shared, sink, arrival, side, segment, is_answer),
             Mode::Clear => sink.emit(arrival, segment.original, segment.datagram()),
             Mode::Behind(shift) => shift.emit(sink, arrival, side, segment, &self.numbers.initial),
             Mode::Tls(_) if is_answer => {
@@ -150,6 +150,7 @@ impl Connection {
         arrival: Arrival,
         side: usize,
         segment: &Segment<'_>,
+        is_answer: bool,
     ) {
         self.is_snapped |= segment.is_snapped;
         let is_syn = segment.flags & flags::SYN != 0;
@@ -164,7 +165,8 @@ impl Connection {
         let mut undecided = begun.unwrap_or_default();
         undecided.cost += segment.datagram_length();
         undecided.held.push(Arrived { arrival, side, segment: segment.held() });
-        let from = if side == SERVER && is_syn { 0 } else { undecided.held.len() - 1 };
+        // The answer places what its server sent before it; one that is repeated places nothing new.
+        let from = if is_answer { 0 } else { undecided.held.len() - 1 };
         match self.look_at(&mut undecided, side, from) {
             Verdict::Wait if undecided.cost <= MOST_HELD => self.mode = Mode::Undecided(Some(undecided)),
             Verdict::Wait | Verdict::Clear => self.go_on_clear(sink, undecided.held),

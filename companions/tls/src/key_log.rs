@@ -126,7 +126,8 @@ impl Keys {
         self.read_lines(file, |_| {})
     }
 
-    /// Takes the lines of a text, and answers the randoms whose secrets they have.
+    /// Takes the lines of a text, and answers the randoms of which they have secrets that were not known. A connection
+    /// waits for a secret of which there is no line yet, so that one which replaces another is nothing to wake it for.
     pub fn add_text(&mut self, text: &[u8]) -> Vec<Random> {
         let mut randoms = Vec::new();
         self.read_lines(text, |random| randoms.push(random)).expect("memory is read");
@@ -177,7 +178,7 @@ impl Keys {
         }
     }
 
-    /// Takes a line, and answers its random where its label counts.
+    /// Takes a line, and answers its random where no other line had this secret of it.
     fn add(&mut self, label: &[u8], random: &[u8], secret: &[u8]) -> Result<Option<Random>, BadLine> {
         let (mut found, mut bytes) = ([0; RANDOM_LENGTH], [0; MOST_SECRET]);
         let (random_length, length) = (unhexlified(random, &mut found)?, unhexlified(secret, &mut bytes)?);
@@ -191,10 +192,15 @@ impl Keys {
         self.has_master |= label == Label::Master;
         let line = Line { random: found, secret: bytes, length: length as u8, label, next: NO_LINE };
         match self.place(&found, label) {
-            Some(at) => self.lines[at] = Line { next: self.lines[at].next, ..line },
-            None => self.enter(line),
+            Some(at) => {
+                self.lines[at] = Line { next: self.lines[at].next, ..line };
+                Ok(None)
+            }
+            None => {
+                self.enter(line);
+                Ok(Some(found))
+            }
         }
-        Ok(Some(found))
     }
 
     fn enter(&mut self, mut line: Line) {
@@ -316,7 +322,7 @@ mod tests {
         assert_eq!(read(format!("ANOTHER_LABEL {random} 12\n\n").as_bytes()), (None, 0));
     }
 
-    /// The last line of a label counts, and each block of secrets names the connections that it is about.
+    /// The last line of a label counts.
     #[test]
     fn secrets_are_found_by_random_and_label() {
         let mut keys = Keys::default();
@@ -324,10 +330,25 @@ mod tests {
             |label: &str, random: &str, secret: &str| format!("{label} {} {}\n", random.repeat(32), secret.repeat(32));
         let first = [line("CLIENT_RANDOM", "01", "11"), line("CLIENT_TRAFFIC_SECRET_0", "02", "22")].concat();
         assert_eq!(keys.add_text(first.as_bytes()), [[1; 32], [2; 32]]);
-        assert_eq!(keys.add_text(line("CLIENT_RANDOM", "01", "33").as_bytes()), [[1; 32]]);
+        keys.add_text(line("CLIENT_RANDOM", "01", "33").as_bytes());
         assert_eq!(keys.find(&[1; 32], Label::Master), Some(&[0x33; 32][..]));
         assert_eq!(keys.find(&[1; 32], Label::ClientTraffic), None);
         assert_eq!(keys.find(&[2; 32], Label::ClientTraffic), Some(&[0x22; 32][..]));
         assert!(keys.has_of_side(&[2; 32], 0) && !keys.has_of_side(&[2; 32], 1));
+    }
+
+    /// A block of secrets names the connections that it brings something for, and those alone.
+    #[test]
+    fn secrets_that_are_known_wake_no_connection() {
+        let mut keys = Keys::default();
+        let mut woken = |label: &str, secret: &str| {
+            keys.add_text(format!("{label} {} {}\n", "01".repeat(32), secret.repeat(32)).as_bytes())
+        };
+        let nothing: [Random; 0] = [];
+        assert_eq!(woken("CLIENT_EARLY_TRAFFIC_SECRET", "11"), [[1; 32]]);
+        assert_eq!(woken("CLIENT_EARLY_TRAFFIC_SECRET", "11"), nothing);
+        assert_eq!(woken("CLIENT_EARLY_TRAFFIC_SECRET", "22"), nothing);
+        assert_eq!(woken("SERVER_TRAFFIC_SECRET_0", "11"), [[1; 32]]);
+        assert_eq!(woken("ANOTHER_LABEL", "11"), nothing);
     }
 }
