@@ -108,7 +108,7 @@ def hold_standard_files() -> None:
     """Puts something in the place of standard files that are closed, so that no other file gets their number. It does
     not let them be used: reading or writing fails, but for messages, which are lost.
 
-    Letters that the terminal's encoding has not are written as escapes, since captures and names of files bring any.
+    Letters that an output's encoding lacks are written as escapes, since captures and names of files bring any.
     """
     for number, flags in enumerate((os.O_WRONLY, os.O_RDONLY, os.O_WRONLY)):
         try:
