@@ -1,0 +1,418 @@
+//! What the answer holds (docs/WHY.md).
+
+use std::rc::Rc;
+
+use reports::{Finding, Side};
+
+/// Nanoseconds since 1970, or between two moments.
+pub type Nanos = i64;
+
+/// A moment: a packet of the original, numbered through all files, its time, and the frame that it completes; 0 where
+/// it is about none.
+#[derive(Clone, Copy, Debug, PartialEq, Eq)]
+pub struct At {
+    pub packet: u64,
+    pub time: Nanos,
+    pub frame: u32,
+}
+
+/// By what the round trip is known.
+#[derive(Clone, Copy, Debug, PartialEq, Eq)]
+pub enum Source {
+    Handshake,
+    Http2,
+}
+
+/// Nanoseconds from the place of the capture to each side and back, by TCP's handshake or by HTTP/2's answers. Each pair
+/// is by sides.
+#[derive(Clone, Copy, Debug, Default, PartialEq, Eq)]
+pub struct RoundTrip {
+    pub source: Option<Source>,
+    pub to: Option<[Nanos; 2]>,
+    pub handshake: Option<[Nanos; 2]>,
+    pub http2: [Option<Nanos>; 2],
+}
+
+/// Where a connection was captured.
+#[derive(Clone, Copy, Debug, PartialEq, Eq)]
+pub enum Place {
+    AtClient,
+    AtServer,
+    Between,
+}
+
+/// How a stall ended.
+#[derive(Clone, Copy, Debug, PartialEq, Eq)]
+pub enum StallEnd {
+    Grant,
+    Settings,
+    Reset,
+    EndOfStream,
+}
+
+/// Why a stall was one.
+#[derive(Clone, Copy, Debug, PartialEq, Eq)]
+pub enum StallWhy {
+    GrantedNothing,
+    GrantedLate,
+    GrantLost,
+    RoundTrip,
+    CancelledStreams,
+    NotNeeded,
+}
+
+/// A stall of the report, and why it was one.
+#[derive(Clone, Copy, Debug, PartialEq, Eq)]
+pub struct StallSaid {
+    pub side: Side,
+    /// 0 is the connection's window.
+    pub stream: u32,
+    pub begin: At,
+    /// None where no end was seen.
+    pub end: Option<At>,
+    /// The time up to which it lasts: that of its end, or of the connection's.
+    pub until: Nanos,
+    pub nanos: Nanos,
+    pub ended_by: Option<StallEnd>,
+    pub why: StallWhy,
+    /// How much later than a round trip its end came.
+    pub late: Nanos,
+}
+
+/// What used a connection's credit up to a stall that cancelled streams made.
+#[derive(Clone, Debug, Default, PartialEq, Eq)]
+pub struct Leak {
+    /// The frame at which the stall began.
+    pub begin: u32,
+    pub side: usize,
+    pub streams: Vec<u32>,
+    pub used: u64,
+    /// On the connection, beyond what it began with.
+    pub granted: u64,
+}
+
+/// What each instant of a direction's life was, without overlap and without a rest.
+#[derive(Clone, Copy, Debug, PartialEq, Eq, PartialOrd, Ord)]
+pub enum Share {
+    Waiting,
+    Sending,
+    StreamStall,
+    ConnectionStall,
+    Tcp,
+    Idle,
+    Unseen,
+}
+
+impl Share {
+    pub const ALL: [Share; 7] = [
+        Share::Waiting,
+        Share::Sending,
+        Share::StreamStall,
+        Share::ConnectionStall,
+        Share::Tcp,
+        Share::Idle,
+        Share::Unseen,
+    ];
+
+    pub fn name(self) -> &'static str {
+        match self {
+            Share::Waiting => "waiting",
+            Share::Sending => "sending",
+            Share::StreamStall => "stream_stall",
+            Share::ConnectionStall => "connection_stall",
+            Share::Tcp => "tcp",
+            Share::Idle => "idle",
+            Share::Unseen => "unseen",
+        }
+    }
+}
+
+/// Nanoseconds by [`Share`], in the order of [`Share::ALL`].
+pub type Shares = [Nanos; 7];
+
+#[derive(Clone, Copy, Debug, PartialEq, Eq)]
+pub struct Span {
+    pub begin: Nanos,
+    pub end: Nanos,
+    pub share: Share,
+}
+
+/// What one side sends on a stream.
+#[derive(Clone, Debug, PartialEq)]
+pub struct Direction {
+    pub nanos: Nanos,
+    pub shares: Shares,
+    /// Where they were asked for, and are not too many.
+    pub spans: Option<Vec<Span>>,
+    /// Bytes of content.
+    pub content: u64,
+    pub first: Option<At>,
+    pub end: Option<At>,
+    pub stalls: u32,
+}
+
+/// How a stream or a connection ended.
+#[derive(Clone, Copy, Debug, PartialEq, Eq)]
+pub enum How {
+    EndStream,
+    RstStream,
+    GoAway,
+    Fin,
+    Rst,
+    Capture,
+}
+
+#[derive(Clone, Copy, Debug, PartialEq, Eq)]
+pub struct Ended {
+    pub how: How,
+    pub side: Option<Side>,
+    pub code: Option<u32>,
+    pub at: Option<At>,
+}
+
+/// What held back a request most.
+#[derive(Clone, Copy, Debug, PartialEq, Eq)]
+pub enum CauseKind {
+    None,
+    StreamWindow,
+    ConnectionWindow,
+    Tcp,
+    Application,
+    Unseen,
+}
+
+/// What of it, more closely.
+#[derive(Clone, Copy, Debug, PartialEq, Eq)]
+pub enum CauseWhy {
+    None,
+    /// Stalls of a window.
+    Stalls(StallWhy),
+    /// A window that is used up within a round trip, where no stall shows.
+    Unshown,
+    ZeroWindow,
+    Resent,
+    Hole,
+    WithinFrame,
+    /// The application sent nothing between two frames.
+    Between,
+    /// The application sent nothing before its first frame.
+    Before,
+}
+
+/// What held back a request most, for how long, and whom to ask. The sentence is made of it when it is written.
+#[derive(Clone, Copy, Debug, PartialEq, Eq)]
+pub struct Cause {
+    pub kind: CauseKind,
+    pub why: CauseWhy,
+    /// The side that had to wait, or sent nothing.
+    pub side: Side,
+    pub ask: Option<Side>,
+    pub nanos: Nanos,
+    pub first: Option<At>,
+    pub last: Option<At>,
+    /// The most credit of the stream's window from before its first content on, by the walk.
+    pub window: i64,
+    /// The lesser of the stream's and the connection's credit as the side began to send nothing.
+    pub credit: Option<i64>,
+    /// The SETTINGS whose initial window was in force as it began: an index into [`ConnectionSaid::announced`].
+    pub setting: Option<u32>,
+    pub is_proved: bool,
+}
+
+/// A request, and what answered it.
+#[derive(Clone, Debug, PartialEq)]
+pub struct Request {
+    pub stream: u32,
+    pub name: Option<Rc<str>>,
+    pub method: Option<Rc<str>>,
+    pub path: Option<Rc<str>>,
+    pub authority: Option<Rc<str>>,
+    pub status: Option<u32>,
+    pub grpc_status: Option<u32>,
+    /// The stream of the promise, 0 where the client opened it.
+    pub promised_on: u32,
+    pub opened: At,
+    pub ended: Ended,
+    pub until: Nanos,
+    /// The client's and the server's.
+    pub sides: [Direction; 2],
+    pub cause: Cause,
+    pub is_hung: bool,
+}
+
+impl Request {
+    pub fn nanos(&self) -> Nanos {
+        self.until - self.opened.time
+    }
+
+    /// What puts a request before others: the time for which it was held back.
+    pub fn trouble(&self) -> Nanos {
+        match self.cause.kind {
+            CauseKind::None | CauseKind::Unseen => 0,
+            _ => self.cause.nanos,
+        }
+    }
+}
+
+/// Whether a fault can be doubted.
+#[derive(Clone, Copy, Debug, PartialEq, Eq)]
+pub enum Certainty {
+    Certain,
+    Settings,
+    Gap,
+    Clock,
+}
+
+#[derive(Clone, Debug)]
+pub struct FaultSaid {
+    pub finding: Finding,
+    pub at: At,
+    pub certainty: Certainty,
+    /// Why it can be doubted; empty where it cannot.
+    pub doubt: String,
+    /// The packets that set the window that it is about.
+    pub set_by: Vec<At>,
+    pub set_text: String,
+}
+
+/// What a peer said at the end: GOAWAY, or a reset of a stream with an error.
+#[derive(Clone, Debug, PartialEq, Eq)]
+pub struct Signal {
+    pub is_goaway: bool,
+    pub side: Side,
+    pub at: At,
+    pub code: u32,
+    pub stream: u32,
+    pub last: Option<u32>,
+    pub debug: Option<String>,
+}
+
+/// An initial window that a side announced for what the other one sends.
+#[derive(Clone, Copy, Debug, PartialEq, Eq)]
+pub struct SettingSaid {
+    pub side: Side,
+    pub value: u32,
+    pub at: At,
+    pub acknowledged: Option<At>,
+}
+
+/// What became of a connection.
+#[derive(Clone, Copy, Debug, PartialEq, Eq)]
+pub enum Outcome {
+    Http2,
+    NotHttp2,
+    NoPreface,
+    NoHandshake,
+    Refused,
+}
+
+#[derive(Clone, Debug)]
+pub struct ConnectionSaid {
+    pub number: u64,
+    pub client: String,
+    pub server: String,
+    pub opened: At,
+    pub outcome: Outcome,
+    /// Why it was refused.
+    pub reason: String,
+    /// Version and suite of TLS, and more, as the map of an import says it.
+    pub tls: String,
+    pub frames: u64,
+    pub begin: Nanos,
+    pub until: Nanos,
+    pub round_trip: RoundTrip,
+    pub captured_at: Option<Place>,
+    pub limits: Vec<String>,
+    /// Those that are told; and all, for [`Cause::setting`].
+    pub settings: Vec<SettingSaid>,
+    pub announced: Vec<SettingSaid>,
+    pub faults: Vec<FaultSaid>,
+    /// In the order in which they began.
+    pub stalls: Vec<StallSaid>,
+    pub leaks: Vec<Leak>,
+    /// The most credit of the connection's windows from before the first content on, by the side that sends.
+    pub connection_windows: [i64; 2],
+    /// In the order of their openings.
+    pub requests: Requests,
+    pub signals: Vec<Signal>,
+    pub ended: Ended,
+    /// Its first FIN or RST, or the end of the capture.
+    pub closing: Ended,
+    pub notes: Vec<String>,
+    pub stopped_at: Option<At>,
+    /// The offset from which on bytes of a side are missing.
+    pub gaps: Vec<(Side, u64)>,
+}
+
+impl ConnectionSaid {
+    pub fn is_audited(&self) -> bool {
+        self.outcome == Outcome::Http2
+    }
+}
+
+/// The requests of a connection; they may be held packed.
+#[derive(Clone, Debug, Default)]
+pub struct Requests {
+    all: Vec<Request>,
+}
+
+impl Requests {
+    pub fn push(&mut self, request: Request) {
+        self.all.push(request);
+    }
+
+    pub fn len(&self) -> usize {
+        self.all.len()
+    }
+
+    pub fn is_empty(&self) -> bool {
+        self.all.is_empty()
+    }
+
+    pub fn get(&self, index: usize) -> Option<Request> {
+        self.all.get(index).cloned()
+    }
+
+    /// Each one by itself, in the order of openings.
+    pub fn iter(&self) -> impl Iterator<Item = Request> + '_ {
+        self.all.iter().cloned()
+    }
+}
+
+#[derive(Clone, Debug, PartialEq, Eq)]
+pub struct Warning {
+    pub kind: &'static str,
+    pub text: String,
+    pub connection: Option<u64>,
+    pub at: Option<At>,
+}
+
+/// What was not audited, by reasons.
+#[derive(Clone, Debug, PartialEq, Eq)]
+pub struct NotAudited {
+    pub reason: String,
+    pub count: u64,
+    pub text: String,
+}
+
+/// The file of each packet: how many packets came before each file.
+#[derive(Clone, Debug, Default)]
+pub struct Files {
+    pub names: Vec<String>,
+    pub starts: Vec<u64>,
+}
+
+#[derive(Clone, Debug, Default)]
+pub struct Answer {
+    pub files: Files,
+    pub packets: u64,
+    pub warnings: Vec<Warning>,
+    pub not_audited: Vec<NotAudited>,
+    pub connections: Vec<ConnectionSaid>,
+}
+
+impl Answer {
+    pub fn audited(&self) -> impl Iterator<Item = &ConnectionSaid> {
+        self.connections.iter().filter(|one| one.is_audited())
+    }
+}
