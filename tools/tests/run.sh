@@ -72,6 +72,7 @@ try 'form and types of Python, and lines' sources_test
 try 'man pages and completions' words_test
 try 'definitions to believe' believed_test
 try 'storeys of definitions, and lemmas of other crates' storeys_test
+try 'ported crates, and where want of memory is told' crates_test
 try 'rules in code' rules_test
 try 'measuring' bench_test
 try 'recipes' recipes_test "${audits[@]}"

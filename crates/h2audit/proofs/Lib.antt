@@ -5,6 +5,7 @@ mod Flows
 mod ToldAudits
 mod Standing
 mod Opened
+mod Numbers
 mod OptionReads
 mod Added
 mod Alike

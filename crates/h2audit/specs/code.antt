@@ -4,6 +4,7 @@ pub mod Flows
 pub mod KeptFrames
 pub mod Headings
 pub mod Verdict
+pub mod Numbers
 pub mod Options
 pub mod Choices
 pub mod Arguments

@@ -5,7 +5,7 @@ ghost use Rattle.std.specs.Vec.Iter.{into_iter_items};
 ghost use Rattle.stop_desk.specs.declared.parts.Part.{Part};
 ghost use Rattle.h2audit.specs.code.Flows.{AreSources, AreToldFlows};
 ghost use Rattle.audit_terms.specs.code.runs.Orderly.{IsOrderly};
-ghost use Rattle.std.specs.Bool.{OnTrue};
+ghost use Rattle.std.specs.Bool.{Decides};
 ghost use Rattle.std.specs.List.{flat_map};
 ghost use Rattle.std.specs.Option.{option_to_list};
 ghost use Rattle.h2audit.specs.code.KeptFrames.{AreFound, AreToldWith, IsOutcomeWith, IsToldWith, kept_frames};
@@ -163,7 +163,7 @@ fn with_findings(
 
 /// Are there fewer findings in all than a list can have?
 fn are_few(lists: &[Vec<Finding>]) -> bool
-    ensures { OnTrue result (length (flat_map (λ list. list.items) lists.now) < 2 ^ 63) }
+    ensures { Decides result (length (flat_map (λ list. list.items) lists.now) < 2 ^ 63) }
 {
     let mut count = 0usize;
     for list in lists {

@@ -28,7 +28,8 @@
 //!   what was found, the stalls, and frames: where all was found as they were met, those that findings name, else all
 //!   of them. Of all connections it is kept until the report is written.
 //! - Refused by the prover: an empty report, a verdict by errors alone, one that does not ask what was found as frames
-//!   were met, standard input read beside FILE, FILE left out, the ends of a connection exchanged.
+//!   were met, standard input read beside FILE, FILE left out, an option's number given up, a word after the program's
+//!   name left out, the ends of a connection exchanged.
 //! - Tested, in `crate_tests`: the texts of faults; in `tests/` at the root: what the program answers to words, the
 //!   texts of help and of refused words, whole reports, long captures.
 #![tactic(auto)]

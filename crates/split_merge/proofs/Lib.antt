@@ -7,4 +7,5 @@ pub mod Ahead
 mod LoudStreams
 pub mod GroupRanges
 pub mod ShownMerge
+mod MergedRuns
 mod Merged

@@ -59,7 +59,7 @@ parted-next slices fronts backs fronts' backs' i k slice front back l there fe b
 
 -- ---- the first of all findings, and the last
 
-abbrev items_of : Vec Finding Global → List Finding
+abbrev pub items_of : Vec Finding Global → List Finding
 items_of list = list.items
 
 pub begins : (found : Findings) (list : Vec Finding Global) (lists : List (Vec Finding Global)) (one first : Finding)

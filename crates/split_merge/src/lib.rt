@@ -15,7 +15,7 @@
 //! - Refused by the prover: a rest of streams left out, a stream that is called quiet before its last changes, a cut at
 //!   the first reported error.
 //! - Tested by whole reports: that the calls succeed where there is memory.
-//! - Trusted: the port of `indexmap`.
+//! - Trusted: the ports of `indexmap` and `itertools`.
 #![tactic(auto)]
 
 mod findings;

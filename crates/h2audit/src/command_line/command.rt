@@ -2,6 +2,7 @@ ghost use Rattle.std.specs.Prelude.{◌≡◌, IfOk, false, map};
 ghost use Rattle.clap.specs.Words.{app_of, fault_of, found_of, matches_of, rows_of, rule_of, FailsBy};
 ghost use Rattle.h2audit.specs.CommandLine.{app, command_start, file_rule, frames_rule, number_rule};
 ghost use Rattle.h2audit.specs.code.Arguments.{AreArguments};
+ghost use Rattle.h2audit.specs.code.Numbers.{HasNumbers};
 
 use crate::command_line::options::Options;
 use clap::builder::ValueParser;
@@ -22,6 +23,7 @@ pub(crate) const FILE: &str = "FILE";
 /// What clap finds in the program's words, which do not begin with the program's name.
 pub(crate) fn matches<'a>(alloc: Global, words: &'a [&'a str]) -> Result<ArgMatches<'a>, Error>
     ensures rows { IfOk result (λ m. rows_of (found_of m) ≡ matches_of app (map (λ w. w.now) words.entry.now)) }
+    ensures numbers { IfOk result (λ m. HasNumbers (found_of m)) }
     ensures fails { FailsBy (fault_of app (map (λ w. w.now) words.entry.now)) result }
 {
     command(alloc)?.try_get_matches_from(words)

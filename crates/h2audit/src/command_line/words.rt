@@ -1,7 +1,8 @@
-ghost use Rattle.std.specs.Prelude.{IfOk, IfSome, List, [], codes, map, option_map, string_bytes, ◌≡◌};
+ghost use Rattle.std.specs.Prelude.{IfOk, List, [], codes, map, option_map, string_bytes, ◌≡◌, ◌≤◌};
 ghost use Rattle.clap.specs.Words.{HasKind, Text, fault_of, first_of, found_of, matches_of, rows_of};
 ghost use Rattle.h2audit.specs.Asked.{Asks, IsFound, IsNumberOf};
 ghost use Rattle.h2audit.specs.CommandLine.{app};
+ghost use Rattle.h2audit.specs.code.Numbers.{HasNumber, HasNumbers};
 
 use crate::command_line::command::{BLOCK, FILE, FRAMES, GROUPS, WORKERS, matches};
 use crate::command_line::options::Options;
@@ -37,17 +38,12 @@ pub fn parse(alloc: Global, words: &[&str]) -> Result<Parsed, AllocError>
 }
 
 /// The audit that words ask for in which clap finds no fault.
-///
-/// clap found options in them: it gives each number a default, and refuses one out of range. That is not proved here,
-/// and without options the answer would be want of memory.
 fn audit_asked(alloc: Global, found: &ArgMatches<'_>) -> Result<Parsed, AllocError>
+    requires { HasNumbers (found_of found.now) }
     ensures { (words : List Text) → fault_of app words ≡ [] → rows_of (found_of found.now) ≡ matches_of app words
         → IfOk result (Asks words) }
 {
-    match options_in(found) {
-        Some(options) => Ok(Parsed::Run(options, file_in(alloc, found)?)),
-        None => Err(AllocError),
-    }
+    Ok(Parsed::Run(options_in(found), file_in(alloc, found)?))
 }
 
 /// What words ask for that clap reads as no audit: help, the version, or why they are refused.
@@ -66,22 +62,25 @@ fn unparsed(alloc: Global, error: &Error) -> Result<Parsed, AllocError>
     })
 }
 
-/// The options that clap found.
-fn options_in(found: &ArgMatches<'_>) -> Option<Options>
-    ensures { IfSome result (IsFound (rows_of (found_of found.now))) }
+/// The options that clap found. It gives each number a default, and refuses one out of range.
+fn options_in(found: &ArgMatches<'_>) -> Options
+    requires { HasNumbers (found_of found.now) }
+    ensures { IsFound (rows_of (found_of found.now)) result }
 {
-    let workers = number_in(found, WORKERS)?;
-    let groups = number_in(found, GROUPS)?;
-    let block = number_in(found, BLOCK)?;
+    let workers = number_in(found, WORKERS, Options::MOST_WORKERS);
+    let groups = number_in(found, GROUPS, Options::MOST_GROUPS);
+    let block = number_in(found, BLOCK, Options::LONGEST_BLOCK);
     let frames_shown = found.get_one(FRAMES).unwrap_or(false);
-    Options::of(workers, groups, block, frames_shown)
+    Options::of(workers, groups, block, frames_shown).unwrap()
 }
 
 /// The number of this name.
-fn number_in(found: &ArgMatches<'_>, name: &str) -> Option<u32>
-    ensures { IfSome result (IsNumberOf name.now (rows_of (found_of found.now))) }
+fn number_in(found: &ArgMatches<'_>, name: &str, most: u32) -> u32
+    requires { HasNumber (found_of found.now) name.now most }
+    ensures range { (1 ≤ result) × (result ≤ most) }
+    ensures value { IsNumberOf name.now (rows_of (found_of found.now)) result }
 {
-    found.get_one(name)
+    found.get_one::<u32>(name).unwrap()
 }
 
 /// The path of the capture, if a word gives one.

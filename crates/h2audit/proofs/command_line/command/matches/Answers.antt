@@ -4,6 +4,7 @@ use Rattle.clap.specs.Words.{App, FailsBy, HasMatchesOf, Text, fault_of, found_o
 use Rattle.clap.specs.Words.{is_simple_and_free, matches_of, rows_of}
 use Rattle.clap.specs.declared.parser.matches.ArgMatches.{ArgMatches}
 use Rattle.h2audit.specs.CommandLine.{app}
+use Rattle.h2audit.proofs.Numbers.{numbers_found}
 use Rattle.h2audit.proofs.command_line.command.matches.Goals as goal
 
 -- what clap says of a command, said of an equal one
@@ -24,6 +25,11 @@ returns-clause-rows c =
     IfOk-weaker c.try_get_matches_from.result _ _
     (λ m taken. rows_of_equal _ app words m c.in_ok-command.ensures app_simple taken)
     c.try_get_matches_from.ensures.matches
+
+pub returns-clause-numbers : goal.returns-clause-numbers
+returns-clause-numbers c = IfOk-weaker c.try_get_matches_from.result _ _
+    (λ m parsed. numbers_found c.in_ok-command.field-0 m c.in_ok-command.ensures parsed)
+    c.try_get_matches_from.ensures.parsed
 
 pub returns-clause-fails : goal.returns-clause-fails
 returns-clause-fails c =
