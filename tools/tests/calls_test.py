@@ -1,16 +1,28 @@
 """What a program does with answers of its system that vary: python3 -m tools.tests.calls_test PROGRAM
 
 Random bytes, with which tables are keyed so that nobody can choose colliding pairs; and reads of any length. No
-contract says that the bytes that were drawn are those that a table takes, or that a read of each length is taken.
+contract says that the bytes that were drawn are those that a table takes, or that a read of each length is taken. Nor
+does one say that nothing waits in vain: so the functions of the C library that the program may call are listed.
 """
 
 import pathlib
+import subprocess
 import tempfile
 import unittest
 
 from tests.programs import needed
 from tools.tests import cost_captures
 from tools.tests.counting import Counter
+
+# All that the program may call of the C library. None of it gives up the processor (sched_yield), sleeps, or waits for
+# anything but a read, a write and the end of a thread.
+CALLED = set(
+    """
+    __errno_location __libc_start_main __sysv_signal _exit abort close free getentropy malloc memcpy memmove memset open
+    pthread_attr_destroy pthread_attr_init pthread_attr_setguardsize pthread_create pthread_detach pthread_join
+    pthread_self read realloc sched_getaffinity sysconf write
+    """.split()
+)
 
 # How much a read gives at most: beside powers of two lengths that are none. The greatest read asks for 1,048,576 bytes.
 LENGTHS = (
@@ -64,6 +76,13 @@ class Calls(unittest.TestCase):
                 # Under one key the numbers of instructions differ by 30 at most.
                 steps = [self.counter.instructions(words, key) for key in "12345"]
                 self.assertLess(1000, max(steps) - min(steps))
+
+    def test_what_is_called(self) -> None:
+        words = ["nm", "--dynamic", "--undefined-only", "--format=posix", "--without-symbol-versions", PROGRAM]
+        said = subprocess.run(words, check=True, capture_output=True, text=True).stdout
+        called = {line.split()[0] for line in said.splitlines() if line.split()[1] == "U"}
+        self.assertIn("pthread_join", called)
+        self.assertEqual(set(), called - CALLED)
 
     def test_lengths_of_reads(self) -> None:
         path = self.capture("bulk")

@@ -45,51 +45,53 @@ def take_turns(capture: Capture, streams: Iterable[int], rounds: int) -> None:
             capture.send("S", granted)
 
 
-def loud_turns() -> Capture:
+def loud_turns(quarters: int) -> Capture:
     """500 streams by turns, after a finding, with a packet for each frame."""
     capture = opened(UNMATCHED)
-    headers(capture, range(1, 1001, 2))
-    take_turns(capture, range(1, 1001, 2), 12)
+    streams = range(1, 250 * quarters, 2)
+    headers(capture, streams)
+    take_turns(capture, streams, 12)
     return capture
 
 
-def loud_crowd() -> Capture:
+def loud_crowd(quarters: int) -> Capture:
     """1,000 streams by turns, 100 of their frames in a segment, after a finding: so most is to look streams up."""
     capture = opened(UNMATCHED)
-    streams = range(1, 2001, 2)
+    streams = range(1, 500 * quarters, 2)
     headers(capture, streams)
     turn = [frame_of(["DATA", str(stream), "0"]) for stream in streams]
     for _ in range(60):
-        for start in range(0, 1000, 100):
+        for start in range(0, len(turn), 100):
             capture.send("C", b"".join(turn[start : start + 100]))
     return capture
 
 
-def loud_stream() -> Capture:
+def loud_stream(quarters: int) -> Capture:
     """One stream of 60,000 frames with a finding of its own, so that its frames are gathered."""
     capture = opened()
     headers(capture, [1])
     capture.send("S", frame_of(["WINDOW_UPDATE", "1", "0"]))
-    for _ in range(400):
+    for _ in range(100 * quarters):
         capture.send("C", 150 * frame_of(["DATA", "1", "0"]))
     return capture
 
 
-def shuffled_streams() -> Capture:
+def shuffled_streams(quarters: int) -> Capture:
     """20,010 streams that are met out of order, after a finding, so that a table holds them."""
     capture = opened(UNMATCHED)
-    # 20,011 is a prime, so each number comes once.
-    streams = [2 * (7919 * number % 20_011) + 1 for number in range(1, 20_011)]
+    # These are primes, so each number comes once.
+    prime = {1: 5_003, 4: 20_011, 16: 80_021}[quarters]
+    streams = [2 * (7919 * number % prime) + 1 for number in range(1, prime)]
     frames = [frame_of(["PRIORITY", str(stream), "5"]) for stream in streams]
     for start in range(0, len(frames), 90):
         capture.send("C", b"".join(frames[start : start + 90]))
     return capture
 
 
-def loud_connections() -> Capture:
+def loud_connections(quarters: int) -> Capture:
     """2,500 connections, each with a finding."""
     capture = Capture()
-    for port in range(1000, 3500):
+    for port in range(1000, 1000 + 625 * quarters):
         opening(capture, (0x0A000001, port), (0x0A000002, 80))
         capture.send("C", PREFACE + SETTINGS)
         capture.send("S", SETTINGS + SETTINGS_ACK)
@@ -97,32 +99,32 @@ def loud_connections() -> Capture:
     return capture
 
 
-def short_connections() -> Capture:
-    """12,000 connections of four packets each: many jobs for workers that share them out, and little
-    else."""
+def short_connections(quarters: int) -> Capture:
+    """12,000 connections of four packets each: many jobs for workers that share them out, and little else."""
     capture = Capture()
-    for number in range(12_000):
+    for number in range(3000 * quarters):
         opening(capture, (0x0A000001, 1024 + number), (0x0A000002, 80))
         capture.send("C", b"")
         capture.send("S", b"")
     return capture
 
 
-def larger_windows() -> Capture:
+def larger_windows(quarters: int) -> Capture:
     """A server whose SETTINGS let streams send more, as of most servers, and 300 streams by turns."""
     capture = opened()
     capture.send("S", frame_of(["SETTINGS", "4", "1048576"]))
-    headers(capture, range(1, 601, 2))
+    streams = range(1, 150 * quarters, 2)
+    headers(capture, streams)
     capture.send("C", SETTINGS_ACK)
-    take_turns(capture, range(1, 601, 2), 20)
+    take_turns(capture, streams, 20)
     return capture
 
 
-def stalls() -> Capture:
+def stalls(quarters: int) -> Capture:
     """A server that lets each stream send one byte at a time, so that each frame of 100 streams begins a stall."""
     capture = opened()
     capture.send("S", frame_of(["SETTINGS", "4", "1"]))
-    streams = range(1, 201, 2)
+    streams = range(1, 50 * quarters, 2)
     headers(capture, streams)
     capture.send("C", SETTINGS_ACK)
     granted = frame_of(["WINDOW_UPDATE", "0", "1"])
@@ -133,11 +135,12 @@ def stalls() -> Capture:
     return capture
 
 
-def far_streams() -> Capture:
+def far_streams(quarters: int) -> Capture:
     """A client that opens every eighth stream, so that none but the first stands where it is looked for first."""
     capture = opened()
-    headers(capture, range(1, 2401, 8))
-    take_turns(capture, range(1, 2401, 8), 20)
+    streams = range(1, 600 * quarters, 8)
+    headers(capture, streams)
+    take_turns(capture, streams, 20)
     return capture
 
 
@@ -148,24 +151,26 @@ def opening(capture: Capture, client: tuple[int, int], server: tuple[int, int]) 
     capture.syn("S", 5000, SYN_ACK)
 
 
-def pairs_of_one(lower: bool) -> Capture:
-    """10,000 pairs that share an endpoint, which is the lower one of each or the higher one."""
+def pairs_of_one(count: int, lower: bool) -> Capture:
+    """So many pairs that share an endpoint, which is the lower one of each or the higher one."""
     capture = Capture()
     one = (0x0A000001 if lower else 0x0A000003, 80)
-    for port in range(1024, 11024):
+    for port in range(1024, 1024 + count):
         capture.segment((0x0A000002, port), one, 1, ACK, b"a")
     return capture
 
 
-def one_server_below() -> Capture:
-    return pairs_of_one(lower=True)
+def one_server_below(quarters: int) -> Capture:
+    """10,000 pairs."""
+    return pairs_of_one(2500 * quarters, lower=True)
 
 
-def one_server_above() -> Capture:
-    return pairs_of_one(lower=False)
+def one_server_above(quarters: int) -> Capture:
+    """10,000 pairs."""
+    return pairs_of_one(2500 * quarters, lower=False)
 
 
-OWN: tuple[Callable[[], Capture], ...] = (
+OWN: tuple[Callable[[int], Capture], ...] = (
     loud_turns,
     loud_crowd,
     loud_stream,
@@ -228,10 +233,11 @@ def cases() -> list[Case]:
     return [Case(name, []) for name in names] + [Case(name, ["--frames"]) for name in WITH_FRAMES]
 
 
-def write(name: str, path: pathlib.Path) -> None:
-    """Writes the capture of this name."""
+def write(name: str, path: pathlib.Path, quarters: int = 4) -> None:
+    """Writes the capture of this name: the whole, or with one quarter a capture of a fourth of it."""
     if name in GENERATED:
-        subprocess.run([sys.executable, GENERATE, name, str(GENERATED[name]), path], check=True)
+        size = GENERATED[name] * quarters / 4
+        subprocess.run([sys.executable, GENERATE, name, str(size), path], check=True)
         return
     make = next(each for each in OWN if each.__name__ == name)
-    path.write_bytes(make().bytes)
+    path.write_bytes(make(quarters).bytes)

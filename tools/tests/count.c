@@ -38,6 +38,7 @@ struct counts {
     atomic_long joined;  /* threads that were waited for */
     atomic_long drawn;   /* calls for random bytes */
     atomic_long reads;
+    atomic_long writes;
 };
 
 static struct counts nowhere, *counts = &nowhere;
@@ -163,6 +164,11 @@ ssize_t read(int file, void *to, size_t count) {
         usleep(20);
     ADD(reads, 1);
     return REAL(read)(file, to, count < read_most ? count : read_most);
+}
+
+ssize_t write(int file, const void *from, size_t count) {
+    ADD(writes, 1);
+    return REAL(write)(file, from, count);
 }
 
 int sched_getaffinity(pid_t process, size_t size, cpu_set_t *processors) {
