@@ -35,10 +35,9 @@ CALLS = {
 }
 SPLITTER_CALLS = {
     "capture_parts/src/files.rt": ["split_capture"],
-    "capture_parts/src/finishing.rt": ["flush_parts", "refuse_full"],
+    "capture_parts/src/finishing.rt": ["flush_parts"],
     "capture_parts/src/laws.rt": ["one_part", "segments_name", "either_order", "same_records"],
-    "h2audit_split/src/outputs.rt": ["finish_parts"],
-    "h2audit_split/src/failure.rt": ["end"],
+    "split_program/src/program.rt": ["run_program"],
 }
 VIEWS = {"input_output/src/kept_bytes.rt": ["KeptBytes"]}
 # The folders of specs/ that hold what is not believed.

@@ -61,7 +61,7 @@ def places() -> list[Place]:
     day = date_of(VERSION)
     return [
         Place("crates/h2audit/src/command_line/command.rt", *constant, VERSION),
-        Place("crates/h2audit_split/src/command.rt", *constant, VERSION),
+        Place("crates/split_program/src/command.rt", *constant, VERSION),
         Place("crates/h2audit_split/stdout", "h2audit-split ", "", VERSION),
         Place("companions/Cargo.toml", 'version = "', '"', VERSION),
         *(Place("companions/Cargo.lock", f'name = "{name}"\nversion = "', '"', VERSION) for name in members()),

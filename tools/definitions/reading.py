@@ -290,7 +290,56 @@ class Reader:
             self.fail(f"{self.peek()} is not expected here")
 
 
+def in_group(term: Term, siblings: set[str], given: list[Term]) -> Term:
+    """A term of a group, whose definitions get what the group is given."""
+
+    def inner(part: Any) -> Any:
+        if isinstance(part, Term):
+            return in_group(part, siblings, given)
+        if isinstance(part, dict):
+            return {key: inner(value) for key, value in part.items()}
+        return type(part)(map(inner, part)) if isinstance(part, list) or type(part) is tuple else part
+
+    if term.kind == "name" and term.parts[0] in siblings:
+        return Term("call", (term, given), term.line)
+    made = Term(term.kind, tuple(map(inner, term.parts)), term.line)
+    head = made.parts[0] if made.kind == "call" else None
+    if isinstance(head, Term) and head.kind == "call":
+        return Term("call", (head.parts[0], [*head.parts[1], *made.parts[1]]), term.line)
+    return made
+
+
+def read_group(tokens: list[Token], name: str, module: Module) -> None:
+    """Reads `module _ (x : A) .. where` with its definitions, each of which gets the group's parameters first."""
+    reader = Reader(tokens, name)
+    reader.at += 2
+    parameters: list[str] = []
+    while reader.peek() != "where":
+        if reader.peek() == "{":  # no value has what is implicit
+            while reader.peek() != "}":
+                reader.at += 1
+            reader.at += 1
+        else:
+            found = reader.groups() or reader.fail("where is missing")
+            parameters += [parameter for parameter, _ in found]
+    inside = Module(name, {}, module.uses)
+    for item in items_of(tokens[reader.at + 1 :]):
+        Reader(item, name).item(inside)
+    given = [Term("name", (parameter,), tokens[0].line) for parameter in parameters]
+    for found in inside.definitions.values():
+        if isinstance(found, Record):
+            fields = [(field, in_group(kind, {*inside.definitions}, given)) for field, kind in found.fields]
+            module.definitions[found.name] = Record(found.name, [*parameters, *found.parameters], fields)
+        else:
+            clauses = [
+                ((*given, *patterns), in_group(body, {*inside.definitions}, given)) for patterns, body in found.clauses
+            ]
+            module.definitions[found.name] = Function(found.name, clauses)
+
+
 def read_item(tokens: list[Token], name: str, module: Module) -> None:
+    if tokens[0].text == "module":
+        return read_group(tokens, name, module)
     if not any(token.text == "use" for token in tokens[:2]):
         return Reader(tokens, name).item(module)
     found = USE.fullmatch(" ".join(token.text for token in tokens).replace(" . ", ".").replace("{ ", "{"))

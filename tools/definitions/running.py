@@ -7,7 +7,7 @@ from concurrent.futures import ThreadPoolExecutor
 from typing import Callable, NamedTuple, TypeVar
 
 from tools.definitions.evaluating import Definitions
-from tools.definitions.search import Search
+from tools.definitions.search import Search, dealt
 from tools.definitions.values import Hole, Made, NotYet, Value, apply
 
 TOP = pathlib.Path(__file__).resolve().parents[2]
@@ -32,6 +32,13 @@ ENTRIES = {
     "item_of": "audit_terms.Pass.item_of",
     "connection_said": "audit_terms.Connection.connection_said",
     "finding_line": "audit_report.FindingLine.finding_line",
+    "format_of": "pcap_records.FileHeader.format_of",
+    "number_of": "pcap_records.FileHeader.number_of",
+    "link_of": "pcap_records.FileHeader.link_of",
+    "AreRecords": "capture_parts.Dealt.AreRecords",
+    "part_bytes": "capture_parts.Dealt.part_bytes",
+    "part_numbers": "capture_parts.Dealt.part_numbers",
+    "part_full": "capture_parts.Dealt.part_full",
 }
 
 
@@ -43,6 +50,14 @@ class Answer(NamedTuple):
     status: int
     line: bytes  # for standard error
     text: bytes  # the report
+
+
+class Part(NamedTuple):
+    """One of the parts of a capture: its two files, and whether it is full."""
+
+    packets: bytes
+    numbers: bytes
+    is_full: bool
 
 
 class Reader:
@@ -80,6 +95,24 @@ class Reader:
         ending = self.ask("ending_of", ended)
         status, line = ending["0"], ending["1"]
         return Answer(status, bytes((*line, *b"\n")) if line else b"", text)
+
+    def split(self, capture: bytes, count: int) -> list[Part]:
+        """The parts that the definitions make of a capture which is not refused."""
+        octets = tuple(capture)
+        if self.ask("refusal", octets).name == "Some":
+            raise ValueError("the capture is refused")
+        self.definitions.kept.clear()
+        order = self.definitions.named(ENTRIES["number_of"])
+        endian = self.ask("format_of", octets).parts[0]["endian"]
+        number, link = apply(order, endian), self.ask("link_of", apply(order, endian), octets)
+        found, rest = dealt(capture, "little" if endian.name == "Little" else "big")
+        self.show("AreRecords", number, octets[24:], found, rest)
+        parts = []
+        for part in range(count):
+            given = [self.ask(entry, link, count, part, found, rest) for entry in ("part_bytes", "part_numbers")]
+            full = self.ask("part_full", link, count, part, 24, found, rest)
+            parts.append(Part(capture[:24] + bytes(given[0]), bytes(given[1]), full.name == "Some"))
+        return parts
 
     def frame(self, number: int, side: str, octets: bytes) -> Value:
         """The frame that these bytes spell. It is captured in the record of its number, at as many microseconds."""

@@ -43,6 +43,18 @@ def records(values: Values) -> Fields:
     return {"link": hole(), "rows": listed(rows), "cut": hole()}
 
 
+def dealt(capture: bytes, order: Literal["little", "big"]) -> tuple[tuple[Value, ...], Value]:
+    """The records of a capture as bytes, and the rest that holds no whole one."""
+    at, found = 24, []
+    while at + 16 <= len(capture):
+        end = at + 16 + int.from_bytes(capture[at + 8 : at + 12], order)
+        if end > len(capture):
+            break
+        found.append(tuple(capture[at:end]))
+        at = end
+    return tuple(found), tuple(capture[at:])
+
+
 class Known(Values):
     """Values by their names; one that is not known yet is asked for later."""
 

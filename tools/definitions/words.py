@@ -88,6 +88,7 @@ WORDS: dict[str, Callable[..., Value]] = {
     "int_eq": lambda a, b: a == b,
     "big_number": lambda n, xs: number(xs, range(n)),  # of the first n bytes, the highest first
     "little_number": lambda n, xs: number(xs, reversed(range(n))),  # of the first n bytes, the lowest first
+    "big_bytes": lambda n, x: tuple([x // 256**place % 256 for place in reversed(range(n))]),  # of n bytes
     "zero": lambda: 0,
     "suc": lambda n: n + 1,
     # truth values
@@ -138,6 +139,7 @@ WORDS: dict[str, Callable[..., Value]] = {
     "IsFalse": lambda a: not a,
     "IsSome": lambda o: o != NONE,
     "IsSomeAnd": lambda o, claim: option(o, False, lambda x: apply(claim, x)),  # there is a value, and it holds of that
+    "AllByRecursion": lambda claim, xs: least(map(partial(apply, claim), xs)),  # of each element
     "AllZip": lambda claim, xs, ys: len(xs) == len(ys) and least(map(partial(apply, claim), xs, ys)),  # at each place
 }
 LAZY = ("◌∷◌", "◌++◌")  # these take what is not known yet

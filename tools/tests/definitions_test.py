@@ -8,8 +8,10 @@ The latter compares the program's reports, of captures or connections, or of bot
 
 The known ones are those of examples/ up to 4,000 bytes and of each row of tests/reports. Then ten definitions are
 changed, one in each layer, and the search for witnesses is misled: each time a report has to be another one, or not
-shown. The program is asked for those of 300 random captures and 1,000 random connections, in which all 27 kinds of
-findings occur; the seed is printed.
+shown. The parts of captures are those of SPLITS, by the definitions and by the model of tests/parts.py, and both make
+the same of the examples and of random captures; five definitions of the splitter are changed as well. The program is
+asked for those of 300 random captures and 1,000 random connections, in which all 27 kinds of findings occur; the seed
+is printed.
 """
 
 import argparse
@@ -26,8 +28,9 @@ from functools import partial
 from random import Random
 from typing import Any, NamedTuple, TypeVar
 
-from tests import reports_test
+from tests import reports_test, split_test
 from tests.captures import capture_of
+from tests.parts import parts_of
 from tools.definitions import search
 from tools.definitions.running import CRATES, NotShown, Reader, deeply
 from tools.definitions.values import Made, Stuck, Value
@@ -53,6 +56,28 @@ CHANGES = [
     ("audit_terms/specs/Finding.antt", "if stops x then x ∷ []", "if stops x then []"),
     ("audit_report/specs/Stalls.antt", "then stall_of frames found", "then stall_of []  found"),
     ("audit_report/specs/EndLine.antt", "slice_get findings (length findings - 1)", "slice_get findings 0"),
+]
+
+
+# The same of the splitter.
+SPLIT_CHANGES = [
+    ("capture_parts/specs/Pair.antt", "take 82 packet", "take 40 packet"),
+    ("capture_parts/specs/Pair.antt", "/ 2 ^ 32", "/ 2 ^ 31"),
+    ("capture_parts/specs/Pair.antt", "ipv4.protocol datagram == 6", "ipv4.protocol datagram == 17"),
+    ("capture_parts/specs/Dealt.antt", "big_bytes 8 n", "big_bytes 8 (n + 1)"),
+    ("capture_parts/specs/Dealt.antt", "nat_lt (size + count) (2 ^ 31)", "nat_lt (size + count) (2 ^ 7)"),
+]
+WEB, PEER, OTHER = (0x0A000100, 80), (0x0A000001, 40000), (0x0A000002, 40003)
+# Rows that are worked out by hand: a name, the sender and the receiver of each packet, or None where it names none, how
+# many parts there are, and the numbers of the records of each. The sums of endpoints, 65,536 times the address and the
+# port each, are 21990249438352 and 21990249503891. Times 11400714819323198485, modulo 2^64 and divided by 2^32, they are
+# 3528191919 and 648797222: an odd and an even number.
+SPLITS: list[tuple[str, list[tuple[tuple[int, int], tuple[int, int]] | None], int, list[list[int]]]] = [
+    ("no records", [], 2, [[], []]),
+    ("by number", [None] * 4, 3, [[3], [1, 4], [2]]),
+    ("one part", [None, (PEER, WEB), None], 1, [[1, 2, 3]]),
+    ("both directions", [(PEER, WEB), (WEB, PEER), (PEER, WEB)], 2, [[], [1, 2, 3]]),
+    ("two pairs", [(PEER, WEB), (OTHER, WEB), (WEB, OTHER), (WEB, PEER)], 2, [[2, 3], [1, 4]]),
 ]
 
 
@@ -172,7 +197,7 @@ def sees(reader: Reader, jobs: list[Job]) -> bool:
     return any(answer(reader, job.capture, job.frames_shown) != job.wanted for job in jobs)
 
 
-def changed(change: tuple[str, str, str], jobs: list[Job]) -> str:
+def changed(change: tuple[str, str, str], is_seen: Callable[[Reader], bool]) -> str:
     """What is wrong with the definitions' answers where one of them is changed."""
     file, old, new = change
     with tempfile.TemporaryDirectory() as folder:
@@ -182,7 +207,59 @@ def changed(change: tuple[str, str, str], jobs: list[Job]) -> str:
         if text.count(old) != 1:
             return f"{file} has {old} not once\n"
         pathlib.Path(folder, file).write_text(text.replace(old, new))
-        return "" if sees(Reader(pathlib.Path(folder)), jobs) else f"{file}: {new} is not seen\n"
+        return "" if is_seen(Reader(pathlib.Path(folder))) else f"{file}: {new} is not seen\n"
+
+
+def split_row(packets: list[tuple[tuple[int, int], tuple[int, int]] | None]) -> bytes:
+    """A capture of packets with these senders and receivers, or of none."""
+    records = b""
+    for number, pair in enumerate(packets, 1):
+        packet = b"\x60"
+        if pair:
+            (source, from_port), (target, to_port) = pair
+            packet = split_test.datagram_of(source, target, 6, split_test.segment_of((from_port, to_port), 1, 0x10))
+        records += split_test.record_of("<", number, packet)
+    return split_test.header_of("<", 0xA1B2C3D4, 101) + records
+
+
+def split_captures() -> Iterator[tuple[str, bytes, int]]:
+    """Captures to be split, each into so many parts."""
+    for count, file in enumerate(sorted((TOP / "examples").glob("*.pcap")), 1):
+        if file.stat().st_size <= LARGE:
+            yield file.stem, file.read_bytes(), count
+    for seed, order in enumerate("<><>"):
+        magic, link = split_test.MAGICS[order][seed // 2], (1, 101)[seed % 2]
+        whole = split_test.Traffic(seed).capture(order, magic, link, 25)[:6000]
+        for cut in (len(whole), len(whole) - 1, 24, 41):
+            yield f"random {seed} cut at {cut}", whole[:cut], seed + 2
+
+
+def parts_in(numbers: list[bytes]) -> list[list[int]]:
+    """The record numbers of parts, by what they hold of them."""
+    return [[int.from_bytes(part[at : at + 8], "big") for at in range(0, len(part), 8)] for part in numbers]
+
+
+def split_faults(reader: Reader) -> list[str]:
+    """What is wrong with the parts that the definitions make, and with those of the model."""
+    wrong = []
+    for name, packets, count, wanted in SPLITS:
+        capture = split_row(packets)
+        for maker, made in (
+            ("definitions", [part.numbers for part in reader.split(capture, count)]),
+            ("model", [numbers for _, numbers in parts_of(capture, count)]),
+        ):
+            if parts_in(made) != wanted:
+                wrong.append(f"{name}: the {maker} say {parts_in(made)}, and it should be {wanted}")
+    for name, capture, count in split_captures():
+        parts = reader.split(capture, count)
+        if any(part.is_full for part in parts) or [part[:2] for part in parts] != parts_of(capture, count):
+            wrong.append(f"{name}: the definitions make other parts than the model")
+    return wrong
+
+
+def sees_split(reader: Reader) -> bool:
+    """Whether the reader makes other parts of some capture."""
+    return bool(split_faults(reader))
 
 
 def misled(number: int, jobs: list[Job]) -> str:
@@ -206,10 +283,15 @@ def as_known() -> bool:
     known = [*examples(), *rows()]
     wrong, _ = compared(known, None)
     small = [job for job in known if len(job.capture) <= 1300]
-    faults = in_parallel(changed, CHANGES, small) + in_parallel(misled, range(len(SPOILED)), small[::4])
+    faults = in_parallel(changed, CHANGES, partial(sees, jobs=small))
+    faults += in_parallel(changed, SPLIT_CHANGES, sees_split) + in_parallel(misled, range(len(SPOILED)), small[::4])
     print("".join(faults), end="")
-    print(f"{len(CHANGES)} changed definitions, {len(SPOILED)} wrong witnesses: {sum(map(bool, faults))} not seen")
-    return not wrong and not any(faults)
+    changes = len(CHANGES) + len(SPLIT_CHANGES)
+    print(f"{changes} changed definitions, {len(SPOILED)} wrong witnesses: {sum(map(bool, faults))} not seen")
+    split_wrong = deeply(lambda: split_faults(Reader()))
+    counts = f"{len(SPLITS)} rows and {len([*split_captures()])} captures split"
+    print(*split_wrong, f"{counts}: {len(split_wrong)} wrong", sep="\n")
+    return not wrong and not any(faults) and not split_wrong
 
 
 def as_program(program: str, seed: int, kind: str | None) -> bool:

@@ -1,5 +1,6 @@
 mod Terms
 mod Buffer
+mod Counting
 mod Fulls
 mod Given
 mod Growth

@@ -49,9 +49,9 @@ module _ {W : Type 0} (contents : W → Option (List ℕ)) where
   begun {d} e {first} {old} {mid} {new} {bytes} {x} none some entered one was =
       let (empty, so_far) = was.stands.between none in
       let are = rw (empty, append-nil) at was.are in
-      let next : e.number ≡ length was.records + 1 = entered.number ∙ ap (λ (k : ℕ). k + 1) so_far in
+      let next : e.number ≡ length was.records + 1 = entered.next.number ∙ ap (λ (k : ℕ). k + 1) so_far in
       let parts : ℕ = length first in
-      let at : e.part ≡ part_at e.link parts e.number x = rw (← was.parts.count, ← entered.grows.count) entered.part in
+      let at : e.part ≡ part_at e.link parts e.number x = rw (← was.parts.count) entered.next.part in
       let more = λ (taken : ℕ → List ℕ → List ℕ) (i : ℕ). given_from-more e.link parts taken i was.records e.number []
       x (if e.part == i then taken e.number x else []) next
       (rw at (sym (given-some e.link parts taken i e.number x some))) in (
@@ -61,11 +61,11 @@ module _ {W : Type 0} (contents : W → Option (List ℕ)) where
         AllGrow-one contents first old new e.part _ _ _ _ (λ i size. part_full e.link parts i size was.records [])
             (λ i size. part_full e.link parts i size was.records x) x (big_bytes 8 e.number)
             (λ size. full_at size (length x) e.pair) (more bytes_taken) (more number_taken)
-            (λ i size small. rw entered.pair
+            (λ i size small. rw entered.next.pair
             (full_front e.link parts i e.part size e.number was.records [] x x next small
             (rw at (sym (given-some e.link parts bytes_taken i e.number x some)))
             (λ no. absurd (omega (arith, no)))))
-            (rw entered.link (subst (HaveGot d.link first old was.records) empty was.parts))
+            (rw entered.next.link (subst (HaveGot d.link first old was.records) empty was.parts))
             (OneGrows-bytes contents old mid new e.part x (big_bytes 8 e.number)
             (λ size. full_at size (length x) e.pair) entered.grows one),
       )
@@ -151,13 +151,13 @@ module _ {W : Type 0} (contents : W → Option (List ℕ)) where
       → OneGrows contents mid new e.part (take n unread) [] (λ size. full_at size (length (take n unread)) e.pair)
       → Deals contents d (record e { left = e.left - n }) old new (take n unread)
   dealt_first {d} e {old} {mid} {new} unread n none started left count one =
-      record { link = started.entered.link; is_little = started.entered.is_little; behind = behind }
+      record { link = started.entered.next.link; is_little = started.entered.next.is_little; behind = behind }
     where
       behind : (first : List (Part W)) (bytes : List ℕ) → IsDealt contents d first old bytes
           → IsDealt contents (record e { left = e.left - n }) first new (bytes ++ take n unread)
       behind first bytes was =
           let record { entered = entered; front = enough } = started in
-          let little = entered.is_little in
+          let little = entered.next.is_little in
           let chunk : List ℕ = take n unread in
           let size : length chunk ≡ n = length-take-le n unread (omega (arith, count)) in
           let long : 16 ≤ length chunk = omega (arith, size, count, left, enough) in
@@ -168,7 +168,7 @@ module _ {W : Type 0} (contents : W → Option (List ℕ)) where
           ∙ captured-more d.is_little chunk (drop n unread) long in
           let (are, next, at, parts) = begun e none (omega (arith, long)) (rw whole entered) one was in
           settled (record e { left = e.left - n }) first new was.records chunk (bytes ++ chunk) are
-          (rw little was.stands.whole) next at (rw whole entered.pair)
+          (rw little was.stands.whole) next at (rw whole entered.next.pair)
           (λ more. omega (arith, more, size, count, left, enough)) long
           (rw little (omega (arith, size, count, left, captured))) parts
 
@@ -202,7 +202,7 @@ module _ {W : Type 0} (contents : W → Option (List ℕ)) where
         records = was.records;
         rest = rest;
         reading = record { are = are; whole = was.stands.whole; none_left = cut };
-        parts = rw (← entered.link) parts;
+        parts = rw (← entered.next.link) parts;
       }
 
   -- before the first byte

@@ -2,6 +2,7 @@ pub mod Dealt
 pub mod Files
 pub mod Finished
 pub mod Inputs
+pub mod Outside
 pub mod Pair
 pub mod Parts
 pub mod laws

@@ -1,8 +1,7 @@
 //! Which bytes go to which part.
 
-ghost use Rattle.std.specs.Prelude.{◌≡◌, ◌+◌, ◌-◌, ◌<◌, ◌≤◌, ◌^◌, ℕ, List, [], ◌++◌, false, length, min, take, drop};
-ghost use Rattle.std.specs.Prelude.{None};
-ghost use Rattle.std.specs.Prelude.{vec_len, IfOk, IfSome, OnOk, IsTrue};
+ghost use Rattle.std.specs.Prelude.{◌≡◌, ◌+◌, ◌-◌, ◌*◌, ◌<◌, ◌≤◌, ◌^◌, ℕ, List, [], ◌++◌, false, length, min, take};
+ghost use Rattle.std.specs.Prelude.{None, drop, vec_len, IfErr, IfOk, IfSome, OnOk, IsTrue};
 ghost use Rattle.std.specs.Bool.{Decides};
 ghost use Rattle.byteorder.specs.Endian.{big_bytes};
 ghost use Rattle.pcap_records.specs.FileHeader.{format_of, link_of, number_of};
@@ -11,7 +10,8 @@ ghost use Rattle.capture_parts.specs.Dealt.{full_at};
 ghost use Rattle.capture_parts.specs.Parts.{AreSplit};
 ghost use Rattle.capture_parts.specs.Files.{order_of};
 ghost use Rattle.capture_parts.specs.code.Standing.{IsDealt};
-ghost use Rattle.capture_parts.specs.code.Dealing.{Deals, HasBegun, HasEntered, OneGrows};
+ghost use Rattle.capture_parts.specs.code.Counting.{IsFaultAt};
+ghost use Rattle.capture_parts.specs.code.Dealing.{Deals, HasBegun, IsNext, OneGrows};
 ghost use Rattle.capture_parts.specs.declared.part.Part.{Part};
 
 use crate::fault::SplitFault;
@@ -32,7 +32,7 @@ const FRONT: usize = TAGGED_HEADER + LONGEST_HEADER + PORTS;
 const _: () = prove!(RECORD_HEADER + FRONT == 98);
 
 /// What the dealer of a capture knows of the records that it has seen.
-#[derive(Drop)]
+#[derive(Clone, Copy)]
 pub(crate) struct Dealer {
     is_little: bool,
     link: u16,
@@ -65,6 +65,27 @@ impl Dealer {
         }
     }
 
+    /// The dealer at the next record, whose packet has this front and of which so many bytes are to come. There are so
+    /// many parts.
+    fn at_next(&self, parts: usize, front: &[u8], left: u64) -> Dealer
+        requires some { 0 < parts }
+        requires room { self.now.number + 1 < 2 ^ 64 }
+        ensures next { IsNext parts self.now result front.now }
+        ensures within { result.part < parts }
+        ensures left { result.left ≡ left }
+    {
+        let number = self.number + 1;
+        let pair = pair_of(self.link, front);
+        Dealer {
+            is_little: self.is_little,
+            link: self.link,
+            number,
+            pair,
+            part: part_of(parts, number, pair),
+            left,
+        }
+    }
+
     /// The captured length of the record whose header begins these bytes.
     fn captured_length(&self, unread: &[u8]) -> usize
         requires { 16 ≤ length unread.now }
@@ -84,7 +105,12 @@ impl Dealer {
 pub(crate) struct Dealing<W: Drop> {
     pub(crate) dealer: Dealer,
     pub(crate) parts: Vec<Part<W>>,
+    /// How many bytes were dealt.
+    pub(crate) count: u64,
     ghost in_range: { dealer.part < vec_len parts },
+    // Each record has 16 bytes at least, so their number does not overflow.
+    ghost few: { 16 * dealer.number ≤ count + dealer.left },
+    ghost counted: { count < 2 ^ 64 },
 }
 
 impl<W: Write + Drop> Dealing<W> {
@@ -99,10 +125,12 @@ impl<W: Write + Drop> Dealing<W> {
         ensures number { result.dealer.number ≡ 0 }
         ensures left { result.dealer.left ≡ 0 }
         ensures parts { result.parts ≡ parts }
+        ensures count { result.count ≡ 0 }
     {
         Dealing {
             dealer: Dealer::behind(header),
             parts,
+            count: 0,
         }
     }
 
@@ -121,6 +149,8 @@ impl<W: Write + Drop> Dealing<W> {
             × ¬ BeginsWithRecord (order_of self.new.dealer.is_little) (drop n unread.now)) }
         ensures dealt { IfOk result (λ n. Deals W.contents self.old.dealer self.new.dealer
             self.old.parts.items self.new.parts.items (take n unread.now)) }
+        ensures count { IfOk result (λ n. self.new.count ≡ self.old.count + n) }
+        ensures fault { IfErr result (IsFaultAt (self.old.count + length unread.now)) }
     {
         let mut at = 0;
         while at < unread.len() {
@@ -143,11 +173,15 @@ impl<W: Write + Drop> Dealing<W> {
         ensures grows { IfOk result (λ n. OneGrows W.contents self.old.parts.items self.new.parts.items
             self.old.dealer.part (take n unread.now) []
             (λ size. full_at size (length (take n unread.now)) self.old.dealer.pair)) }
+        ensures sum { IfOk result (λ n. self.new.count ≡ self.old.count + n) }
+        ensures fault { IfErr result (IsFaultAt (self.old.count + length unread.now)) }
     {
-        let count = self.dealer.left.min(unread.len() as u64) as usize;
-        self.give(&unread[..count])?;
-        self.dealer.left -= count as u64;
-        Ok(count)
+        let more = self.dealer.left.min(unread.len() as u64) as usize;
+        let count = counted(self.count, more)?;
+        self.give(self.dealer, &unread[..more])?;
+        self.dealer.left -= more as u64;
+        self.count = count;
+        Ok(more)
     }
 
     /// Begins the record at the front of these bytes, if enough of it is there to tell its part.
@@ -160,6 +194,8 @@ impl<W: Write + Drop> Dealing<W> {
             self.old.parts.items self.new.parts.items unread.now) }
         ensures left { IfOk result (λ begun. IsTrue begun
             → self.new.dealer.left ≡ 16 + captured_length (order_of self.old.dealer.is_little) unread.now) }
+        ensures count { self.new.count ≡ self.old.count }
+        ensures fault { IfErr result (IsFaultAt 0) }
     {
         if unread.len() < RECORD_HEADER {
             return Ok(false);
@@ -169,47 +205,45 @@ impl<W: Write + Drop> Dealing<W> {
         if unread.len() - RECORD_HEADER < front {
             return Ok(false);
         }
-        self.enter(&unread[RECORD_HEADER..RECORD_HEADER + front])?;
-        self.dealer.left = (RECORD_HEADER + captured) as u64;
+        let packet = &unread[RECORD_HEADER..RECORD_HEADER + front];
+        let next = self.dealer.at_next(self.parts.len(), packet, (RECORD_HEADER + captured) as u64);
+        self.give_number(next)?;
+        self.dealer = next;
         Ok(true)
     }
 
-    /// Numbers the record whose packet has this front, and finds its part.
-    fn enter(&mut self, front: &[u8]) -> Result<(), SplitFault>
-        ensures { OnOk result (HasEntered W.contents self.old.dealer self.new.dealer
-            self.old.parts.items self.new.parts.items front.now) }
+    /// Gives the number of the record of this dealer to its part.
+    fn give_number(&mut self, at: Dealer) -> Result<(), SplitFault>
+        requires { at.part < vec_len self.old.parts }
+        ensures dealer { self.new.dealer ≡ self.old.dealer }
+        ensures parts { vec_len self.new.parts ≡ vec_len self.old.parts }
+        ensures length { length self.old.parts.items ≡ vec_len self.old.parts }
+        ensures count { self.new.count ≡ self.old.count }
+        ensures fault { IfErr result (IsFaultAt 0) }
+        ensures grows { OnOk result (OneGrows W.contents self.old.parts.items self.new.parts.items
+            at.part [] (big_bytes 8 at.number) (λ size. None)) }
     {
-        if self.dealer.number == u64::MAX {
-            return Err(SplitFault::TooLong);
-        }
-        let number = self.dealer.number + 1;
-        let pair = pair_of(self.dealer.link, front);
-        let part = part_of(self.parts.len(), number, pair);
-        self.dealer.number = number;
-        self.dealer.pair = pair;
-        self.dealer.part = part;
-        give_number(self.parts.as_mut_slice(), part, number)
+        give_number(self.parts.as_mut_slice(), at.part, at.number)
     }
 
-    /// Gives bytes of the record that was entered last to its part.
-    fn give(&mut self, bytes: &[u8]) -> Result<(), SplitFault>
+    /// Gives bytes of the record of this dealer to its part.
+    fn give(&mut self, at: Dealer, bytes: &[u8]) -> Result<(), SplitFault>
+        requires { at.part < vec_len self.old.parts }
         ensures dealer { self.new.dealer ≡ self.old.dealer }
+        ensures count { self.new.count ≡ self.old.count }
+        ensures fault { IfErr result (IsFaultAt 0) }
         ensures grows { OnOk result (OneGrows W.contents self.old.parts.items self.new.parts.items
-            self.old.dealer.part bytes.now [] (λ size. full_at size (length bytes.now) self.old.dealer.pair)) }
+            at.part bytes.now [] (λ size. full_at size (length bytes.now) at.pair)) }
     {
-        give_bytes(
-            self.parts.as_mut_slice(),
-            self.dealer.part,
-            bytes,
-            self.dealer.pair,
-        )
+        give_bytes(self.parts.as_mut_slice(), at.part, bytes, at.pair)
     }
 
     /// Deals the bytes at the end of a capture, which hold no whole record.
     pub(crate) fn finish(&mut self, rest: &[u8]) -> Result<(), SplitFault>
-        ensures { OnOk result ((first : List (Part W)) (bytes : List ℕ)
-            → (0 < length rest.now → (self.old.dealer.left ≡ 0)
-            × ¬ BeginsWithRecord (order_of self.old.dealer.is_little) rest.now)
+        requires { 0 < length rest.now → self.old.dealer.left ≡ 0 }
+        ensures fault { IfErr result (IsFaultAt 0) }
+        ensures split { OnOk result ((first : List (Part W)) (bytes : List ℕ)
+            → ¬ BeginsWithRecord (order_of self.old.dealer.is_little) rest.now
             → IsDealt W.contents self.old.dealer first self.old.parts.items bytes
             → AreSplit W.contents (order_of self.old.dealer.is_little) self.old.dealer.link (bytes ++ rest.now)
             first self.new.parts.items) }
@@ -219,8 +253,21 @@ impl<W: Write + Drop> Dealing<W> {
         }
         let header = RECORD_HEADER.min(rest.len());
         let packet = &rest[header..];
-        self.enter(&packet[..FRONT.min(packet.len())])?;
-        self.give(rest)
+        let front = &packet[..FRONT.min(packet.len())];
+        let next = self.dealer.at_next(self.parts.len(), front, 0);
+        self.give_number(next)?;
+        self.give(next, rest)
+    }
+}
+
+/// So many bytes, and more.
+fn counted(count: u64, more: usize) -> Result<u64, SplitFault>
+    ensures sum { IfOk result (λ sum. sum ≡ count + more) }
+    ensures fault { IfErr result (IsFaultAt (count + more)) }
+{
+    match count.checked_add(more as u64) {
+        Some(sum) => Ok(sum),
+        None => Err(SplitFault::TooLong),
     }
 }
 
@@ -232,6 +279,7 @@ fn give_number<W: Write + Drop>(
 ) -> Result<(), SplitFault>
     requires { part < length parts.old }
     ensures count { length parts.new ≡ length parts.old }
+    ensures fault { IfErr result (IsFaultAt 0) }
     ensures grows { OnOk result (OneGrows W.contents parts.old parts.new part [] (big_bytes 8 number) (λ size. None)) }
 {
     match parts[part].take_number(number) {
@@ -249,6 +297,7 @@ fn give_bytes<W: Write + Drop>(
 ) -> Result<(), SplitFault>
     requires { part < length parts.old }
     ensures count { length parts.new ≡ length parts.old }
+    ensures fault { IfErr result (IsFaultAt 0) }
     ensures grows { OnOk result (OneGrows W.contents parts.old parts.new part bytes.now []
         (λ size. full_at size (length bytes.now) pair)) }
 {

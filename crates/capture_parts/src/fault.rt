@@ -25,7 +25,7 @@ pub enum SplitFault {
     Read,
     /// A write to this file of the part of this number failed. The first part has number 1.
     Write(usize, PartFile),
-    /// More than 2^64 - 1 records, or a file that is not at its end after 2^64 - 1 reads.
+    /// More than 2^64 - 1 bytes.
     TooLong,
 }
 

@@ -1,19 +1,12 @@
-//! The end of a split: whole parts are flushed, and full ones refused.
+//! The end of a split: parts are flushed.
 
-ghost use Rattle.std.specs.Prelude.{◌≡◌, ◌<◌, IfOk, OnOk, Ok, map};
+ghost use Rattle.std.specs.Prelude.{◌≡◌, OnOk, map};
 ghost use Rattle.std.specs.List.{All};
-ghost use Rattle.capture_parts.specs.Finished.{AreRefused, IsFlushedOrFull, has_full};
+ghost use Rattle.capture_parts.specs.Finished.{IsFlushedOrFull};
 
 use crate::fault::PartFile;
-use crate::part::{FullPart, Part};
+use crate::part::Part;
 use std::io::{BufWriter, Write};
-
-/// A part that is full, and its number.
-#[derive(Clone, Copy)]
-pub struct RefusedPart {
-    pub number: usize,
-    pub full: FullPart,
-}
 
 /// This file of the part of this number could not be flushed. The first part has number 1.
 #[derive(Clone, Copy)]
@@ -48,25 +41,4 @@ fn flush_part<W: Write + Drop>(
         Ok(()) => Ok(()),
         Err(file) => Err(FlushFault { number, file }),
     }
-}
-
-/// Has each full part refused, in turn, and returns whether there is one. Fails where `refuse` does, at once.
-pub fn refuse_full<W: Write + Drop, E: Drop, F: FnMut(RefusedPart) -> Result<(), E>>(
-    parts: &[Part<W>],
-    refuse: &mut F,
-) -> Result<bool, E>
-    requires { F.IsAlwaysCallable refuse.old }
-    ensures refused { OnOk result (AreRefused (λ before part after. F.step before part (Ok tt) after) 1 refuse.old
-        (map (λ part. part.full) parts.now) refuse.new) }
-    ensures any { IfOk result (λ any. any ≡ has_full (map (λ part. part.full) parts.now)) }
-{
-    let mut any = false;
-    for (index, part) in parts.iter().enumerate() {
-        if let Some(full) = part.full() {
-            let number = index + 1;
-            refuse(RefusedPart { number, full })?;
-            any = true;
-        }
-    }
-    Ok(any)
 }

@@ -15,16 +15,18 @@
 //!   is full and gets nothing more. `part_full` of `specs/Dealt.antt` says which one is: by the first of its own
 //!   records that has no room. [`Part::full`] returns the endpoints that this record names. No contract can say what a
 //!   file gives or takes.
-//! - After [`flush_parts`], the buffers of parts that are not full are empty. [`refuse_full`] calls back for each full
-//!   one, and returns whether there is one.
+//! - A split opens later files by an [`Outside`], and where it fails, its contract tells which of them were opened and
+//!   what they gave (`HasStopped` of `specs/Inputs.antt`). A later file has the format and the link type of the first
+//!   one. A capture is too long only from 2^64 bytes on.
+//! - After [`flush_parts`], the buffers of parts that are not full are empty.
 //! - [`part_count`] is the number of parts for what was asked, and [`make_buffer`] makes a buffer that is long enough
 //!   for a packet's front.
 //! - [`laws`]: a record goes to one part, whole; a packet in which `packet_heads` finds a segment names that segment's
 //!   endpoints in its front; either order of two endpoints goes to the same part; the records are those that the reader
 //!   of the whole capture finds.
 //! - The prover refuses: a pair of a sender alone, a part that gets another part's bytes, one number for all records, a
-//!   full part that names no endpoints, another number of parts, another file than the one that is named, a flush that
-//!   failed and is not reported, or is left out.
+//!   full part that names no endpoints, another file than the one that is named, a later file with another link type,
+//!   a capture that is too long by its records, a flush that failed and is not reported.
 //! - `tests/` at the root compares the parts of whole captures with a model, and merges reports of parts.
 //!   `tools/tests/splitter_test.py` tests that no part is called full, and no capture too long, before its time.
 #![tactic(auto)]
@@ -35,13 +37,15 @@ mod files;
 mod finishing;
 mod header;
 pub mod laws;
+mod outside;
 mod pair;
 mod part;
 mod splitting;
 
 pub use fault::{FileFault, PartFile, SplitFault};
 pub use files::split_capture;
-pub use finishing::{FlushFault, RefusedPart, flush_parts, refuse_full};
+pub use finishing::{FlushFault, flush_parts};
+pub use outside::Outside;
 pub use pair::Endpoints;
 pub use part::{FullPart, Part, part_count};
 pub use splitting::{make_buffer, read_header};

@@ -1,11 +1,13 @@
 //! Deals the files of a capture.
 
-ghost use Rattle.std.specs.Prelude.{◌≡◌, ◌-◌, ◌<◌, ◌≤◌, ℕ, List, [], ◌++◌, length, take, vec_len, IfOk, IfSome, OnOk};
+ghost use Rattle.std.specs.Prelude.{◌≡◌, ◌+◌, ◌-◌, ◌<◌, ◌≤◌, ◌^◌, ℕ, List, [], ◌++◌, length, take, vec_len};
+ghost use Rattle.std.specs.Prelude.{IfErr, IfOk, IfSome, OnOk};
 ghost use Rattle.std.specs.Io.KnownBytes.{Consumes, IsAtEnd};
 ghost use Rattle.pcap_records.specs.FileHeader.{format_of, link_of, number_of};
 ghost use Rattle.pcap_records.specs.Record.{BeginsWithRecord};
 ghost use Rattle.capture_parts.specs.Files.{order_of};
 ghost use Rattle.capture_parts.specs.code.Standing.{IsDealt};
+ghost use Rattle.capture_parts.specs.code.Counting.{IsFaultAt, Overflows};
 ghost use Rattle.capture_parts.specs.code.Dealing.{Deals, EndsSplit, HasTurned};
 
 use crate::dealer::Dealing;
@@ -29,6 +31,7 @@ pub fn read_header<R: Read>(reader: &mut R, header: &mut [u8]) -> Result<usize, 
     ensures within { IfOk result (λ n. n ≤ length header.new) }
     ensures bytes { IfOk result (λ n. Consumes (R.remaining reader.old) (R.remaining reader.new) (take n header.new)) }
     ensures end { IfOk result (λ n. n < length header.new → IsAtEnd (R.remaining reader.new)) }
+    ensures fault { IfErr result (IsFaultAt 0) }
 {
     let mut filled = 0;
     while filled < header.len() {
@@ -61,6 +64,7 @@ impl<W: Write + Drop> Splitter<W> {
         ensures link { IfSome (format_of header.now)
             (λ format. result.dealing.dealer.link ≡ link_of (number_of format.endian) header.now) }
         ensures none { IsDealt W.contents result.dealing.dealer parts.items result.dealing.parts.items [] }
+        ensures count { result.dealing.count ≡ 0 }
     {
         Splitter {
             dealing: Dealing::behind(header, parts),
@@ -75,8 +79,11 @@ impl<W: Write + Drop> Splitter<W> {
         ensures dealt { OnOk result ((given : List ℕ)
             × Consumes (R.remaining reader.old) (R.remaining reader.new) given
             × IsAtEnd (R.remaining reader.new)
+            × (self.new.dealing.count ≡ self.old.dealing.count + length given)
             × Deals W.contents self.old.dealing.dealer self.new.dealing.dealer
             self.old.dealing.parts.items self.new.dealing.parts.items given) }
+        ensures fault { IfErr result
+            (Overflows (R.remaining reader.old) (R.remaining reader.new) self.old.dealing.count) }
     {
         let filled = deal_file(&mut self.dealing, reader, self.buffer.as_mut_slice())?;
         if filled == 0 && self.dealing.is_between() {
@@ -88,11 +95,13 @@ impl<W: Write + Drop> Splitter<W> {
 
     /// Deals the last file of a capture, from behind its header on.
     pub(crate) fn finish_file<R: Read>(&mut self, reader: &mut R) -> Result<(), SplitFault>
-        ensures { OnOk result ((given : List ℕ)
+        ensures ends { OnOk result ((given : List ℕ)
             × Consumes (R.remaining reader.old) (R.remaining reader.new) given
             × IsAtEnd (R.remaining reader.new)
             × EndsSplit W.contents self.old.dealing.dealer self.old.dealing.parts.items
             self.new.dealing.parts.items given) }
+        ensures fault { IfErr result
+            (Overflows (R.remaining reader.old) (R.remaining reader.new) self.old.dealing.count) }
     {
         let filled = deal_file(&mut self.dealing, reader, self.buffer.as_mut_slice())?;
         self.dealing.finish(&self.buffer[..filled])
@@ -115,18 +124,19 @@ fn deal_file<R: Read, W: Write + Drop>(
     requires { 98 ≤ length buffer.old }
     ensures left { IfOk result (λ n. n ≤ length buffer.new) }
     ensures turned { IfOk result (λ n. HasTurned W.contents R.remaining dealing.old.dealer dealing.new.dealer
-        dealing.old.parts.items dealing.new.parts.items reader.old reader.new (take n buffer.new)) }
+        dealing.old.count dealing.new.count dealing.old.parts.items dealing.new.parts.items reader.old reader.new
+        (take n buffer.new)) }
     ensures end { OnOk result (IsAtEnd (R.remaining reader.new)) }
+    ensures fault { IfErr result (Overflows (R.remaining reader.old) (R.remaining reader.new) dealing.old.count) }
 {
     let mut filled = 0;
-    for _ in 0..u64::MAX {
+    loop {
         match reader.read(&mut buffer[filled..]) {
             Ok(0) => return Ok(filled),
             Ok(count) => filled = deal_buffer(dealing, buffer, filled + count)?,
             Err(_) => return Err(SplitFault::Read),
         }
     }
-    Err(SplitFault::TooLong)
 }
 
 /// Deals the first `filled` bytes of a buffer, moves the last, too few to begin a record, to its front, and returns how
@@ -143,6 +153,8 @@ fn deal_buffer<W: Write + Drop>(
         × ¬ BeginsWithRecord (order_of dealing.new.dealer.is_little) (take n buffer.new)) }
     ensures dealt { IfOk result (λ n. Deals W.contents dealing.old.dealer dealing.new.dealer
         dealing.old.parts.items dealing.new.parts.items (take (filled - n) buffer.old)) }
+    ensures count { IfOk result (λ n. dealing.new.count + n ≡ dealing.old.count + filled) }
+    ensures fault { IfErr result (IsFaultAt (dealing.old.count + filled)) }
 {
     let dealt = dealing.deal(&buffer[..filled])?;
     buffer.copy_within(dealt..filled, 0);

@@ -12,6 +12,14 @@ use Rattle.capture_parts.specs.declared.dealer.Dealer.{Dealer}
 use Rattle.capture_parts.specs.declared.part.FullPart.{FullPart}
 use Rattle.capture_parts.specs.declared.part.Part.{Part}
 
+-- from a dealer to that at the next record, whose packet has this front; there are so many parts
+pub record IsNext (parts : ℕ) (d e : Dealer) (front : List ℕ) : Type 0 where
+  pub link : e.link ≡ d.link
+  pub is_little : e.is_little ≡ d.is_little
+  pub number : e.number ≡ d.number + 1
+  pub pair : e.pair ≡ pair_of e.link front
+  pub part : e.part ≡ part_of parts e.number (pair_of e.link front)
+
 module _ {W : Type 0} (contents : W → Option (List ℕ)) where
   -- one part grows, which is full as `full` says of its size, and all others are as they were
   pub record OneGrows (old new : List (Part W)) (i : ℕ) (bytes numbers : List ℕ)
@@ -21,13 +29,9 @@ module _ {W : Type 0} (contents : W → Option (List ℕ)) where
         (full (slice_index_or old i d).size)
     pub others : (j : ℕ) (d : Part W) → j ≢ i → slice_index_or new j d ≡ slice_index_or old j d
 
-  -- a record was entered whose packet has this front: it has the next number, which its part got
+  -- a record was entered whose packet has this front: its part got its number
   pub record HasEntered (d e : Dealer) (old new : List (Part W)) (front : List ℕ) : Type 0 where
-    pub link : e.link ≡ d.link
-    pub is_little : e.is_little ≡ d.is_little
-    pub number : e.number ≡ d.number + 1
-    pub pair : e.pair ≡ pair_of e.link front
-    pub part : e.part ≡ part_of (length new) e.number (pair_of e.link front)
+    pub next : IsNext (length old) d e front
     pub grows : OneGrows old new e.part [] (big_bytes 8 e.number) (λ size. None)
 
   -- the record that begins these bytes was entered, of which enough is there to tell its part
@@ -49,11 +53,11 @@ module _ {W : Type 0} (contents : W → Option (List ℕ)) where
       → AreSplit contents (order_of d.is_little) d.link (bytes ++ given) first new
 
   -- a reader gave bytes, which were dealt but for some at their end; those hold no whole record. `left` tells the bytes
-  -- that a reader will give, where they are known
-  pub record HasTurned {R : Type 0} (left : R → Option (List ℕ)) (d e : Dealer) (old new : List (Part W))
-      (before after : R)
-      (unread : List ℕ) : Type 0 where
+  -- that a reader will give, where they are known; m bytes were dealt before, and then n
+  pub record HasTurned {R : Type 0} (left : R → Option (List ℕ)) (d e : Dealer) (m n : ℕ) (old new : List (Part W))
+      (before after : R) (unread : List ℕ) : Type 0 where
     pub given : List ℕ
+    pub count : n ≡ m + length given
     pub consumed : Consumes (left before) (left after) (given ++ unread)
     pub none_whole : 0 < length unread → (e.left ≡ 0) × ¬ BeginsWithRecord (order_of e.is_little) unread
     pub dealt : Deals d e old new given

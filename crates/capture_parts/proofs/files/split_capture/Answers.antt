@@ -11,11 +11,11 @@ by_header : (P : ByteOrder → ℕ → Type 0) (order : ByteOrder) (link : ℕ) 
 by_header P order link header None orders links holds = tt
 by_header P order link header (Some format) orders links holds = rw (← links, ← orders) holds
 
-pub returns : goal.returns
-returns g c =
+pub returns-clause-split : goal.returns-clause-split
+returns-clause-split g c =
     let behind = c.behind-splitter.ensures in
     let parts = c.args.parts.items in
-    let (given, more, consumed, end, held, ends) = c.in_ok-split_files.ensures in
+    let (given, more, consumed, end, held, ends) = c.in_ok-split_files.ensures.split in
     let got = c.split_files.new.splitter.dealing.parts.items in
     rw c.into_parts.ensures (
       given,

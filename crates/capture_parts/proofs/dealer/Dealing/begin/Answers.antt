@@ -7,15 +7,14 @@ returns-clause-begun g c = λ _.
     let captured : ℕ = c.captured_length-captured.result in
     let front : 16 + c.min-front.result - 16 ≡ min 82 captured = omega (arith, c.min-front.ensures) in
     let length = c.captured_length-captured.ensures.length in
-    let entered = c.in_ok-enter.ensures in
     record {
       entered = record {
-        link = entered.link;
-        is_little = entered.is_little;
-        number = entered.number;
-        pair = rw (← length, drop-take 16 captured c.args.unread.now, take-min, ← front) entered.pair;
-        part = rw (← length, drop-take 16 captured c.args.unread.now, take-min, ← front) entered.part;
-        grows = entered.grows;
+        next = rw (← length, drop-take 16 captured c.args.unread.now, take-min, ← front)
+            (rw (c.len.ensures, ← c.give_number.ensures.length) at c.at_next-next.ensures.next);
+        grows = c.in_ok-give_number.ensures.grows;
       };
       front = search rules;
     }
+
+pub at_next-next-requires-clause-room : goal.at_next-next-requires-clause-room
+at_next-next-requires-clause-room g c = omega (arith, c.args.self.now.few, c.args.self.now.counted, c.requires)

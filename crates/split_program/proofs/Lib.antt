@@ -1,0 +1,4 @@
+mod Calls
+mod Parts
+mod Refusals
+mod Works

@@ -1,0 +1,5 @@
+pub mod Calls
+pub mod Ending
+pub mod Paths
+pub mod Program
+pub mod code

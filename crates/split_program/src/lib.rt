@@ -1,0 +1,24 @@
+//! The splitter's program, over what it is lent: a capture of any size becomes parts, each of which is a capture that
+//! h2audit reads.
+//!
+//! - [`run_program`] does what its words ask for, by an [`Outside`](capture_parts::Outside) and standard input. Its
+//!   contract (`Does` of `specs/Program.antt`) tells the calls that it makes, in their order, and the exit status, for
+//!   every answer: which files it opens, makes and removes, which parts it refuses, and which lines it says.
+//! - The paths of all files are made before the folder, so that their removal needs no memory.
+//! - Not told: what words ask for, as clap reads them, and the texts of most lines.
+//! - The prover refuses: a refused part with status 0 or without a word, a file of one that is left, parts that are left
+//!   after a failure, another number of parts, a folder that was there before, buffers of another size.
+//! - Tested at the root: `tests/split_test.py` and `tools/tests/splitter_test.py`.
+#![tactic(auto)]
+
+mod command;
+mod failure;
+mod finishing;
+mod inputs;
+mod outputs;
+mod paths;
+mod printable;
+mod program;
+
+pub use failure::{Ending, Failure};
+pub use program::run_program;
