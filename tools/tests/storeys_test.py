@@ -106,6 +106,11 @@ class Documents(unittest.TestCase):
 
 
 class Lemmas(unittest.TestCase):
+    def test_proofs_by_hand(self) -> None:
+        """Only the functions that make the list of calls, which is for proofs alone, are proved by hand."""
+        by_hand = {file.parent.relative_to(CRATES).as_posix() for file in CRATES.glob("*/proofs/**/Proof.antt")}
+        self.assertEqual(by_hand, {f"input_output/proofs/calls/Calls/{name}" for name in ("new", "then")})
+
     def test_proofs_alone_cite_them(self) -> None:
         for file in files("specs") + files("src", "rt"):
             own = file.relative_to(CRATES).parts[0]

@@ -1,7 +1,6 @@
 //! Runs over readers and writers that go in steps or fail: which calls they get, and what the accounts tell.
 
-ghost use Rattle.input_output.specs.Account.{IsUnread};
-ghost use Rattle.report_pages.specs.Account.{IsUnwritten};
+ghost use Rattle.input_output.specs.Account.{IsUnread, IsUnwritten};
 
 use crate::Answer;
 use crate::captures::FILE_HEADER;
@@ -66,13 +65,6 @@ fn has_kept(alloc: Global, reader: &CaptureReader<Pieces>, bytes: &[u8]) -> bool
     }
 }
 
-/// Whether the writer took this text, and its account has as many bytes, and tells too whether a flush went well.
-fn is_written(writer: &ReportWriter<Slow>, text: &[u8], is_flushed: bool) -> bool {
-    writer.writer().taken.as_slice() == text
-        && writer.count_written() == text.len()
-        && writer.is_flushed() == is_flushed
-}
-
 /// What a run answers.
 fn answer_of(
     rt: &(impl Sync + Threads + RandomSource),
@@ -98,13 +90,13 @@ fn goes_so(
 ) -> bool {
     let whole = reader.left;
     let mut reader = CaptureReader::new(alloc, reader);
-    let mut writer = ReportWriter::new(alloc, writer);
+    let mut writer = ReportWriter::new(writer);
     let at_most = if wanted == BAD_MAGIC { 24 } else { usize::MAX };
     let report = &REPORT.as_bytes()[..written.min(REPORT.len())];
     answer_of(rt, alloc, &mut reader, &mut writer) == Some(wanted)
         && calls_of(reader.reader(), writer.writer()) == Some(calls)
         && is_read(alloc, &reader, whole, at_most)
-        && is_written(&writer, report, wanted.is_ok())
+        && writer.writer().taken.as_slice() == report
 }
 
 /// 24 bytes in steps of 5 are five reads, and one more finds the end.

@@ -7,8 +7,8 @@ use Rattle.std.specs.Io.KnownBytes.{Appends, Keeps}
 use Rattle.pcap_records.specs.Refusal.{refusal}
 use Rattle.pcap_records.specs.declared.faults.PcapFault.{PcapFault}
 use Rattle.pcap_records.proofs.Sizes.{front_decides_lem, allowed_is_short_lem}
-use Rattle.input_output.specs.Account.{HaveGiven, IsReadToEnd, OfGiven, kept}
-use Rattle.report_pages.specs.Account.{IsUnwritten, written}
+use Rattle.input_output.specs.Account.{IsReadToEnd, given, kept}
+use Rattle.input_output.specs.Account.{IsUnwritten, written}
 use Rattle.h2audit.specs.Account.{HasGiven, IsBrief, Tells}
 use Rattle.h2audit.specs.code.Reading.{AnswersFor, IsAuditingFault, IsReadingFault}
 use Rattle.h2audit.specs.code.Writing.{IsWritten}
@@ -17,7 +17,7 @@ use Rattle.h2audit.specs.laws.Run.{FaultsAreSilent, RunsLeave}
 use Rattle.h2audit.specs.declared.fault.AuditFault.{AuditFault}
 use Rattle.h2audit.specs.declared.fault.AuditFault.TheVariants as fault
 use Rattle.input_output.specs.declared.capture_reader.CaptureReader.{CaptureReader}
-use Rattle.report_pages.specs.declared.report_writer.ReportWriter.{ReportWriter}
+use Rattle.input_output.specs.declared.report_writer.ReportWriter.{ReportWriter}
 use Rattle.h2audit.specs.declared.verdict.Verdict.{Verdict}
 
 -- a front of 2^31 bytes that is not refused is all there is
@@ -42,16 +42,15 @@ keeps_nothing (Some xs) (Some ys) appends = appends ∙ append-nil xs
 module _ {R : Type 0} where
   -- the report of what is kept is that of the bytes that the reads gave
   pub report_of_given : (reader : CaptureReader R) (shown : Bool) (text : List ℕ) (verdict : Verdict)
-      → OfGiven reader (AnswersFor (kept reader)) → IsReport (kept reader) shown text verdict
-      → OfGiven reader (λ given. IsReport given shown text verdict)
-  report_of_given reader shown text verdict answers report given gave =
-      let is = answers given gave in
-      subst (λ (bytes : List ℕ). IsReport bytes shown text verdict) (is.1 (sym is.0 ∙ report.taken)) report
+      → AnswersFor (kept reader) (given reader) → IsReport (kept reader) shown text verdict
+      → IsReport (given reader) shown text verdict
+  report_of_given reader shown text verdict answers report =
+      subst (λ (bytes : List ℕ). IsReport bytes shown text verdict) (answers.1 (sym answers.0 ∙ report.taken)) report
 
   -- and so is the refusal
-  pub refusal_of_given : (reader : CaptureReader R) (e : Option PcapFault) → OfGiven reader (AnswersFor (kept reader))
-      → refusal (kept reader) ≡ e → OfGiven reader (λ given. refusal given ≡ e)
-  refusal_of_given reader e answers is given gave = sym (answers given gave).0 ∙ is
+  pub refusal_of_given : (reader : CaptureReader R) (e : Option PcapFault) → AnswersFor (kept reader) (given reader)
+      → refusal (kept reader) ≡ e → refusal (given reader) ≡ e
+  refusal_of_given reader e answers is = sym answers.0 ∙ is
 
 module _ {R : Type 0} where
   -- reading that failed did not come to its end
@@ -84,7 +83,7 @@ module _ {R W : Type 0} where
 
   -- what is kept has no report, and neither have the bytes that the reads gave
   pub tells_no_report : (reader : CaptureReader R) (writer : ReportWriter W) (shown : Bool) (e : AuditFault)
-      → IsReadToEnd reader → OfGiven reader (AnswersFor (kept reader)) → IsUnwritten writer
+      → IsReadToEnd reader → AnswersFor (kept reader) (given reader) → IsUnwritten writer
       → IsNoReport (kept reader) e → Tells reader writer shown (Err e)
   tells_no_report reader writer shown (fault.Pcap e) read answers unwritten is =
       (read, refusal_of_given reader (Some e) answers is, unwritten)
@@ -95,7 +94,7 @@ module _ {R W : Type 0} where
 
   -- where the audit of what is kept fails, the account tells why
   pub tells_fault : (old new : CaptureReader R) (writer : ReportWriter W) (shown : Bool) (e : AuditFault)
-      → IsReadToEnd old → OfGiven old (AnswersFor (kept old)) → IsUnwritten writer
+      → IsReadToEnd old → AnswersFor (kept old) (given old) → IsUnwritten writer
       → IsAuditingFault e old new → Tells new writer shown (Err e)
   tells_fault old new writer shown e read answers unwritten (inl (same, is)) =
       subst (λ reader. Tells reader writer shown (Err e)) (sym same)
@@ -107,12 +106,12 @@ module _ {R W : Type 0} where
   -- a report that was written, or a front of it
   pub tells_written : (reader : CaptureReader R) (writer : ReportWriter W) (shown : Bool) (text : List ℕ)
       (verdict : Verdict) (answer : Result Verdict AuditFault) → IsReadToEnd reader
-      → OfGiven reader (λ given. IsReport given shown text verdict) → IsWritten text verdict writer answer
+      → IsReport (given reader) shown text verdict → IsWritten text verdict writer answer
       → Tells reader writer shown answer
   tells_written reader writer shown text verdict (Ok judged) read report (same, is, flushed) = (
     read,
-    subst (λ text. OfGiven reader (λ given. IsReport given shown text judged)) (sym is)
-        (subst (λ verdict. OfGiven reader (λ given. IsReport given shown text verdict)) (sym same) report),
+    subst (λ text. IsReport (given reader) shown text judged) (sym is)
+        (subst (λ verdict. IsReport (given reader) shown text verdict) (sym same) report),
     flushed,
   )
   tells_written reader writer shown text verdict (Err fault.Write) read report (failed, (n, is)) =
@@ -129,49 +128,49 @@ module _ {R W : Type 0} where
 module _ (R W : Type 0) where
   pub faults_are_silent_lem : FaultsAreSilent R W
   faults_are_silent_lem reader writer shown old new e told appends other =
-      keeps_nothing old new (rw (unwritten_after reader writer shown e other told).written at appends)
+      keeps_nothing old new (rw (unwritten_after reader writer shown e other told) at appends)
 
   pub runs_leave_lem : RunsLeave R W
-  runs_leave_lem all reader writer shown old new (Ok verdict) told given appends = (
+  runs_leave_lem all reader writer shown old new (Ok verdict) told gave appends = (
     (
       written writer,
       report_of_front all (take 2147483648 all) shown (written writer) verdict refl
-          (told.1 (take 2147483648 all) (given told.0)),
+          (rw (gave told.0) at told.1),
       appends,
     ),
     tt,
   )
-  runs_leave_lem all reader writer shown old new (Err fault.Write) told given appends = (
+  runs_leave_lem all reader writer shown old new (Err fault.Write) told gave appends = (
     (
       told.2.0,
       told.2.1,
       told.2.2,
       report_of_front all (take 2147483648 all) shown told.2.0 told.2.1 refl
-          (told.2.3 (take 2147483648 all) (given told.0)),
+          (rw (gave told.0) at told.2.3),
       subst (Appends old new) told.2.4 appends,
     ),
     tt,
   )
-  runs_leave_lem all reader writer shown old new (Err (fault.Pcap e)) told given appends = (
+  runs_leave_lem all reader writer shown old new (Err (fault.Pcap e)) told gave appends = (
     (
-      sym (front_decides_lem all) ∙ told.1 (take 2147483648 all) (given told.0),
+      sym (front_decides_lem all) ∙ rw (gave told.0) at told.1,
       faults_are_silent_lem reader writer shown old new (fault.Pcap e) told appends (λ is. cc),
     ),
     tt,
   )
-  runs_leave_lem all reader writer shown old new (Err fault.Read) told given appends =
+  runs_leave_lem all reader writer shown old new (Err fault.Read) told gave appends =
       (faults_are_silent_lem reader writer shown old new fault.Read told appends (λ is. cc), tt)
-  runs_leave_lem all reader writer shown old new (Err fault.OutOfMemory) told given appends = (
+  runs_leave_lem all reader writer shown old new (Err fault.OutOfMemory) told gave appends = (
     faults_are_silent_lem reader writer shown old new fault.OutOfMemory told appends (λ is. cc),
     λ held. elim told.0 [
       | inl lacked ↦ absurd (held lacked)
-      | inr read ↦ sym (front_decides_lem all) ∙ read.1 (take 2147483648 all) (given read.0)
+      | inr read ↦ sym (front_decides_lem all) ∙ rw (gave read.0) at read.1
     ],
   )
 
 -- and the reads gave what they gave
-pub given_fault : {R : Type 0} (old new : CaptureReader R) (e : AuditFault) (given : List ℕ)
-    → IsAuditingFault e old new → HaveGiven old given → HaveGiven new given
-given_fault old new e given (inl (same, is)) gave = subst (λ reader. HaveGiven reader given) (sym same) gave
-given_fault old new e given (inr (lacked, wanting)) gave =
-    subst (λ reader. HaveGiven reader given) (sym lacked) gave
+pub given_fault : {R : Type 0} (old new : CaptureReader R) (e : AuditFault) (bytes : List ℕ)
+    → IsAuditingFault e old new → given old ≡ bytes → given new ≡ bytes
+given_fault old new e bytes (inl (same, is)) gave = subst (λ reader. given reader ≡ bytes) (sym same) gave
+given_fault old new e bytes (inr (lacked, wanting)) gave =
+    subst (λ reader. given reader ≡ bytes) (sym lacked) gave

@@ -9,9 +9,9 @@ use Rattle.std.specs.declared.io.ErrorKind.{ErrorKind}
 use Rattle.std.specs.declared.io.ErrorKind.TheVariants.{OutOfMemory}
 use Rattle.std.specs.declared.vec.IntoIter.{IntoIter}
 use Rattle.std.specs.Vec.Iter.{into_iter_items}
-use Rattle.report_pages.specs.Account.{HasWriteFailed, IsFlushed, written}
+use Rattle.input_output.specs.Account.{HasWriteFailed, IsFlushed, written}
 use Rattle.input_output.specs.declared.capture_reader.CaptureReader.{CaptureReader}
-use Rattle.report_pages.specs.declared.report_writer.ReportWriter.{ReportWriter}
+use Rattle.input_output.specs.declared.report_writer.ReportWriter.{ReportWriter}
 use Rattle.h2audit.specs.Asked.{Asks}
 use Rattle.h2audit.specs.declared.command_line.words.Parsed.{Parsed}
 use Rattle.h2audit.specs.declared.command_line.words.Parsed.TheVariants.{Run, Help, Refused, Version}
@@ -65,7 +65,7 @@ module _ {O S I F W : Type 0} (opens : O → List ℕ → Result F Error → O �
       (λ e. (after.file ≡ before.file) × (after.output ≡ before.output) × IsUnopened (error_kind e) answer))
   Answers (Run options None) answer =
       (after ≡ record before { say = after.say; input = after.input; output = after.output })
-      × HasGiven (input_left before.input.reader) after.input
+      × HasGiven (input_left before.input.source.reader) after.input
       × Tells after.input after.output options.frames_shown answer
   Answers (Help text) answer = (after ≡ record before { say = after.say; output = after.output })
       × IsShown (string_bytes text) after.output answer

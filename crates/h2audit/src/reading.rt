@@ -35,7 +35,7 @@ pub(crate) fn read_capture<R: Read>(
     reader: &mut CaptureReader<R>,
 ) -> Result<FileHeader, AuditFault>
     requires { IsUnread reader.old }
-    ensures read { IfOk result (HasReadCapture (R.remaining reader.old.reader) reader.new) }
+    ensures read { IfOk result (HasReadCapture (R.remaining reader.old.source.reader) reader.new) }
     ensures err { IfErr result (λ e. IsReadingFault e reader.new) }
 {
     let mut ahead = ChunksAhead::new(rt, alloc, workers);
@@ -43,7 +43,7 @@ pub(crate) fn read_capture<R: Read>(
     ahead.finish();
     match read {
         Ok(read) => Ok(read),
-        Err(ReadFault::Failed) => Err(AuditFault::Read),
+        Err(ReadFault::Failed(_)) => Err(AuditFault::Read),
         Err(ReadFault::OutOfMemory) => Err(AuditFault::OutOfMemory),
     }
 }
@@ -56,7 +56,7 @@ fn read_in_chunks<T: Threads, R: Read>(
     reader: &mut CaptureReader<R>,
 ) -> Result<FileHeader, ReadFault>
     requires { IsUnread reader.old }
-    ensures read { IfOk result (HasReadCapture (R.remaining reader.old.reader) reader.new) }
+    ensures read { IfOk result (HasReadCapture (R.remaining reader.old.source.reader) reader.new) }
     ensures err { IfErr result (λ e. accounted.IsReadingFault e reader.new) }
 {
     keep_up_to(ahead, reader, FILE_HEADER)?;

@@ -1,7 +1,6 @@
 ghost use Rattle.std.specs.Prelude.{◌≡◌, IfErr, IfOk, OnOk};
 ghost use Rattle.std.specs.Io.KnownBytes.{Appends};
-ghost use Rattle.input_output.specs.Account.{IsReadToEnd, IsUnread, kept};
-ghost use Rattle.report_pages.specs.Account.{IsUnwritten, written};
+ghost use Rattle.input_output.specs.Account.{IsReadToEnd, IsUnread, IsUnwritten, kept, written};
 ghost use Rattle.h2audit.specs.Account.{HasGiven, IsBrief, Tells};
 ghost use Rattle.h2audit.specs.Report.{IsReport};
 ghost use Rattle.h2audit.specs.code.Reading.{IsAuditingFault, IsHeaderOf};
@@ -12,8 +11,8 @@ use crate::command_line::Options;
 use crate::fault::AuditFault;
 use crate::reading::{FileHeader, read_capture};
 use crate::verdict::Verdict;
-use input_output::CaptureReader;
-use report_pages::{Report, ReportWriter};
+use input_output::{CaptureReader, ReportWriter};
+use report_pages::Report;
 use std::alloc::Global;
 use std::io::{Read, Write};
 use std::random::RandomSource;
@@ -22,9 +21,9 @@ use stop_desk::{Gate, Team};
 
 /// Reads a capture to its end, audits it, writes its report and flushes once.
 ///
-/// For any reader and writer, also a file or a pipe, the accounts then tell which bytes the reads gave and the writes
-/// took: the report that was written is that of the capture that was read. If its file header refuses a capture, the
-/// account keeps that header, and the number of bytes after it, which are read and passed over.
+/// For any reader and writer, also a file or a pipe, their calls then tell which bytes the reads gave and the writes
+/// took: the report that was written is that of the capture that was read. If its file header refuses a capture, only
+/// that header is kept, and the bytes after it are read and passed over.
 ///
 /// No capture is refused before reading is over, so a failure to read comes before a refusal of the capture. After
 /// `Write` a front of the report was written, possibly all of it; after any other fault nothing was. An error of any
@@ -40,7 +39,7 @@ pub fn run<R: Read, W: Write>(
     requires unread { IsUnread reader.old }
     requires unwritten { IsUnwritten writer.old }
     ensures tells { Tells reader.new writer.new options.now.frames_shown result }
-    ensures given { HasGiven (R.remaining reader.old.reader) reader.new }
+    ensures given { HasGiven (R.remaining reader.old.source.reader) reader.new }
     ensures brief { IsReadToEnd reader.new → IsBrief reader.new }
     ensures taken { Appends (W.contents writer.old.writer) (W.contents writer.new.writer) (written writer.new) }
 {
@@ -61,7 +60,7 @@ pub(crate) fn write_out<R: Threads + Sync, W: Write>(
     ensures written { IsWritten text verdict writer.new result }
     ensures taken { Appends (W.contents writer.old.writer) (W.contents writer.new.writer) (written writer.new) }
 {
-    match writer.write(rt, text) {
+    match text.write(rt, writer) {
         Ok(()) => Ok(verdict),
         Err(_) => Err(AuditFault::Write),
     }

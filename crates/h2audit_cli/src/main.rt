@@ -17,7 +17,7 @@ fn main(rt: HostRuntime) -> ExitCode {
             },
             input: CaptureReader::new(rt.alloc(), rt.stdin()),
             file: None,
-            output: ReportWriter::new(rt.alloc(), rt.stdout()),
+            output: ReportWriter::new(rt.stdout()),
         },
     )
 }

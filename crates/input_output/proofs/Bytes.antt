@@ -13,6 +13,7 @@ use Rattle.input_output.specs.Bytes.{InChunks}
 use Rattle.input_output.specs.Chunks.{joined}
 use Rattle.input_output.specs.code.Reads.{HasRead, IsGrown}
 use Rattle.input_output.specs.declared.kept_bytes.KeptBytes.TheInside.{Inside}
+use Rattle.input_output.specs.declared.traced_reader.TracedReader.{TracedReader}
 use Rattle.input_output.proofs.ChunkLemmas.{full_count}
 
 -- the bytes of full chunks, and the front of a last one
@@ -106,8 +107,8 @@ module _ (b : Inside) (chunk : Vec ℕ Global) (old : InChunks) (orderly : IsOrd
             (arith, kept_size b.full.items chunk.items filled orderly.0 within, within, chunk.ok.0, b.full.ok.0);
       }
 
-  pub has_read : (before after : Option (List ℕ)) (n filled : ℕ) → filled ≡ b.filled + n
-      → HasRead before after (take n (drop b.filled chunk.items)) n
-      → HasRead before after (appended_bytes old.kept (all_of b.full.items chunk.items filled)) n
-  has_read before after n filled grown read =
-      subst (λ given. HasRead before after given n) (sym (drop-appended old.kept _ _ (more n filled grown))) read
+  pub has_read : {R : Type 0} (left : R → Option (List ℕ)) (before after : TracedReader R) (n filled : ℕ)
+      → filled ≡ b.filled + n → HasRead left before after (take n (drop b.filled chunk.items)) n
+      → HasRead left before after (appended_bytes old.kept (all_of b.full.items chunk.items filled)) n
+  has_read left before after n filled grown read =
+      subst (λ given. HasRead left before after given n) (sym (drop-appended old.kept _ _ (more n filled grown))) read

@@ -1,3 +1,5 @@
 mod ChunkLemmas
 mod Bytes
+mod Walks
+pub mod CallLemmas
 pub mod Kept

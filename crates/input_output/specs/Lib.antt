@@ -1,4 +1,5 @@
 pub mod Chunks
 pub mod Bytes
+pub mod Calls
 pub mod Account
 pub mod code

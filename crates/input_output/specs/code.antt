@@ -1,5 +1,8 @@
 pub mod Sizes
 pub mod Front
+pub mod Stored
+pub mod Answers
 pub mod Reads
 pub mod Reading
+pub mod Writes
 pub mod TableHash

@@ -1,16 +1,19 @@
-ghost use Rattle.std.specs.Prelude.{◌≡◌, ◌+◌, ◌^◌, ◌<◌, ◌≤◌, length, take, IfErr, IfOk, IsErr, IsOk, OnOk, Ok};
+ghost use Rattle.std.specs.Prelude.{◌≡◌, ◌+◌, ◌^◌, ◌<◌, ◌≤◌, length, take, IfErr, IfOk, IsErr, IsOk, OnErr, OnOk};
+ghost use Rattle.std.specs.Prelude.{Ok};
 ghost use Rattle.std.specs.Bool.{Decides};
-ghost use Rattle.input_output.specs.Account.{IsUnread, kept};
+ghost use Rattle.input_output.specs.Account.{IsUnread, kept, reads};
 ghost use Rattle.input_output.specs.code.Front.{SurvivesAppends};
 ghost use Rattle.input_output.specs.code.Reading.{HasTakenOut, HaveAnswered, IsOpenBehind, IsOpenBelow};
-ghost use Rattle.input_output.specs.code.Reads.{HasRead, IsStateAfter};
+ghost use Rattle.input_output.specs.code.Reading.{IsReadingFault};
+ghost use Rattle.input_output.specs.code.Reads.{AreCallsIn, HasRead, IsStateAfter};
 
 use crate::chunks_ahead::ChunksAhead;
 use crate::fault::ReadFault;
 use crate::front::{Capture, FrontWalk};
 use crate::kept_bytes::{FullChunks, KeptBytes};
+use crate::traced_reader::{FailedRead, TracedReader};
 use std::alloc::{AllocError, Global};
-use std::io::{self, Read};
+use std::io::Read;
 use std::thread::{Threads, join_mut};
 
 /// The number of bytes at which reading stops: a capture that has as many is refused.
@@ -41,7 +44,7 @@ pub enum ReadState {
 /// tells nothing. The account does: the top of the crate names all that enters it.
 #[derive(Drop)]
 pub struct CaptureReader<R> {
-    reader: R,
+    source: TracedReader<R>,
     /// The bytes that are kept.
     bytes: KeptBytes,
     /// After these the reads gave so many more, which can change no answer.
@@ -52,11 +55,11 @@ pub struct CaptureReader<R> {
 impl<R> CaptureReader<R> {
     /// The account before the first read.
     pub fn new(alloc: Global, reader: R) -> CaptureReader<R>
-        ensures reader { result.reader ≡ reader }
+        ensures reader { result.source.reader ≡ reader }
         ensures unread { IsUnread result }
     {
         CaptureReader {
-            reader,
+            source: TracedReader::new(reader),
             bytes: KeptBytes::new(alloc),
             passed: 0,
             state: ReadState::Open,
@@ -88,9 +91,9 @@ impl<R> CaptureReader<R> {
 
     /// The reader itself.
     pub fn reader(&self) -> &R
-        ensures { result.now ≡ self.now.reader }
+        ensures { result.now ≡ self.now.source.reader }
     {
-        &self.reader
+        self.source.reader()
     }
 
     /// Whether a read found the end.
@@ -136,11 +139,12 @@ impl<R> CaptureReader<R> {
     }
 
     /// Enters what a read answered: that it failed, or how many bytes it gave, where none is the end.
-    fn enter_read(&mut self, read: io::Result<usize>) -> Result<usize, ReadFault>
+    fn enter_read(&mut self, read: Result<usize, FailedRead>) -> Result<usize, ReadFault>
         requires { self.old.state ≡ ReadState.Open }
         ensures ok { IfOk result (λ n. read ≡ Ok n) }
         ensures state { IfOk result (λ n. IsStateAfter n self.new.state) }
-        ensures err { IfErr result (λ e. IsErr read × (e ≡ ReadFault.Failed) × (self.new.state ≡ ReadState.Failed)) }
+        ensures err { IfErr result (λ e. IfErr read (λ failed. e ≡ ReadFault.Failed failed)) }
+        ensures failed { OnErr result (IsErr read × (self.new.state ≡ ReadState.Failed)) }
         ensures same { self.new ≡ record self.old { state = self.new.state } }
     {
         match read {
@@ -150,9 +154,9 @@ impl<R> CaptureReader<R> {
                 }
                 Ok(count)
             }
-            Err(_) => {
+            Err(failed) => {
                 self.state = ReadState::Failed;
-                Err(ReadFault::Failed)
+                Err(ReadFault::Failed(failed))
             }
         }
     }
@@ -167,11 +171,11 @@ impl<R: Read> CaptureReader<R> {
         ahead: &mut ChunksAhead<'_, T>,
     ) -> Result<(), ReadFault>
         requires { IsOpenBelow limit self.old }
-        ensures { HaveAnswered R.remaining limit self.old.reader (kept self.old) self.new result }
+        ensures { HaveAnswered R.remaining limit self.old.source (kept self.old) self.new result }
     {
         let room = self.bytes.make_room(limit, ahead);
         self.enter_memory(room)?;
-        let read = self.bytes.read_once(&mut self.reader);
+        let read = self.bytes.read_once(&mut self.source);
         self.enter_read(read).and(Ok(()))
     }
 
@@ -186,7 +190,7 @@ impl<R: Read> CaptureReader<R> {
     ) -> Result<(), ReadFault>
         requires reader { IsOpenBelow (2 ^ 31) self.old }
         requires walk { SurvivesAppends W.stands (kept self.old) walk.old }
-        ensures read { HaveAnswered R.remaining (2 ^ 31) self.old.reader (kept self.old) self.new result }
+        ensures read { HaveAnswered R.remaining (2 ^ 31) self.old.source (kept self.old) self.new result }
         ensures walk { OnOk result (SurvivesAppends W.stands (kept self.new) walk.new) }
     {
         if let Some(full) = self.take_full(ahead)? {
@@ -205,7 +209,7 @@ impl<R: Read> CaptureReader<R> {
         requires { IsOpenBelow (2 ^ 31) self.old }
         ensures taken { IfOk result (HasTakenOut self.old self.new) }
         ensures err { IfErr result (λ e.
-            HaveAnswered R.remaining (2 ^ 31) self.old.reader (kept self.old) self.new (Err e)) }
+            HaveAnswered R.remaining (2 ^ 31) self.old.source (kept self.old) self.new (Err e)) }
     {
         if ahead.is_alone() {
             return Ok(None);
@@ -224,7 +228,7 @@ impl<R: Read> CaptureReader<R> {
     ) -> Result<(), ReadFault>
         requires reader { IsOpenBehind full self.old }
         requires walk { SurvivesAppends W.stands full walk.old }
-        ensures read { HaveAnswered R.remaining (2 ^ 31) self.old.reader full self.new result }
+        ensures read { HaveAnswered R.remaining (2 ^ 31) self.old.source full self.new result }
         ensures walk { OnOk result (SurvivesAppends W.stands (kept self.new) walk.new) }
     {
         let limit = BESIDE_BYTES.min(LIMIT - full.len());
@@ -248,7 +252,7 @@ impl<R: Read> CaptureReader<R> {
     ) -> Result<(), ReadFault>
         requires reader { IsOpenBelow limit self.old }
         requires walk { SurvivesAppends W.stands full.now walk.old }
-        ensures read { HaveAnswered R.remaining limit self.old.reader (kept self.old) self.new result }
+        ensures read { HaveAnswered R.remaining limit self.old.source (kept self.old) self.new result }
         ensures walk { OnOk result (SurvivesAppends W.stands full.now walk.new) }
     {
         let rt = ahead.rt;
@@ -270,7 +274,7 @@ impl<R: Read> CaptureReader<R> {
         full: &FullChunks,
     ) -> Result<(), ReadFault>
         requires { IsOpenBelow limit self.old }
-        ensures { HaveAnswered R.remaining limit self.old.reader (kept self.old) self.new result }
+        ensures { HaveAnswered R.remaining limit self.old.source (kept self.old) self.new result }
     {
         loop {
             let read = self.read_once(limit, ahead);
@@ -285,17 +289,18 @@ impl<R: Read> CaptureReader<R> {
         requires room { 0 < length buffer.old }
         requires limit { length (kept self.old) + self.old.passed < 2 ^ 31 }
         requires state { self.old.state ≡ ReadState.Open }
+        requires calls { AreCallsIn ReadState.Open (reads self.old) }
         ensures length { length buffer.new ≡ length buffer.old }
         ensures kept { self.new.bytes ≡ self.old.bytes }
         ensures limit { length (kept self.new) + self.new.passed ≤ 2 ^ 31 }
         ensures count { IfOk result (λ n. self.new.passed ≡ self.old.passed + n) }
-        ensures read { IfOk result (λ n. HasRead (R.remaining self.old.reader) (R.remaining self.new.reader)
-            (take n buffer.new) n) }
+        ensures read { IfOk result (λ n. HasRead R.remaining self.old.source self.new.source (take n buffer.new) n) }
         ensures state { IfOk result (λ n. IsStateAfter n self.new.state) }
-        ensures err { IfErr result (λ e. (e ≡ ReadFault.Failed) × (self.new.state ≡ ReadState.Failed)) }
+        ensures calls { AreCallsIn self.new.state (reads self.new) }
+        ensures err { IfErr result (λ e. IsReadingFault e self.new) }
     {
         let most = buffer.len().min(LIMIT - self.bytes.len() - self.passed);
-        let read = self.reader.read(&mut buffer[..most]);
+        let read = self.source.read(&mut buffer[..most]);
         let count = self.enter_read(read)?;
         self.passed += count;
         Ok(count)

@@ -3,17 +3,19 @@
 ghost use Rattle.std.specs.Prelude.{◌≡◌, ◌+◌, ◌++◌, ◌^◌, ◌<◌, ◌≤◌, [], length, min, take, drop, vec_len, IfOk, OnOk};
 ghost use Rattle.std.specs.Prelude.{◌∷◌, IfNone, IfSome, OnErr};
 ghost use Rattle.std.specs.Io.{StartsWith, appended_bytes};
+ghost use Rattle.input_output.specs.Calls.{failed};
 ghost use Rattle.input_output.specs.code.Front.{SurvivesAppends};
-ghost use Rattle.input_output.specs.code.Reads.{HasRead, IsGrown};
+ghost use Rattle.input_output.specs.code.Reads.{HasCalled, HasRead, IsGrown};
 
 use crate::chunks_ahead::{ChunksAhead, fill_up};
 use crate::front::{CAPTURE_CHUNK, Capture, FrontWalk};
+use crate::traced_reader::{FailedRead, TracedReader};
 use std::alloc::{AllocError, Global};
 use std::io::Read;
 use std::marker::Model;
+use std::mem;
 use std::sync::atomic::{AtomicU64, Ordering};
 use std::thread::Threads;
-use std::{io, mem};
 
 /// How many bytes of room are made at a time in a chunk that was not made ahead. No more than that is made in vain, and
 /// what was read into it is still in the processor's cache when the walk advances over it.
@@ -111,13 +113,17 @@ impl KeptBytes {
     }
 
     /// Reads once, and keeps what that gives.
-    pub(crate) fn read_once<R: Read>(&mut self, reader: &mut R) -> io::Result<usize>
+    pub(crate) fn read_once<R: Read>(
+        &mut self,
+        source: &mut TracedReader<R>,
+    ) -> Result<usize, FailedRead>
         requires { length self.old.kept < self.old.room }
         ensures grown { IsGrown self.old self.new }
-        ensures read { IfOk result (HasRead (R.remaining reader.old) (R.remaining reader.new)
+        ensures read { IfOk result (HasRead R.remaining source.old source.new
             (appended_bytes self.old.kept self.new.kept)) }
+        ensures failed { OnErr result (HasCalled source.old source.new failed) }
     {
-        let count = read_into(reader, &mut self.last, self.filled)?;
+        let count = read_into(source, &mut self.last, self.filled)?;
         self.filled += count;
         Ok(count)
     }
@@ -295,12 +301,17 @@ fn first_room(chunk: &mut Vec<u8>, most: usize) -> Result<(), AllocError>
 }
 
 /// Reads once into a chunk, behind the bytes with which it is filled.
-fn read_into<R: Read>(reader: &mut R, chunk: &mut Vec<u8>, filled: usize) -> io::Result<usize>
+fn read_into<R: Read>(
+    source: &mut TracedReader<R>,
+    chunk: &mut Vec<u8>,
+    filled: usize,
+) -> Result<usize, FailedRead>
     requires { filled < vec_len chunk.old }
     ensures front { take filled chunk.new.items ≡ take filled chunk.old.items }
     ensures length { vec_len chunk.new ≡ vec_len chunk.old }
-    ensures read { IfOk result (λ n. HasRead (R.remaining reader.old) (R.remaining reader.new)
+    ensures read { IfOk result (λ n. HasRead R.remaining source.old source.new
         (take n (drop filled chunk.new.items)) n) }
+    ensures failed { OnErr result (HasCalled source.old source.new failed) }
 {
-    reader.read(&mut chunk[filled..])
+    source.read(&mut chunk[filled..])
 }

@@ -1,9 +1,12 @@
-//! Input: the bytes of a capture, held in chunks, and the random keys of hash tables. Nothing here knows the pcap
-//! format.
+//! Input and output: the calls of a reader and of a writer, the bytes of a capture, held in chunks, and the random keys
+//! of hash tables. Nothing here knows the pcap format.
 //!
-//! - A [`CaptureReader`] records what each read returned (`specs/Account.antt`). This holds for every reader, also for
-//!   files and pipes, whose types do not tell their bytes. Where they do, clause `bytes` says that these are the
-//!   recorded ones.
+//! - The calls are a list that only proofs see, each with its answer (`specs/Calls.antt`); it takes no memory. Only the
+//!   short functions of `traced_reader` and `report_writer` write it, where they make the call. This holds for every
+//!   reader and writer, also for files and pipes, whose types do not tell their bytes. Where they do, clauses say that
+//!   these are the bytes of the list. What the list tells of a capture and of a report is in `specs/Account.antt`.
+//! - A [`FailedRead`] and a [`WriteFault`] are made beside the call that failed, and nowhere else.
+//! - A [`CaptureReader`] keeps what the reads gave, or how much it was. A [`ReportWriter`] writes and flushes.
 //! - [`keep_up_to`] reads and keeps the bytes; [`pass_over`] reads and keeps only their number. Reading stops at 2^31
 //!   bytes ([`LIMIT`]).
 //! - Kept bytes lie in chunks of equal length and are read as one list, a [`Capture`]. [`Chunks`] is such a list over
@@ -16,14 +19,16 @@
 //!   on which thread and how far at a time ("The data on its way").
 //! - A [`TableHash`] hashes by SipHash with a key drawn at each start; it cannot be made in another way. No answer of a
 //!   table depends on the key, and no contract names it (docs/DECISIONS.md, "Program and repository").
-//! - The prover refuses: a read that reports a full buffer, a read that gave bytes and is reported as failed, a reading
-//!   that ends at half of its limit, a range that ends with its first chunk. The compiler refuses a reading that leaves
-//!   threads behind, since `ChunksAhead` cannot be dropped.
-//! - `crate_tests` tests which calls readers get.
-//! - Trusted: that a file or a pipe gives its bytes. No contract says that the record of reads is honest;
-//!   docs/PROOFS.md names the functions to read for that ("What is trusted").
+//! - The prover refuses: a read that reports a full buffer, a reading that is told as failed though each read gave
+//!   bytes, a reading that ends at half of its limit, a range that ends with its first chunk, a call that no list has.
+//!   The compiler refuses a fault that another module makes, and a reading that leaves threads behind, since
+//!   `ChunksAhead` cannot be dropped.
+//! - `crate_tests` tests which calls readers and writers get.
+//! - Trusted: that a file or a pipe gives and keeps its bytes, and that the functions that write the list of calls are
+//!   honest (docs/PROOFS.md, "What is trusted").
 #![tactic(auto)]
 
+mod calls;
 mod capture_reader;
 mod chunks;
 mod chunks_ahead;
@@ -31,7 +36,9 @@ mod fault;
 mod front;
 mod kept_bytes;
 mod reading;
+mod report_writer;
 mod table_hash;
+mod traced_reader;
 
 pub use capture_reader::{CaptureReader, LIMIT, ReadState};
 pub use chunks::Chunks;
@@ -39,4 +46,6 @@ pub use chunks_ahead::ChunksAhead;
 pub use fault::ReadFault;
 pub use front::{CAPTURE_CHUNK, Capture, FrontWalk};
 pub use reading::{keep_and_walk, keep_up_to, pass_over};
+pub use report_writer::{ReportWriter, WriteFault};
 pub use table_hash::TableHash;
+pub use traced_reader::{FailedRead, TracedReader};

@@ -15,34 +15,25 @@
 //!   nothing after the first write fails for want of memory. With one worker there is one page. With several, and
 //!   entries enough, there is one for each: a thread fills it from a cursor of its own, while the caller waits. When
 //!   all are full, they are written in order and filled again.
-//! - A [`ReportWriter`] records how many bytes of the text the writes took, and how the flush went
-//!   (`specs/Account.antt`). This holds for every writer, also for files and pipes, whose types do not tell their
-//!   bytes. Where they do, clause `bytes` says that these are the recorded ones. Each write is offered all that is left
-//!   of a page, or of the lines on the capture. No call follows one that failed. A text of 2^64 bytes or more would
-//!   count as a failed write.
-//! - Refused by the prover: all bytes of a page counted as taken where the writer took fewer, the next connection under
-//!   the number of the last, a page that begins an entry further, a section without its last line, a flush after a
-//!   failed write, as many frames as are kept where more were met.
+//! - [`Report::write`] writes the text and flushes once: each write took a part of it, in order, and no call follows
+//!   one that failed (`specs/code/Written.antt`; `input_output` has the calls). This holds for every writer. Each write
+//!   is offered all that is left of a page, or of the lines on the capture.
+//! - Refused by the prover: a page of which a write took a part and that is then left, the next connection under the
+//!   number of the last, a page that begins an entry further, a section without its last line, a flush after a failed
+//!   write, as many frames as are kept where more were met.
 //! - Tested: in `crate_tests` which calls writers get, and that several workers write what one does; by whole reports
 //!   that the calls succeed where there is memory.
-//! - Trusted: that a file or a pipe keeps its bytes. No contract says that the account is honest, for which two short
-//!   functions have to be read: `write_bytes` of `writing`, which alone calls `write`, and `flush` of `ReportWriter`,
-//!   which alone calls `flush`. What lies between passes their answers on.
 #![tactic(auto)]
 
 mod cursors;
-mod fault;
 mod filling;
 mod pages;
 mod reach;
 mod report;
-mod report_writer;
 mod stretches;
 mod told;
 mod writing;
 
-pub use fault::WriteFault;
 pub use reach::Reach;
 pub use report::Report;
-pub use report_writer::ReportWriter;
 pub use told::{AuditedFrames, FoundFrames, Outcome, Told};

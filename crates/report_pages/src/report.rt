@@ -1,13 +1,15 @@
 //! The report of a capture, by what it is made of.
 
-ghost use Rattle.std.specs.Prelude.{◌≡◌, ◌++◌, IfOk};
+ghost use Rattle.std.specs.Prelude.{◌≡◌, ◌++◌, ℕ, IfOk, OnErr, OnOk, take};
+ghost use Rattle.std.specs.Io.KnownBytes.{Appends};
+ghost use Rattle.input_output.specs.Account.{HasWriteFailed, IsFlushed, IsUnwritten, written};
 
 use crate::cursors::Cursor;
-use crate::fault::WriteFault;
 use crate::pages::{empty_pages, pages_for};
 use crate::told::Told;
 use crate::writing::write_text;
 use audit_report::SectionHeading;
+use input_output::{ReportWriter, WriteFault};
 use std::alloc::{AllocError, Global};
 use std::io::Write;
 use std::marker::Model;
@@ -40,7 +42,7 @@ impl Model for Report {
 }
 
 impl Report {
-    ghost use Rattle.report_pages.specs.code.Pages.{HasWritten};
+    ghost use Rattle.report_pages.specs.code.Written.{HasWritten};
     ghost use Rattle.report_pages.specs.code.Sections.{AreHeaded, told_text};
 
     /// A text that is no report, or the lines of one without connections.
@@ -83,30 +85,50 @@ impl Report {
         })
     }
 
-    /// Writes the text, and returns how many bytes the writes took.
-    pub(crate) fn write_to<R: Threads + Sync, W: Write>(
-        &mut self,
+    /// Writes the whole text and flushes once.
+    ///
+    /// An error is a write or the flush that failed. Then a prefix of the text was written, possibly all of it, and no
+    /// call follows.
+    pub fn write<R: Threads + Sync, W: Write>(
+        self,
         rt: &R,
-        writer: &mut W,
-    ) -> (usize, Result<(), WriteFault>)
-        ensures same { self.new ≡ self.old }
-        ensures written { HasWritten (W.contents writer.old) (W.contents writer.new) self.old 0 result }
+        writer: &mut ReportWriter<W>,
+    ) -> Result<(), WriteFault>
+        requires { IsUnwritten writer.old }
+        ensures bytes { Appends (W.contents writer.old.writer) (W.contents writer.new.writer) (written writer.new) }
+        ensures ok { OnOk result (written writer.new ≡ self) }
+        ensures flushed { OnOk result (IsFlushed writer.new) }
+        ensures err { OnErr result ((n : ℕ) × (written writer.new ≡ take n self)) }
+        ensures failed { OnErr result (HasWriteFailed writer.new) }
     {
+        self.write_all(rt, writer)?;
+        writer.flush()
+    }
+
+    /// Writes the text.
+    fn write_all<R: Threads + Sync, W: Write>(
+        self,
+        rt: &R,
+        writer: &mut ReportWriter<W>,
+    ) -> Result<(), WriteFault>
+        ensures { HasWritten W.contents writer.old writer.new self result }
+    {
+        let mut report = self;
         let from = Cursor {
-            frames_shown: self.frames_shown,
+            frames_shown: report.frames_shown,
             k: 1,
-            headings: self.headings.as_slice(),
-            told: self.told.as_slice(),
+            headings: report.headings.as_slice(),
+            told: report.told.as_slice(),
             stretch: 0,
             at: 0,
         };
         write_text(
             rt,
             writer,
-            self.lines.as_slice(),
+            report.lines.as_slice(),
             from,
-            self.entries,
-            self.pages.as_mut_slice(),
+            report.entries,
+            report.pages.as_mut_slice(),
         )
     }
 
@@ -114,11 +136,9 @@ impl Report {
     pub fn into_bytes<R: Threads + Sync>(self, rt: &R, alloc: Global) -> Result<Vec<u8>, AllocError>
         ensures { IfOk result (λ bytes. bytes.items ≡ self) }
     {
-        let mut report = self;
-        let mut bytes = Vec::new(alloc);
-        let (_, wrote) = report.write_to(rt, &mut bytes);
-        match wrote {
-            Ok(()) => Ok(bytes),
+        let mut writer = ReportWriter::new(Vec::new(alloc));
+        match self.write_all(rt, &mut writer) {
+            Ok(()) => Ok(writer.into_writer()),
             Err(_) => Err(AllocError),
         }
     }

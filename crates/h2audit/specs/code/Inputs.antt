@@ -26,4 +26,4 @@ module _ {O S I F W : Type 0} where
       → Result Verdict AuditFault → Type 0
   HasAuditedInput input_left before after shown answer =
       (after ≡ record before { say = after.say; input = after.input; output = after.output })
-      × HasGiven (input_left before.input.reader) after.input × Tells after.input after.output shown answer
+      × HasGiven (input_left before.input.source.reader) after.input × Tells after.input after.output shown answer

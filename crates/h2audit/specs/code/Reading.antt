@@ -1,7 +1,7 @@
 -- What is kept of a capture, what the capture answers, and how reading it fails.
 use Rattle.std.specs.Prelude.{◌≡◌, ◌⊎◌, ◌^◌, ℕ, List, Option, None, Some, IfSome, take}
 use Rattle.pcap_records.specs.Refusal.{refusal}
-use Rattle.input_output.specs.Account.{HasReadFailed, HaveGiven, IsReadToEnd, OfGiven, kept}
+use Rattle.input_output.specs.Account.{HasReadFailed, IsReadToEnd, given, kept}
 use Rattle.input_output.specs.declared.capture_reader.CaptureReader.{CaptureReader}
 use Rattle.input_output.specs.declared.capture_reader.ReadState.TheVariants.{LackedMemory}
 use Rattle.h2audit.specs.Account.{IsBrief}
@@ -31,9 +31,9 @@ IsHeaderOf kept (header.Refused e) = refusal kept ≡ Some e
 -- it, and this is what its file header gives
 pub record HasReadCapture {R : Type 0} (left : Option (List ℕ)) (reader : CaptureReader R) (gives : FileHeader)
     : Type 0 where
-  pub bytes : IfSome left (λ all. HaveGiven reader (take (2 ^ 31) all))
+  pub bytes : IfSome left (λ all. given reader ≡ take (2 ^ 31) all)
   pub ok : IsReadToEnd reader
-  pub answers : OfGiven reader (AnswersFor (kept reader))
+  pub answers : AnswersFor (kept reader) (given reader)
   pub brief : IsBrief reader
   pub header : IsHeaderOf (kept reader) gives
 

@@ -15,8 +15,8 @@ use Rattle.h2audit.specs.code.Flows.{AreToldAudits, AreToldFlows}
 use Rattle.report_pages.specs.code.Told.{AreToldOf}
 use Rattle.stop_desk.specs.declared.parts.Part.{Part}
 use Rattle.report_pages.specs.declared.told.Told.{Told}
-use Rattle.report_pages.specs.Account.{HasWriteFailed, IsFlushed, written}
-use Rattle.report_pages.specs.declared.report_writer.ReportWriter.{ReportWriter}
+use Rattle.input_output.specs.Account.{HasWriteFailed, IsFlushed, written}
+use Rattle.input_output.specs.declared.report_writer.ReportWriter.{ReportWriter}
 use Rattle.h2audit.specs.declared.fault.AuditFault.{AuditFault}
 use Rattle.h2audit.specs.declared.fault.AuditFault.TheVariants as fault
 use Rattle.h2audit.specs.declared.verdict.Verdict.{Verdict}

@@ -3,11 +3,11 @@
 use Rattle.std.specs.Prelude.{◌≡◌, ◌≢◌, ℕ, Bool, List, take, Option, None, Some, Result, Ok, Err}
 use Rattle.std.specs.Io.KnownBytes.{Appends, Keeps}
 use Rattle.pcap_records.specs.Refusal.{refusal}
-use Rattle.report_pages.specs.Account.{written}
+use Rattle.input_output.specs.Account.{written}
 use Rattle.input_output.specs.declared.capture_reader.CaptureReader.{CaptureReader}
 use Rattle.input_output.specs.declared.capture_reader.ReadState.{ReadState}
 use Rattle.input_output.specs.declared.capture_reader.ReadState.TheVariants.{LackedMemory}
-use Rattle.report_pages.specs.declared.report_writer.ReportWriter.{ReportWriter}
+use Rattle.input_output.specs.declared.report_writer.ReportWriter.{ReportWriter}
 use Rattle.h2audit.specs.Account.{HasGiven, Tells}
 use Rattle.h2audit.specs.Report.{IsReport}
 use Rattle.h2audit.specs.declared.fault.AuditFault.{AuditFault}

@@ -2,12 +2,14 @@
 use Rattle.std.specs.Prelude.{◌≡◌, ℕ, ◌+◌, ◌^◌, ◌<◌, ◌≤◌, ◌⊎◌, List, [], Option, Some, None, Result}
 use Rattle.std.specs.Prelude.{IfErr, OnOk, length}
 use Rattle.std.specs.Io.{StartsWith, appended_bytes}
-use Rattle.std.specs.Io.KnownBytes.{Consumes, IsAtEnd}
-use Rattle.input_output.specs.Account.{HasReadFailed, kept}
+use Rattle.std.specs.Io.KnownBytes.{IsAtEnd}
+use Rattle.input_output.specs.Account.{HasReadFailed, kept, reads}
+use Rattle.input_output.specs.code.Reads.{AreCallsIn, Gives}
 use Rattle.input_output.specs.declared.capture_reader.CaptureReader.{CaptureReader}
 use Rattle.input_output.specs.declared.capture_reader.ReadState.TheVariants.{Open, Ended, LackedMemory}
 use Rattle.input_output.specs.declared.fault.ReadFault.{ReadFault}
 use Rattle.input_output.specs.declared.fault.ReadFault.TheVariants as fault
+use Rattle.input_output.specs.declared.traced_reader.TracedReader.{TracedReader}
 
 module _ {R : Type 0} where
   -- the reads so far went well, there is room for what is kept, and they gave no more than 2^31 bytes
@@ -15,6 +17,7 @@ module _ {R : Type 0} where
     pub within : length (kept reader) ≤ reader.bytes.room
     pub limit : length (kept reader) + reader.passed ≤ 2 ^ 31
     pub well : (reader.state ≡ Open) ⊎ (reader.state ≡ Ended)
+    pub calls : AreCallsIn reader.state (reads reader)
 
   -- the reads so far gave bytes, all of them kept, in room up to this limit
   pub record IsOpenWithin (limit : ℕ) (reader : CaptureReader R) : Type 0 where
@@ -32,6 +35,7 @@ module _ {R : Type 0} where
   -- a read can follow behind these bytes, fewer than 2^31: none is kept yet, and there is room for a chunk at most
   pub record IsOpenBehind (front : List ℕ) (reader : CaptureReader R) : Type 0 where
     pub state : reader.state ≡ Open
+    pub calls : AreCallsIn Open (reads reader)
     pub unpassed : reader.passed ≡ 0
     pub none : kept reader ≡ []
     pub below : length front < 2 ^ 31
@@ -46,30 +50,30 @@ module _ {R : Type 0} where
 
   -- what the reads gave more is what the reader had left before, and has no longer
   abbrev pub HasConsumed : (left : R → Option (List ℕ)) (old new : CaptureReader R) → Type 0
-  HasConsumed left old new =
-      Consumes (left old.reader) (left new.reader) (appended_bytes (kept old) (kept new))
+  HasConsumed left old new = Gives left old.source new.source (appended_bytes (kept old) (kept new))
 
   -- one read or more that are kept behind these bytes, of which none but the last found the end; `left` says what a
   -- reader has left
-  pub record HasReadOn (left : R → Option (List ℕ)) (before : R) (front : List ℕ) (now : CaptureReader R) : Type 0 where
-    pub bytes : Consumes (left before) (left now.reader) (appended_bytes front (kept now))
-    pub end : now.state ≡ Ended → IsAtEnd (left now.reader)
+  pub record HasReadOn (left : R → Option (List ℕ)) (before : TracedReader R) (front : List ℕ) (now : CaptureReader R)
+      : Type 0 where
+    pub bytes : Gives left before now.source (appended_bytes front (kept now))
+    pub end : now.state ≡ Ended → IsAtEnd (left now.source.reader)
     pub more : now.state ≡ Open → length front < length (kept now)
     pub sound : IsSound now
 
   -- the same, where they were passed over
   abbrev pub HasPassedOver : (left : R → Option (List ℕ)) (old new : CaptureReader R) → Type 0
   HasPassedOver left old new = (given : List ℕ) × (new.passed ≡ old.passed + length given)
-      × Consumes (left old.reader) (left new.reader) given
+      × Gives left old.source new.source given
 
   -- the faults of reading, as the account then shows them: a read that failed, or want of memory
   abbrev pub IsReadingFault : ReadFault → CaptureReader R → Type 0
-  IsReadingFault fault.Failed reader = HasReadFailed reader
+  IsReadingFault (fault.Failed failed) reader = HasReadFailed reader
   IsReadingFault fault.OutOfMemory reader = reader.state ≡ LackedMemory
 
   -- what one read or more answered that are kept behind these bytes, up to a limit
-  pub record HaveAnswered (left : R → Option (List ℕ)) (limit : ℕ) (before : R) (front : List ℕ) (now : CaptureReader R)
-      (answer : Result (Unit {0}) ReadFault) : Type 0 where
+  pub record HaveAnswered (left : R → Option (List ℕ)) (limit : ℕ) (before : TracedReader R) (front : List ℕ)
+      (now : CaptureReader R) (answer : Result (Unit {0}) ReadFault) : Type 0 where
     pub grown : HasGrown limit front now
     pub read : OnOk answer (HasReadOn left before front now)
     pub err : IfErr answer (λ e. IsReadingFault e now)
@@ -79,10 +83,10 @@ module _ {R : Type 0} where
       (answer : Result (Unit {0}) ReadFault) : Type 0 where
     pub sound : OnOk answer (IsSound now)
     pub whole : OnOk answer (now.state ≡ Open → length (kept now) + now.passed ≡ limit)
-    pub end : OnOk answer (now.state ≡ Ended → IsAtEnd (left now.reader))
+    pub end : OnOk answer (now.state ≡ Ended → IsAtEnd (left now.source.reader))
     pub err : IfErr answer (λ e. IsReadingFault e now)
 
   -- what is kept was taken out, for a walk over it beside the reads, or nothing was
   abbrev pub HasTakenOut : (old new : CaptureReader R) → Option (List ℕ) → Type 0
-  HasTakenOut old new (Some full) = (full ≡ kept old) × (new.reader ≡ old.reader) × IsOpenBehind full new
-  HasTakenOut old new None = (kept new ≡ kept old) × (new.reader ≡ old.reader) × IsOpenBelow (2 ^ 31) new
+  HasTakenOut old new (Some full) = (full ≡ kept old) × (new.source ≡ old.source) × IsOpenBehind full new
+  HasTakenOut old new None = (kept new ≡ kept old) × (new.source ≡ old.source) × IsOpenBelow (2 ^ 31) new

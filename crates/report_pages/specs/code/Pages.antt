@@ -1,6 +1,5 @@
 -- Pages of a text, and what writes take of it.
 use Rattle.std.specs.Global.{Global}
-use Rattle.std.specs.Io.KnownBytes.{Appends}
 use Rattle.std.specs.List.{concat, flat_map}
 use Rattle.std.specs.Prelude.{◌≡◌, ℕ, ◌+◌, ◌*◌, ◌<◌, ◌≤◌, ◌^◌, All, List, Option, OnOk, Result, Vec, length, take}
 use Rattle.std.specs.Prelude.{vec_capacity}
@@ -25,15 +24,6 @@ pub record AreParts (headings : List SectionHeading) (told : List Told) (entries
     : Type 0 where
   pub headed : AreHeaded 1 headings told
   pub are : ArePages entries told pages
-
--- writes took a prefix of these bytes, or all where none failed; with what was taken before, so many are counted
-pub record HasWritten {E : Type 0} (before after : Option (List ℕ)) (bytes : List ℕ) (count : ℕ)
-    (result : ℕ × Result (Unit {0}) E) : Type 0 where
-  pub n : ℕ
-  pub counted : result.0 ≡ count + n
-  pub within : n ≤ length bytes
-  pub taken : Appends before after (take n bytes)
-  pub whole : OnOk result.1 (n ≡ length bytes)
 
 -- a page has so many entries from a cursor on, and keeps its memory
 pub record IsFilled (cursor : Cursor) (entries : ℕ) (page : Vec ℕ Global) : Type 0 where

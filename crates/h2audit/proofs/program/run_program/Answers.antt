@@ -77,5 +77,5 @@ returns-in-Ok-Refused g c =
         rw found.field-0-is
             (c.from.ensures, refl, record { shown = c.trim_end.result; shows = search rules; called = c.say.ensures }),
       );
-      taken = rw c.requires.unwritten.written (Appends-nil (g.W.Write.contents c.args.outside.now.output.writer));
+      taken = rw c.requires.unwritten (Appends-nil (g.W.Write.contents c.args.outside.now.output.writer));
     }

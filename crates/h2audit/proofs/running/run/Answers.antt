@@ -14,9 +14,9 @@ returns-in_err-header g c =
     let tells = tells_unread reader c.args.writer.now c.args.options.now.frames_shown e is c.requires.unwritten in
     record {
       tells = search rules;
-      given = given_unread (g.R.Read.remaining c.args.reader.now.reader) reader e is;
+      given = given_unread (g.R.Read.remaining c.args.reader.now.source.reader) reader e is;
       brief = λ read. absurd (not_to_end reader e is read);
-      taken = rw c.requires.unwritten.written (Appends-nil (g.W.Write.contents c.args.writer.now.writer));
+      taken = rw c.requires.unwritten (Appends-nil (g.W.Write.contents c.args.writer.now.writer));
     }
 
 pub returns-in_err-text-clause-tells : goal.returns-in_err-text-clause-tells
@@ -29,7 +29,7 @@ returns-in_err-text-clause-tells g c =
 
 pub returns-in_err-text-clause-given : goal.returns-in_err-text-clause-given
 returns-in_err-text-clause-given g c =
-    IfSome_then (g.R.Read.remaining c.args.reader.now.reader) c.in_ok-header.ensures.read.bytes (λ all is read.
+    IfSome_then (g.R.Read.remaining c.args.reader.now.source.reader) c.in_ok-header.ensures.read.bytes (λ all is read.
     given_fault c.read_capture.new.reader c.audit_kept.new.reader c.in_err-text.field-0.0 (take (2 ^ 31) all)
     c.in_err-text.ensures.fault is)
 
@@ -40,7 +40,7 @@ returns-in_err-text-clause-brief g c = λ read.
 
 pub returns-in_err-text-clause-taken : goal.returns-in_err-text-clause-taken
 returns-in_err-text-clause-taken g c =
-    rw c.requires.unwritten.written (Appends-nil (g.W.Write.contents c.args.writer.now.writer))
+    rw c.requires.unwritten (Appends-nil (g.W.Write.contents c.args.writer.now.writer))
 
 pub returns-clause-tells : goal.returns-clause-tells
 returns-clause-tells g c =
@@ -56,7 +56,7 @@ returns-clause-tells g c =
 
 pub returns-clause-given : goal.returns-clause-given
 returns-clause-given g c =
-    let left = g.R.Read.remaining c.args.reader.now.reader in
+    let left = g.R.Read.remaining c.args.reader.now.source.reader in
     subst (HasGiven left) (sym c.in_ok-text.ensures.same)
     (IfSome_then left c.in_ok-header.ensures.read.bytes (λ all is read. is))
 

@@ -1,8 +1,9 @@
 use Rattle.std.proofs.Common.{◌≡◌, ◌++◌, List, ℕ, length, Ok}
 use Rattle.std.specs.List.{concat}
 use Rattle.report_pages.specs.code.Entries.{IsCursor, entries_at, steps_at}
-use Rattle.report_pages.specs.code.Pages.{ArePages, HasWritten}
-use Rattle.report_pages.specs.declared.fault.WriteFault.{WriteFault}
+use Rattle.input_output.specs.declared.report_writer.WriteFault.{WriteFault}
+use Rattle.report_pages.specs.code.Pages.{ArePages}
+use Rattle.report_pages.specs.code.Written.{HasWritten}
 use Rattle.report_pages.proofs.writing.write_entries.Given as goal
 
 -- what is written, with the entries that are left, is the whole
@@ -13,8 +14,7 @@ invariant-loop-cursor g l = record {
   same : length l.pages ≡ length l.initial.pages;
   done : List ℕ;
   whole : done ++ concat (entries_at l.cursor) ≡ concat (entries_at l.from);
-  written : HasWritten {E = WriteFault} (g.W.Write.contents l.initial.writer) (g.W.Write.contents l.writer) done
-      l.fn.count (l.count, Ok tt);
+  written : HasWritten {E = WriteFault} g.W.Write.contents l.initial.writer l.writer done (Ok tt);
 }
 
 abbrev pub decreases-loop-cursor : goal.decreases-loop-cursor

@@ -10,7 +10,7 @@ returns-clause-read g c = record {
   read = both_well _ c.enter_memory.result c.read_beside-read.result c.and.result c.and.ensures
       (on_ok_weaker c.enter_memory.result
       (λ ok. on_ok_weaker c.read_beside-read.result
-      (λ read. read_behind g.R.Read.remaining c.args.self.now.reader c.args.full c.read_beside-read.new.self
+      (λ read. read_behind g.R.Read.remaining c.args.self.now.source c.args.full c.read_beside-read.new.self
       c.enter_memory.new.self (rw c.requires.reader.none at read) (search rules) (search rules) (search rules)
       (search rules) c.read_beside-read.ensures.read.grown.unpassed)
       c.read_beside-read.ensures.read.read)

@@ -12,7 +12,8 @@ returns g c =
       grown = is_grown c.self.inside c.read_into.new.chunk c.args.self.now c.self.invariant c.self.view_is
           c.read_into.ensures.length c.read_into.ensures.front c.in_ok-count.count _ refl read.count;
       read = has_read c.self.inside c.read_into.new.chunk c.args.self.now c.self.invariant c.self.view_is
-          c.read_into.ensures.length c.read_into.ensures.front _ _ c.in_ok-count.count _ refl read;
+          c.read_into.ensures.length c.read_into.ensures.front g.R.Read.remaining _ _ c.in_ok-count.count _ refl read;
+      failed = tt;
     }
 
 pub invariant_of-self : goal.invariant_of-self
