@@ -25,8 +25,7 @@
 //! - Checksums have no effect: a sender's own capture has them unfilled where the network card computes them. FIN, RST,
 //!   windows, options and urgent pointers have none: sequence numbers alone decide a flow. Bytes past the total length
 //!   are not of the datagram; a total length of 0, which segmentation offload leaves, means all captured bytes.
-//! - The prover refuses: records numbered afresh in each chunk, a fragment judged before its end, one mark for two
-//!   refusals, the segment of another packet.
+//! - The prover refuses: a fragment judged before its end, one mark for two refusals, the segment of another packet.
 //! - Whole reports test that a walk succeeds where there is memory.
 #![tactic(auto)]
 

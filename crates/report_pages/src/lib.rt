@@ -19,8 +19,8 @@
 //!   one that failed (`specs/code/Written.antt`; `input_output` has the calls). This holds for every writer. Each write
 //!   is offered all that is left of a page, or of the lines on the capture.
 //! - Refused by the prover: a page of which a write took a part and that is then left, the next connection under the
-//!   number of the last, a page that begins an entry further, a section without its last line, a flush after a failed
-//!   write, as many frames as are kept where more were met.
+//!   number of the last, a page that begins an entry further, a flush after a failed write, as many frames as are kept
+//!   where more were met.
 //! - Tested: in `crate_tests` which calls writers get, and that several workers write what one does; by whole reports
 //!   that the calls succeed where there is memory.
 #![tactic(auto)]
