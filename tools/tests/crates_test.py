@@ -89,29 +89,28 @@ class Memory(unittest.TestCase):
         ],
         "h2audit/src/reading.rt": ["match read { Err(ReadFault::OutOfMemory) => Err(AuditFault::OutOfMemory),"],
         "h2audit/src/running.rt": ["FileHeader::Taken(walk) => { Err(AuditFault::OutOfMemory)"],
-        "h2audit_split/src/command.rt": ["if kind == ErrorKind::OutOfMemory { return Err(Failure::OutOfMemory);"],
-        "h2audit_split/src/failure.rt": [
-            "match printable(..) { Err(_) => Failure::OutOfMemory,",
-            "match printable(..) { Err(_) => Failure::OutOfMemory,",
-            "fn from(_error: AllocError) -> Failure { Failure::OutOfMemory",
-            "fn from(_error: AllocFailed<T>) -> Failure { Failure::OutOfMemory",
-            "match fault { PcapFault::OutOfMemory => Failure::OutOfMemory,",
-        ],
-        "h2audit_split/src/inputs.rt": [
-            "match wrong.fault { SplitFault::Refused(PcapFault::OutOfMemory) => Failure::OutOfMemory,"
-        ],
-        "h2audit_split/src/outputs.rt": [
-            "match part_path(..) { Err(_) => Failure::OutOfMemory,",
-            "match BufWriter::with_capacity(..) { Err(_) => Err(Failure::OutOfMemory),",
-        ],
-        "h2audit_split/src/program.rt": ["match String::from_str(..) { Err(_) => Failure::OutOfMemory,"],
         "input_output/src/capture_reader.rt": ["if had.is_err() { return Err(ReadFault::OutOfMemory);"],
         "input_output/src/kept_bytes.rt": [
             "let Ok(capture) = Capture::with_last(alloc, self.chunks.as_slice(), &[]) else { return Err(AllocError);"
         ],
         "packet_heads/src/walk.rt": ["match self.completed(..) { Err(_) => Err(PcapFault::OutOfMemory),"],
         "pcap_records/src/reading.rt": ["Ok(format) => match passed(..) { Err(_) => Err(PcapFault::OutOfMemory),"],
-        "report_pages/src/report.rt": ["match wrote { Err(_) => Err(AllocError),"],
+        "report_pages/src/report.rt": ["match self.write_all(..) { Err(_) => Err(AllocError),"],
+        "split_program/src/command.rt": ["if kind == ErrorKind::OutOfMemory { return Err(Failure::OutOfMemory);"],
+        "split_program/src/failure.rt": [
+            "match format!(..) { Err(_) => Failure::OutOfMemory,",
+            "match told_at(..) { Err(_) => Failure::OutOfMemory,",
+            "match format!(..) { Err(_) => Failure::OutOfMemory,",
+            "match told_of_file(..) { Err(_) => Failure::OutOfMemory,",
+            "match fault { PcapFault::OutOfMemory => Failure::OutOfMemory,",
+            "fn from(_error: AllocError) -> Failure { Failure::OutOfMemory",
+            "fn from(_error: AllocFailed<T>) -> Failure { Failure::OutOfMemory",
+        ],
+        "split_program/src/inputs.rt": [
+            "match wrong.fault { SplitFault::Refused(PcapFault::OutOfMemory) => Failure::OutOfMemory,"
+        ],
+        "split_program/src/outputs.rt": ["match BufWriter::with_capacity(..) { Err(_) => Err(Failure::OutOfMemory),"],
+        "split_program/src/program.rt": ["match String::from_str(..) { Err(_) => Failure::OutOfMemory,"],
         "tcp_streams/src/walk.rt": ["match connections_of(..) { Err(_) => Err(PcapFault::OutOfMemory),"],
     }
 
