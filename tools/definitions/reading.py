@@ -326,15 +326,15 @@ def read_group(tokens: list[Token], name: str, module: Module) -> None:
     for item in items_of(tokens[reader.at + 1 :]):
         Reader(item, name).item(inside)
     given = [Term("name", (parameter,), tokens[0].line) for parameter in parameters]
-    for found in inside.definitions.values():
-        if isinstance(found, Record):
-            fields = [(field, in_group(kind, {*inside.definitions}, given)) for field, kind in found.fields]
-            module.definitions[found.name] = Record(found.name, [*parameters, *found.parameters], fields)
+    for item in inside.definitions.values():
+        if isinstance(item, Record):
+            fields = [(field, in_group(kind, {*inside.definitions}, given)) for field, kind in item.fields]
+            module.definitions[item.name] = Record(item.name, [*parameters, *item.parameters], fields)
         else:
             clauses = [
-                ((*given, *patterns), in_group(body, {*inside.definitions}, given)) for patterns, body in found.clauses
+                ((*given, *patterns), in_group(body, {*inside.definitions}, given)) for patterns, body in item.clauses
             ]
-            module.definitions[found.name] = Function(found.name, clauses)
+            module.definitions[item.name] = Function(item.name, clauses)
 
 
 def read_item(tokens: list[Token], name: str, module: Module) -> None:

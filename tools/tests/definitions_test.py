@@ -70,8 +70,8 @@ SPLIT_CHANGES = [
 WEB, PEER, OTHER = (0x0A000100, 80), (0x0A000001, 40000), (0x0A000002, 40003)
 # Rows that are worked out by hand: a name, the sender and the receiver of each packet, or None where it names none, how
 # many parts there are, and the numbers of the records of each. The sums of endpoints, 65,536 times the address and the
-# port each, are 21990249438352 and 21990249503891. Times 11400714819323198485, modulo 2^64 and divided by 2^32, they are
-# 3528191919 and 648797222: an odd and an even number.
+# port each, are 21990249438352 and 21990249503891. Times 11400714819323198485, modulo 2^64 and divided by 2^32, they
+# are 3528191919 and 648797222: an odd and an even number.
 SPLITS: list[tuple[str, list[tuple[tuple[int, int], tuple[int, int]] | None], int, list[list[int]]]] = [
     ("no records", [], 2, [[], []]),
     ("by number", [None] * 4, 3, [[3], [1, 4], [2]]),

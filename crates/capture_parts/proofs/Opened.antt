@@ -1,6 +1,7 @@
 -- Files that were opened, read and dealt.
 use Rattle.capture_parts.proofs.Terms.{Consumes, Dealer, Deals, EndsSplit, Err, HasHeld, HaveHeld, IfOk, IfSome}
-use Rattle.capture_parts.proofs.Terms.{IsAtEnd, List, None, Ok, OnOk, Option, Part, Result, Some, String, [], append-nil}
+use Rattle.capture_parts.proofs.Terms.{IsAtEnd, List, None, Ok, OnOk, Option, Part, Result, Some, String, []}
+use Rattle.capture_parts.proofs.Terms.{append-nil}
 use Rattle.capture_parts.proofs.Terms.{append_assoc, arith, inl, inr, length, length-append, refl, string_bytes, subst}
 use Rattle.capture_parts.proofs.Terms.{sym, take, take-append-le, take_all, ℕ, ◌++◌, ◌+◌, ◌<◌, ◌^◌, ◌∙◌, ◌∷◌, ◌≡◌}
 use Rattle.capture_parts.proofs.Terms.{◌≤◌}
@@ -157,7 +158,8 @@ module _ {O F : Type 0} (does : O → Call F → O → Type 0) (left : F → Opt
   -- it was not too much
   pub none_many : (n : ℕ) (e : SplitFault) (before after : O) (path : List ℕ)
       → (IsUnopened does before path after e) ⊎ (IsOpened does before path after e) → e ≡ fault.TooLong → 2 ^ 64 ≤ n
-  none_many n e before after path (inl (why, call, is)) many = absurd (let no : fault.Open ≡ fault.TooLong = sym is ∙ many in cc)
+  none_many n e before after path (inl (why, call, is)) many =
+      absurd (let no : fault.Open ≡ fault.TooLong = sym is ∙ many in cc)
   none_many n e before after path (inr (file, call, at)) many = absurd (let no = at.many many in omega (arith, no))
 
   -- or it was opened, and there was a fault behind its header
@@ -194,7 +196,13 @@ module _ {O F : Type 0} (does : O → Call F → O → Type 0) (left : F → Opt
             after,
             [],
             [],
-            record { file = file; opened = call; header = []; rest = unwrap_or (left file) []; gave = gave_none (left file) },
+            record {
+              file = file;
+              opened = call;
+              header = [];
+              rest = unwrap_or (left file) [];
+              gave = gave_none (left file);
+            },
             (refl, refl, over.opened),
             refl,
           ),

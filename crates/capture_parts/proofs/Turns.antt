@@ -37,7 +37,8 @@ module _ {W R : Type 0} (contents : W → Option (List ℕ)) (left : R → Optio
   -- one read more, of which some was dealt together with what was unread
   pub next_turn : {d e : Dealer} (f : Dealer) {m n : ℕ} (k : ℕ) {old mid : List (Part W)} (new : List (Part W))
       {before now : R} (after : R) {unread : List ℕ} (more dealt rest : List ℕ)
-      → k + length rest ≡ n + length (unread ++ more) → Consumes (left now) (left after) more → unread ++ more ≡ dealt ++ rest
+      → k + length rest ≡ n + length (unread ++ more) → Consumes (left now) (left after) more
+      → unread ++ more ≡ dealt ++ rest
       → (0 < length rest → (f.left ≡ 0) × ¬ BeginsWithRecord (order_of f.is_little) rest)
       → Deals contents e f mid new dealt → HasTurned contents left d e m n old mid before now unread
       → HasTurned contents left d f m k old new before after rest

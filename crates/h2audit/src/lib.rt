@@ -9,11 +9,11 @@
 //!   or want of memory. The report is `IsReport` of `specs/Report.antt`, which names no function of the crates below,
 //!   no workers, groups or blocks; [`laws::one_report`] says that there is no second one.
 //! - [`run`] reads a capture to its end, audits it, writes the report and flushes once. It never holds the whole text,
-//!   which [`audit`] returns, and no want of memory ends it once writing begins. The calls that a [`CaptureReader`] and
-//!   a [`ReportWriter`] made tell what the reads gave and the writes took, and that a failure of either is answered only
-//!   where a call failed (clause `tells`, `Tells` of `specs/Account.antt`), for every reader and writer, also of files
-//!   and pipes. Where these tell their bytes themselves, they are those of the calls (`given`, `taken`); what a run then
-//!   leaves in the writer follows ([`laws::runs_leave`], [`laws::faults_are_silent`]).
+//!   which [`audit`] returns, and no want of memory ends it once writing begins. The calls that a [`CaptureReader`]
+//!   and a [`ReportWriter`] made tell what the reads gave and the writes took, and that a failure of either is answered
+//!   only where a call failed (clause `tells`, `Tells` of `specs/Account.antt`), for every reader and writer, also of
+//!   files and pipes. Where these tell their bytes themselves, they are those of the calls (`given`, `taken`); what a
+//!   run then leaves in the writer follows ([`laws::runs_leave`], [`laws::faults_are_silent`]).
 //! - [`run_program`] is the program, over its words and what it is lent ([`Outside`]): a way to open FILE and to say a
 //!   line, and the accounts of standard input, of FILE and of standard output. It does what the words ask for and
 //!   nothing else (`Ends` of `specs/Program.antt`). [`program_words`] leaves out the program's name.

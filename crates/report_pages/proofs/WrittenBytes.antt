@@ -1,6 +1,7 @@
 -- Bytes that are written one after the other.
 use Rattle.std.proofs.Common.{◌≡◌, ◌∙◌, ℕ, zero, suc, ◌+◌, ◌<◌, ◌≤◌, List, [], ◌∷◌, ◌++◌, Option}
-use Rattle.std.proofs.Common.{Result, Ok, Err, OnErr, OnOk, Vec, length, take, drop, get_or, refl, ap, sym, subst, arith, append-nil, length-append}
+use Rattle.std.proofs.Common.{Result, Ok, Err, OnErr, OnOk, Vec, length, take, drop, get_or, refl, ap, sym, subst}
+use Rattle.std.proofs.Common.{arith, append-nil, length-append}
 use Rattle.std.proofs.KnownBytes.{Appends-nil, Appends-trans}
 use Rattle.std.proofs.lemmas.{Grind.flat_map-append, List.take-append-drop, List.take_more}
 use Rattle.std.proofs.lemmas.List.{append_assoc, length-take-le, take-append-le, take_all}

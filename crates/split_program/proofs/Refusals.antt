@@ -1,7 +1,8 @@
 -- What may be called while parts are refused, and while a split is finished.
 use Rattle.std.proofs.Common.{List}
 use Rattle.std.specs.Prelude.{Contains}
-use Rattle.capture_parts.specs.Outside.{Call, Created, MadeFolder, Opened, Printed, RemovedFile, RemovedFolder, Said, Wrote}
+use Rattle.capture_parts.specs.Outside.{Call, Created, MadeFolder, Opened, Printed, RemovedFile, RemovedFolder, Said}
+use Rattle.capture_parts.specs.Outside.{Wrote}
 use Rattle.split_program.specs.Program.{IsFinishing}
 use Rattle.split_program.specs.code.Finishing.{IsRefusal, IsRemoval}
 use Rattle.split_program.specs.declared.paths.PartPaths.{PartPaths}

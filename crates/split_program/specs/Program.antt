@@ -1,6 +1,7 @@
 -- What the program does with what it is lent.
 use Rattle.std.specs.Prelude.{◌≡◌, ◌⊎◌, ℕ, Bool, true, false, ⊤, Option, None, Some, IfSome, List, []}
-use Rattle.std.specs.Prelude.{◌∷◌, ◌++◌, Result, Ok, Err, IsErrAnd, MatchBool, MatchResult, String, codes, if◌then◌else◌, length, map}
+use Rattle.std.specs.Prelude.{◌∷◌, ◌++◌, Result, Ok, Err, IsErrAnd, MatchBool, MatchResult, String, codes}
+use Rattle.std.specs.Prelude.{if◌then◌else◌, length, map}
 use Rattle.std.specs.Prelude.{string_bytes, take, Contains, ◌+◌}
 use Rattle.std.specs.Global.{Global}
 use Rattle.std.specs.Io.Buffered.{writer_buffer, writer_capacity, writer_contents, writer_inner}
@@ -11,7 +12,8 @@ use Rattle.pcap_records.specs.FileHeader.{format_of, link_of, number_of}
 use Rattle.pcap_records.specs.Refusal.{refusal}
 use Rattle.capture_parts.specs.Finished.{has_full}
 use Rattle.capture_parts.specs.Inputs.{HasStopped, HaveHeld}
-use Rattle.capture_parts.specs.Outside.{Call, Created, MadeFolder, Opened, Printed, RemovedFile, RemovedFolder, Said, Wrote}
+use Rattle.capture_parts.specs.Outside.{Call, Created, MadeFolder, Opened, Printed, RemovedFile, RemovedFolder, Said}
+use Rattle.capture_parts.specs.Outside.{Wrote}
 use Rattle.capture_parts.specs.Parts.{AreSplit}
 use Rattle.capture_parts.specs.declared.fault.FileFault.{FileFault}
 use Rattle.capture_parts.specs.declared.part.FullPart.{FullPart}
@@ -46,13 +48,15 @@ IsFinishing paths _ = ⊥
 module _ {O F : Type 0} (does : O → Call F → O → Type 0) where
   -- a file of this path was made, and a writer over it
   abbrev pub MakesFile : O → List ℕ → ℕ → BufWriter F Global → O → Type 0
-  MakesFile before path size writer after = (file : F) × does before (Created path (Ok file)) after × IsOver file size writer
+  MakesFile before path size writer after = (file : F) × does before (Created path (Ok file)) after
+      × IsOver file size writer
 
   -- making a part failed behind one call, or behind two
   abbrev pub FailsPart : O → PartPaths → O → Type 0
   FailsPart before paths after =
       ((answer : Result F Error) × does before (Created (string_bytes paths.packets) answer) after)
-      ⊎ ((file : F) × (mid : O) × (answer : Result F Error) × does before (Created (string_bytes paths.packets) (Ok file)) mid
+      ⊎ ((file : F) × (mid : O) × (answer : Result F Error)
+      × does before (Created (string_bytes paths.packets) (Ok file)) mid
       × does mid (Created (string_bytes paths.numbers) answer) after)
 
   -- a full part is refused: that is said, and its two files are removed
@@ -145,7 +149,8 @@ module _ {O F : Type 0} (does : O → Call F → O → Type 0) (contents left : 
       × Finishes does next paths (map (λ part. part.full) split) end after
   Works header had has before paths later after (Err e) =
       (FailsParts does contents header before paths.parts.items after × IsToldAs 4 e)
-      ⊎ ((parts : List (Part (BufWriter F Global))) × (mid : O) × MakesParts does contents header before paths.parts.items parts mid
+      ⊎ ((parts : List (Part (BufWriter F Global))) × (mid : O)
+      × MakesParts does contents header before paths.parts.items parts mid
       × (((wrong : FileFault) × HasStopped does left 0 had has mid later after wrong
       × IsToldAs (status_at wrong.fault) e)
       ⊎ ((split : List (Part (BufWriter F Global))) × (next : O)

@@ -32,7 +32,8 @@ returns-clause-split g c =
       end,
       rw c.in-Some.ensures.cases.0
           (HaveHeld-snoc g.O.Outside.does g.F.Read.remaining c.args.header.now c.in-Some.between.now
-          c.in-Some.last.now more last c.args.outside.now c.split_between.new.outside c.open_later.new.outside held one),
+          c.in-Some.last.now more last c.args.outside.now c.split_between.new.outside c.open_later.new.outside
+          held one),
       EndsSplit-behind g.W.Write.contents _ _ _ _ _ given (more ++ last) deals
           (EndsSplit-behind g.W.Write.contents _ _ _ _ _ more last dealt ends),
     ))
@@ -47,7 +48,8 @@ returns-clause-stopped g c =
     let (own, gave, many) = given_some g.O.Outside.does g.F.Read.remaining c.as_str.result.now c.in-Some.last.now
     first _ wrong.fault c.split_between.new.outside c.open_later.new.outside opened c.in_ok-file.file
     c.finish_file-2.new.reader c.as_str.ensures.value call header over in
-    rw c.in-Some.ensures.cases.0 (stopped_last g.O.Outside.does g.F.Read.remaining c.args.header.now _ _ _ given more own
+    rw c.in-Some.ensures.cases.0 (stopped_last g.O.Outside.does g.F.Read.remaining c.args.header.now _ _ _ given more
+    own
     c.in-Some.between.now c.in-Some.last.now c.args.outside.now c.split_between.new.outside c.open_later.new.outside
     wrong (rw c.in-Some.ensures.cases.0 at at) consumed held gave
     (λ is. let all = many is in omega (arith, all, count, more_count))))

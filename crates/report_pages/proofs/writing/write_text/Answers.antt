@@ -11,7 +11,8 @@ returns-in_err-write_bytes-clause-written g c =
     let e : WriteFault = c.in_err-write_bytes.field-0.0 in
     let told = err_from_is_err_and c.from_residual.result c.from_residual.ensures.1 in
     rw (told.1 ∙ ap Err told.2)
-    (written-front g.W.Write.contents c.args.writer.now c.write_bytes.new.writer c.args.text.now (concat (entries_at c.args.from)) (Err e) e c.in_err-write_bytes.ensures refl)
+    (written-front g.W.Write.contents c.args.writer.now c.write_bytes.new.writer c.args.text.now
+    (concat (entries_at c.args.from)) (Err e) e c.in_err-write_bytes.ensures refl)
 
 pub returns-clause-written : goal.returns-clause-written
 returns-clause-written g c =

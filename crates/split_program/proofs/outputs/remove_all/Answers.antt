@@ -10,7 +10,8 @@ returns g c = (
   c.remove_parts.new.outside,
   c.remove_file.new.self,
   rw c.as_slice.ensures.value at c.remove_parts.ensures,
-  subst (λ p. g.O.Outside.does c.remove_parts.new.outside (RemovedFile p (is_ok c.remove_file.result)) c.remove_file.new.self)
+  subst (λ p. g.O.Outside.does c.remove_parts.new.outside (RemovedFile p (is_ok c.remove_file.result))
+      c.remove_file.new.self)
       c.as_str.ensures.value c.remove_file.ensures,
   c.remove_folder.ensures,
 )

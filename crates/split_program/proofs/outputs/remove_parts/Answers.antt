@@ -18,9 +18,11 @@ loop-part-preserved g c = λ last more.
       is_ok c.remove_file-in-loop-part.result,
       c.remove_file.new.self,
       c.remove_file-in-loop-part.new.self,
-      subst (λ p. g.O.Outside.does c.loop-part.outside (RemovedFile p (is_ok c.remove_file.result)) c.remove_file.new.self) c.as_str.ensures.value
+      subst (λ p. g.O.Outside.does c.loop-part.outside (RemovedFile p (is_ok c.remove_file.result))
+          c.remove_file.new.self) c.as_str.ensures.value
           c.remove_file.ensures,
-      subst (λ p. g.O.Outside.does c.remove_file.new.self (RemovedFile p (is_ok c.remove_file-in-loop-part.result)) c.remove_file-in-loop-part.new.self)
+      subst (λ p. g.O.Outside.does c.remove_file.new.self (RemovedFile p (is_ok c.remove_file-in-loop-part.result))
+          c.remove_file-in-loop-part.new.self)
           c.as_str-in-loop-part.ensures.value c.remove_file-in-loop-part.ensures,
       more,
     ))

@@ -18,7 +18,8 @@ returns-clause-split g c = on_ok_weaker c.give.result (λ one first bytes cut wa
     take_rest rest c.min-header.result ∙ ap (λ (k : ℕ). drop k rest) c.min-header.ensures ∙ drop_min 16 rest in
     dealt_rest g.W.Write.contents c.at_next-next.result (c.requires some) cut some
     (record {
-      next = rw (c.min.ensures, take_min, packet, c.len.ensures, ← c.give_number.ensures.length) at c.at_next-next.ensures.next;
+      next = rw (c.min.ensures, take_min, packet, c.len.ensures, ← c.give_number.ensures.length)
+          at c.at_next-next.ensures.next;
       grows = c.in_ok-give_number.ensures.grows;
     }) one was)
     c.give.ensures.grows

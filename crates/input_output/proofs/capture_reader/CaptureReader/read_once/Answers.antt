@@ -12,7 +12,8 @@ returns g c =
     let entered = c.enter_read in
     let answered = answered_once g.R.Read.remaining c.args.limit old c.enter_memory.new.self read.new.source
     read.new.self entered.new.self.state read.result entered.result c.and.result c.requires (search rules)
-    (search rules) (search rules) (search rules) read.ensures.grown read.ensures.read read.ensures.failed entered.ensures.ok entered.ensures.state
+    (search rules) (search rules) (search rules) read.ensures.grown read.ensures.read read.ensures.failed
+    entered.ensures.ok entered.ensures.state
     entered.ensures.err entered.ensures.failed c.and.ensures in
     subst (λ now. HaveAnswered g.R.Read.remaining c.args.limit old.source (kept old) now c.and.result)
     (sym entered.ensures.same) answered
