@@ -19,7 +19,8 @@ from tools.tests.counting import Counter
 CALLED = set(
     """
     __errno_location __libc_start_main __sysv_signal __write __x86_get_cpuid_feature_leaf
-    _exit abort close free getentropy malloc memcpy memmove memset open pthread_attr_destroy pthread_attr_init pthread_attr_setguardsize pthread_create pthread_detach pthread_join
+    _exit abort close free getentropy malloc memcpy memmove memset open
+    pthread_attr_destroy pthread_attr_init pthread_attr_setguardsize pthread_create pthread_detach pthread_join
     pthread_self read realloc sched_getaffinity sysconf write
     """.split()
 )
