@@ -15,7 +15,7 @@ from tools.tests import cost_captures
 from tools.tests.counting import Counter
 
 # All that the program may call of the C library. None of it gives up the processor (sched_yield), sleeps, or waits for
-# anything but a read, a write and the end of a thread. Those with `__` are of its start: it looks what the processor is.
+# anything but a read, a write and the end of a thread. Those with `__` are of its start, which asks for the processor.
 CALLED = set(
     """
     __errno_location __libc_start_main __sysv_signal __write __x86_get_cpuid_feature_leaf
