@@ -15,10 +15,11 @@ from tools.tests import cost_captures
 from tools.tests.counting import Counter
 
 # All that the program may call of the C library. None of it gives up the processor (sched_yield), sleeps, or waits for
-# anything but a read, a write and the end of a thread.
+# anything but a read, a write and the end of a thread. Those with `__` are of its start, which asks for the processor.
 CALLED = set(
     """
-    __errno_location __libc_start_main __sysv_signal _exit abort close free getentropy malloc memcpy memmove memset open
+    __errno_location __libc_start_main __sysv_signal __write __x86_get_cpuid_feature_leaf
+    _exit abort close free getentropy malloc memcpy memmove memset open
     pthread_attr_destroy pthread_attr_init pthread_attr_setguardsize pthread_create pthread_detach pthread_join
     pthread_self read realloc sched_getaffinity sysconf write
     """.split()

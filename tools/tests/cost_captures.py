@@ -209,8 +209,6 @@ GENERATED = {
 }
 # How many workers share the work of those that are not shared by four.
 SEVERAL = {"short_connections": 16}
-# Those that are audited with credit lines too.
-WITH_FRAMES = ("small", "connections", "chatty", "calls", "loud_turns")
 
 
 class Case(NamedTuple):
@@ -230,7 +228,7 @@ class Case(NamedTuple):
 
 def cases() -> list[Case]:
     names = [*GENERATED, *(each.__name__ for each in OWN)]
-    return [Case(name, []) for name in names] + [Case(name, ["--frames"]) for name in WITH_FRAMES]
+    return [Case(name, []) for name in names] + [Case(name, ["--frames"]) for name in names]
 
 
 def write(name: str, path: pathlib.Path, quarters: int = 4) -> None:

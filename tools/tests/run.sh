@@ -142,6 +142,8 @@ try_built 'refused growths, threads, reads and writes' refusals_test "$built"
 try_built 'threads that are started' threads_test "$built"
 try_built 'random bytes, and reads of any length' calls_test "$built"
 try_built 'costs: instructions, memory, threads' costs_test "$built"
+try_built 'costs: growth, one worker' costs_test "$built" --growth one
+try_built 'costs: growth, several workers' costs_test "$built" --growth several
 try_split 'costs of the splitter' split_costs_test "$split"
 try_built 'large captures' sizes_test "$built"
 [[ ${#left_out[@]} -eq 0 ]] || fail "did not run, for want of the program: $(printf '%s; ' "${left_out[@]}")"

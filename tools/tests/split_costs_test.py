@@ -64,6 +64,7 @@ class Costs(unittest.TestCase):
                     most = KEPT + BESIDE + parts * (KEPT_OF_PART + BESIDE_PART)
                     self.assertLessEqual(counts.peak, most)
                     self.assertLessEqual(counts.peak, MOST_MEMORY)
+                    self.assertLessEqual(parts, counts.writes)
                     self.assertLessEqual(counts.writes, sum(writes))
                     self.assertLessEqual(counts.reads, 2 * capture.stat().st_size // KEPT + 4)
                     self.assertEqual(counts.started, 0)
