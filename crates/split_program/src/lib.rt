@@ -6,8 +6,8 @@
 //!   every answer: which files it opens, makes and removes, which parts it refuses, and which lines it says.
 //! - The paths of all files are made before the folder, so that their removal needs no memory.
 //! - Not told: what words ask for, as clap reads them, and the texts of most lines.
-//! - The prover refuses: a refused part with status 0 or without a word, parts that are left after a failure, another
-//!   number of parts, a folder that was there before, buffers of another size.
+//! - The prover refuses: a refused part with status 0, parts that are left after a failure, another number of parts,
+//!   another folder, buffers of another size.
 //! - Tested at the root: `tests/split_test.py` and `tools/tests/splitter_test.py`.
 #![tactic(auto)]
 
