@@ -4,6 +4,8 @@ use std::rc::Rc;
 
 use reports::{Finding, Side};
 
+use crate::frames::Frames;
+
 /// Nanoseconds since 1970, or between two moments.
 pub type Nanos = i64;
 
@@ -342,6 +344,8 @@ pub struct ConnectionSaid {
     pub stopped_at: Option<At>,
     /// The offset from which on bytes of a side are missing.
     pub gaps: Vec<(Side, u64)>,
+    /// Where both ends of connections are asked about.
+    pub all_frames: Option<Frames>,
 }
 
 impl ConnectionSaid {
@@ -400,6 +404,20 @@ pub struct NotAudited {
 pub struct Files {
     pub names: Vec<String>,
     pub starts: Vec<u64>,
+}
+
+impl Files {
+    /// The number of the file that has a packet, from 1, and the packet's number in it.
+    pub fn place(&self, packet: u64) -> (usize, u64) {
+        match self.starts.partition_point(|start| *start < packet) {
+            0 => (0, packet),
+            file => (file, packet - self.starts[file - 1]),
+        }
+    }
+
+    pub fn name(&self, file: usize) -> &str {
+        file.checked_sub(1).and_then(|index| self.names.get(index)).map_or("", String::as_str)
+    }
 }
 
 #[derive(Clone, Debug, Default)]

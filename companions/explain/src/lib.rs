@@ -7,3 +7,4 @@
 #![forbid(unsafe_code)]
 
 pub mod answer;
+pub mod frames;
