@@ -5,6 +5,9 @@
 pub mod compare;
 mod compare_said;
 mod document;
+pub mod ends;
+mod ends_said;
+mod ends_stalls;
 mod gates;
 mod json;
 mod junit;
@@ -15,7 +18,8 @@ mod summing;
 mod text;
 mod wording;
 
-pub use gates::{failures_of, lines_of, Failure, Gates, Reason};
+pub use ends_said::by_place;
+pub use gates::{failures_of, lines_of, Failure, Gates, Place, Reason};
 pub use junit::{write as write_junit, Judged};
 pub use page::Look;
 pub use phrases::Phrases;
@@ -24,6 +28,7 @@ pub use summing::{Connection, Summary, Tally, Verdict, Whole};
 use std::io::{self, Write};
 
 use compare::Compared;
+use ends::Joined;
 use page::Page;
 
 /// A form in which an answer is written.
@@ -52,5 +57,13 @@ pub fn write_compared(both: &Compared<'_>, look: Option<Look>, to: &mut dyn Writ
     match look {
         Some(look) => compare_said::write(both, &mut Page::new(look, &both.after.answer.files, to)),
         None => compare_said::write_document(both, to),
+    }
+}
+
+/// Writes what both ends of connections tell of their stalls, likewise.
+pub fn write_joined(found: &Joined<'_>, look: Option<Look>, to: &mut dyn Write) -> io::Result<()> {
+    match look {
+        Some(look) => ends_said::write(found, &mut Page::new(look, &found.wholes[1].answer.files, to)),
+        None => ends_said::write_document(found, to),
     }
 }

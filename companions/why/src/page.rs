@@ -81,32 +81,41 @@ impl<'a> Page<'a> {
     }
 
     pub fn packet(&self, at: Option<At>) -> String {
-        let at = match at {
-            Some(at) => at,
-            None => return "no packet".to_string(),
-        };
-        let (file, packet) = self.files.place(at.packet);
-        format!("packet {packet}{}", self.of_file(file))
+        packet_of(self.files, at)
     }
 
     pub fn packets(&self, first: Option<At>, last: Option<At>) -> String {
-        let (first, last) = match (first, last) {
-            (Some(first), Some(last)) if first.packet != last.packet => (first, last),
-            _ => return self.packet(first.or(last)),
-        };
-        let ((first_file, begin), (last_file, end)) = (self.files.place(first.packet), self.files.place(last.packet));
-        if first_file != last_file {
-            return format!("{} to {}", self.packet(Some(first)), self.packet(Some(last)));
-        }
-        format!("packets {begin}-{end}{}", self.of_file(last_file))
+        packets_of(self.files, first, last)
     }
+}
 
-    fn of_file(&self, file: usize) -> String {
-        match file {
-            0 => String::new(),
-            _ if self.files.names.len() < 2 => String::new(),
-            _ => format!(" of {}", escaped(self.files.name(file))),
-        }
+fn packet_of(files: &Files, at: Option<At>) -> String {
+    let at = match at {
+        Some(at) => at,
+        None => return "no packet".to_string(),
+    };
+    let (file, packet) = files.place(at.packet);
+    format!("packet {packet}{}", of_file(files, file))
+}
+
+/// The packets from one to another; where there are several files, with their names.
+pub fn packets_of(files: &Files, first: Option<At>, last: Option<At>) -> String {
+    let (first, last) = match (first, last) {
+        (Some(first), Some(last)) if first.packet != last.packet => (first, last),
+        _ => return packet_of(files, first.or(last)),
+    };
+    let ((first_file, begin), (last_file, end)) = (files.place(first.packet), files.place(last.packet));
+    if first_file != last_file {
+        return format!("{} to {}", packet_of(files, Some(first)), packet_of(files, Some(last)));
+    }
+    format!("packets {begin}-{end}{}", of_file(files, last_file))
+}
+
+fn of_file(files: &Files, file: usize) -> String {
+    match file {
+        0 => String::new(),
+        _ if files.names.len() < 2 => String::new(),
+        _ => format!(" of {}", escaped(files.name(file))),
     }
 }
 
