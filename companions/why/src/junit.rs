@@ -15,8 +15,8 @@ const INDENT: &str = "      ";
 /// An answer and what fails of it; of two ends whose capture it is, and what both say of a place in it.
 pub struct Judged<'a> {
     pub whole: &'a Whole<'a>,
-    pub failures: &'a [Failure],
-    pub whose: String,
+    pub failures: Vec<Failure>,
+    pub whose: &'static str,
     pub said: HashMap<Place, Vec<String>>,
 }
 
@@ -56,9 +56,9 @@ pub fn write(judged: &[Judged<'_>], to: &mut dyn Write) -> io::Result<()> {
     writeln!(to, "</testsuites>")
 }
 
-fn by_place<'a>(judged: &Judged<'a>) -> ByPlace<'a> {
+fn by_place<'a>(judged: &'a Judged<'_>) -> ByPlace<'a> {
     let mut found = ByPlace::default();
-    for failure in judged.failures {
+    for failure in &judged.failures {
         let some = found.failures.entry(failure.place).or_default();
         if some.is_empty() {
             *found.places.entry(failure.place.0).or_default() += 1;
@@ -103,7 +103,7 @@ impl<'a> Suite<'a> {
     }
 
     fn name(&self) -> String {
-        let whose = &self.judged.whose;
+        let whose = self.judged.whose;
         match self.connection {
             None => format!("{whose}{}", self.judged.whole.answer.files.names.join(", ")),
             Some(one) => {

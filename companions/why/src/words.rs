@@ -8,7 +8,7 @@ use lexopt::Arg::{Long, Short, Value};
 use lexopt::Parser;
 use programs::{number, printable, wrong, Failure};
 
-use crate::gates::{Gates, Reason};
+use why::{Gates, Reason};
 
 const LEAST_WIDTH: u64 = 40;
 const MOST_WIDTH: u64 = 1000;
@@ -271,7 +271,7 @@ fn digits_of(word: &str) -> Option<i64> {
 #[cfg(test)]
 mod tests {
     use super::{nanos_of, words_of, Asked, Asks, Captures, Words};
-    use crate::gates::Reason;
+    use why::Reason;
 
     fn asked(words: &[&str]) -> Result<Box<Asked>, String> {
         match words_of(words.iter().map(|word| word.into()).collect()) {
