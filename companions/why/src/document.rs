@@ -262,7 +262,8 @@ fn direction(json: &mut Json<'_>, one: &Direction, opened: Nanos, files: &Files)
         json.name("stalls").number(one.stalls);
         place(json.name("first"), one.first, files);
         place(json.name("end"), one.end, files);
-        json.name("spans").some(one.spans.as_ref(), |json, spans| json.list(spans, |json, one| span(json, one, opened)));
+        json.name("spans")
+            .some(one.spans.as_ref(), |json, spans| json.list(spans, |json, one| span(json, one, opened)));
     });
 }
 

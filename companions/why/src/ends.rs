@@ -226,7 +226,8 @@ impl<'a> Both<'a> {
         let drifts = bounds.round_trip() < -AT_ONE_PLACE;
         if drifts {
             let shaken = handshake_bounds(&client, &server).filter(|shaken| shaken.round_trip() >= -AT_ONE_PLACE);
-            let why = || Apart::Refused(format!("{names}: packets arrive before they are sent; are the two exchanged?"));
+            let why =
+                || Apart::Refused(format!("{names}: packets arrive before they are sent; are the two exchanged?"));
             bounds = shaken.ok_or_else(why)?;
         }
         let ahead = (bounds.most + bounds.least).div_euclid(2);
@@ -246,8 +247,7 @@ impl<'a> Both<'a> {
             if sizes[0] == sizes[1] {
                 return None;
             }
-            let (more, less) =
-                if sizes[0] > sizes[1] { (Side::Client, sizes[1]) } else { (Side::Server, sizes[0]) };
+            let (more, less) = if sizes[0] > sizes[1] { (Side::Client, sizes[1]) } else { (Side::Server, sizes[0]) };
             let end = self.end(more);
             let packet = end.at((side, less)).map_or(0, |at| end.files.place(at.packet).1);
             let frames = count(sizes[0].abs_diff(sizes[1]) as u64, "frame");
@@ -289,9 +289,7 @@ fn handshake_bounds(client: &End<'_>, server: &End<'_>) -> Option<Bounds> {
 /// The same by the handshake and by the quickest frame of each direction: no packet arrives before it was sent.
 fn bounds_of(client: &End<'_>, server: &End<'_>) -> Result<Bounds, Apart> {
     let shaken = handshake_bounds(client, server);
-    let took = |side: Side| {
-        client.of_side(side).zip(server.of_side(side)).map(|(here, there)| there.time - here.time)
-    };
+    let took = |side: Side| client.of_side(side).zip(server.of_side(side)).map(|(here, there)| there.time - here.time);
     let most = took(Side::Client).chain(shaken.map(|bounds| bounds.most)).min();
     let least = took(Side::Server).chain(shaken.map(|bounds| bounds.least)).max();
     let why = || Apart::Refused("a side sent nothing, so the clocks cannot be set".to_string());

@@ -105,12 +105,10 @@ fn stall_words(both: &Both<'_>, one: &StallOfBoth<'_>, name: Option<&str>) -> St
         place += &format!(" {}", escaped(name));
     }
     let lasts = time_of(stall.nanos) + if stall.end.is_none() { " without an end" } else { "" };
-    let shows =
-        if one.shows_there { "shows at both ends".to_string() } else { format!("shows at the {sender} alone") };
+    let shows = if one.shows_there { "shows at both ends".to_string() } else { format!("shows at the {sender} alone") };
     let packets = packets_of(both.end(sender).files, Some(stall.begin), stall.end);
     let on_way = one.way_words();
-    let mut text =
-        format!("{place}: the {sender} stalled for {lasts}, {packets}; {shows}. On its way: {on_way}. ");
+    let mut text = format!("{place}: the {sender} stalled for {lasts}, {packets}; {shows}. On its way: {on_way}. ");
     if let Some(parts) = one.parts {
         let [out, answer, back] = [parts.out, parts.answer, parts.back].map(time_of);
         text += &format!("Way out {out}, answer {answer}, way back {back}. ");

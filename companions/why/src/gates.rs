@@ -138,8 +138,7 @@ impl Finding<'_> {
             self.add(Reason::NotAudited, place, || format!("not audited: {}", why_not_audited(one)));
         }
         for fault in &one.faults {
-            let doubt =
-                if fault.doubt.is_empty() { String::new() } else { format!("; doubtful: {}", fault.doubt) };
+            let doubt = if fault.doubt.is_empty() { String::new() } else { format!("; doubtful: {}", fault.doubt) };
             let (sentence, packet) = (sentence_of(&fault.finding, ""), self.packet(fault.at));
             let text = format!("{sentence}; packet {packet}, frame {}{doubt}", fault.at.frame);
             self.add(Reason::Fault, place, || text.clone());

@@ -108,7 +108,8 @@ impl<'a> Phrases<'a> {
             return "not stalled".to_string();
         }
         let sides = [Side::Client, Side::Server];
-        let times: u64 = sides.map(|side| self.stalls_of(side, request.stream).map_or(0, |some| some.count)).iter().sum();
+        let times: u64 =
+            sides.map(|side| self.stalls_of(side, request.stream).map_or(0, |some| some.count)).iter().sum();
         let often = if times > 0 { format!(", {}", count(times, "time")) } else { String::new() };
         format!("stalled {} in all ({}){often}", time_of(nanos), percent(nanos, request.nanos()))
     }
@@ -151,7 +152,8 @@ impl<'a> Phrases<'a> {
             CauseWhy::Stalls(StallWhy::CancelledStreams) => self.leak(cause),
             CauseWhy::Stalls(StallWhy::GrantedNothing) => {
                 let reset = Some(request.ended).filter(|ended| ended.how == How::RstStream && !request.is_hung);
-                let until = reset.and_then(|ended| ended.side).map(|side| format!(" until the {side} reset the stream"));
+                let until =
+                    reset.and_then(|ended| ended.side).map(|side| format!(" until the {side} reset the stream"));
                 let (whose, until) = (whose(cause), until.unwrap_or_default());
                 format!("the {ask} granted nothing{whose} for {}{until}", time_of(longest))
             }

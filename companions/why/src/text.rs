@@ -56,7 +56,9 @@ pub fn write(whole: &Whole<'_>, look: Look, to: &mut dyn Write) -> io::Result<()
 /// Those with faults first, then those with hung requests, then by the time of the worst one.
 fn connections(whole: &Whole<'_>, page: &mut Page<'_>) -> io::Result<()> {
     let mut shown: Vec<&Connection<'_>> = whole.audited().collect();
-    shown.sort_by_key(|one| (one.said.faults.len(), one.tally.hung, one.tally.worst, std::cmp::Reverse(one.said.number)));
+    shown.sort_by_key(|one| {
+        (one.said.faults.len(), one.tally.hung, one.tally.worst, std::cmp::Reverse(one.said.number))
+    });
     shown.reverse();
     let most = if page.look.is_all { shown.len() } else { shown.len().min(MOST_CONNECTIONS) };
     for one in &shown[..most] {

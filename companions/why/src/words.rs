@@ -14,8 +14,7 @@ const LEAST_WIDTH: u64 = 40;
 const MOST_WIDTH: u64 = 1000;
 /// The digits of a time before its point, and behind it.
 const MOST_DIGITS: usize = 9;
-const UNITS: [(&str, i64); 5] =
-    [("ns", 1), ("us", 1_000), ("µs", 1_000), ("ms", 1_000_000), ("s", 1_000_000_000)];
+const UNITS: [(&str, i64); 5] = [("ns", 1), ("us", 1_000), ("µs", 1_000), ("ms", 1_000_000), ("s", 1_000_000_000)];
 const COLOURS: [(&str, Colours); 3] =
     [("auto", Colours::OnTerminal), ("always", Colours::Always), ("never", Colours::Never)];
 
@@ -144,11 +143,7 @@ impl Taken {
 
     /// Whether something of CI is asked for.
     fn has_gates(&self) -> bool {
-        !self.reasons.is_empty()
-            || self.stall.is_some()
-            || self.needs_http2
-            || self.junit.is_some()
-            || self.is_quiet
+        !self.reasons.is_empty() || self.stall.is_some() || self.needs_http2 || self.junit.is_some() || self.is_quiet
     }
 
     fn asked(self) -> Result<Asked, Failure> {
@@ -249,9 +244,8 @@ fn reason_of(word: &str) -> Result<Reason, Failure> {
 /// Nanoseconds of a time with its unit.
 fn duration_of(word: OsString) -> Result<Nanos, Failure> {
     let word = printable(word);
-    nanos_of(&word).ok_or_else(|| {
-        Failure::Usage(format!("argument --fail-stall: '{word}' is no time, as 100ms, 1.5s or 250us"))
-    })
+    nanos_of(&word)
+        .ok_or_else(|| Failure::Usage(format!("argument --fail-stall: '{word}' is no time, as 100ms, 1.5s or 250us")))
 }
 
 fn nanos_of(word: &str) -> Option<Nanos> {
