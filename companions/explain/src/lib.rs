@@ -7,4 +7,9 @@
 #![forbid(unsafe_code)]
 
 pub mod answer;
+mod course;
 pub mod frames;
+mod intervals;
+mod life;
+mod rounds;
+pub mod words;
