@@ -4,7 +4,7 @@ use std::ffi::{OsStr, OsString};
 use std::io;
 
 use captures::PassedOver;
-use import::{Addresses, Became as Outcome, Map, Sink, Summary, Target};
+use import::{Addresses, Became as Outcome, Listener, Record, Sink, Summary, Target};
 use programs::Failure;
 use reports::Capture;
 
@@ -49,7 +49,7 @@ impl Keeping {
     }
 }
 
-impl Map for Keeping {
+impl Listener for Keeping {
     fn begin_file(&mut self, _path: &OsStr, _packets_before: u64) {}
 
     fn address(&mut self, stand_in: [u8; 4], original: [u8; 16]) {
@@ -57,8 +57,8 @@ impl Map for Keeping {
         self.original.add_address(stand_in, original);
     }
 
-    fn record(&mut self, _number: u64, packet: u64) {
-        self.original.add_record(packet);
+    fn record(&mut self, record: &Record<'_>) {
+        self.original.add_record(record.arrival.packet);
     }
 
     fn passed(&mut self, packet: u64, why: &PassedOver) {

@@ -10,7 +10,7 @@ use programs::{Failure, Output};
 use tls::{CLIENT, SERVER};
 
 use crate::addresses::{escaped_path, Addresses};
-use crate::map::Files;
+use crate::listener::Files;
 use crate::tracked::{Fact, Side, Tracked};
 
 const FIRST_LINE: &str = "h2audit-course 1";

@@ -1,4 +1,4 @@
-//! The pipeline: from files to the capture that is made, and its map.
+//! The pipeline: from files to the capture that is made, and what listens to it.
 
 use std::collections::HashMap;
 use std::ffi::{OsStr, OsString};
@@ -176,7 +176,7 @@ impl<'a, 'b, 'c> Importer<'a, 'b, 'c> {
     /// Reads a file, and answers whether bytes stood behind the end of what gzip packed.
     fn file(&mut self, path: &OsStr) -> Result<bool, Early> {
         let source = Source::open(path)?;
-        self.sink.map.begin_file(path, self.packets);
+        self.sink.listener.begin_file(path, self.packets);
         if let Some(course) = self.course {
             course.begin_file(path, self.packets);
         }
@@ -185,7 +185,7 @@ impl<'a, 'b, 'c> Importer<'a, 'b, 'c> {
             match item {
                 Item::Packet(packet) => self.packet(&packet)?,
                 Item::Secrets(text) => self.secrets(text),
-                Item::Cut => self.sink.map.cut(self.packets + 1),
+                Item::Cut => self.sink.listener.cut(self.packets + 1),
             }
             if self.sink.has_problem() {
                 break;
@@ -225,11 +225,12 @@ impl<'a, 'b, 'c> Importer<'a, 'b, 'c> {
         if self.decoder.has_addresses() {
             self.name_addresses();
         }
-        let opens = self.table.take(self.shared, self.sink, arrival, &segment);
-        match self.course {
-            Some(course) if opens => course.opened(arrival, &segment),
-            Some(course) => course.segment(arrival, &segment),
-            None => {}
+        let taken = self.table.take(self.shared, self.sink, arrival, &segment);
+        if let (Some(course), Some(taken)) = (self.course.as_mut(), taken) {
+            match taken.opens {
+                true => course.opened(arrival, &segment),
+                false => course.segment(arrival, &segment),
+            }
         }
         Ok(())
     }
@@ -249,7 +250,7 @@ impl<'a, 'b, 'c> Importer<'a, 'b, 'c> {
 
     fn name_addresses(&mut self) {
         for (stand_in, original) in self.decoder.take_addresses() {
-            self.sink.map.address(stand_in, original);
+            self.sink.listener.address(stand_in, original);
             if let Some(course) = self.course {
                 course.address(stand_in, original);
             }
@@ -269,7 +270,7 @@ impl<'a, 'b, 'c> Importer<'a, 'b, 'c> {
                 }
             }
         }
-        self.sink.map.passed(self.packets, why);
+        self.sink.listener.passed(self.packets, why);
     }
 
     /// Counts a fragment at its connection: the first one of a datagram has the ports.
@@ -309,7 +310,7 @@ impl<'a, 'b, 'c> Importer<'a, 'b, 'c> {
         let (outcomes, unopened) = std::mem::take(&mut self.table).finish_all(self.shared, self.sink);
         let summary =
             Summary { counts: self.counts, back: self.back, others: self.others.most_seen(), unopened, outcomes };
-        self.sink.map.finish(&summary);
+        self.sink.listener.finish(&summary);
         if let Some(course) = self.course {
             course.finish();
         }

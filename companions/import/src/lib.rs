@@ -8,8 +8,15 @@
 //! segments               clear or TLS                capture and map
 //! ```
 //!
-//! [`imported`] does the work of [`Asked`], into a [`Sink`] over a [`Target`] and a [`Map`]. [`Summary`] says what became
-//! of each connection.
+//! [`imported`] does the work of [`Asked`], into a [`Sink`] over a [`Target`], which takes the bytes of the capture that is
+//! made, and a [`Listener`], which takes all else in the same process:
+//!
+//! - each [`Record`] as it is written, with its number, its packet and its connection, so that who reads what is made
+//!   needs no table of connections. [`Written`] has its bytes, and where its payload stands;
+//! - what is passed over, and at the end the [`Summary`], which says what became of each connection;
+//! - `begin_anew`, where all files are read once more, as the sessions in them gave more keys.
+//!
+//! Connections count from 0 on in the order of openings, in [`Sender`] and [`Summary`] alike.
 
 #![forbid(unsafe_code)]
 
@@ -18,7 +25,7 @@ pub mod command;
 mod connections;
 mod course;
 mod importing;
-mod map;
+mod listener;
 mod map_file;
 mod others;
 mod outcomes;
@@ -36,9 +43,10 @@ pub use addresses::{escaped, Addresses};
 pub use command::sorted;
 pub use course::Course;
 pub use importing::{imported, times_go_back, Asked};
-pub use map::{Files, Map};
+pub use listener::{Files, Listener, Record, Sender, Written};
 pub use map_file::MapFile;
 pub use others::{Kind, Other};
 pub use outcomes::{Back, Became, Counts, End, Outcome, Read, SideRead, Summary, Unopened};
 pub use preamble::Preamble;
 pub use sink::{Problem, Sink, Target};
+pub use tls::{CLIENT, SERVER};

@@ -8,7 +8,7 @@ use captures::PassedOver;
 use programs::{Failure, Output};
 
 use crate::addresses::{escaped, escaped_path, Addresses};
-use crate::map::{Files, Map};
+use crate::listener::{Files, Listener, Record};
 use crate::others::Kind;
 use crate::outcomes::{Became, Outcome, Read, SideRead, Summary};
 
@@ -88,7 +88,7 @@ fn said_of(became: &Became) -> String {
     }
 }
 
-impl Map for MapFile<'_> {
+impl Listener for MapFile<'_> {
     fn begin_file(&mut self, path: &OsStr, packets_before: u64) {
         self.files.begin(packets_before);
         self.line(format_args!("file {} {}", self.files.count(), escaped_path(path)));
@@ -99,15 +99,15 @@ impl Map for MapFile<'_> {
         self.line(format_args!("address {} {original}", Ipv4Addr::from(stand_in)));
     }
 
-    fn record(&mut self, number: u64, packet: u64) {
+    fn record(&mut self, record: &Record<'_>) {
         if self.out.is_none() {
             return;
         }
-        let (file, packet) = self.files.place(packet);
+        let (file, packet) = self.files.place(record.arrival.packet);
         let mut digits = [itoa::Buffer::new(), itoa::Buffer::new(), itoa::Buffer::new()];
         let [first, second, third] = &mut digits;
         let parts =
-            ["record ", first.format(number), " file ", second.format(file), " packet ", third.format(packet), "\n"];
+            ["record ", first.format(record.number), " file ", second.format(file), " packet ", third.format(packet), "\n"];
         let mut line = std::mem::take(&mut self.line);
         line.clear();
         parts.iter().for_each(|part| line.extend_from_slice(part.as_bytes()));
