@@ -18,7 +18,7 @@ pub fn make(asked: &Audited, files: &[OsString], made: &mut PrivateFile) -> Resu
     let mut keeping = Keeping::default();
     let mut sink = Sink::new(made, &mut keeping)?;
     let import = import::Asked { program: NAME, files, key_logs: &asked.key_logs, can_repeat: true };
-    import::imported(&import, &mut sink, &mut None)?;
+    import::imported(&import, &mut sink, None)?;
     drop(sink);
     Ok(keeping.original)
 }
@@ -84,7 +84,7 @@ impl Listener for Keeping {
             not_tcp: counts.not_tcp,
             refused: counts.refused,
         };
-        self.original.back = summary.back.map(|back| back.packet);
+        self.original.back = summary.back.as_ref().map(import::Back::packet);
         let others = summary.others.iter();
         self.original.others = others.map(|one| Other { name: one.kind.name().into(), packets: one.packets }).collect();
         for outcome in &summary.outcomes {

@@ -16,7 +16,10 @@
 //! - what is passed over, and at the end the [`Summary`], which says what became of each connection;
 //! - `begin_anew`, where all files are read once more, as the sessions in them gave more keys.
 //!
-//! Connections count from 0 on in the order of openings, in [`Sender`] and [`Summary`] alike.
+//! [`Courses`] has, after the import, what TCP did on each connection, where that is asked for; the memory for it is
+//! bounded by connections and by the stretches of time in which TCP held back what a side sends.
+//!
+//! Connections count from 0 on in the order of openings, in [`Sender`], [`Summary`] and [`Courses`] alike.
 
 #![forbid(unsafe_code)]
 
@@ -24,6 +27,7 @@ mod addresses;
 pub mod command;
 mod connections;
 mod course;
+mod course_file;
 mod importing;
 mod listener;
 mod map_file;
@@ -41,12 +45,12 @@ mod words;
 
 pub use addresses::{escaped, Addresses};
 pub use command::sorted;
-pub use course::Course;
+pub use course::{Course, Courses, Held, Side, Why, NEVER};
 pub use importing::{imported, times_go_back, Asked};
 pub use listener::{Files, Listener, Record, Sender, Written};
 pub use map_file::MapFile;
 pub use others::{Kind, Other};
-pub use outcomes::{Back, Became, Counts, End, Outcome, Read, SideRead, Summary, Unopened};
+pub use outcomes::{Back, Became, Counts, End, Older, Outcome, Read, SideRead, Summary, Unopened};
 pub use preamble::Preamble;
 pub use sink::{Problem, Sink, Target};
 pub use tls::{CLIENT, SERVER};

@@ -32,6 +32,11 @@ impl<'a> MapFile<'a> {
         map
     }
 
+    /// The files, and what addresses stand for.
+    pub fn names(&self) -> (&Files, &Addresses) {
+        (&self.files, &self.addresses)
+    }
+
     fn line(&mut self, text: std::fmt::Arguments<'_>) {
         self.written(|out| out.write_fmt(text).and_then(|()| out.write_all(b"\n")));
     }
@@ -106,8 +111,8 @@ impl Listener for MapFile<'_> {
         let (file, packet) = self.files.place(record.arrival.packet);
         let mut digits = [itoa::Buffer::new(), itoa::Buffer::new(), itoa::Buffer::new()];
         let [first, second, third] = &mut digits;
-        let parts =
-            ["record ", first.format(record.number), " file ", second.format(file), " packet ", third.format(packet), "\n"];
+        let number = first.format(record.number);
+        let parts = ["record ", number, " file ", second.format(file), " packet ", third.format(packet), "\n"];
         let mut line = std::mem::take(&mut self.line);
         line.clear();
         parts.iter().for_each(|part| line.extend_from_slice(part.as_bytes()));
@@ -141,8 +146,8 @@ impl Listener for MapFile<'_> {
             counts.not_tcp,
             counts.refused
         ));
-        if let Some(back) = summary.back {
-            let (file, packet) = self.files.place(back.packet);
+        if let Some(back) = &summary.back {
+            let (file, packet) = self.files.place(back.packet());
             let (packets, nanos) = (back.packets, back.nanos);
             self.line(format_args!("back file {file} packet {packet} packets {packets} nanos {nanos}"));
         }

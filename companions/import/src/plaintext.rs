@@ -24,8 +24,8 @@ pub struct Numbers {
 #[derive(Clone, Copy)]
 pub struct Later {
     pub connection: usize,
-    /// Whether its client was the server.
-    pub is_turned: bool,
+    /// Which side of it client and server are.
+    pub sides: [usize; 2],
 }
 
 /// What became of a connection of TLS, at its end.
@@ -106,7 +106,7 @@ impl Numbers {
     /// Whose the segments of a side are that are written now.
     fn sender(&self, sink: &Sink<'_>, side: usize) -> Sender {
         match self.later.filter(|later| sink.has_opening(later.connection)) {
-            Some(Later { connection, is_turned }) => Sender { connection, side: if is_turned { 1 - side } else { side } },
+            Some(Later { connection, sides }) => Sender { connection, side: sides[side] },
             None => Sender { connection: self.connection, side },
         }
     }

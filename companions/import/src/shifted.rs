@@ -33,9 +33,7 @@ impl Shift {
         };
         let other = 1 - side;
         let answer = match initial[other] {
-            Some(initial) if flags & flags::ACK != 0 => {
-                less(segment.acknowledgement, initial, self.lengths[other])
-            }
+            Some(initial) if flags & flags::ACK != 0 => less(segment.acknowledgement, initial, self.lengths[other]),
             _ => segment.acknowledgement,
         };
         segment.headers().iter().for_each(|part| headers.extend_from_slice(part));

@@ -80,7 +80,8 @@ fn pair_of(ends: &Ends) -> (Ends, bool) {
 fn later_than(connection: &Connection, places: &HashMap<Ends, Place>) -> Option<Later> {
     let (pair, is_less) = pair_of(connection.ends());
     let place = places.get(&pair).filter(|place| place.connection != connection.number())?;
-    Some(Later { connection: place.connection, is_turned: place.client_is_less != is_less })
+    let sides = if place.client_is_less == is_less { [CLIENT, SERVER] } else { [SERVER, CLIENT] };
+    Some(Later { connection: place.connection, sides })
 }
 
 impl Table {
