@@ -1,15 +1,14 @@
 //! Makes the capture that is audited, and keeps what brings its report back to the original.
 
 use std::ffi::{OsStr, OsString};
-use std::io;
 
+use audits::{temporary_failure, PrivateFile};
 use captures::PassedOver;
-use import::{Addresses, Became as Outcome, Listener, Record, Sink, Summary, Target};
+use import::{Addresses, Became as Outcome, Listener, Record, Sink, Summary};
 use programs::Failure;
 use reports::Capture;
 
 use crate::original::{Became, Connection, Original, Other, SideRead};
-use crate::private_file::{temporary_failure, PrivateFile};
 use crate::words::Audited;
 use crate::NAME;
 
@@ -21,16 +20,6 @@ pub fn make(asked: &Audited, files: &[OsString], made: &mut PrivateFile) -> Resu
     import::imported(&import, &mut sink, None)?;
     drop(sink);
     Ok(keeping.original)
-}
-
-impl Target for PrivateFile {
-    fn begin_anew(&mut self) -> io::Result<()> {
-        PrivateFile::begin_anew(self)
-    }
-
-    fn failure(&self, error: &io::Error) -> Failure {
-        temporary_failure(error)
-    }
 }
 
 /// A map that is kept in memory.

@@ -89,7 +89,6 @@ impl Cut<'_> {
 pub type Wants = fn(&Head) -> usize;
 
 /// The frames of one side, of which the last one may have begun.
-#[derive(Debug)]
 pub struct Cutter {
     wants: Wants,
     /// How many bytes of the preface came, of a client.

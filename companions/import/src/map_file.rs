@@ -7,7 +7,7 @@ use std::net::Ipv4Addr;
 use captures::PassedOver;
 use programs::{Failure, Output};
 
-use crate::addresses::{escaped, escaped_path, Addresses};
+use crate::addresses::{escaped_path, Addresses};
 use crate::listener::{Files, Listener, Record};
 use crate::others::Kind;
 use crate::outcomes::{Became, Outcome, Read, SideRead, Summary};
@@ -52,7 +52,7 @@ impl<'a> MapFile<'a> {
     fn connection(&mut self, outcome: &Outcome) {
         let (client, server) = self.addresses.endpoints(&outcome.ends);
         let (file, packet) = self.files.place(outcome.opening);
-        let said = said_of(&outcome.became);
+        let said = outcome.became.words();
         self.line(format_args!("connection client {client} server {server} file {file} packet {packet} {said}"));
         if let Became::Read(read) = &outcome.became {
             self.sides(read);
@@ -79,17 +79,6 @@ impl<'a> MapFile<'a> {
         let SideRead { bytes, tail, end, .. } = side;
         let gap = if side.has_gap { bytes.to_string() } else { "none".to_string() };
         self.line(format_args!("flow {name} bytes {bytes} gap {gap} tail {tail} end {end}"));
-    }
-}
-
-fn said_of(became: &Became) -> String {
-    match became {
-        Became::Clear => "clear".to_string(),
-        Became::Refused(why) => format!("refused {why}"),
-        Became::Read(read) => {
-            let protocol = read.protocol.as_ref().map_or("none".to_string(), |protocol| escaped(protocol));
-            format!("tls {} {} alpn {protocol} records {}", read.version, read.suite, read.records)
-        }
     }
 }
 

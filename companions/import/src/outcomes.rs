@@ -5,6 +5,7 @@ use std::fmt;
 use captures::{Arrival, Ends};
 use tls::Reason;
 
+use crate::addresses::escaped;
 use crate::preamble::Preamble;
 
 /// So many packets are named whose times go back.
@@ -62,6 +63,20 @@ pub enum Became {
     /// Nothing of it could be read.
     Refused(Reason),
     Read(Box<Read>),
+}
+
+impl Became {
+    /// As the map says it (docs/MAP.md).
+    pub fn words(&self) -> String {
+        match self {
+            Became::Clear => "clear".to_string(),
+            Became::Refused(why) => format!("refused {why}"),
+            Became::Read(read) => {
+                let protocol = read.protocol.as_ref().map_or("none".to_string(), |protocol| escaped(protocol));
+                format!("tls {} {} alpn {protocol} records {}", read.version, read.suite, read.records)
+            }
+        }
+    }
 }
 
 /// What became of a connection.
