@@ -1,15 +1,14 @@
 //! Makes the capture that is audited, and keeps what brings its report back to the original.
 
 use std::ffi::{OsStr, OsString};
-use std::io;
 
+use audits::{temporary_failure, PrivateFile};
 use captures::PassedOver;
-use import::{Addresses, Became as Outcome, Map, Sink, Summary, Target};
+use import::{Addresses, Became as Outcome, Listener, Record, Sink, Summary};
 use programs::Failure;
 use reports::Capture;
 
 use crate::original::{Became, Connection, Original, Other, SideRead};
-use crate::private_file::{temporary_failure, PrivateFile};
 use crate::words::Audited;
 use crate::NAME;
 
@@ -18,19 +17,9 @@ pub fn make(asked: &Audited, files: &[OsString], made: &mut PrivateFile) -> Resu
     let mut keeping = Keeping::default();
     let mut sink = Sink::new(made, &mut keeping)?;
     let import = import::Asked { program: NAME, files, key_logs: &asked.key_logs, can_repeat: true };
-    import::imported(&import, &mut sink, &mut None)?;
+    import::imported(&import, &mut sink, None)?;
     drop(sink);
     Ok(keeping.original)
-}
-
-impl Target for PrivateFile {
-    fn begin_anew(&mut self) -> io::Result<()> {
-        PrivateFile::begin_anew(self)
-    }
-
-    fn failure(&self, error: &io::Error) -> Failure {
-        temporary_failure(error)
-    }
 }
 
 /// A map that is kept in memory.
@@ -49,7 +38,7 @@ impl Keeping {
     }
 }
 
-impl Map for Keeping {
+impl Listener for Keeping {
     fn begin_file(&mut self, _path: &OsStr, _packets_before: u64) {}
 
     fn address(&mut self, stand_in: [u8; 4], original: [u8; 16]) {
@@ -57,8 +46,8 @@ impl Map for Keeping {
         self.original.add_address(stand_in, original);
     }
 
-    fn record(&mut self, _number: u64, packet: u64) {
-        self.original.add_record(packet);
+    fn record(&mut self, record: &Record<'_>) {
+        self.original.add_record(record.arrival.packet);
     }
 
     fn passed(&mut self, packet: u64, why: &PassedOver) {
@@ -84,7 +73,7 @@ impl Map for Keeping {
             not_tcp: counts.not_tcp,
             refused: counts.refused,
         };
-        self.original.back = summary.back.map(|back| back.packet);
+        self.original.back = summary.back.as_ref().map(import::Back::packet);
         let others = summary.others.iter();
         self.original.others = others.map(|one| Other { name: one.kind.name().into(), packets: one.packets }).collect();
         for outcome in &summary.outcomes {

@@ -5,6 +5,7 @@ use std::rc::Rc;
 use reports::{Finding, Side};
 
 use crate::frames::Frames;
+pub use crate::requests::Requests;
 
 /// Nanoseconds since 1970, or between two moments.
 pub type Nanos = i64;
@@ -308,6 +309,19 @@ pub enum Outcome {
     Refused,
 }
 
+impl Outcome {
+    /// The report's word.
+    pub fn name(self) -> &'static str {
+        match self {
+            Outcome::Http2 => "http2",
+            Outcome::NotHttp2 => "not-http2",
+            Outcome::NoPreface => "no-preface",
+            Outcome::NoHandshake => "no-handshake",
+            Outcome::Refused => "refused",
+        }
+    }
+}
+
 #[derive(Clone, Debug)]
 pub struct ConnectionSaid {
     pub number: u64,
@@ -351,35 +365,6 @@ pub struct ConnectionSaid {
 impl ConnectionSaid {
     pub fn is_audited(&self) -> bool {
         self.outcome == Outcome::Http2
-    }
-}
-
-/// The requests of a connection; they may be held packed.
-#[derive(Clone, Debug, Default)]
-pub struct Requests {
-    all: Vec<Request>,
-}
-
-impl Requests {
-    pub fn push(&mut self, request: Request) {
-        self.all.push(request);
-    }
-
-    pub fn len(&self) -> usize {
-        self.all.len()
-    }
-
-    pub fn is_empty(&self) -> bool {
-        self.all.is_empty()
-    }
-
-    pub fn get(&self, index: usize) -> Option<Request> {
-        self.all.get(index).cloned()
-    }
-
-    /// Each one by itself, in the order of openings.
-    pub fn iter(&self) -> impl Iterator<Item = Request> + '_ {
-        self.all.iter().cloned()
     }
 }
 

@@ -6,5 +6,50 @@
 
 #![forbid(unsafe_code)]
 
+use reports::Side;
+
 pub mod answer;
+mod audit;
+mod blocks;
+mod building;
+mod causes;
+mod certainty;
+mod connection;
+mod course;
+mod cutter;
+mod doubts;
+mod findings;
 pub mod frames;
+mod intervals;
+mod leaks;
+mod learning;
+mod life;
+mod made;
+mod names;
+mod packed;
+mod requests;
+mod rounds;
+mod seen;
+mod settings;
+mod signals;
+mod stalls;
+mod stream;
+mod table;
+mod tcp;
+mod unanswered;
+mod unshown;
+mod walk;
+mod windows;
+pub mod words;
+
+pub use building::{answer_of, Asked};
+pub use import::{CLIENT, SERVER};
+
+/// The side of this number.
+pub(crate) fn side_of(number: usize) -> Side {
+    if number == CLIENT {
+        Side::Client
+    } else {
+        Side::Server
+    }
+}

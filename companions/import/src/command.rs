@@ -7,7 +7,8 @@ use std::path::{Path, PathBuf};
 use captures::{Error, Item, Reader, Source};
 use programs::{end_cleanly, is_special, print, printable, say, Failure, Outcome, Output};
 
-use crate::course::Course;
+use crate::course::Courses;
+use crate::course_file::CourseFile;
 use crate::importing::{imported, Asked};
 use crate::map_file::MapFile;
 use crate::outcomes::Summary;
@@ -86,9 +87,17 @@ fn made(
         .flatten()
         .all(|path| path.as_os_str() != "-" && !is_special(path).unwrap_or(true));
     let mut map = MapFile::new(map);
-    let mut course = course.map(Course::new);
-    let mut sink = Sink::new(output, &mut map)?;
-    imported(&Asked { program: NAME, files, key_logs: &asked.key_logs, can_repeat }, &mut sink, &mut course)
+    let mut courses = Courses::default();
+    let summary = {
+        let mut sink = Sink::new(output, &mut map)?;
+        let courses = course.is_some().then_some(&mut courses);
+        imported(&Asked { program: NAME, files, key_logs: &asked.key_logs, can_repeat }, &mut sink, courses)?
+    };
+    if let Some(out) = course {
+        let (files_of, addresses) = map.names();
+        CourseFile { out, files: files_of, addresses }.write(files, &summary, &courses)?;
+    }
+    Ok(summary)
 }
 
 /// The files in the order of their first packets; those without any come last.

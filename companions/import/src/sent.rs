@@ -5,7 +5,7 @@ use std::collections::hash_map::DefaultHasher;
 use std::collections::{BTreeMap, VecDeque};
 use std::hash::Hasher;
 
-use captures::{flags, Arrival, Segment, END_OF_OFFSETS};
+use captures::{flags, offset_of, Arrival, Segment, END_OF_OFFSETS};
 
 /// A packet that was captured twice stands so close to its double.
 const MOST_BETWEEN: usize = 32;
@@ -19,7 +19,7 @@ pub enum Fresh {
     /// It was captured before.
     Doubled,
     /// New bytes, and bytes that were sent before.
-    Bytes { fresh: u64, again: u64 },
+    Bytes { fresh: u32, again: u32 },
 }
 
 #[derive(Default)]
@@ -47,8 +47,7 @@ impl Sent {
     }
 
     pub fn add(&mut self, arrival: Arrival, segment: &Segment<'_>) -> Fresh {
-        let is_syn = segment.flags & flags::SYN != 0;
-        if is_syn {
+        if segment.flags & flags::SYN != 0 {
             self.initial.get_or_insert(segment.sequence);
         }
         let payload = segment.payload();
@@ -59,13 +58,13 @@ impl Sent {
         if self.is_double(arrival, segment, payload) {
             return Fresh::Doubled;
         }
-        let offset = segment.sequence.wrapping_add(u32::from(is_syn)).wrapping_sub(initial).wrapping_sub(1);
+        let offset = offset_of(initial, segment.sequence, segment.flags);
         if offset >= END_OF_OFFSETS {
-            return Fresh::Bytes { fresh: 0, again: payload.len() as u64 };
+            return Fresh::Bytes { fresh: 0, again: payload.len() as u32 };
         }
         let end = (u64::from(offset) + payload.len() as u64).min(u64::from(END_OF_OFFSETS)) as u32;
         let fresh = self.cover(offset, end);
-        Fresh::Bytes { fresh: u64::from(fresh), again: u64::from(end - offset - fresh) }
+        Fresh::Bytes { fresh, again: end - offset - fresh }
     }
 
     /// Whether these bytes came with a packet just before that was no other one: with the same identification, or, where

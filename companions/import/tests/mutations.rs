@@ -7,7 +7,7 @@ use std::fs;
 use std::path::{Path, PathBuf};
 use std::time::{Duration, Instant};
 
-use import::{imported, Asked, Course, MapFile, Sink};
+use import::{imported, Asked, Courses, MapFile, Sink};
 use mutations::changed;
 use programs::{Failure, Output};
 
@@ -51,15 +51,15 @@ fn originals() -> Vec<(Vec<u8>, Vec<u8>)> {
 /// Imports these files into a folder, and answers the lines of the map.
 fn import(folder: &Path) -> Result<Vec<u8>, Failure> {
     let mut outputs = Vec::new();
-    for name in ["out", "map", "course"] {
+    for name in ["out", "map"] {
         outputs.push(Output::begin(&folder.join(name))?);
     }
-    if let [out, map, course] = &mut outputs[..] {
+    if let [out, map] = &mut outputs[..] {
         let (files, key_logs) = ([OsString::from(folder.join("capture"))], [OsString::from(folder.join("keys"))]);
         let asked = Asked { program: "import", files: &files, key_logs: &key_logs, can_repeat: true };
         let mut map = MapFile::new(Some(map));
         let mut sink = Sink::new(out, &mut map)?;
-        imported(&asked, &mut sink, &mut Some(Course::new(course)))?;
+        imported(&asked, &mut sink, Some(&mut Courses::default()))?;
     }
     outputs.into_iter().try_for_each(Output::finish)?;
     Ok(fs::read(folder.join("map")).unwrap())
@@ -91,7 +91,6 @@ fn try_one(folder: &Path, capture: &[u8], keys: &[u8]) {
     assert_eq!(records, packets_in(&made));
     let is_packed = capture.starts_with(b"\x1f\x8b") || capture.starts_with(b"\x28\xb5");
     assert!(is_packed || made.len() <= 24 + MOST_GROWTH * capture.len(), "{} of {}", made.len(), capture.len());
-    assert!(fs::read(folder.join("course")).unwrap().starts_with(b"h2audit-course 1\n"));
 }
 
 #[test]

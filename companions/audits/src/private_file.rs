@@ -6,6 +6,7 @@ use std::os::unix::io::AsRawFd;
 use std::path::PathBuf;
 use std::{env, process};
 
+use import::Target;
 use programs::{io_reason, printable, Failure, BUFFER};
 
 pub struct PrivateFile {
@@ -38,6 +39,16 @@ impl Write for PrivateFile {
 
     fn flush(&mut self) -> io::Result<()> {
         self.writer.flush()
+    }
+}
+
+impl Target for PrivateFile {
+    fn begin_anew(&mut self) -> io::Result<()> {
+        PrivateFile::begin_anew(self)
+    }
+
+    fn failure(&self, error: &io::Error) -> Failure {
+        temporary_failure(error)
     }
 }
 

@@ -1,0 +1,149 @@
+//! The streams of a connection: those that go on, and those that are over, which are packed.
+
+use std::collections::HashMap;
+
+use crate::answer::Nanos;
+use crate::requests::Packed;
+use crate::stream::Stream;
+
+#[derive(Debug)]
+pub struct Table {
+    live: HashMap<u32, Box<Stream>>,
+    packed: Packed,
+    orders: Orders,
+}
+
+/// How many streams were opened before each: by odd and even numbers, which nearly always grow.
+#[derive(Debug, Default)]
+struct Orders {
+    growing: [Vec<(u32, u32)>; 2],
+    others: HashMap<u32, u32>,
+    count: u32,
+}
+
+impl Orders {
+    fn of(&self, number: u32) -> Option<u32> {
+        let growing = &self.growing[(number & 1) as usize];
+        match growing.binary_search_by_key(&number, |one| one.0) {
+            Ok(at) => growing.get(at).map(|one| one.1),
+            Err(_) => self.others.get(&number).copied(),
+        }
+    }
+
+    fn add(&mut self, number: u32) -> u32 {
+        let order = self.count;
+        let growing = &mut self.growing[(number & 1) as usize];
+        match growing.last() {
+            Some(last) if last.0 >= number => drop(self.others.insert(number, order)),
+            _ => growing.push((number, order)),
+        }
+        self.count += 1;
+        order
+    }
+}
+
+impl Table {
+    pub fn new(round_trip: Nanos) -> Table {
+        Table { live: HashMap::new(), packed: Packed::new(round_trip), orders: Orders::default() }
+    }
+
+    /// Whether a stream of this number was opened.
+    pub fn has(&self, number: u32) -> bool {
+        self.live.contains_key(&number) || self.orders.of(number).is_some()
+    }
+
+    /// Opens a stream, by how many were opened before.
+    pub fn open(&mut self, number: u32, make: impl FnOnce(u32) -> Stream) {
+        let order = self.orders.add(number);
+        self.live.insert(number, Box::new(make(order)));
+    }
+
+    /// Does something to a stream that was opened; also to one that is over.
+    pub fn touch<T>(&mut self, number: u32, change: impl FnOnce(&mut Stream) -> T) -> Option<T> {
+        if let Some(stream) = self.live.get_mut(&number) {
+            return Some(change(stream));
+        }
+        let mut stream = self.packed.get(self.orders.of(number)? as usize)?;
+        let changed = change(&mut stream);
+        self.packed.put(&stream);
+        Some(changed)
+    }
+
+    /// Looks at a stream.
+    pub fn look<T>(&self, number: u32, at: impl FnOnce(&Stream) -> T) -> Option<T> {
+        match self.live.get(&number) {
+            Some(stream) => Some(at(stream)),
+            None => self.packed.get(self.orders.of(number)? as usize).map(|stream| at(&stream)),
+        }
+    }
+
+    /// Packs a stream that is over.
+    pub fn settle(&mut self, number: u32) {
+        if self.live.get(&number).map_or(false, |stream| stream.is_over()) {
+            if let Some(stream) = self.live.remove(&number) {
+                self.packed.put(&stream);
+            }
+        }
+    }
+
+    /// Those that are not packed.
+    pub fn live(&self) -> impl Iterator<Item = &Stream> {
+        self.live.values().map(|stream| &**stream)
+    }
+
+    /// Ends each stream that is not packed, and packs it.
+    pub fn end(mut self, mut finish: impl FnMut(&mut Stream)) -> Packed {
+        let mut live: Vec<Box<Stream>> = self.live.drain().map(|one| one.1).collect();
+        live.sort_unstable_by_key(|stream| stream.order);
+        for mut stream in live {
+            finish(&mut stream);
+            self.packed.put(&stream);
+        }
+        self.packed.end();
+        self.packed
+    }
+}
+
+#[cfg(test)]
+mod tests {
+    use super::*;
+    use crate::answer::At;
+
+    const OPENED: At = At { packet: 1, time: 2, frame: 3 };
+
+    fn open(table: &mut Table, number: u32) {
+        table.open(number, |order| Stream::new(number, order, OPENED, false));
+    }
+
+    #[test]
+    fn streams_are_found_when_they_are_over() {
+        let mut table = Table::new(0);
+        for number in [1, 2, 7, 5, 9] {
+            open(&mut table, number);
+        }
+        for number in [5, 7] {
+            table.touch(number, |stream| stream.sides.iter_mut().for_each(|side| side.finish_at(OPENED)));
+            table.settle(number);
+        }
+        assert_eq!(table.live().count(), 3);
+        assert!(table.has(5) && table.has(2) && !table.has(3));
+        table.touch(5, |stream| stream.sides[0].content = u64::MAX);
+        assert_eq!(table.look(5, |stream| (stream.sides[0].content, stream.order)), Some((u64::MAX, 3)));
+        assert_eq!(table.touch(3, |_| ()), None);
+        let packed = table.end(|_| ());
+        let numbers: Vec<u32> = (0..5).filter_map(|at| packed.get(at)).map(|stream| stream.number).collect();
+        assert_eq!(numbers, [1, 2, 7, 5, 9]);
+    }
+
+    #[test]
+    fn what_is_idle_goes() {
+        let mut table = Table::new(0);
+        open(&mut table, 1);
+        table.touch(1, |stream| stream.sides.iter_mut().for_each(|side| side.finish_at(OPENED)));
+        table.settle(1);
+        for shift in 0..64 {
+            table.touch(1, |stream| stream.sides[1].content = 1 << shift);
+        }
+        assert_eq!(table.look(1, |stream| stream.sides[1].content), Some(1 << 63));
+    }
+}
