@@ -4,7 +4,7 @@ use std::io::{self, Write};
 
 use explain::answer::{
     Answer, At, Cause, CauseKind, CauseWhy, Certainty, ConnectionSaid, Direction, Ended, FaultSaid, Files, Nanos,
-    Outcome, Place, Request, RoundTrip, Share, Signal, Source, Span, StallEnd, StallSaid, StallWhy,
+    Place, Request, RoundTrip, Share, Signal, Source, Span, StallEnd, StallSaid, StallWhy,
 };
 use reports::{section_of, sentence_of, Side};
 
@@ -140,7 +140,7 @@ fn of_connection(json: &mut Json<'_>, said: &ConnectionSaid, files: &Files) {
     json.name("client").text(&said.client);
     json.name("server").text(&said.server);
     place(json.name("opened"), Some(said.opened), files);
-    json.name("outcome").word(outcome_name(said.outcome));
+    json.name("outcome").word(said.outcome.name());
     json.name("reason").some_text(Some(&said.reason));
     json.name("tls").some_text(Some(&said.tls));
     json.name("frames").number(said.frames);
@@ -349,16 +349,6 @@ pub fn signal_word(one: &Signal) -> &'static str {
         "GOAWAY"
     } else {
         "RST_STREAM"
-    }
-}
-
-pub fn outcome_name(outcome: Outcome) -> &'static str {
-    match outcome {
-        Outcome::Http2 => "http2",
-        Outcome::NotHttp2 => "not-http2",
-        Outcome::NoPreface => "no-preface",
-        Outcome::NoHandshake => "no-handshake",
-        Outcome::Refused => "refused",
     }
 }
 

@@ -3,7 +3,7 @@
 use explain::answer::{At, CauseKind, ConnectionSaid, Files, Nanos, Request, Share};
 use reports::{grouped, sentence_of};
 
-use crate::document::{outcome_name, signal_word};
+use crate::document::signal_word;
 use crate::summing::{is_held, Connection, Whole};
 use crate::wording::{code_name, escaped, time_of};
 
@@ -185,7 +185,7 @@ impl Finding<'_> {
 /// Why a connection was not audited.
 pub fn why_not_audited(one: &ConnectionSaid) -> &str {
     match one.reason.as_str() {
-        "" => outcome_name(one.outcome),
+        "" => one.outcome.name(),
         reason => reason,
     }
 }

@@ -1,27 +1,12 @@
-//! How the answer is worded: durations, rates, codes, names of sides, lists of streams.
+//! How the answer is worded: rates, shares, lists of streams, and what it has of the explanation's words.
 
 use std::borrow::Cow;
 
 use explain::answer::Nanos;
+pub use explain::words::{code_name, count, time_of};
 use reports::{grouped, Side};
 
 pub const SIDES: [Side; 2] = [Side::Client, Side::Server];
-const CODES: [&str; 14] = [
-    "NO_ERROR",
-    "PROTOCOL_ERROR",
-    "INTERNAL_ERROR",
-    "FLOW_CONTROL_ERROR",
-    "SETTINGS_TIMEOUT",
-    "STREAM_CLOSED",
-    "FRAME_SIZE_ERROR",
-    "REFUSED_STREAM",
-    "CANCEL",
-    "COMPRESSION_ERROR",
-    "CONNECT_ERROR",
-    "ENHANCE_YOUR_CALM",
-    "INADEQUATE_SECURITY",
-    "HTTP_1_1_REQUIRED",
-];
 const GRPC: [&str; 17] = [
     "OK",
     "CANCELLED",
@@ -45,36 +30,9 @@ const GRPC: [&str; 17] = [
 const MOST_NAMED: usize = 8;
 const SECOND: i128 = 1_000_000_000;
 
-/// The error of HTTP/2 with this code (RFC 9113, 7).
-pub fn code_name(code: u32) -> Cow<'static, str> {
-    let known = usize::try_from(code).ok().and_then(|code| CODES.get(code));
-    known.map_or_else(|| format!("error 0x{code:x}").into(), |name| Cow::Borrowed(*name))
-}
-
 pub fn grpc_name(code: u32) -> Cow<'static, str> {
     let known = usize::try_from(code).ok().and_then(|code| GRPC.get(code));
     known.map_or_else(|| code.to_string().into(), |name| Cow::Borrowed(*name))
-}
-
-/// A duration as a person says it: four digits from a second on, three below.
-pub fn time_of(nanos: Nanos) -> String {
-    let nanos = i128::from(nanos);
-    for (unit, size) in [("s", SECOND), ("ms", 1_000_000), ("µs", 1_000)] {
-        if nanos >= 100 * size {
-            return format!("{} {unit}", grouped((nanos + size / 2) / size));
-        }
-        if nanos >= size {
-            let (digits, scale) = match (nanos < 10 * size, unit) {
-                (true, "s") => (3, 1_000),
-                (true, _) => (2, 100),
-                (false, _) => (1, 10),
-            };
-            let scaled = (nanos * scale + size / 2) / size;
-            let text = format!("{}.{:0digits$}", scaled / scale, scaled % scale);
-            return format!("{} {unit}", text.trim_end_matches('0').trim_end_matches('.'));
-        }
-    }
-    format!("{nanos} ns")
 }
 
 /// Bytes in a time, as so many a second.
@@ -100,12 +58,6 @@ pub fn percent(part: Nanos, whole: Nanos) -> String {
         _ if part != 0 && part * 1000 / whole < 10 => "less than 1 %".to_string(),
         _ => format!("{} %", (part * 100 + whole / 2) / whole),
     }
-}
-
-/// "1 request", "3 requests".
-pub fn count(number: u64, one: &str) -> String {
-    let plural = if number == 1 { "" } else { "s" };
-    format!("{} {one}{plural}", grouped(number))
 }
 
 /// The streams by their numbers: "stream 3", "streams 1, 3, 5", or so many from one to another.
@@ -144,32 +96,7 @@ pub fn letters(text: &str) -> usize {
 
 #[cfg(test)]
 mod tests {
-    use super::{code_name, count, escaped, list_of, percent, rate_of, streams_named, time_of};
-
-    #[test]
-    fn durations() {
-        let cases = [
-            (0, "0 ns"),
-            (999, "999 ns"),
-            (1_000, "1 µs"),
-            (1_234, "1.23 µs"),
-            (9_995, "10 µs"),
-            (12_345, "12.3 µs"),
-            (99_960, "100 µs"),
-            (764_499, "764 µs"),
-            (999_999, "1,000 µs"),
-            (39_700_000, "39.7 ms"),
-            (2_300_977_000, "2.301 s"),
-            (60_000_000_000, "60 s"),
-            (99_949_999_999, "99.9 s"),
-            (3_600_000_000_000, "3,600 s"),
-            (i64::MAX, "9,223,372,037 s"),
-            (-5, "-5 ns"),
-        ];
-        for (nanos, said) in cases {
-            assert_eq!(time_of(nanos), said);
-        }
-    }
+    use super::{escaped, grpc_name, list_of, percent, rate_of, streams_named};
 
     #[test]
     fn rates() {
@@ -198,8 +125,7 @@ mod tests {
 
     #[test]
     fn names_and_lists() {
-        assert_eq!((code_name(3).as_ref(), code_name(255).as_ref()), ("FLOW_CONTROL_ERROR", "error 0xff"));
-        assert_eq!((count(1, "frame"), count(1_000, "frame")), ("1 frame".to_string(), "1,000 frames".to_string()));
+        assert_eq!((grpc_name(4).as_ref(), grpc_name(17).as_ref()), ("DEADLINE_EXCEEDED", "17"));
         assert_eq!(streams_named(&[7]), "stream 7");
         assert_eq!(streams_named(&[1, 3]), "streams 1, 3");
         assert_eq!(streams_named(&(0..9).collect::<Vec<_>>()), "9 streams, 0 to 8");
