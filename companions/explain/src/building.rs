@@ -35,6 +35,8 @@ pub struct Asked<'a> {
     pub has_names: bool,
     pub has_query: bool,
     pub has_spans: bool,
+    /// Whether all frames are, as where both ends of connections are asked about.
+    pub has_frames: bool,
 }
 
 /// What was made, and what is known of it.
@@ -127,7 +129,8 @@ struct Walked {
 /// Says what became of each connection, and walks over those of HTTP/2.
 fn tell(asked: &Asked<'_>, made: &mut Made, audits: Vec<Audit>, answer: &mut Answer) -> Result<(), Failure> {
     let names = Names { are_wanted: asked.has_names, has_query: asked.has_query };
-    let mut asking = Asking { names, has_spans: asked.has_spans, interner: Interner::default() };
+    let Asked { has_spans, has_frames, .. } = *asked;
+    let mut asking = Asking { names, has_spans, has_frames, interner: Interner::default() };
     let mut walked: Vec<Option<Box<Walked>>> = Vec::new();
     walked.resize_with(made.known.len(), || None);
     if audits.len() != made.order.len() {

@@ -28,6 +28,7 @@ const GOAWAY_FIELDS: usize = 8;
 pub struct Asking {
     pub names: Names,
     pub has_spans: bool,
+    pub has_frames: bool,
     pub interner: Interner,
 }
 

@@ -98,6 +98,7 @@ fn answered(asked: &Asked, files: &[OsString]) -> Result<Answer, Failure> {
         has_names: asked.has_names,
         has_query: asked.has_query,
         has_spans: matches!(asked.form, Asks::Document | Asks::Lines),
+        has_frames: matches!(asked.captures, Captures::Ends(_)),
     })
 }
 
