@@ -6,8 +6,8 @@ use std::ffi::OsString;
 use std::fmt::Write;
 
 use explain::answer::{
-    Answer, At, Cause, CauseKind, CauseWhy, Certainty, ConnectionSaid, Direction, Ended, FaultSaid, How, Place, Request,
-    RoundTrip, Share, Signal, Source, StallEnd, StallSaid, StallWhy,
+    Answer, At, Cause, CauseKind, CauseWhy, Certainty, ConnectionSaid, Direction, Ended, FaultSaid, How, Place,
+    Request, RoundTrip, Share, Signal, Source, StallEnd, StallSaid, StallWhy,
 };
 use explain::{answer_of, Asked};
 use reports::Side;
@@ -175,12 +175,7 @@ impl Json<'_> {
             How::Rst => "RST",
             How::Capture => "capture",
         };
-        object(&[
-            ("how", text(how)),
-            ("side", side(one.side)),
-            ("code", number(one.code)),
-            ("at", self.at(one.at)),
-        ])
+        object(&[("how", text(how)), ("side", side(one.side)), ("code", number(one.code)), ("at", self.at(one.at))])
     }
 
     fn signal(&self, one: &Signal) -> String {
@@ -216,7 +211,8 @@ impl Json<'_> {
     }
 
     fn direction(&self, one: &Direction, request: &Request) -> String {
-        let shares: Vec<_> = Share::ALL.iter().zip(one.shares).map(|(share, nanos)| (share.name(), nanos.to_string())).collect();
+        let shares: Vec<_> =
+            Share::ALL.iter().zip(one.shares).map(|(share, nanos)| (share.name(), nanos.to_string())).collect();
         let spans = one.spans.as_ref().map(|spans| {
             list(spans.iter().map(|span| {
                 let begin = span.begin - request.opened.time;

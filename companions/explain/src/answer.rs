@@ -141,7 +141,7 @@ pub struct Span {
 }
 
 /// What one side sends on a stream.
-#[derive(Clone, Debug, PartialEq)]
+#[derive(Clone, Debug, PartialEq, Eq)]
 pub struct Direction {
     pub nanos: Nanos,
     pub shares: Shares,
@@ -223,7 +223,7 @@ pub struct Cause {
 }
 
 /// A request, and what answered it.
-#[derive(Clone, Debug, PartialEq)]
+#[derive(Clone, Debug, PartialEq, Eq)]
 pub struct Request {
     pub stream: u32,
     pub name: Option<Rc<str>>,

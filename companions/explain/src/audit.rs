@@ -153,7 +153,8 @@ mod tests {
     #[test]
     fn what_is_no_report() {
         assert!(read_audits(&b""[..]).is_err());
-        let text = format!("{FRONT}frame 3 record 4 time 18446744073709551615 server stream-stall-begin stream 1 value 0\n");
+        let text =
+            format!("{FRONT}frame 3 record 4 time 18446744073709551615 server stream-stall-begin stream 1 value 0\n");
         assert!(read_audits(text.as_bytes()).is_err());
     }
 }

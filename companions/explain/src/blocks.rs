@@ -51,7 +51,13 @@ impl Blocks {
     }
 
     /// HEADERS or PUSH_PROMISE came, for a stream; the block may be whole.
-    pub fn begin(&mut self, at: At, (stream, is_promise): (u32, bool), octets: &[u8], is_whole: bool) -> Option<Decoded> {
+    pub fn begin(
+        &mut self,
+        at: At,
+        (stream, is_promise): (u32, bool),
+        octets: &[u8],
+        is_whole: bool,
+    ) -> Option<Decoded> {
         if is_whole {
             return self.decode(at, stream, is_promise, octets);
         }

@@ -70,12 +70,8 @@ fn make(asked: &Asked<'_>, answer: &mut Answer) -> Result<Made, Failure> {
     let mut learning = Learning::new()?;
     let mut courses = Courses::default();
     let mut sink = Sink::new(&mut capture, &mut learning)?;
-    let import = import::Asked {
-        program: asked.program,
-        files: asked.files,
-        key_logs: asked.key_logs,
-        can_repeat: true,
-    };
+    let import =
+        import::Asked { program: asked.program, files: asked.files, key_logs: asked.key_logs, can_repeat: true };
     let summary = import::imported(&import, &mut sink, Some(&mut courses))?;
     drop(sink);
     let Learning { connections, order, files, addresses, mut notes, .. } = learning;

@@ -94,7 +94,8 @@ impl Held<'_> {
     fn of_direction(&self, side: usize) -> [Option<Cause>; 3] {
         let held = |share: Share| is_held(self.share(side, share), self.request);
         let of_stream = held(Share::StreamStall).then_some((CauseKind::StreamWindow, Share::StreamStall));
-        let of_connection = held(Share::ConnectionStall).then_some((CauseKind::ConnectionWindow, Share::ConnectionStall));
+        let of_connection =
+            held(Share::ConnectionStall).then_some((CauseKind::ConnectionWindow, Share::ConnectionStall));
         [
             of_stream.and_then(|(kind, share)| self.of_window(side, kind, share)),
             of_connection.and_then(|(kind, share)| self.of_window(side, kind, share)),
@@ -218,7 +219,9 @@ impl Held<'_> {
         let side = cause.side as usize;
         let last = self.seen.windows.get(&(side, stream)).and_then(|window| window.stalls.last());
         match (last, self.request.sides[side].end) {
-            (Some(last), Some(end)) if self.request.ended.how != How::EndStream && self.seen.about.unseen >= end.time => {
+            (Some(last), Some(end))
+                if self.request.ended.how != How::EndStream && self.seen.about.unseen >= end.time =>
+            {
                 last.end.is_none() && last.until <= end.time
             }
             _ => false,

@@ -54,15 +54,19 @@ fn wants(head: &Head) -> usize {
 
 impl Connection {
     /// Of what the import, the first walk and the report say.
-    pub fn new(known: Known, audit: Audit, course: &mut import::Course, asking: &Asking) -> Result<Connection, Failure> {
+    pub fn new(
+        known: Known,
+        audit: Audit,
+        course: &mut import::Course,
+        asking: &Asking,
+    ) -> Result<Connection, Failure> {
         let frames = audit.frames().unwrap_or(0);
         let stop = stop_of(&audit)?;
         let all_frames = asking.has_frames.then(|| Frames::new(known.initials, course));
         let about = about(&known, &audit, course, stop);
         let findings = Findings::new(audit.faults, &audit.stalls, &about);
-        let unshown = [0, 1].map(|side| {
-            Walk::unshown_of(&about, side).map(|nanos| (Unshown::of_connection(nanos), Vec::new()))
-        });
+        let unshown =
+            [0, 1].map(|side| Walk::unshown_of(&about, side).map(|nanos| (Unshown::of_connection(nanos), Vec::new())));
         let walk = Walk {
             number: 0,
             stopped_at: audit.stopped_at,
@@ -201,7 +205,11 @@ fn leaks_of(stalls: &[StallSaid]) -> [Option<Box<Leaks>>; 2] {
     [0, 1].map(|side| {
         let of_side = candidates.iter().filter(|at| stalls[**at].side as usize == side);
         let found: Vec<Candidate> = of_side
-            .map(|at| Candidate { stall: *at, begin: stalls[*at].begin.frame, end: stalls[*at].end.map(|end| end.frame) })
+            .map(|at| Candidate {
+                stall: *at,
+                begin: stalls[*at].begin.frame,
+                end: stalls[*at].end.map(|end| end.frame),
+            })
             .collect();
         (!found.is_empty()).then(|| Box::new(Leaks::new(side, found)))
     })

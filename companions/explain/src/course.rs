@@ -52,9 +52,8 @@ impl Course {
         let pause = self.pause;
         let mut after: Option<Marked> = None;
         for (at, one) in self.marked.iter_mut().enumerate().rev() {
-            let goes_on = |after: &Marked| {
-                one.share == Share::Tcp && after.share == Share::Tcp && after.begin - one.end > pause
-            };
+            let goes_on =
+                |after: &Marked| one.share == Share::Tcp && after.share == Share::Tcp && after.begin - one.end > pause;
             one.run = after.filter(goes_on).map_or(at as u32, |after| after.run);
             after = Some(*one);
         }

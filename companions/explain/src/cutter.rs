@@ -136,7 +136,7 @@ impl Cutter {
     pub fn take(&mut self, bytes: &[u8], time: Nanos, mut give: impl FnMut(&Cut<'_>)) {
         let mut bytes = self.behind_preface(bytes);
         while !bytes.is_empty() {
-            bytes = if self.begun == 0 { self.from_beginning(bytes, time, &mut give) } else { self.on(bytes, time, &mut give) };
+            bytes = if self.begun == 0 { self.whole(bytes, time, &mut give) } else { self.on(bytes, time, &mut give) };
         }
     }
 
@@ -155,7 +155,7 @@ impl Cutter {
     }
 
     /// Frames that begin and end within these bytes; what is left may begin one more.
-    fn from_beginning<'a>(&mut self, bytes: &'a [u8], time: Nanos, give: &mut impl FnMut(&Cut<'_>)) -> &'a [u8] {
+    fn whole<'a>(&mut self, bytes: &'a [u8], time: Nanos, give: &mut impl FnMut(&Cut<'_>)) -> &'a [u8] {
         let mut rest = bytes;
         while let Some(header) = rest.get(..HEADER).and_then(|front| <&[u8; HEADER]>::try_from(front).ok()) {
             let head = Head::of(header);

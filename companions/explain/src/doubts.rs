@@ -47,7 +47,8 @@ pub fn doubts_of(answer: &Answer, summary: &Summary, courses: &Courses) -> Vec<W
     let mut said = clocks(&answer.files, summary);
     if answer.audited().next().is_none() {
         let packets = count(answer.packets, "packet");
-        let text = format!("nothing was audited: {packets}, and no HTTP/2 connection that could be read from its beginning");
+        let text =
+            format!("nothing was audited: {packets}, and no HTTP/2 connection that could be read from its beginning");
         said.push(warning("nothing-audited", text));
     }
     said.extend(doubled(courses));
@@ -113,9 +114,8 @@ fn one_direction(answer: &Answer) -> Option<Warning> {
     let some: Vec<_> = answer.connections.iter().filter(is_one).collect();
     let first = some.first()?;
     let connections = count(some.len() as u64, "connection");
-    let text = format!(
-        "one direction alone was captured of {connections}: capture on one of the two hosts, or on both paths"
-    );
+    let text =
+        format!("one direction alone was captured of {connections}: capture on one of the two hosts, or on both paths");
     Some(Warning { connection: Some(first.number), at: Some(first.opened), ..warning("one-direction", text) })
 }
 
@@ -123,7 +123,8 @@ fn one_direction(answer: &Answer) -> Option<Warning> {
 fn doubled(courses: &Courses) -> Option<Warning> {
     let is_one = |course: &import::Course| {
         let [client, server] = &course.sides;
-        4 * (u128::from(client.doubled) + u128::from(server.doubled)) > u128::from(client.segments) + u128::from(server.segments)
+        4 * (u128::from(client.doubled) + u128::from(server.doubled))
+            > u128::from(client.segments) + u128::from(server.segments)
     };
     let mut found = (1..).zip(&courses.connections).filter(|one| is_one(one.1)).map(|one| one.0);
     let first = found.next()?;

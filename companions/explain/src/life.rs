@@ -17,7 +17,7 @@ pub struct Holding<'a> {
 }
 
 /// The life of one direction up to some moment: from the stream's opening on.
-#[derive(Clone, Debug, PartialEq)]
+#[derive(Clone, Debug, PartialEq, Eq)]
 pub struct Life {
     /// Up to here it is divided.
     pub at: Nanos,

@@ -133,7 +133,8 @@ impl Packer<'_> {
     fn life(&mut self, life: &Life) {
         self.time(life.at);
         self.option(Some(life.until).filter(|until| *until != Nanos::MAX), Packer::time);
-        let bits = life.shares.iter().enumerate().filter(|share| *share.1 != 0).fold(0, |bits, share| bits | 1 << share.0);
+        let bits =
+            life.shares.iter().enumerate().filter(|share| *share.1 != 0).fold(0, |bits, share| bits | 1 << share.0);
         self.bytes.push(bits);
         life.shares.iter().filter(|share| **share != 0).for_each(|share| self.signed(*share));
         let (begin, end) = life.longest_idle;

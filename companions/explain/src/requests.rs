@@ -129,14 +129,15 @@ fn told(mut stream: Stream, seen: &Seen, texts: &Texts) -> Request {
     let until = ends.iter().filter_map(|end| end.at).map(|at| at.time).fold(stream.opened.time, Nanos::max);
     let sides = [0, 1].map(|side| direction(&mut stream, side, seen, &ends[side]));
     let [method, path, authority] = names(stream.request, texts);
+    let fields = stream.answer.fields;
     let mut request = Request {
         stream: stream.number,
         name: name_of(method.as_deref(), path.as_deref().or(authority.as_deref())),
         method,
         path,
         authority,
-        status: stream.answer.fields.and_then(|fields| fields.status),
-        grpc_status: stream.answer.grpc_status.or(stream.answer.fields.and_then(|fields| fields.grpc_status)),
+        status: fields.and_then(|fields| fields.status),
+        grpc_status: stream.answer.grpc_status.or(fields.and_then(|fields| fields.grpc_status)),
         promised_on: stream.promised_on,
         opened: stream.opened,
         ended,

@@ -6,7 +6,7 @@ use crate::unshown::Unshown;
 use crate::windows::Window;
 
 /// A stream that was opened; a pushed one by a promise on another.
-#[derive(Clone, Debug, PartialEq)]
+#[derive(Clone, Debug, PartialEq, Eq)]
 pub struct Stream {
     pub number: u32,
     /// How many streams of its connection were opened before it.
@@ -53,7 +53,7 @@ pub struct Reset {
 }
 
 /// What one side sends on a stream.
-#[derive(Clone, Debug, PartialEq)]
+#[derive(Clone, Debug, PartialEq, Eq)]
 pub struct Direction {
     pub life: Life,
     pub content: u64,
@@ -88,7 +88,7 @@ pub struct Idle {
 }
 
 /// The frames of a direction, where times go back, so that its life is divided at its end.
-#[derive(Clone, Debug, Default, PartialEq)]
+#[derive(Clone, Debug, Default, PartialEq, Eq)]
 pub struct Kept {
     pub sent: Vec<(Nanos, Nanos, bool)>,
     pub frames: Vec<(At, Option<i64>)>,
@@ -164,7 +164,9 @@ impl Direction {
     pub fn met(&mut self, holding: &Holding<'_>, met: &Met<'_>) {
         match &mut self.kept {
             Some(kept) => {
-                sent(met.times, holding.course.pause, |first, last, is_within| kept.sent.push((first, last, is_within)));
+                sent(met.times, holding.course.pause, |first, last, is_within| {
+                    kept.sent.push((first, last, is_within))
+                });
                 kept.frames.push((met.at, met.credit));
             }
             None => self.divide(holding, met),

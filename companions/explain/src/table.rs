@@ -34,7 +34,9 @@ impl Orders {
         let order = self.count;
         let growing = &mut self.growing[(number & 1) as usize];
         match growing.last() {
-            Some(last) if last.0 >= number => drop(self.others.insert(number, order)),
+            Some(last) if last.0 >= number => {
+                self.others.insert(number, order);
+            }
             _ => growing.push((number, order)),
         }
         self.count += 1;

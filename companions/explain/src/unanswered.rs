@@ -120,11 +120,7 @@ impl Note {
 }
 
 /// The highest credit of a side's streams that go on, and the first stream that has it.
-fn highest_credit<'a>(
-    side: usize,
-    live: impl Iterator<Item = &'a Stream>,
-    initial: &Initial,
-) -> Option<(i64, u32)> {
+fn highest_credit<'a>(side: usize, live: impl Iterator<Item = &'a Stream>, initial: &Initial) -> Option<(i64, u32)> {
     let going_on = live.filter(|stream| stream.sides[side].end.is_none());
     let credits = going_on.filter_map(|stream| stream.sides[side].window.value(initial).map(|credit| (credit, stream)));
     let best = credits.max_by_key(|(credit, stream)| (*credit, std::cmp::Reverse(stream.order)));

@@ -10,7 +10,7 @@ use crate::windows::FIRST_CREDIT;
 /// Pauses of a side that began with its credit used up, where a grant counts a round trip after it was sent.
 ///
 /// A pause of less than an eighth of a round trip is none.
-#[derive(Clone, Debug, PartialEq)]
+#[derive(Clone, Debug, PartialEq, Eq)]
 pub struct Unshown {
     round_trip: Nanos,
     /// Before all content and all grants that count; none before the first content.

@@ -76,7 +76,13 @@ impl Walk {
     }
 
     /// Takes the next frame, which a side sent.
-    pub fn take(&mut self, asking: &mut Asking, side: usize, cut: &Cut<'_>, (record, at): (u64, At)) -> Result<(), Failure> {
+    pub fn take(
+        &mut self,
+        asking: &mut Asking,
+        side: usize,
+        cut: &Cut<'_>,
+        (record, at): (u64, At),
+    ) -> Result<(), Failure> {
         self.number += 1;
         let at = At { frame: self.number, ..at };
         let is_judged = self.stopped_at.map_or(true, |stop| self.number < stop);
@@ -110,9 +116,9 @@ impl Walk {
             leaks.after(self.number, self.table.live());
         }
         self.overflow = None;
-        let number = frame.cut.head.stream;
-        if number != 0 && self.known.back.is_none() {
-            self.table.settle(number);
+        let head = &frame.cut.head;
+        if (head.kind == kind::RST_STREAM || head.has(flag::END_STREAM)) && self.known.back.is_none() {
+            self.table.settle(head.stream);
         }
         Ok(())
     }
@@ -284,7 +290,9 @@ impl Walk {
 
     fn goaway(&mut self, frame: Frame<'_>) {
         let Frame { side, cut, at, .. } = frame;
-        if let Some([a, b, c, d, e, f, g, h]) = cut.payload.get(..GOAWAY_FIELDS).and_then(|front| <[u8; 8]>::try_from(front).ok()) {
+        if let Some([a, b, c, d, e, f, g, h]) =
+            cut.payload.get(..GOAWAY_FIELDS).and_then(|front| <[u8; 8]>::try_from(front).ok())
+        {
             let (last, code) = (u32::from_be_bytes([a, b, c, d]) & STREAM, u32::from_be_bytes([e, f, g, h]));
             self.signals.goaway(side, at, (last, code), &cut.payload[GOAWAY_FIELDS..]);
             self.unanswered.goaway(side, at, code);
