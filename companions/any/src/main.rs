@@ -56,9 +56,7 @@ fn of_original(map: &Path) -> Outcome {
     if !shown.is_there {
         return Err(no_report());
     }
-    if let Some(packet) = original.back {
-        say(NAME, &import::times_go_back(packet));
-    }
+    say_back(&original);
     let status = if shown.has_faults { FAULTS } else { NO_FAULTS };
     Ok(ending(&original, status))
 }
@@ -70,6 +68,7 @@ fn audited(asked: &Audited) -> Outcome {
     let files = if asked.is_sorted { import::sorted(&asked.files)? } else { asked.files.clone() };
     let mut made = PrivateFile::new()?;
     let mut original = making::make(asked, &files, &mut made)?;
+    say_back(&original);
     let capture = made.path()?;
     let status = match part_programs {
         None => of_audit(Audit::start(&program, &asked.options, &capture)?, &mut original)?,
@@ -114,6 +113,13 @@ fn write(report: impl BufRead, original: &mut Original) -> Result<Shown, Failure
         Broken::Temporary(error) => temporary_failure(&error),
     })?;
     output.finish().map(|()| shown)
+}
+
+/// Says that times go back, where they do.
+fn say_back(original: &Original) {
+    if let Some(packet) = original.back {
+        say(NAME, &import::times_go_back(packet));
+    }
 }
 
 fn no_report() -> Failure {
