@@ -10,6 +10,7 @@ use std::io;
 use std::path::Path;
 
 use explain::answer::Answer;
+use explain::Reported;
 use programs::{end_cleanly, print, printable, run, say, Failure, Outcome, Output};
 use why::compare::Compared;
 use why::ends::{Apart, Joined};
@@ -39,18 +40,42 @@ fn why(words: Vec<OsString>) -> Outcome {
 }
 
 fn of_one(asked: &Asked, files: &[OsString]) -> Outcome {
-    let answer = answered(asked, files)?;
-    let whole = Whole::new(&answer);
-    if let Asks::Rows(file) = &asked.form {
-        written(file, |to| why::write(&whole, Form::Rows, to))?;
-        return Ok(DONE);
-    }
-    let form = match asked.form {
+    let form = match &asked.form {
+        Asks::Rows(file) => return rows(asked, files, file),
         Asks::Document => Form::Document,
         Asks::Lines => Form::Lines,
-        Asks::Text | Asks::Rows(_) => Form::Text(look_of(asked)),
+        Asks::Text => Form::Text(look_of(asked)),
     };
+    let answer = answered(asked, files)?;
+    let whole = Whole::new(&answer);
     ended(asked, &[&whole], vec![judged(asked, &whole)], |to| why::write(&whole, form, to))
+}
+
+/// Writes rows. Where the report of the original is written too, the status is that of h2audit-any.
+fn rows(asked: &Asked, files: &[OsString], file: &Path) -> Outcome {
+    let report = match &asked.report {
+        Some(report) => report,
+        None => {
+            let answer = answered(asked, files)?;
+            return write_rows(&answer, file).map(|()| DONE);
+        }
+    };
+    let mut output = Output::begin(report)?;
+    let files = in_order(asked, files)?;
+    let (answer, reported) = explain::answer_with_report(&explained(asked, &files), &mut output)?;
+    write_rows(&answer, file)?;
+    output.finish()?;
+    reported.words.iter().for_each(|words| say(NAME, words));
+    Ok(match reported {
+        Reported { is_nothing_read: true, .. } => NOTHING_AUDITED,
+        Reported { has_faults: true, .. } => FAILED,
+        Reported { .. } => DONE,
+    })
+}
+
+fn write_rows(answer: &Answer, file: &Path) -> Result<(), Failure> {
+    let whole = Whole::new(answer);
+    written(file, |to| why::write(&whole, Form::Rows, to))
 }
 
 /// The capture after the change may fail the run.
@@ -89,17 +114,31 @@ fn answered_file(asked: &Asked, file: &OsString) -> Result<Answer, Failure> {
 }
 
 fn answered(asked: &Asked, files: &[OsString]) -> Result<Answer, Failure> {
-    let files = if asked.is_sorted { import::sorted(files)? } else { files.to_vec() };
-    explain::answer_of(&explain::Asked {
+    let files = in_order(asked, files)?;
+    explain::answer_of(&explained(asked, &files))
+}
+
+fn in_order(asked: &Asked, files: &[OsString]) -> Result<Vec<OsString>, Failure> {
+    if asked.is_sorted {
+        import::sorted(files)
+    } else {
+        Ok(files.to_vec())
+    }
+}
+
+/// What is to be explained.
+fn explained<'a>(asked: &'a Asked, files: &'a [OsString]) -> explain::Asked<'a> {
+    explain::Asked {
         program: NAME,
-        files: &files,
+        files,
         key_logs: &asked.key_logs,
         h2audit: asked.program.clone(),
+        report: asked.audit.as_deref(),
         has_names: asked.has_names,
         has_query: asked.has_query,
         has_spans: matches!(asked.form, Asks::Document | Asks::Lines),
         has_frames: matches!(asked.captures, Captures::Ends(_)),
-    })
+    }
 }
 
 fn judged<'a>(asked: &Asked, whole: &'a Whole<'a>) -> Judged<'a> {

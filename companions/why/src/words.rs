@@ -65,6 +65,9 @@ pub struct Asked {
     pub colours: Colours,
     pub width: Option<usize>,
     pub program: Option<OsString>,
+    /// Where the report of the original goes; and a report that is there, so that no program audits.
+    pub report: Option<PathBuf>,
+    pub audit: Option<PathBuf>,
     pub gates: Gates,
     pub has_gates: bool,
     pub junit: Option<PathBuf>,
@@ -86,6 +89,8 @@ struct Taken {
     colours: Colours,
     width: Option<usize>,
     program: Option<OsString>,
+    report: Option<PathBuf>,
+    audit: Option<PathBuf>,
     reasons: Vec<Reason>,
     stall: Option<Nanos>,
     needs_http2: bool,
@@ -111,6 +116,8 @@ pub fn words_of(words: Vec<OsString>) -> Result<Words, Failure> {
                 let file = PathBuf::from(parser.value().map_err(wrong)?);
                 taken.form("--rows", Asks::Rows(file))?;
             }
+            Long("report") => taken.report = Some(PathBuf::from(parser.value().map_err(wrong)?)),
+            Long("audit") => taken.audit = Some(PathBuf::from(parser.value().map_err(wrong)?)),
             Long("color") => taken.colours = colours_of(parser.value().map_err(wrong)?)?,
             Long("width") => taken.width = Some(width_of(parser.value().map_err(wrong)?)?),
             Long("h2audit") => taken.program = Some(parser.value().map_err(wrong)?),
@@ -166,6 +173,8 @@ impl Taken {
             colours: self.colours,
             width: self.width,
             program: self.program,
+            report: self.report,
+            audit: self.audit,
             gates: Gates { reasons, stall: self.stall, needs_http2: self.needs_http2 },
             has_gates,
             junit: self.junit,
@@ -198,7 +207,22 @@ impl Taken {
         if form == Some("--rows") && self.has_gates() {
             return refuse("--rows has no reasons to fail, and no JUnit file".to_string());
         }
-        Ok(())
+        self.check_report()
+    }
+
+    /// Whether what is about the report goes together.
+    fn check_report(&self) -> Result<(), Failure> {
+        let refuse = |why: &str| Err(Failure::Usage(why.to_string()));
+        match (&self.report, &self.audit, &self.form) {
+            (None, None, _) => Ok(()),
+            (Some(_), Some(_), _) => refuse("--report is of a run of h2audit: not with --audit"),
+            (Some(report), None, Some((_, Asks::Rows(rows)))) if report == rows => {
+                refuse("--rows and --report are the same file")
+            }
+            (_, _, Some((_, Asks::Rows(_)))) => Ok(()),
+            (Some(_), ..) => refuse("--report goes with --rows"),
+            (None, ..) => refuse("--audit goes with --rows"),
+        }
     }
 }
 
@@ -315,6 +339,9 @@ mod tests {
         assert_eq!(found.err().as_deref(), Some("argument --rows: expected one argument"));
         assert_eq!(asked(&["--ends", "a", "-"])?.captures, Captures::Ends(["a".into(), "-".into()]));
         assert!(!asked(&["--ends", "a", "b"])?.has_gates);
+        let found = asked(&["--rows", "rows", "--report", "-", "a"])?;
+        assert_eq!((&found.form, found.report.clone()), (&Asks::Rows("rows".into()), Some("-".into())));
+        assert_eq!(asked(&["--rows", "-", "--audit", "report", "a"])?.audit, Some("report".into()));
         Ok(())
     }
 
@@ -331,6 +358,11 @@ mod tests {
         assert!(refused(&["--color", "x"]).ends_with("(choose from 'auto', 'always', 'never')"));
         assert!(refused(&["--fail-on", "fault,x"]).starts_with("argument --fail-on: 'x' is no reason: fault, "));
         assert!(refused(&["--fail-stall", "5"]).contains("'5' is no time, as 100ms"));
+        assert_eq!(refused(&["--report", "a"]), "--report goes with --rows");
+        assert_eq!(refused(&["--json", "--audit", "a"]), "--audit goes with --rows");
+        assert_eq!(refused(&["--rows", "-", "--report", "-"]), "--rows and --report are the same file");
+        let by_report = refused(&["--rows", "-", "--report", "a", "--audit", "b"]);
+        assert_eq!(by_report, "--report is of a run of h2audit: not with --audit");
         let by_name = "--compare matches requests by their names: not with --no-requests";
         assert_eq!(refused(&["--compare", "a", "b", "--no-requests"]), by_name);
         assert_eq!(refused(&["--nothing"]), "unrecognized arguments: --nothing");
