@@ -137,7 +137,7 @@ fn told(mut stream: Stream, seen: &Seen, texts: &Texts) -> Request {
         path,
         authority,
         status: fields.and_then(|fields| fields.status),
-        grpc_status: stream.answer.grpc_status.or(fields.and_then(|fields| fields.grpc_status)),
+        grpc_status: stream.answer.grpc_status.or_else(|| fields?.grpc_status),
         promised_on: stream.promised_on,
         opened: stream.opened,
         ended,
