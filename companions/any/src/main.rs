@@ -12,7 +12,7 @@ use std::io::{BufRead, BufReader};
 use std::path::Path;
 
 use audits::{program_named, Audit, PrivateFile};
-use originals::{bring_back, no_report, Original, Shown};
+use originals::{bring_back, no_report, write_last_packets, Original, Shown};
 use programs::{end_cleanly, print, run, say, Failure, Input, Outcome, Output};
 
 use parts::PartPrograms;
@@ -61,25 +61,28 @@ fn audited(asked: &Audited) -> Outcome {
     let part_programs = asked.parts.map(|parts| PartPrograms::find().map(|found| (found, parts))).transpose()?;
     let files = if asked.is_sorted { import::sorted(&asked.files)? } else { asked.files.clone() };
     let mut made = PrivateFile::new()?;
-    let mut original = making::make(asked, &files, &mut made)?;
+    let (mut original, last_packets) = making::make(asked, &files, &mut made)?;
     say_back(&original);
     let capture = made.path()?;
-    let status = match part_programs {
+    let (shown, status) = match part_programs {
         None => of_audit(Audit::start(&program, &asked.options, &capture)?, &mut original)?,
         Some((found, parts)) => {
             let parts = found.audit(&program, &asked.options, parts, &capture)?;
             match of_audit(parts.merging, &mut original)? {
-                status if status > FAULTS => return Err(parts::as_ours(parts::MERGE, status, "")),
-                _ if !parts.is_whole => CAPTURE_REFUSED,
-                status => status,
+                (_, status) if status > FAULTS => return Err(parts::as_ours(parts::MERGE, status, "")),
+                (shown, _) if !parts.is_whole => (shown, CAPTURE_REFUSED),
+                found => found,
             }
         }
     };
+    if let (Some(last_packets), Some(file)) = (last_packets, &asked.last_packets) {
+        write_last_packets(&last_packets.with_open_stalls(&shown), file)?;
+    }
     Ok(ending(&original, status))
 }
 
-/// Prints the report of an audit, and answers the status of what audits.
-fn of_audit(audit: Audit, original: &mut Original) -> Outcome {
+/// Prints the report of an audit, and answers what it shows and the status of what audits.
+fn of_audit(audit: Audit, original: &mut Original) -> Result<(Shown, i32), Failure> {
     let shown = match write(audit.report, original) {
         Ok(shown) => shown,
         Err(failure) => {
@@ -92,7 +95,7 @@ fn of_audit(audit: Audit, original: &mut Original) -> Outcome {
     };
     match audit.running.status()? {
         NO_FAULTS | FAULTS if !shown.is_there => Err(no_report()),
-        status => Ok(status),
+        status => Ok((shown, status)),
     }
 }
 

@@ -3,19 +3,24 @@
 use std::ffi::OsString;
 
 use audits::PrivateFile;
-use import::Sink;
-use originals::{Keeping, Original};
+use import::{Courses, Sink};
+use originals::{Keeping, LastPackets, Original};
 use programs::Failure;
 
 use crate::words::Audited;
 use crate::NAME;
 
 /// Imports the files into a private file, and answers what is known of the original.
-pub fn make(asked: &Audited, files: &[OsString], made: &mut PrivateFile) -> Result<Original, Failure> {
+pub fn make(
+    asked: &Audited,
+    files: &[OsString],
+    made: &mut PrivateFile,
+) -> Result<(Original, Option<LastPackets>), Failure> {
     let mut keeping = Keeping::default();
+    let mut courses = asked.last_packets.as_ref().map(|_| Courses::default());
     let mut sink = Sink::new(made, &mut keeping)?;
     let import = import::Asked { program: NAME, files, key_logs: &asked.key_logs, can_repeat: true };
-    import::imported(&import, &mut sink, None)?;
+    let summary = import::imported(&import, &mut sink, courses.as_mut())?;
     drop(sink);
-    Ok(keeping.original)
+    Ok((keeping.original, courses.map(|courses| LastPackets::of(&summary, &courses))))
 }

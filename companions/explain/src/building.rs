@@ -7,7 +7,7 @@ use std::rc::Rc;
 
 use audits::{program_named, temporary_failure, PrivateFile};
 use import::{Became, Courses, Sink, Summary};
-use originals::Keeping;
+use originals::{Keeping, LastPackets};
 use programs::{Failure, Output};
 use reports::Form;
 
@@ -33,8 +33,9 @@ pub struct Asked<'a> {
     /// In the order in which they are read; standard input where there is none.
     pub files: &'a [OsString],
     pub key_logs: &'a [OsString],
-    /// The program that audits, where it is named.
+    /// The program that audits, where it is named, and its options.
     pub h2audit: Option<OsString>,
+    pub options: &'a [String],
     /// A report of h2audit on what the import makes, where there is one: then no program audits. It may be of some parts
     /// of it alone.
     pub report: Option<&'a Path>,
@@ -72,15 +73,16 @@ pub fn answer_of(asked: &Asked<'_>) -> Result<Answer, Failure> {
 /// The same; and writes the report of the original, as h2audit-any does.
 pub fn answer_with_report(asked: &Asked<'_>, output: &mut Output) -> Result<(Answer, Reported), Failure> {
     let (made, keeping) = make(asked, Some(Keeping::default()))?;
+    let last_packets = LastPackets::of(&made.summary, &made.courses);
     let mut report = tempfile::tempfile().map_err(|error| temporary_failure(&error))?;
     let answer = answer_by_audit(asked, made, Some(&mut report))?;
     let mut original = keeping.unwrap_or_default().original;
-    Ok((answer, of_original(report, &mut original, output)?))
+    Ok((answer, of_original(report, &mut original, &last_packets, output)?))
 }
 
 fn answer_by_audit(asked: &Asked<'_>, mut made: Made, copy: Option<&mut File>) -> Result<Answer, Failure> {
     let program = program_named(asked.h2audit.clone())?;
-    let audits = audited(&program, &made.capture.path()?, copy)?;
+    let audits = audited(&program, asked.options, &made.capture.path()?, copy)?;
     if audits.len() != made.order.len() {
         return Err(broken("it has other connections"));
     }
@@ -88,9 +90,8 @@ fn answer_by_audit(asked: &Asked<'_>, mut made: Made, copy: Option<&mut File>) -
 }
 
 fn answer_by(asked: &Asked<'_>, mut made: Made, audits: Vec<Audit>) -> Result<Answer, Failure> {
-    let mut answer = Answer::default();
-    answer.files = std::mem::take(&mut made.files);
-    answer.packets = made.summary.counts.records;
+    let files = std::mem::take(&mut made.files);
+    let mut answer = Answer { files, packets: made.summary.counts.records, ..Answer::default() };
     tell(asked, &mut made, audits, &mut answer)?;
     answer.not_audited = not_audited(&answer, &made.summary);
     answer.warnings = doubts_of(&answer, &made.summary, &made.courses);
@@ -150,7 +151,8 @@ fn tell(asked: &Asked<'_>, made: &mut Made, audits: Vec<Audit>, answer: &mut Ans
     let mut numbers = std::mem::take(&mut made.order).into_iter();
     for (index, audit) in audits.into_iter().enumerate() {
         // A report of some parts alone has not all connections.
-        let is_of_it = |number: &usize| made.known[*number].as_ref().map_or(false, |known| known.record == audit.record);
+        let is_of_it =
+            |number: &usize| made.known[*number].as_ref().map_or(false, |known| known.record == audit.record);
         let number = numbers.find(is_of_it).ok_or_else(|| broken("it has other connections"))?;
         let (said, connection) = said_at_first(made, &asking, audit, number)?;
         answer.connections.push(said);

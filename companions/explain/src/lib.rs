@@ -46,6 +46,7 @@ pub mod words;
 
 pub use building::{answer_of, answer_with_report, Asked};
 pub use import::{CLIENT, SERVER};
+pub use originals::write_last_packets;
 pub use reported::Reported;
 
 /// The side of this number.

@@ -7,7 +7,7 @@ use std::path::Path;
 use std::process::{Command, Stdio};
 
 use audits::{temporary_failure, Audit as Running, H2AUDIT};
-use originals::{bring_back, no_report, Original};
+use originals::{bring_back, no_report, LastPacket, LastPackets, Original};
 use programs::{printable, Failure, Output};
 
 use crate::audit::{read_audits, Audit};
@@ -20,8 +20,12 @@ const MOST_SAID: u64 = 1 << 16;
 pub struct Reported {
     pub has_faults: bool,
     pub is_nothing_read: bool,
+    /// The packet at which times go back.
+    pub back: Option<u64>,
     /// What was passed over that may hold more, or that nothing was read.
     pub words: Option<String>,
+    /// Of the connections with a stall that did not end.
+    pub last_packets: Vec<LastPacket>,
 }
 
 /// The connections of a report that is there, which may be of some parts alone.
@@ -31,11 +35,16 @@ pub fn read_report(path: &Path) -> Result<Vec<Audit>, Failure> {
 }
 
 /// The connections of the report of what was made. It goes into a file too where that is wanted.
-pub fn audited(program: &OsStr, path: &Path, copy: Option<&mut File>) -> Result<Vec<Audit>, Failure> {
+pub fn audited(
+    program: &OsStr,
+    options: &[String],
+    path: &Path,
+    copy: Option<&mut File>,
+) -> Result<Vec<Audit>, Failure> {
     let mut said = tempfile::tempfile().map_err(|error| temporary_failure(&error))?;
     let errors = said.try_clone().map_err(|error| temporary_failure(&error))?;
     let mut command = Command::new(program);
-    let Running { mut report, running } = Running::of(command.arg(path).stderr(Stdio::from(errors)))?;
+    let Running { mut report, running } = Running::of(command.args(options).arg(path).stderr(Stdio::from(errors)))?;
     let read = match copy {
         None => read_audits(report),
         Some(file) => copied(&mut report, file).and_then(|()| read_audits(BufReader::new(&*file))),
@@ -76,7 +85,12 @@ fn copied(report: &mut impl io::Read, file: &mut File) -> Result<(), Failure> {
 }
 
 /// Writes the report of the original, which is h2audit-any's.
-pub fn of_original(mut report: File, original: &mut Original, output: &mut Output) -> Result<Reported, Failure> {
+pub fn of_original(
+    mut report: File,
+    original: &mut Original,
+    last_packets: &LastPackets,
+    output: &mut Output,
+) -> Result<Reported, Failure> {
     report.rewind().map_err(|error| temporary_failure(&error))?;
     let written = bring_back(BufReader::new(report), original, output);
     let shown = written.map_err(|broken| broken.failure(output))?;
@@ -84,5 +98,11 @@ pub fn of_original(mut report: File, original: &mut Original, output: &mut Outpu
         return Err(no_report());
     }
     let is_nothing_read = !shown.has_faults && original.read() == 0;
-    Ok(Reported { has_faults: shown.has_faults, is_nothing_read, words: original.passed_over_words(is_nothing_read) })
+    Ok(Reported {
+        has_faults: shown.has_faults,
+        is_nothing_read,
+        back: original.back,
+        words: original.passed_over_words(is_nothing_read),
+        last_packets: last_packets.with_open_stalls(&shown),
+    })
 }

@@ -44,17 +44,19 @@ impl From<io::Error> for Broken {
 }
 
 /// What a report showed.
-#[derive(Default, Clone, Copy)]
+#[derive(Default)]
 pub struct Shown {
     pub is_there: bool,
     pub has_faults: bool,
+    /// The connections with a stall that did not end: their numbers, and the packets that opened them.
+    pub with_open_stalls: Vec<(u64, u64)>,
 }
 
 /// Writes the report of the original, and answers what it shows.
 pub fn bring_back(source: impl BufRead, original: &mut Original, out: &mut impl Write) -> Result<Shown, Broken> {
     let mut source = source;
     let mut line = Vec::new();
-    let mut back = Back { original, out, opening: None, shown: Shown::default() };
+    let mut back = Back { original, out, opening: None, number: 0, shown: Shown::default() };
     loop {
         read_line(&mut source, &mut line, LONGEST_LINE + 1).map_err(Broken::Read)?;
         if line.is_empty() {
@@ -70,6 +72,7 @@ struct Back<'a, W> {
     out: &'a mut W,
     /// The packet that opened the connection whose lines come.
     opening: Option<u64>,
+    number: u64,
     shown: Shown,
 }
 
@@ -80,6 +83,7 @@ impl<W: Write> Back<'_, W> {
         }
         match text.split(' ').next() {
             Some("frame") => self.finding(text),
+            Some("stall") => self.stall(text),
             Some("flow" | "connection" | "unopened") => match Line::of(text.trim_end_matches('\n')) {
                 Some(Line::Flow(flow)) => self.flow(&flow),
                 Some(Line::Opening(opening)) => self.connection(&opening),
@@ -115,6 +119,16 @@ impl<W: Write> Back<'_, W> {
         Ok(())
     }
 
+    fn stall(&mut self, text: &str) -> Result<(), Broken> {
+        if let (true, Some(opening)) = (text.ends_with(" open\n"), self.opening) {
+            let known = &mut self.shown.with_open_stalls;
+            if known.last() != Some(&(self.number, opening)) {
+                known.push((self.number, opening));
+            }
+        }
+        Ok(self.out.write_all(text.as_bytes())?)
+    }
+
     fn packet(&self, record: u64) -> Result<u64, Broken> {
         self.original.packet(record).ok_or(Broken::NoReport)
     }
@@ -133,7 +147,7 @@ impl<W: Write> Back<'_, W> {
         let (client, server) = (self.endpoint(&opening.client)?, self.endpoint(&opening.server)?);
         let number = opening.number;
         write!(self.out, "connection {number} client {client} server {server} record {packet} ")?;
-        self.opening = Some(packet);
+        (self.opening, self.number) = (Some(packet), number);
         let connection = self.original.connection(packet);
         match (&opening.form, connection.map(|connection| &connection.became)) {
             (Form::NoHandshake, _) => writeln!(self.out, "no-handshake")?,

@@ -65,6 +65,10 @@ fn rows(asked: &Asked, files: &[OsString], file: &Path) -> Outcome {
     let (answer, reported) = explain::answer_with_report(&explained(asked, &files), &mut output)?;
     write_rows(&answer, file)?;
     output.finish()?;
+    if let Some(file) = &asked.last_packets {
+        explain::write_last_packets(&reported.last_packets, file)?;
+    }
+    reported.back.iter().for_each(|packet| say(NAME, &import::times_go_back(*packet)));
     reported.words.iter().for_each(|words| say(NAME, words));
     Ok(match reported {
         Reported { is_nothing_read: true, .. } => NOTHING_AUDITED,
@@ -133,6 +137,7 @@ fn explained<'a>(asked: &'a Asked, files: &'a [OsString]) -> explain::Asked<'a> 
         files,
         key_logs: &asked.key_logs,
         h2audit: asked.program.clone(),
+        options: &asked.options,
         report: asked.audit.as_deref(),
         has_names: asked.has_names,
         has_query: asked.has_query,

@@ -12,6 +12,7 @@ use why::{Gates, Reason};
 
 const LEAST_WIDTH: u64 = 40;
 const MOST_WIDTH: u64 = 1000;
+const MOST_WORKERS: u64 = 64;
 /// The digits of a time before its point, and behind it.
 const MOST_DIGITS: usize = 9;
 const UNITS: [(&str, i64); 5] = [("ns", 1), ("us", 1_000), ("µs", 1_000), ("ms", 1_000_000), ("s", 1_000_000_000)];
@@ -65,8 +66,12 @@ pub struct Asked {
     pub colours: Colours,
     pub width: Option<usize>,
     pub program: Option<OsString>,
-    /// Where the report of the original goes; and a report that is there, so that no program audits.
+    /// h2audit's.
+    pub options: Vec<String>,
+    /// Where the report of the original goes, and the times of last packets; and a report that is there, so that no
+    /// program audits.
     pub report: Option<PathBuf>,
+    pub last_packets: Option<PathBuf>,
     pub audit: Option<PathBuf>,
     pub gates: Gates,
     pub has_gates: bool,
@@ -89,7 +94,9 @@ struct Taken {
     colours: Colours,
     width: Option<usize>,
     program: Option<OsString>,
+    workers: Option<u64>,
     report: Option<PathBuf>,
+    last_packets: Option<PathBuf>,
     audit: Option<PathBuf>,
     reasons: Vec<Reason>,
     stall: Option<Nanos>,
@@ -117,6 +124,10 @@ pub fn words_of(words: Vec<OsString>) -> Result<Words, Failure> {
                 taken.form("--rows", Asks::Rows(file))?;
             }
             Long("report") => taken.report = Some(PathBuf::from(parser.value().map_err(wrong)?)),
+            Long("last-packets") => taken.last_packets = Some(PathBuf::from(parser.value().map_err(wrong)?)),
+            Long("workers") => {
+                taken.workers = Some(number("--workers", &parser.value().map_err(wrong)?, 1, MOST_WORKERS)?);
+            }
             Long("audit") => taken.audit = Some(PathBuf::from(parser.value().map_err(wrong)?)),
             Long("color") => taken.colours = colours_of(parser.value().map_err(wrong)?)?,
             Long("width") => taken.width = Some(width_of(parser.value().map_err(wrong)?)?),
@@ -173,7 +184,9 @@ impl Taken {
             colours: self.colours,
             width: self.width,
             program: self.program,
+            options: self.workers.map(|workers| format!("--workers={workers}")).into_iter().collect(),
             report: self.report,
+            last_packets: self.last_packets,
             audit: self.audit,
             gates: Gates { reasons, stall: self.stall, needs_http2: self.needs_http2 },
             has_gates,
@@ -214,6 +227,7 @@ impl Taken {
     fn check_report(&self) -> Result<(), Failure> {
         let refuse = |why: &str| Err(Failure::Usage(why.to_string()));
         match (&self.report, &self.audit, &self.form) {
+            (None, ..) if self.last_packets.is_some() => refuse("--last-packets goes with --report"),
             (None, None, _) => Ok(()),
             (Some(_), Some(_), _) => refuse("--report is of a run of h2audit: not with --audit"),
             (Some(report), None, Some((_, Asks::Rows(rows)))) if report == rows => {
@@ -359,6 +373,7 @@ mod tests {
         assert!(refused(&["--fail-on", "fault,x"]).starts_with("argument --fail-on: 'x' is no reason: fault, "));
         assert!(refused(&["--fail-stall", "5"]).contains("'5' is no time, as 100ms"));
         assert_eq!(refused(&["--report", "a"]), "--report goes with --rows");
+        assert_eq!(refused(&["--rows", "a", "--last-packets", "b"]), "--last-packets goes with --report");
         assert_eq!(refused(&["--json", "--audit", "a"]), "--audit goes with --rows");
         assert_eq!(refused(&["--rows", "-", "--report", "-"]), "--rows and --report are the same file");
         let by_report = refused(&["--rows", "-", "--report", "a", "--audit", "b"]);
