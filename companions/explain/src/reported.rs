@@ -9,8 +9,9 @@ use std::process::{Command, Stdio};
 use audits::{temporary_failure, Audit as Running, H2AUDIT};
 use originals::{bring_back, no_report, LastPacket, LastPackets, Original};
 use programs::{printable, Failure, Output};
+use reports::ReadError;
 
-use crate::audit::{read_audits, Audit};
+use crate::audit::{of_h2audit, read_audits, Audit};
 
 /// So much is read of what h2audit said.
 const MOST_SAID: u64 = 1 << 16;
@@ -31,7 +32,10 @@ pub struct Reported {
 /// The connections of a report that is there, which may be of some parts alone.
 pub fn read_report(path: &Path) -> Result<Vec<Audit>, Failure> {
     let file = File::open(path).map_err(|error| Failure::of_file(path, &error))?;
-    read_audits(BufReader::new(file))
+    read_audits(BufReader::new(file), |error| match error {
+        ReadError::Io(error) => Failure::from_io("report", &error),
+        other => Failure::Refused(format!("report refused: {other}")),
+    })
 }
 
 /// The connections of the report of what was made. It goes into a file too where that is wanted.
@@ -46,8 +50,8 @@ pub fn audited(
     let mut command = Command::new(program);
     let Running { mut report, running } = Running::of(command.args(options).arg(path).stderr(Stdio::from(errors)))?;
     let read = match copy {
-        None => read_audits(report),
-        Some(file) => copied(&mut report, file).and_then(|()| read_audits(BufReader::new(&*file))),
+        None => read_audits(report, of_h2audit),
+        Some(file) => copied(&mut report, file).and_then(|()| read_audits(BufReader::new(&*file), of_h2audit)),
     };
     match running.status()? {
         0 | 1 => read,
