@@ -1,9 +1,7 @@
 //! Which bytes a side has sent, so that those that come again are told from new ones, and packets that were captured
 //! twice from either.
 
-use std::collections::hash_map::DefaultHasher;
 use std::collections::{BTreeMap, VecDeque};
-use std::hash::Hasher;
 
 use captures::{flags, offset_of, Arrival, Segment, END_OF_OFFSETS};
 
@@ -29,15 +27,17 @@ pub struct Sent {
     reached: u32,
     /// Holes before that: begin and end of each.
     holes: BTreeMap<u32, u32>,
-    recent: VecDeque<Recent>,
+    /// The last packets, each with its time.
+    recent: VecDeque<(i64, Print)>,
 }
 
-struct Recent {
-    arrival: Arrival,
+/// What tells one packet from another.
+#[derive(PartialEq, Eq)]
+struct Print {
     sequence: u32,
+    length: u32,
+    sum: u32,
     identification: u16,
-    length: usize,
-    hash: u64,
 }
 
 impl Sent {
@@ -70,24 +70,19 @@ impl Sent {
     /// Whether these bytes came with a packet just before that was no other one: with the same identification, or, where
     /// packets have none, at nearly the same time.
     fn is_double(&mut self, arrival: Arrival, segment: &Segment<'_>, payload: &[u8]) -> bool {
-        let mut hasher = DefaultHasher::new();
-        hasher.write(payload);
-        let one = Recent {
-            arrival,
+        let print = Print {
             sequence: segment.sequence,
+            length: payload.len() as u32,
+            sum: crc32fast::hash(payload),
             identification: segment.identification,
-            length: payload.len(),
-            hash: hasher.finish(),
         };
-        let is_found = self.recent.iter().any(|before| {
-            let is_same = (before.sequence, before.length, before.hash) == (one.sequence, one.length, one.hash);
-            let is_close = arrival.nanos.saturating_sub(before.arrival.nanos).saturating_abs() <= CLOSE;
-            is_same && before.identification == one.identification && (one.identification != 0 || is_close)
-        });
+        let is_close = |nanos: i64| arrival.nanos.saturating_sub(nanos).saturating_abs() <= CLOSE;
+        let mut recent = self.recent.iter();
+        let is_found = recent.any(|(nanos, one)| *one == print && (print.identification != 0 || is_close(*nanos)));
         if self.recent.len() == MOST_BETWEEN {
             self.recent.pop_front();
         }
-        self.recent.push_back(one);
+        self.recent.push_back((arrival.nanos, print));
         is_found
     }
 
