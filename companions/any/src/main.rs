@@ -2,11 +2,9 @@
 
 #![forbid(unsafe_code)]
 
-mod audit;
 mod making;
 mod original;
 mod parts;
-mod private_file;
 mod read_map;
 mod report;
 mod words;
@@ -15,12 +13,12 @@ use std::ffi::OsString;
 use std::io::{BufRead, BufReader};
 use std::path::Path;
 
-use programs::{end_cleanly, print, run, say, Failure, Input, Outcome, Output};
+use programs::{
+    end_cleanly, print, program_named, run, say, temporary_failure, Audit, Failure, Input, Outcome, Output, PrivateFile,
+};
 
-use audit::{program_named, Audit};
 use original::{Original, Other};
 use parts::PartPrograms;
-use private_file::{temporary_failure, PrivateFile};
 use report::{bring_back, Broken, Shown};
 use words::{words_of, Audited, Words};
 

@@ -7,7 +7,7 @@ use std::fs;
 use std::io::{self, Write};
 use std::path::{Path, PathBuf};
 
-use captures::{pcap, PassedOver, RAW};
+use captures::{pcap, RAW};
 use import::{imported, Asked, Courses, Listener, Record, Sink, Summary, Target};
 use programs::Failure;
 
@@ -84,9 +84,7 @@ impl<T: Default, F: FnMut(&mut T, &Record<'_>)> Listener for Each<T, F> {
         (self.take)(&mut self.state, record);
     }
 
-    fn passed(&mut self, _packet: u64, _why: &PassedOver) {}
-
-    fn cut(&mut self, _packet: u64) {}
+    fn passed(&mut self, _packet: u64, _why: &str) {}
 
     fn finish(&mut self, _summary: &Summary) {}
 

@@ -6,8 +6,11 @@ use std::os::unix::io::AsRawFd;
 use std::path::PathBuf;
 use std::{env, process};
 
-use programs::{io_reason, printable, Failure, BUFFER};
+use crate::failure::{io_reason, Failure};
+use crate::messages::printable;
+use crate::output::BUFFER;
 
+/// It is written first, and then read by other programs, or by this one.
 pub struct PrivateFile {
     writer: BufWriter<File>,
 }
