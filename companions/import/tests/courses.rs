@@ -4,6 +4,7 @@ mod common;
 
 use std::num::NonZeroU64;
 use std::path::Path;
+use std::time::{Duration, Instant};
 
 use captures::{flags, Arrival};
 use common::{captured, Datagram};
@@ -194,6 +195,24 @@ fn times_that_go_back() {
     let late = opening().into_iter().cycle().zip(0..30).map(|(one, at)| (100 - at, one));
     let back = courses_of(&late.collect::<Vec<_>>()).1.back.unwrap();
     assert_eq!((back.first.len(), back.packets, back.first[15].arrival.packet), (16, 29, 17));
+}
+
+/// Bytes in the wrong order: the first one last, and each other one behind a hole of its own.
+#[test]
+fn holes_that_are_filled_last() {
+    const COUNT: u32 = 100_000;
+    let orders: [Vec<u32>; 2] =
+        [(0..COUNT).rev().collect(), (1..COUNT).step_by(2).chain((0..COUNT).step_by(2)).collect()];
+    for order in orders {
+        let bytes = order.into_iter().map(|offset| data(CLIENT, offset, b"x"));
+        let packets = in_turn(opening().into_iter().chain(bytes));
+        let begin = Instant::now();
+        let (courses, _) = courses_of(&packets);
+        assert!(begin.elapsed() < Duration::from_secs(20), "it takes too long");
+        let client = &courses.connections[0].sides[CLIENT];
+        assert_eq!((client.bytes, client.lost), (u64::from(COUNT), None));
+        assert_eq!(courses.connections[0].held, [held(Why::Hole, CLIENT, at(4), at(3 + u64::from(COUNT)))]);
+    }
 }
 
 /// Each connection has its course, whatever it speaks, and what is made is the same without.
