@@ -40,10 +40,22 @@ struct Print {
     identification: u16,
 }
 
+impl Print {
+    fn of(segment: &Segment<'_>, payload: &[u8]) -> Print {
+        let Segment { sequence, identification, .. } = *segment;
+        Print { sequence, length: payload.len() as u32, sum: crc32fast::hash(payload), identification }
+    }
+}
+
 impl Sent {
     /// Whether bytes are missing before some that came.
     pub fn has_hole(&self) -> bool {
         !self.holes.is_empty()
+    }
+
+    /// The time of the last segment with payload.
+    pub fn last(&self) -> Option<i64> {
+        self.recent.back().map(|(nanos, _)| *nanos)
     }
 
     pub fn add(&mut self, arrival: Arrival, segment: &Segment<'_>) -> Fresh {
@@ -55,7 +67,10 @@ impl Sent {
             Some(initial) => initial,
             None => return Fresh::None,
         };
-        if self.is_double(arrival, segment, payload) {
+        let print = Print::of(segment, payload);
+        let is_double = self.may_be_double(initial, segment) && self.is_double(arrival, &print);
+        self.note(arrival, print);
+        if is_double {
             return Fresh::Doubled;
         }
         let offset = offset_of(initial, segment.sequence, segment.flags);
@@ -67,23 +82,25 @@ impl Sent {
         Fresh::Bytes { fresh, again: end - offset - fresh }
     }
 
+    /// What begins behind all bytes that came was in no packet before. A number of a SYN is that before its bytes.
+    fn may_be_double(&self, initial: u32, segment: &Segment<'_>) -> bool {
+        let place = offset_of(initial, segment.sequence, 0);
+        place < self.reached || place >= END_OF_OFFSETS - 1
+    }
+
     /// Whether these bytes came with a packet just before that was no other one: with the same identification, or, where
     /// packets have none, at nearly the same time.
-    fn is_double(&mut self, arrival: Arrival, segment: &Segment<'_>, payload: &[u8]) -> bool {
-        let print = Print {
-            sequence: segment.sequence,
-            length: payload.len() as u32,
-            sum: crc32fast::hash(payload),
-            identification: segment.identification,
-        };
+    fn is_double(&self, arrival: Arrival, print: &Print) -> bool {
         let is_close = |nanos: i64| arrival.nanos.saturating_sub(nanos).saturating_abs() <= CLOSE;
         let mut recent = self.recent.iter();
-        let is_found = recent.any(|(nanos, one)| *one == print && (print.identification != 0 || is_close(*nanos)));
+        recent.any(|(nanos, one)| one == print && (print.identification != 0 || is_close(*nanos)))
+    }
+
+    fn note(&mut self, arrival: Arrival, print: Print) {
         if self.recent.len() == MOST_BETWEEN {
             self.recent.pop_front();
         }
         self.recent.push_back((arrival.nanos, print));
-        is_found
     }
 
     /// Notes bytes from one offset to another, and answers how many of them are new.

@@ -148,6 +148,21 @@ fn captured_twice() {
     }
 }
 
+/// Also where a SYN stands before the same number and bytes, in either order.
+#[test]
+fn captured_twice_with_a_syn() {
+    let [syn, answer, ack] = opening();
+    let [plain, with_syn] = [flags::ACK, flags::SYN | flags::ACK].map(|flags| Datagram {
+        flags,
+        sequence: INITIAL[CLIENT] + 1,
+        ..data(CLIENT, 0, b"x")
+    });
+    for (first, again) in [(&plain, &with_syn), (&with_syn, &plain)] {
+        let packets = in_turn([&syn, &answer, &ack, first, again].map(Datagram::clone));
+        assert_eq!(courses_of(&packets).0.connections[0].sides[CLIENT].doubled, 1);
+    }
+}
+
 /// No more than 32 segments lie between a packet and its double.
 #[test]
 fn captured_twice_far_apart() {
