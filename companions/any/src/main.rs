@@ -13,8 +13,9 @@ use std::ffi::OsString;
 use std::io::{BufRead, BufReader};
 use std::path::Path;
 
-use audits::{program_named, temporary_failure, Audit, PrivateFile};
-use programs::{end_cleanly, print, run, say, Failure, Input, Outcome, Output};
+use programs::{
+    end_cleanly, print, program_named, run, say, temporary_failure, Audit, Failure, Input, Outcome, Output, PrivateFile,
+};
 
 use original::{Original, Other};
 use parts::PartPrograms;

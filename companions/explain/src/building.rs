@@ -4,9 +4,8 @@ use std::ffi::OsString;
 use std::path::Path;
 use std::rc::Rc;
 
-use audits::{program_named, Audit as Running, PrivateFile};
 use import::{Became, Courses, Sink, Summary};
-use programs::Failure;
+use programs::{program_named, Audit as Running, Failure, PrivateFile};
 use reports::Form;
 
 use crate::answer::{Answer, At, ConnectionSaid, Ended, How, Outcome, Requests, RoundTrip};
@@ -19,6 +18,7 @@ use crate::made::{each_record, Notes};
 use crate::names::Interner;
 use crate::requests::Packed;
 use crate::seen::Seen;
+use crate::table::Numbers;
 use crate::tcp::last_of;
 use crate::walk::Asking;
 
@@ -123,7 +123,8 @@ struct Walked {
 /// Says what became of each connection, and walks over those of HTTP/2.
 fn tell(asked: &Asked<'_>, made: &mut Made, audits: Vec<Audit>, answer: &mut Answer) -> Result<(), Failure> {
     let names = Names { are_wanted: asked.has_names, has_query: asked.has_query };
-    let mut asking = Asking { names, has_spans: asked.has_spans, interner: Interner::default() };
+    let mut asking =
+        Asking { names, has_spans: asked.has_spans, interner: Interner::default(), numbers: Numbers::new() };
     let mut walked: Vec<Option<Box<Walked>>> = Vec::new();
     walked.resize_with(made.known.len(), || None);
     if audits.len() != made.order.len() {
