@@ -8,12 +8,12 @@ SPLIT = crates/h2audit_split/out/h2audit_split
 # The capture whose report "make believed" computes from the definitions.
 RUN ?= examples/negative_window.pcap
 # Programs in Rust beside these, and how they are built: of Debian's crates alone.
-RUST_PROGRAMS = h2audit-any h2audit-comment h2audit-import h2audit-merge
+RUST_PROGRAMS = h2audit-any h2audit-comment h2audit-import h2audit-merge h2audit-why
 RUST_BUILT = companions/target/release
 CARGO ?= cargo
 # Programs in Python, the folders of their package, and what runs tests: Debian's, whose libraries they need.
 PYTHON ?= /usr/bin/python3
-PYTHON_PROGRAMS = h2audit-fleet h2audit-page h2audit-plot h2audit-why
+PYTHON_PROGRAMS = h2audit-fleet h2audit-page h2audit-plot
 PYTHON_PACKAGES = h2audit $(addprefix h2audit/,fleet page page/assets plot report why)
 BESIDE = $(RUST_PROGRAMS) $(PYTHON_PROGRAMS) h2audit-split
 FIRST = examples/negative_window_tomcat.pcap examples/stream_overrun_go.pcap

@@ -109,7 +109,7 @@ def part(folder: str, number: int, order: Order) -> Answer:
     answer: Answer = {"outcome": "failed", "status": None, "worker": worker_name()}
     try:
         with open(name + ".report", "w+b") as output:
-            words = [AUDIT, *answers.words_of_audit(order), name + ".pcap"]
+            words = [AUDIT, "--workers", "1", name + ".pcap"]
             run = programs.run(words, None, output, order["timeout"])
     except (programs.NoProgram, OSError) as why:
         return answer | {"reason": named(why)}
@@ -143,7 +143,7 @@ def folder_of(divided: Answer) -> str:
 def words_of_merge(divided: Answer, order: Order) -> list[str]:
     """What gives the report: the merge of the parts that stand, or the audit of what an import made."""
     if divided["outcome"] == "imported":
-        return [AUDIT, *answers.words_of_audit(order), divided["made"]]
+        return [AUDIT, "--workers", "1", divided["made"]]
     return [MERGE, *["--standing"] * bool(divided["reason"]), divided["folder"]]
 
 
@@ -173,10 +173,8 @@ def of_refused_parts(divided: Answer, answer: Answer) -> Answer:
 
 def of_original(file: int, divided: Answer, report: IO[bytes], order: Order) -> Answer:
     """The report of what an import made, as one about the original, and its requests where they are wanted."""
-    with tempfile.TemporaryFile() as plain, tempfile.TemporaryFile() as output:
-        if answers.are_wanted(order):
-            answers.without_credits(report, plain)
-        source = (plain if answers.are_wanted(order) else report).fileno()
+    with tempfile.TemporaryFile() as output:
+        source = report.fileno()
         os.lseek(source, 0, os.SEEK_SET)
         answer = verdict(programs.run([IMPORT, "--map", divided["map"]], source, output, order["timeout"]))
         if answer["outcome"] != "audited":
@@ -185,26 +183,22 @@ def of_original(file: int, divided: Answer, report: IO[bytes], order: Order) -> 
         if not answers.are_wanted(order):
             return answer | ends_of(file, IMPORT, output, order)
         folder = folder_of(divided)
-        return answer | answers.ends_of(folder, output) | answers.rows_of(folder, order)
+        return answer | answers.ends_of(folder, output) | answers.rows_of(file, folder, order)
 
 
 def answered(path: bytes, order: Order) -> Answer:
     """The audit of a capture with its requests; or says that it is, or may be, a large one."""
-    return on_capture(path, lambda file, known: answered_file(path, file, known, order))
+    return on_capture(path, lambda file, _: answered_file(file, order))
 
 
 def answered_all(paths: list[bytes], order: Order) -> list[Answer]:
     return [answered(path, order) for path in paths]
 
 
-def answered_file(path: bytes, file: int, known: Answer, order: Order) -> Answer:
-    if may_be_large(file, order):
+def answered_file(file: int, order: Order) -> Answer:
+    if may_be_large(file, order) or parts_of(os.fstat(file).st_size, order):
         return {"outcome": "import"}
-    with tempfile.TemporaryDirectory(prefix="h2audit-fleet-", dir=order.get("scratch")) as folder:
-        imported = while_unchanged(file, lambda name: import_file(file, name, folder, order))
-        if parts_of(imported.get("made_size"), order):
-            return {"outcome": "import"}
-        return merge(path, known | imported, order) if imported["outcome"] == "imported" else imported
+    return answers.by_answer(file, f"/dev/fd/{file}", order)
 
 
 def in_parts(path: bytes, parts: int, order: Order) -> Answer:

@@ -211,6 +211,11 @@ def nearest_time(nanos: int) -> int:
     return max(FIRST_TIME, min(nanos, LAST_TIME))
 
 
+def by_program_into(words: list[str], file: int, order: Order) -> Answer:
+    """The answer of an import that reads an open capture itself, with its report."""
+    return while_unchanged(file, lambda _: by_program(words, file, order, is_fed=False))
+
+
 def by_program(words: list[str], file: int, order: Order, is_fed: bool = True) -> Answer:
     """A program's answer to an open capture, with its report."""
     with tempfile.TemporaryFile() as output:
@@ -309,7 +314,7 @@ def ends_of(file: int, program: str, report: IO[bytes], order: Order) -> Answer:
     if not holds(report, OPEN_STALL):
         return {}
     opened = ends.with_open_stalls(report)
-    if program != IMPORT:
+    if program not in (IMPORT, WHY):
         with capture_of(file) as capture:
             return {"ends": ends.by_walk(capture, opened)}
     return {"ends": ends_by_import(file, opened, order)}

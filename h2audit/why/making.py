@@ -22,13 +22,14 @@ BUILT = {
     "h2audit": HERE.parent / "crates" / "h2audit_cli" / "out" / "h2audit_cli",
     "h2audit-any": IN_RUST / "h2audit-any",
     "h2audit-import": IN_RUST / "h2audit-import",
+    "h2audit-why": IN_RUST / "h2audit-why",
 }
 MOST_SAID = 1 << 16
 # How long a program may take to remove its files.
 MOST_SECONDS = 10
 # What an import leaves in a folder, and the report of an audit of what it made.
 MADE, MAP, COURSE, REPORT = (f"imported.{kind}" for kind in ("pcap", "map", "course", "report"))
-VARIABLES = {name: name.upper().replace("-", "_") for name in (*BUILT, "h2audit-why")}
+VARIABLES = {name: name.upper().replace("-", "_") for name in BUILT}
 
 
 def program_named(name: str, named: str | None = None, option: str = "") -> str:

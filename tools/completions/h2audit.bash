@@ -96,14 +96,14 @@ _h2audit_any() {
 _h2audit_why() {
     local word=${COMP_WORDS[COMP_CWORD]} before=${COMP_WORDS[COMP_CWORD - 1]}
     local options='--key-log -k --sort --all --query --no-requests --json --json-lines --rows --color --width --h2audit'
-    options+=' --import --fail-on --fail-stall --require-http2 --junit --quiet --compare --ends --help -h --version -V'
+    options+=' --report --audit --fail-on --fail-stall --require-http2 --junit --quiet --compare --ends --help -h --version -V'
     [[ $word == = ]] && word=
     [[ $before == = ]] && before=${COMP_WORDS[COMP_CWORD - 2]}
     case $before in
     --fail-on) _h2audit_offer -W 'fault certain-fault stall hung tcp error gap not-audited' -- "$word" ;;
     --fail-stall) _h2audit_offer -W '10ms 100ms 1s' -- "$word" ;;
     --color) _h2audit_offer -W 'auto always never' -- "$word" ;;
-    --rows) _h2audit_offer -d -- "$word" ;;
+    --rows | --report | --audit) _h2audit_offer -f -- "$word" ;;
     --width) _h2audit_offer -W '80 100 120 160' -- "$word" ;;
     *)
         case $word in

@@ -15,7 +15,6 @@ import unittest
 from unittest import mock
 
 from h2audit.fleet import large, tasks
-from h2audit.why.rows import LONGEST_NAME
 from tests.captures import PREFACE, SYN, SYN_ACK, Capture, frame
 from tools.tests import fleet_parts_test as parts
 from tools.tests.fleet_captures import PATIENCE, PROGRAM, TOP, Machine, Row, beside, until
@@ -23,7 +22,7 @@ from tools.tests.fleet_cluster_test import Cluster
 from tools.tests.fleet_imports_test import SPLIT, TABLES, Imported, over_tls
 from tools.tests.fleet_requests_test import NEW_TABLES, Base, link_programs, name_programs, rows_of, sorted_rows
 from tools.tests.request_captures import block
-from tools.tests.why_tools import said_of
+from tools.tests.why_tools import LONGEST_NAME, said_of
 
 EXAMPLES = ("paused_stream_node", "stream_overrun_go")
 ASKED = "outcome, status, reason, tries, requests"

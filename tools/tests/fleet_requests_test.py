@@ -13,13 +13,12 @@ from collections.abc import Iterable, Iterator
 from typing import Any, ClassVar
 
 from h2audit.fleet import names
-from h2audit.why.rows import LONGEST_NAME
-from h2audit.why.words import escaped
+from h2audit.report.command import printable
 from tools.tests import cost_captures, random_captures, request_captures
 from tools.tests.fleet_captures import PROGRAM, TOP, Machine, beside, by_hand
 from tools.tests.fleet_parts_test import SPLIT
 from tools.tests.fleet_parts_test import STAND_IN as SPLIT_STAND_IN
-from tools.tests.why_tools import BUILT, Json, said_of
+from tools.tests.why_tools import BUILT, LONGEST_NAME, Json, said_of
 
 CAPTURES, RANDOM = 300, 190
 SIDES = ("client", "server")
@@ -101,7 +100,7 @@ def stalled(said: Json) -> int:
 
 
 def name_of(text: str | None) -> str | None:
-    return None if text is None else escaped(text[:LONGEST_NAME])[:LONGEST_NAME]
+    return None if text is None else printable(text[:LONGEST_NAME])[:LONGEST_NAME]
 
 
 def sorted_rows(rows: list[dict[str, Any]]) -> list[list[tuple[str, Any]]]:
@@ -347,7 +346,7 @@ def secrets_of(said: Iterable[Json]) -> set[bytes]:
     for one in said:
         for connection in one["connections"]:
             for request in connection["requests"]:
-                found |= {escaped(request[key]) for key in ("name", "path", "authority") if request[key]}
+                found |= {printable(request[key]) for key in ("name", "path", "authority") if request[key]}
     return {word.encode() for word in found if len(word) > 5 and not re.match(r"[\[\d]", word)}
 
 

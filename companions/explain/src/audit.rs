@@ -46,8 +46,8 @@ pub fn broken(why: &str) -> Failure {
     Failure::Io(format!("the report is not about the capture that was made: {why}"))
 }
 
-/// All connections of a report.
-pub fn read_audits(report: impl BufRead) -> Result<Vec<Audit>, Failure> {
+/// All connections of a report. What is none fails in some words.
+pub fn read_audits(report: impl BufRead, not_read: fn(ReadError) -> Failure) -> Result<Vec<Audit>, Failure> {
     let mut reader = Reader::new(report);
     let mut audits: Vec<Audit> = Vec::new();
     // The stall of each window that goes on.
@@ -67,7 +67,8 @@ pub fn read_audits(report: impl BufRead) -> Result<Vec<Audit>, Failure> {
     Ok(audits)
 }
 
-fn not_read(error: ReadError) -> Failure {
+/// Why what h2audit said is not read.
+pub fn of_h2audit(error: ReadError) -> Failure {
     match error {
         ReadError::Io(error) => Failure::from_io("h2audit", &error),
         _ => Failure::Io("h2audit: what it said is no report".to_string()),
@@ -142,7 +143,7 @@ mod tests {
              frame 7 record 8 time 9 client push stream 1 value 0\n\
              audit stopped at frame 7\n"
         );
-        let audits = read_audits(text.as_bytes()).expect("a report");
+        let audits = read_audits(text.as_bytes(), of_h2audit).expect("a report");
         let audit = &audits[0];
         let ends: Vec<_> = audit.stalls.iter().map(|one| (one.begin.frame, one.end.map(|end| end.frame))).collect();
         assert_eq!(ends, [(3, Some(6)), (4, None)]);
@@ -152,9 +153,9 @@ mod tests {
 
     #[test]
     fn what_is_no_report() {
-        assert!(read_audits(&b""[..]).is_err());
+        assert!(read_audits(&b""[..], of_h2audit).is_err());
         let text =
             format!("{FRONT}frame 3 record 4 time 18446744073709551615 server stream-stall-begin stream 1 value 0\n");
-        assert!(read_audits(text.as_bytes()).is_err());
+        assert!(read_audits(text.as_bytes(), of_h2audit).is_err());
     }
 }

@@ -1,21 +1,25 @@
 //! Builds the answer: imports, learns, audits, and walks once more over what was made.
 
 use std::ffi::OsString;
+use std::fs::File;
 use std::path::Path;
 use std::rc::Rc;
 
 use import::{Became, Courses, Sink, Summary};
-use programs::{program_named, Audit as Running, Failure, PrivateFile};
+use originals::Keeping;
+use programs::{program_named, temporary_failure, Failure, Output, PrivateFile};
 use reports::Form;
 
-use crate::answer::{Answer, At, ConnectionSaid, Ended, How, Outcome, Requests, RoundTrip};
-use crate::audit::{broken, read_audits, Audit};
+use crate::answer::{Answer, At, ConnectionSaid, Ended, Files, How, Outcome, Requests, RoundTrip};
+use crate::audit::{broken, Audit};
 use crate::blocks::Names;
 use crate::connection::Connection;
 use crate::doubts::{doubts_of, not_audited};
 use crate::learning::{Known, Learned, Learning};
+use crate::listening::Listening;
 use crate::made::{each_record, Notes};
 use crate::names::Interner;
+use crate::reported::{audited, of_original, read_report, Reported};
 use crate::requests::Packed;
 use crate::seen::Seen;
 use crate::table::Numbers;
@@ -31,10 +35,15 @@ pub struct Asked<'a> {
     pub key_logs: &'a [OsString],
     /// The program that audits, where it is named.
     pub h2audit: Option<OsString>,
+    /// A report of h2audit on what the import makes, where there is one: then no program audits. It may be of some parts
+    /// of it alone.
+    pub report: Option<&'a Path>,
     /// Whether names of requests are wanted; whether with the query of the path; and whether spans of lives are.
     pub has_names: bool,
     pub has_query: bool,
     pub has_spans: bool,
+    /// Whether all frames are, as where both ends of connections are asked about.
+    pub has_frames: bool,
 }
 
 /// What was made, and what is known of it.
@@ -47,37 +56,60 @@ struct Made {
     known: Vec<Option<Known>>,
     /// Those numbers in the order of the report.
     order: Vec<usize>,
+    files: Files,
     addresses: import::Addresses,
 }
 
 /// Imports the files, audits what is made, and says what it means.
 pub fn answer_of(asked: &Asked<'_>) -> Result<Answer, Failure> {
+    let made = make(asked, None)?.0;
+    match asked.report {
+        Some(report) => answer_by(asked, made, read_report(report)?),
+        None => answer_by_audit(asked, made, None),
+    }
+}
+
+/// The same; and writes the report of the original, as h2audit-any does.
+pub fn answer_with_report(asked: &Asked<'_>, output: &mut Output) -> Result<(Answer, Reported), Failure> {
+    let (made, keeping) = make(asked, Some(Keeping::default()))?;
+    let mut report = tempfile::tempfile().map_err(|error| temporary_failure(&error))?;
+    let answer = answer_by_audit(asked, made, Some(&mut report))?;
+    let mut original = keeping.unwrap_or_default().original;
+    Ok((answer, of_original(report, &mut original, output)?))
+}
+
+fn answer_by_audit(asked: &Asked<'_>, mut made: Made, copy: Option<&mut File>) -> Result<Answer, Failure> {
     let program = program_named(asked.h2audit.clone())?;
+    let audits = audited(&program, &made.capture.path()?, copy)?;
+    if audits.len() != made.order.len() {
+        return Err(broken("it has other connections"));
+    }
+    answer_by(asked, made, audits)
+}
+
+fn answer_by(asked: &Asked<'_>, mut made: Made, audits: Vec<Audit>) -> Result<Answer, Failure> {
     let mut answer = Answer::default();
-    let mut made = make(asked, &mut answer)?;
-    let path = made.capture.path()?;
-    let audits = audited(&program, &path)?;
+    answer.files = std::mem::take(&mut made.files);
+    answer.packets = made.summary.counts.records;
     tell(asked, &mut made, audits, &mut answer)?;
     answer.not_audited = not_audited(&answer, &made.summary);
     answer.warnings = doubts_of(&answer, &made.summary, &made.courses);
     Ok(answer)
 }
 
-fn make(asked: &Asked<'_>, answer: &mut Answer) -> Result<Made, Failure> {
+fn make(asked: &Asked<'_>, keeping: Option<Keeping>) -> Result<(Made, Option<Keeping>), Failure> {
     let mut capture = PrivateFile::new()?;
-    let mut learning = Learning::new()?;
+    let mut listening = Listening { learning: Learning::new()?, keeping };
     let mut courses = Courses::default();
-    let mut sink = Sink::new(&mut capture, &mut learning)?;
+    let mut sink = Sink::new(&mut capture, &mut listening)?;
     let import =
         import::Asked { program: asked.program, files: asked.files, key_logs: asked.key_logs, can_repeat: true };
     let summary = import::imported(&import, &mut sink, Some(&mut courses))?;
     drop(sink);
-    let Learning { connections, order, files, addresses, mut notes, .. } = learning;
+    let Learning { connections, order, files, addresses, mut notes, .. } = listening.learning;
     let learned = learned_anew(connections, &mut capture, &mut notes)?;
     let known = learned.into_iter().map(|one| one.map(Learned::known)).collect();
-    answer.files = files;
-    answer.packets = summary.counts.records;
-    Ok(Made { capture, notes, summary, courses, known, order, addresses })
+    Ok((Made { capture, notes, summary, courses, known, order, files, addresses }, listening.keeping))
 }
 
 /// Reads connections once more whose server sent bytes before its initial sequence number was known.
@@ -102,18 +134,6 @@ fn learned_anew(
     Ok(learned)
 }
 
-/// The report of what was made.
-fn audited(program: &OsString, path: &Path) -> Result<Vec<Audit>, Failure> {
-    let Running { report, running } = Running::start(program, &[], path)?;
-    let read = read_audits(report);
-    match running.status()? {
-        0 | 1 => read,
-        3 => Err(Failure::Refused("capture refused: by h2audit".to_string())),
-        5 => Err(Failure::Memory),
-        status => Err(Failure::Io(format!("h2audit: ended with status {status}"))),
-    }
-}
-
 /// A connection whose frames are walked over, and where it stands among all that are told.
 struct Walked {
     connection: Connection,
@@ -123,14 +143,17 @@ struct Walked {
 /// Says what became of each connection, and walks over those of HTTP/2.
 fn tell(asked: &Asked<'_>, made: &mut Made, audits: Vec<Audit>, answer: &mut Answer) -> Result<(), Failure> {
     let names = Names { are_wanted: asked.has_names, has_query: asked.has_query };
-    let mut asking =
-        Asking { names, has_spans: asked.has_spans, interner: Interner::default(), numbers: Numbers::new() };
+    let Asked { has_spans, has_frames, .. } = *asked;
+    let (interner, numbers) = (Interner::default(), Numbers::new());
+    let mut asking = Asking { names, has_spans, has_frames, interner, numbers };
     let mut walked: Vec<Option<Box<Walked>>> = Vec::new();
     walked.resize_with(made.known.len(), || None);
-    if audits.len() != made.order.len() {
-        return Err(broken("it has other connections"));
-    }
-    for (index, (audit, number)) in audits.into_iter().zip(std::mem::take(&mut made.order)).enumerate() {
+    let mut numbers = std::mem::take(&mut made.order).into_iter();
+    for (index, audit) in audits.into_iter().enumerate() {
+        // A report of some parts alone has not all connections.
+        let is_of_it =
+            |number: &usize| made.known[*number].as_ref().map_or(false, |known| known.record == audit.record);
+        let number = numbers.find(is_of_it).ok_or_else(|| broken("it has other connections"))?;
         let (said, connection) = said_at_first(made, &asking, audit, number)?;
         answer.connections.push(said);
         walked[number] = connection.map(|connection| Box::new(Walked { connection, index }));

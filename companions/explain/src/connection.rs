@@ -10,6 +10,7 @@ use crate::course::Course;
 use crate::cutter::{kind, Cutter, Head};
 use crate::doubts::limits_of;
 use crate::findings::Findings;
+use crate::frames::Frames;
 use crate::intervals::Stretches;
 use crate::leaks::{Candidate, Leaks};
 use crate::learning::Known;
@@ -17,6 +18,7 @@ use crate::made::Record;
 use crate::requests::Packed;
 use crate::rounds::round_trip_of;
 use crate::seen::{end_of, in_force, About, Refusal, Seen, WindowStalls};
+use crate::side_of;
 use crate::stalls::may_be_leaks;
 use crate::stream::Stream;
 use crate::table::Table;
@@ -36,6 +38,7 @@ pub struct Connection {
     cutters: [Cutter; 2],
     walk: Walk,
     frames: u64,
+    all_frames: Option<Frames>,
 }
 
 fn wants(head: &Head) -> usize {
@@ -59,6 +62,7 @@ impl Connection {
     ) -> Result<Connection, Failure> {
         let frames = audit.frames().unwrap_or(0);
         let stop = stop_of(&audit)?;
+        let all_frames = asking.has_frames.then(|| Frames::new(known.initials, course));
         let about = about(&known, &audit, course, stop);
         let findings = Findings::new(audit.faults, &audit.stalls, &about);
         let unshown =
@@ -88,6 +92,7 @@ impl Connection {
             cutters: [true, false].map(|is_client| Cutter::new(is_client, wants)),
             walk,
             frames,
+            all_frames,
         })
     }
 
@@ -100,10 +105,11 @@ impl Connection {
             None => return Ok(()),
         };
         let data = self.flows[side].add(offset, data, Arrival { packet: number, nanos: at.time });
-        let (walk, mut taken) = (&mut self.walk, Ok(()));
+        let (walk, all_frames, mut taken) = (&mut self.walk, &mut self.all_frames, Ok(()));
         self.cutters[side].take(&data, at.time, |cut| {
             if taken.is_ok() {
                 taken = walk.take(asking, side, cut, (number, at));
+                all_frames.iter_mut().for_each(|frames| frames.take(side_of(side), cut, at));
             }
         });
         taken
@@ -126,7 +132,8 @@ impl Connection {
         }
         self.walk.leaks.iter_mut().flatten().for_each(|leaks| leaks.end());
         self.cut_frames();
-        let Connection { cutters, walk, .. } = self;
+        let Connection { cutters, walk, all_frames, .. } = self;
+        said.all_frames = all_frames;
         let cuts = [0, 1].map(|side| cutters[side].cut_frame());
         Ok(ended(walk, cuts, said))
     }

@@ -2,7 +2,8 @@
 
 use reports::Side;
 
-use crate::answer::Nanos;
+use crate::answer::{At, Nanos};
+use crate::cutter::{kind, Cut};
 
 const SERVER: u32 = 1 << 31;
 const KIND_BITS: u32 = 8;
@@ -82,6 +83,21 @@ pub struct Grant {
 }
 
 impl Frames {
+    /// None yet, of a connection that began with these sequence numbers.
+    pub(crate) fn new(initials: [Option<u32>; 2], course: &import::Course) -> Frames {
+        let syn_ack = course.syn_ack.map(|arrival| arrival.nanos);
+        Frames { initials, syn: Some(course.syn.nanos), syn_ack, ..Frames::default() }
+    }
+
+    /// Takes the next one, which a packet completes.
+    pub(crate) fn take(&mut self, side: Side, cut: &Cut<'_>, at: At) {
+        let head = cut.head;
+        self.push(Frame::new(side, (head.kind, head.flags), head.stream, head.length, (at.packet, at.time)));
+        if let (kind::WINDOW_UPDATE, 4, Some(amount)) = (head.kind, head.length, cut.number()) {
+            self.push_grant(amount & !SERVER);
+        }
+    }
+
     pub fn push(&mut self, frame: Frame) {
         self.all.push(frame);
     }

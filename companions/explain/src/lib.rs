@@ -24,9 +24,11 @@ mod intervals;
 mod leaks;
 mod learning;
 mod life;
+mod listening;
 mod made;
 mod names;
 mod packed;
+mod reported;
 mod requests;
 mod rounds;
 mod seen;
@@ -42,8 +44,9 @@ mod walk;
 mod windows;
 pub mod words;
 
-pub use building::{answer_of, Asked};
+pub use building::{answer_of, answer_with_report, Asked};
 pub use import::{CLIENT, SERVER};
+pub use reported::Reported;
 
 /// The side of this number.
 pub(crate) fn side_of(number: usize) -> Side {

@@ -32,6 +32,7 @@ const MOST_EARLY: usize = 256;
 pub struct Asking {
     pub names: Names,
     pub has_spans: bool,
+    pub has_frames: bool,
     pub interner: Interner,
     /// How numbers of streams are hashed.
     pub numbers: Numbers,

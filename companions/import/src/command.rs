@@ -9,7 +9,7 @@ use programs::{end_cleanly, is_special, print, printable, say, Failure, Outcome,
 
 use crate::course::Courses;
 use crate::course_file::CourseFile;
-use crate::importing::{imported, Asked};
+use crate::importing::{imported, times_go_back, Asked};
 use crate::map_file::MapFile;
 use crate::outcomes::Summary;
 use crate::sink::Sink;
@@ -66,6 +66,9 @@ fn import(asked: &Import) -> Outcome {
     let mut map = asked.map.as_deref().map(Output::begin_private).transpose()?;
     let mut course = asked.course.as_deref().map(Output::begin_private).transpose()?;
     let summary = made(asked, &files, &mut output, map.as_mut(), course.as_mut())?;
+    if let Some(back) = &summary.back {
+        say(NAME, &times_go_back(back.packet()));
+    }
     output.finish()?;
     [map, course].into_iter().flatten().try_for_each(Output::finish)?;
     if summary.read() > 0 {

@@ -33,8 +33,8 @@ pub struct Asked<'a> {
     pub can_repeat: bool,
 }
 
-/// Reads all files into the sink; once more where the sessions in them show secrets for more connections. What a user
-/// should know besides is said on standard error. What TCP did is noted where that is asked for.
+/// Reads all files into the sink; once more where the sessions in them show secrets for more connections. What was
+/// passed over of files and key logs is said on standard error. What TCP did is noted where that is asked for.
 pub fn imported(asked: &Asked<'_>, sink: &mut Sink<'_>, mut courses: Option<&mut Courses>) -> Result<Summary, Failure> {
     let standard = [OsString::from(STANDARD_INPUT)];
     let files = if asked.files.is_empty() { &standard[..] } else { asked.files };
@@ -98,9 +98,6 @@ fn read_through(
         }
     }
     let (summary, missed) = importer.finish().map_err(|problem| problem.failure(None))?;
-    if let Some(back) = summary.back.as_ref().filter(|_| is_first) {
-        say(asked.program, &times_go_back(back.packet()));
-    }
     Ok((summary, missed))
 }
 

@@ -7,13 +7,15 @@ use std::collections::HashMap;
 use std::io::{self, Seek, SeekFrom, Write};
 use std::net::SocketAddrV4;
 
-use reports::{Capture, Side};
+use reports::{grouped, Capture, Side};
 use tempfile::SpooledTempFile;
 
 /// So many bytes about packets that were passed over are kept in memory.
 const MOST_SAID: usize = 1 << 20;
 /// Flows that end so end as any other does: what was lost shows as a gap, what is cut as a tail.
 const PLAIN_ENDS: [&str; 3] = ["whole", "cut", "lost"];
+/// What is passed over and is no tunnel: other uses of a network, and what is named by number alone.
+const NO_TUNNELS: [&str; 9] = ["arp", "lldp", "llc", "icmp", "icmpv6", "udp", "sctp", "quic", "-"];
 
 /// What became of a connection.
 pub enum Became {
@@ -125,6 +127,18 @@ impl Original {
         }
     }
 
+    /// Whether anything could be read, where it is nothing, and what was passed over that may hold more.
+    pub fn passed_over_words(&self, is_nothing_read: bool) -> Option<String> {
+        let others = self.others.iter().filter(|one| is_nothing_read || !NO_TUNNELS.contains(&one.name.as_str()));
+        let named: Vec<String> = others.map(named).collect();
+        match (is_nothing_read, named.is_empty()) {
+            (true, true) => Some("no connection could be read".to_string()),
+            (true, false) => Some(format!("no connection could be read; passed over: {}", named.join(", "))),
+            (false, false) => Some(format!("passed over: {}", named.join(", "))),
+            (false, true) => None,
+        }
+    }
+
     /// The lines about packets that were passed over.
     pub fn passed_over(&mut self) -> io::Result<&mut SpooledTempFile> {
         self.passed_over.seek(SeekFrom::Start(0))?;
@@ -140,4 +154,9 @@ impl Connection {
             _ => None,
         }
     }
+}
+
+fn named(other: &Other) -> String {
+    let name = if other.name == "-" { "of another protocol" } else { other.name.as_str() };
+    format!("{} packets {name}", grouped(other.packets))
 }

@@ -3,6 +3,7 @@
 
 use std::io::{self, BufRead, Write};
 
+use programs::{temporary_failure, Failure, Output};
 use reports::{finding_in, is_fault, read_line, Capture, Flow, Form, Line, Opening, LONGEST_LINE};
 
 use crate::original::{Became, Original};
@@ -15,6 +16,23 @@ pub enum Broken {
     Write(io::Error),
     /// What is said of packets that were passed over could not be read back.
     Temporary(io::Error),
+}
+
+impl Broken {
+    /// Why there is none in this output.
+    pub fn failure(&self, output: &Output) -> Failure {
+        match self {
+            Broken::NoReport => no_report(),
+            Broken::Read(error) => Failure::from_io("h2audit", error),
+            Broken::Write(error) => output.failure(error),
+            Broken::Temporary(error) => temporary_failure(error),
+        }
+    }
+}
+
+/// What h2audit said is none.
+pub fn no_report() -> Failure {
+    Failure::Io("h2audit: what it said is no report".to_string())
 }
 
 /// Writes is what the system does with a report; what is read has errors of its own.
