@@ -1,13 +1,20 @@
-"""Tests bench/measure.py and measure_fleet.py with programs that stand in for those that they measure:
-tools/tests/bench_test.py
+"""Tests the shapes of bench/generate.py, and bench/measure.py, measure_fleet.py and measure_why.py with programs that
+stand in for those that they measure: tools/tests/bench_test.py
 """
 
+import collections
 import os
 import pathlib
 import subprocess
 import sys
 import tempfile
 import unittest
+
+from hpack import Decoder
+
+from bench.generate import TALKS
+from bench.talks import HEADERS
+from bench.wire import PREFACE
 
 TOP = pathlib.Path(__file__).resolve().parents[2]
 COUNTS = "#!/bin/sh\nwc -c\n"
@@ -19,6 +26,70 @@ AUDITS = """#!/bin/sh
 [ $# = 2 ] && cat > /dev/null
 echo capture records 0 segments 0 snapped 0 not-ipv4 0 fragments 0 not-tcp 0 refused 0
 """
+
+
+Side = tuple[bytes, bytes]  # who sends, and who receives
+
+
+def generated(shape: str, megabytes: float) -> bytes:
+    with tempfile.TemporaryDirectory() as folder:
+        path = pathlib.Path(folder, "capture.pcap")
+        words = [sys.executable, "-m", "bench.generate", shape, str(megabytes), str(path)]
+        subprocess.run(words, cwd=TOP, check=True)
+        return path.read_bytes()
+
+
+def sent(capture: bytes) -> dict[Side, bytearray]:
+    """What each side of each connection sends, where all comes in order."""
+    sides: dict[Side, bytearray] = {}
+    at = 24
+    while at < len(capture):
+        end = at + 16 + int.from_bytes(capture[at + 8 : at + 12], "little")
+        packet = capture[at + 16 : end]
+        source, destination = packet[26:30] + packet[34:36], packet[30:34] + packet[36:38]
+        payload = packet[34 + 4 * (packet[46] >> 4) :]
+        sides.setdefault((source, destination), bytearray()).extend(payload)
+        at = end
+    return sides
+
+
+def frames(octets: bytearray) -> list[tuple[int, int, bytes]]:
+    """Kind, flags and payload of each frame."""
+    found, at = [], octets.startswith(PREFACE) * len(PREFACE)
+    while at + 9 <= len(octets):
+        end = at + 9 + int.from_bytes(octets[at : at + 3], "big")
+        found.append((octets[at + 3], octets[at + 4], bytes(octets[at + 9 : end])))
+        at = end
+    return found
+
+
+class Shapes(unittest.TestCase):
+    def test_same_bytes(self) -> None:
+        """Each process makes the same, of the size that is asked for but for what ends the last turn."""
+        for shape in TALKS:
+            made = generated(shape.__name__, 0.3)
+            self.assertEqual(made, generated(shape.__name__, 0.3), shape.__name__)
+            self.assertTrue(300000 <= len(made) < 500000, (shape.__name__, len(made)))
+
+    def test_field_blocks(self) -> None:
+        """A decoder of each side reads them, with what else a request has."""
+        for shape, wanted in (("web", {":path", "cookie", "etag"}), ("api", {":path", "traceparent", "grpc-status"})):
+            names: collections.Counter[str] = collections.Counter()
+            for octets in sent(generated(shape, 0.5)).values():
+                decoder = Decoder()
+                for kind, flags, payload in frames(octets):
+                    if kind == HEADERS:
+                        names.update(name for name, _ in decoder.decode(payload[5 if flags & 0x20 else 0 :]))
+            self.assertLessEqual(wanted, set(names))
+            self.assertGreater(names[":path"], 100)
+
+    def test_many_frames(self) -> None:
+        """What decides how long a shape takes, of each megabyte: frames, and HEADERS among them."""
+        for shape, count, headers in (("mixed", 19100, 800), ("many", 3700, 1200), ("grpc", 6000, 2000),
+                                      ("requests", 9100, 6100), ("web", 900, 440), ("api", 6000, 2650)):  # fmt: skip
+            kinds = [kind for octets in sent(generated(shape, 1)).values() for kind, _, _ in frames(octets)]
+            for wanted, found in ((count, len(kinds)), (headers, kinds.count(HEADERS))):
+                self.assertAlmostEqual(found / wanted, 1, delta=0.05, msg=f"{shape}: {found}")
 
 
 class Measure(unittest.TestCase):
