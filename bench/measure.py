@@ -48,7 +48,7 @@ class Programs(NamedTuple):
 
 
 def refuse(why: str) -> NoReturn:
-    print("measure.py: " + why, file=sys.stderr)
+    print(os.path.basename(sys.argv[0]) + ": " + why, file=sys.stderr)
     sys.exit(2)
 
 

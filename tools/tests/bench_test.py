@@ -26,8 +26,15 @@ AUDITS = """#!/bin/sh
 [ $# = 2 ] && cat > /dev/null
 echo capture records 0 segments 0 snapped 0 not-ipv4 0 fragments 0 not-tcp 0 refused 0
 """
-
-
+# Answers for h2audit-why, h2audit-any and the page.
+ANSWERS = """#!/bin/sh
+[ "$3" = --json ] && echo '{}' || echo '3 connections, 2 requests, 1.234 s. No rule was broken.'
+"""
+AUDITS_ANY = """#!/bin/sh
+echo capture records 0 segments 0 snapped 0 not-ipv4 0 fragments 0 not-tcp 0 refused 0
+for count in 5 7; do echo connection 1 client 1.2.3.4:1 server 1.2.3.4:80 record 1 http2 frames $count; done
+"""
+SHOWS = '#!/bin/sh\n: > "$3"\n'
 Side = tuple[bytes, bytes]  # who sends, and who receives
 
 
@@ -166,6 +173,50 @@ class Measure(unittest.TestCase):
             "round",
             "1",
         )
+
+
+class Why(unittest.TestCase):
+    def setUp(self) -> None:
+        folder = tempfile.TemporaryDirectory()
+        self.addCleanup(folder.cleanup)
+        self.folder = pathlib.Path(folder.name)
+        for name, text in (("why", ANSWERS), ("any", AUDITS_ANY), ("page", SHOWS), ("tshark", COUNTS)):
+            self.write(name, text)
+
+    def write(self, name: str, text: str) -> None:
+        path = self.folder / name
+        path.write_text(text)
+        path.chmod(0o755)
+
+    def run_with(self, *words: str) -> subprocess.CompletedProcess[str]:
+        named = {"--why": "why", "--any": "any", "--h2audit": "any", "--page": "page", "--tshark": "tshark"}
+        words = tuple(str(word) for name, file in named.items() for word in (name, self.folder / file)) + words
+        words = (sys.executable, "-m", "bench.measure_why", *words, "--runs", "1", "--shapes", "web")
+        return subprocess.run(words, cwd=TOP, capture_output=True, text=True)
+
+    def test_rows(self) -> None:
+        """A line for each size, from the second on with how the time grew; and what an earlier program took."""
+        run = self.run_with("--before", str(self.folder / "why"), "0.1", "0.2")
+        self.assertEqual("", run.stderr)
+        lines = [line.split() for line in run.stdout.splitlines()[2:]]
+        self.assertEqual([["web", "2", "12"]] * 2, [[line[0], *line[2:4]] for line in lines])
+        self.assertEqual([False, True], ["growth" in line for line in lines])
+        self.assertEqual([True] * 2, ["before" in line for line in lines])
+        self.assertEqual(run.returncode, int(any("ABOVE:" in line for line in lines)))
+
+    def test_above(self) -> None:
+        """What takes too long is named."""
+        self.write("why", ANSWERS + "i=0; while [ $i -lt 100000 ]; do i=$((i + 1)); done\n")
+        run = self.run_with("0.1")
+        self.assertEqual((1, ""), (run.returncode, run.stderr))
+        self.assertRegex(run.stdout.splitlines()[2], "  ABOVE: why, steps.*, tshark")
+
+    def test_refused(self) -> None:
+        self.write("why", "#!/bin/sh\necho no memory >&2; exit 5\n")
+        why = self.folder / "why"
+        run = self.run_with("0.1")
+        self.assertEqual(2, run.returncode)
+        self.assertRegex(run.stderr, f"measure_why.py: {why} --h2audit .* answers 5: no memory\n")
 
 
 class Fleet(unittest.TestCase):
