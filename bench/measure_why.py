@@ -21,6 +21,7 @@ import subprocess
 import sys
 import tempfile
 import time
+from collections.abc import Iterable
 from typing import NamedTuple
 
 from bench.generate import SHAPES
@@ -29,9 +30,12 @@ from bench.measure import Run, best, generate, refuse
 TOP = pathlib.Path(__file__).resolve().parents[1]
 PAGE = TOP / "tools" / "h2audit-page"
 AUDITED = (0, 1)
-HEADING = """\
-                                   any      why                       json          page          tshark  megabytes
-shape          MB requests   frames       s       s x any goal steps  x why goal       s   goal       s    any    why    own   page"""  # noqa: E501
+# Of the table, with their widths.
+COLUMNS = {
+    "shape": 11, "MB": 6, "requests": 8, "frames": 9,
+    "any s": 7, "why s": 7, "x any": 6, "goal": 4, "steps": 6, "json x": 6, "goal ": 5,
+    "page s": 7, " goal": 6, "tshark s": 8, "any MB": 6, "why MB": 6, "own MB": 6, "page MB": 7,
+}  # fmt: skip
 
 
 class Goal(NamedTuple):
@@ -187,16 +191,14 @@ class Row(NamedTuple):
         return [name for name, is_above in judged.items() if is_above]
 
     def __str__(self) -> str:
-        runs, goal = self.runs, self.goal
-        times = (runs.any.processor, runs.why.processor, self.times, shown(goal.why), self.steps, self.json, goal.json)
-        rest = (runs.page.processor, shown(goal.page and self.most_of_page), runs.tshark.processor)
-        peaks = (runs.any.peak, runs.why.peak, self.found.own, runs.page.peak)
-        text = "%-11s %5.4g %8d %8d" % (self.shape, self.size, self.found.requests, self.found.frames)
-        text += " %7.3f %7.3f %5.2f %4s %5.2f  %5.2f %4.1f %7.2f %6s %7.2f %6.0f %6.0f %6.0f %6.0f" % (
-            *times,
-            *rest,
-            *peaks,
-        )
+        runs, goal, what = self.runs, self.goal, self.found
+        words = [self.shape, "%.4g" % self.size, str(what.requests), str(what.frames)]
+        words += ["%.3f" % runs.any.processor, "%.3f" % runs.why.processor]
+        words += ["%.2f" % self.times, shown(goal.why), "%.2f" % self.steps, "%.2f" % self.json, shown(goal.json)]
+        words += ["%.2f" % runs.page.processor, shown(goal.page and self.most_of_page)]
+        words += ["%.2f" % runs.tshark.processor]
+        words += ["%.0f" % peak for peak in (runs.any.peak, runs.why.peak, what.own, runs.page.peak)]
+        text = in_columns(words)
         if self.growth is not None:
             text += "  growth %.2f" % self.growth
         if runs.before:
@@ -204,8 +206,12 @@ class Row(NamedTuple):
         return text + ("  ABOVE: " + ", ".join(self.above()) if self.above() else "  within")
 
 
+def in_columns(words: Iterable[str]) -> str:
+    return " ".join(word.rjust(width) for word, width in zip(words, COLUMNS.values()))
+
+
 def shown(goal: float) -> str:
-    return "%.4g" % goal if goal else "-"
+    return "%.3g" % goal if goal else "-"
 
 
 def program(name: str) -> str:
@@ -238,7 +244,7 @@ def main() -> int:
     programs = Programs(asked.why, asked.any, asked.h2audit, asked.page, asked.tshark, asked.before)
     # The page finds by these what it runs.
     os.environ.update(H2AUDIT=programs.h2audit, H2AUDIT_ANY=programs.any, H2AUDIT_WHY=programs.why)
-    print(HEADING)
+    print(in_columns(COLUMNS))
     above = False
     for shape in asked.shapes:
         before: Row | None = None

@@ -198,7 +198,7 @@ class Why(unittest.TestCase):
         """A line for each size, from the second on with how the time grew; and what an earlier program took."""
         run = self.run_with("--before", str(self.folder / "why"), "0.1", "0.2")
         self.assertEqual("", run.stderr)
-        lines = [line.split() for line in run.stdout.splitlines()[2:]]
+        lines = [line.split() for line in run.stdout.splitlines()[1:]]
         self.assertEqual([["web", "2", "12"]] * 2, [[line[0], *line[2:4]] for line in lines])
         self.assertEqual([False, True], ["growth" in line for line in lines])
         self.assertEqual([True] * 2, ["before" in line for line in lines])
@@ -209,7 +209,7 @@ class Why(unittest.TestCase):
         self.write("why", ANSWERS + "i=0; while [ $i -lt 100000 ]; do i=$((i + 1)); done\n")
         run = self.run_with("0.1")
         self.assertEqual((1, ""), (run.returncode, run.stderr))
-        self.assertRegex(run.stdout.splitlines()[2], "  ABOVE: why, steps.*, tshark")
+        self.assertRegex(run.stdout.splitlines()[1], "  ABOVE: why, steps.*, tshark")
 
     def test_refused(self) -> None:
         self.write("why", "#!/bin/sh\necho no memory >&2; exit 5\n")
