@@ -113,12 +113,13 @@ class Programs(NamedTuple):
 
 def said(words: list[str]) -> tuple[str, float]:
     """What a program prints, and the peak of its own process. It has to end as one that has audited."""
-    peak = 0.0
+    peak, pause = 0.0, 0.003
     with tempfile.TemporaryFile() as output:
         child = subprocess.Popen(words, stdin=subprocess.DEVNULL, stdout=output, stderr=subprocess.PIPE)
         while child.poll() is None:
             peak = max(peak, peak_of(child.pid))
-            time.sleep(0.003)
+            time.sleep(pause)
+            pause = min(1.05 * pause, 0.1)
         assert child.stderr
         why = child.stderr.read().decode(errors="replace").strip()
         if child.returncode not in AUDITED:
