@@ -134,12 +134,12 @@ class Course(unittest.TestCase):
                 self.assertEqual(list((machine.folder / "temporary").iterdir()), [])
 
     def test_collected(self) -> None:
-        """A job's course tells the same."""
+        """A job's file tells the same."""
         with Machine([], None) as machine:
             for name, text in (
                 ("path", "/captures/a"),
                 ("report", HEAD + OF_SIX),
-                ("course", COURSE),
+                ("last-packets", LAST_PACKETS),
                 ("status", "0 1\n"),
             ):
                 (machine.folder / "jobs").mkdir(exist_ok=True)
