@@ -245,7 +245,7 @@ class Names(OnMachine):
         self.instead("ulimit -v 100000")
         self.assertEqual(self.run_fleet("--retries", "0"), 3)
         rows = self.machine.ask(f"SELECT {ASKED} FROM captures")
-        self.assertEqual(rows, [("partial", 0, "no requests: out-of-memory", 1, None)])
+        self.assertEqual(rows, [("partial", 0, "no requests: signal 6", 1, None)])
         self.check_nothing_left()
 
     def test_taken_away(self) -> None:
