@@ -1,72 +1,97 @@
-"""What h2audit-why tells of a capture that was imported: requests, and the certainty of faults, as rows.
+"""What h2audit-why tells of a capture: requests, and the certainty of faults, as rows.
 
-Its connections have the numbers of an import, so each capture is imported. From one report of h2audit with its credits
-come both: the report of the original, which has none, and what h2audit-why tells.
+One run of it, with one import and one audit, also gives the report that h2audit-any prints.
 
 A worker needs this module, which is sent to it: it imports the standard library, and what is sent beside it.
 """
 
 import os
 import tempfile
-from collections.abc import Iterator
-from contextlib import contextmanager
-from typing import IO
 
 from h2audit.fleet import ends, programs
-from h2audit.fleet.tasks import OPEN_STALL, WHY, Answer, Order, holds, verdict
+from h2audit.fleet.tasks import (
+    CHANGED,
+    IMPORT,
+    TOO_LARGE,
+    WHY,
+    WRITE_FAILED,
+    Answer,
+    Order,
+    by_import,
+    kept,
+    may_be_large,
+    no_room,
+    on_capture,
+    run_on,
+    verdict,
+    while_unchanged,
+    words_of_keys,
+)
 
 NAMED, UNNAMED = "named", "unnamed"
-# What stands in the folder of an import, by the names under which h2audit-why looks for it.
-MADE, MAP, COURSE, REPORT = (f"imported.{kind}" for kind in ("pcap", "map", "course", "report"))
 NO_REQUESTS = "no requests: "
-# The status of h2audit-why where python3-hpack is missing.
-MISSING = 7
-# Of the lines that h2audit shows with --frames alone.
-CREDITS = (b" connection-credit stream ", b" stream-credit stream ")
 
 
 def are_wanted(order: Order) -> bool:
     return bool(order.get("requests"))
 
 
-def words_of_audit(order: Order) -> list[str]:
-    """The options of h2audit: h2audit-why needs the credits."""
-    return ["--workers", "1", *["--frames"] * are_wanted(order)]
+def answered(path: bytes, order: Order) -> Answer:
+    """The audit of a capture with its requests; or says that it is, or may be, a large one."""
+    return on_capture(path, lambda file, _: answered_file(file, order))
 
 
-@contextmanager
-def report_file(folder: str, order: Order) -> Iterator[IO[bytes]]:
-    """Where the report of what was made goes: into the folder of the import where h2audit-why reads it too."""
-    if not are_wanted(order):
-        with tempfile.TemporaryFile() as output:
-            yield output
-        return
-    with open(os.path.join(folder, REPORT), "w+b") as output:
-        yield output
+def answered_all(paths: list[bytes], order: Order) -> list[Answer]:
+    return [answered(path, order) for path in paths]
 
 
-def without_credits(report: IO[bytes], output: IO[bytes]) -> None:
-    """The same report as h2audit writes it without --frames."""
-    report.seek(0)
-    output.writelines(line for line in report if not any(words in line for words in CREDITS))
-    output.flush()
+def answered_file(file: int, order: Order) -> Answer:
+    if may_be_large(file, order):
+        return {"outcome": "import"}
+    answer = while_unchanged(file, lambda name: told(file, name, order))
+    if answer["reason"] == TOO_LARGE and order["split_above"]:
+        return {"outcome": "import"}
+    if answer["outcome"] == "failed" and answer["reason"] != CHANGED:
+        return without_requests(file, answer, order)
+    return answer
 
 
-def ends_of(folder: str, report: IO[bytes]) -> Answer:
-    """When connections with an open stall had their last packets, by the course of the import."""
-    if not holds(report, OPEN_STALL):
-        return {}
-    with open(os.path.join(folder, COURSE), "rb") as course:
-        return {"ends": ends.by_course(course, ends.with_open_stalls(report))}
+def told(file: int, name: str, order: Order) -> Answer:
+    """The report of a capture and its requests, where both are there."""
+    with tempfile.TemporaryDirectory(prefix="h2audit-fleet-", dir=order.get("scratch")) as folder:
+        report, last_packets = (os.path.join(folder, each) for each in ("report", "last-packets"))
+        words = [WHY, *words_of_keys(order), *words_of_names(order), "--workers", "1", "--rows", "-"]
+        words += ["--report", report, "--last-packets", last_packets, name]
+        with tempfile.TemporaryFile() as rows:
+            # The report is the one of h2audit-any.
+            answer = run_on(words, file, rows, order, is_fed=False) | {"program": IMPORT}
+            if answer["outcome"] != "audited":
+                return answer | ({"reason": no_room()} if answer["reason"] == WRITE_FAILED else {})
+            with open(report, "rb") as text, open(last_packets, "rb") as lines:
+                return answer | kept(text) | {"ends": ends.by_lines(lines), "rows": programs.report_of(rows).packed}
 
 
-def rows_of(folder: str, order: Order) -> Answer:
-    """The rows that h2audit-why writes of an import and its report. Where there are none, the report stands."""
-    words = [WHY, "--rows", folder, *["--no-requests"] * (order.get("requests") == UNNAMED)]
+def without_requests(file: int, untold: Answer, order: Order) -> Answer:
+    """The report alone, of which no requests can be told. Another try may."""
+    answer = by_import(file, order)
+    return answer | without(untold) if answer["outcome"] == "audited" else answer
+
+
+def without(untold: Answer) -> Answer:
+    """What a report is without the requests, which another try may tell."""
+    return {"outcome": "partial", "reason": f"{NO_REQUESTS}{untold['reason']}", "is_worth_a_try": True}
+
+
+def words_of_names(order: Order) -> list[str]:
+    return ["--no-requests"] * (order.get("requests") == UNNAMED)
+
+
+def rows_of(file: int, report: str, order: Order) -> Answer:
+    """The rows that h2audit-why writes of a capture and a report on its import. Where there are none, that stands."""
+    words = [WHY, *words_of_keys(order), *words_of_names(order), "--rows", "-", "--audit", report]
     with tempfile.TemporaryFile() as output:
-        answer = verdict(programs.run(words, None, output, order["timeout"]))
+        run = programs.run([*words, f"/dev/fd/{file}"], file, output, order["timeout"], is_fed=False)
+        answer = verdict(run)
         if answer["outcome"] == "audited":
             return {"rows": programs.report_of(output).packed}
-    # Another try brings no library.
-    is_lucky = answer["status"] != MISSING
-    return {"outcome": "partial", "reason": f"{NO_REQUESTS}{answer['reason']}", "is_worth_a_try": is_lucky}
+    return without(answer)

@@ -7,7 +7,7 @@ A folder has for each capture, under one name of any kind:
     NAME.sha256   the digest of its bytes; may be missing
     NAME.report   the report
     NAME.error    what was said on standard error
-    NAME.course   where a stall is open, the course that h2audit-import wrote; may be missing
+    NAME.last-packets  what --last-packets wrote; may be missing
     NAME.status   the status and the seconds that it took; written last, so what has none did not come to its end
 """
 
@@ -16,7 +16,6 @@ import re
 from collections.abc import Iterator
 from contextlib import suppress
 from pathlib import Path
-from typing import BinaryIO
 
 from h2audit.fleet import ends, programs, tasks
 from h2audit.fleet.tasks import Answer
@@ -48,15 +47,15 @@ def report_of(named: Path) -> Answer:
     """The report of a job, which may have lost it since."""
     try:
         with os.fdopen(tasks.opened(os.fsencode(named.with_suffix(".report"))), "rb") as report:
-            return tasks.kept(report) | ends_of(named, report)
+            return tasks.kept(report) | ends_of(named)
     except (tasks.Unread, OSError) as why:
         return {"outcome": "failed", "status": None, "reason": f"bad-report: {tasks.named(why)}"}
 
 
-def ends_of(named: Path, report: BinaryIO) -> Answer:
-    """When connections with an open stall had their last packets, as far as the course tells."""
-    with suppress(OSError), open(named.with_suffix(".course"), "rb") as course:
-        return {"ends": ends.by_course(course, ends.with_open_stalls(report))}
+def ends_of(named: Path) -> Answer:
+    """When connections with an open stall had their last packets, as far as the job tells."""
+    with suppress(OSError), open(named.with_suffix(".last-packets"), "rb") as lines:
+        return {"ends": ends.by_lines(lines)}
     return {}
 
 

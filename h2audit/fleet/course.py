@@ -156,7 +156,7 @@ class Course:
         for capture in captures:
             capture.tries += 1
         paths = [capture.found.path for capture in captures]
-        work = large.answered_all if answers.are_wanted(self.order) else tasks.audit_all
+        work = answers.answered_all if answers.are_wanted(self.order) else tasks.audit_all
         future = self.client.submit(work, paths, self.order, priority=USUAL)
         self.fly(future, partial(self.after_all, captures))
 
@@ -164,7 +164,7 @@ class Course:
         capture.tries += 1
         path = capture.found.path
         if not capture.is_large:
-            work = large.answered if answers.are_wanted(self.order) else tasks.audit
+            work = answers.answered if answers.are_wanted(self.order) else tasks.audit
             self.submit(capture, self.after_whole, work, path, self.order)
             return
         self.large += 1
@@ -285,7 +285,7 @@ class Course:
             self.import_first(capture)
         elif answer["outcome"] == "split":
             capture.seconds += answer["seconds"]
-            if capture.is_imported and not answers.are_wanted(self.order):
+            if capture.is_imported:
                 # Its parts take its room.
                 with suppress(OSError):
                     os.unlink(capture.divided["made"])

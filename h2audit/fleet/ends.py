@@ -1,7 +1,7 @@
 """When connections had their last packets: what an open stall lasts up to.
 
-A report has no such time. Of a plain capture a walk over its packets tells it, of any other the course that an import
-writes beside what it makes.
+A report has no such time. Of a plain capture a walk over its packets tells it, of any other what h2audit-any or
+h2audit-why writes beside the report; or of a large one the course that h2audit-import writes.
 
 A worker needs this module, which is sent to it: it imports the standard library and what is sent beside it.
 """
@@ -24,6 +24,7 @@ NANOS = 10**9
 # The magic numbers of captures in nanoseconds; others are in microseconds.
 OF_NANOSECONDS = (b"\x4d\x3c\xb2\xa1", b"\xa1\xb2\x3c\x4d")
 TCP_PORTS = 4
+FIRST_LINE, LAST = b"h2audit-last-packets 1", re.compile(rb"connection (\d{1,20}) last (\d{1,20})\n")
 FIRST_COURSE = b"h2audit-course 1"
 PLACE = rb"file (\d{1,20}) packet (\d{1,20}) time (\d{1,20})\n"
 OF_COURSE = re.compile(rb"connection (\d{1,20}) client (\S+) server (\S+)\n")
@@ -118,6 +119,17 @@ def ends_and_ports_of(datagram: bytes) -> bytes:
         return b""
     at = 4 * (datagram[0] & 15)
     return datagram[12:20] + datagram[at : at + TCP_PORTS]
+
+
+# An import
+
+
+def by_lines(lines: Iterable[bytes]) -> Ends:
+    """The last packet of each connection with an open stall, as h2audit-any writes it beside its report."""
+    lines = iter(lines)
+    if next(lines, b"").rstrip(b"\n") != FIRST_LINE:
+        return {}
+    return {int(found[1]): int(found[2]) for line in lines if (found := LAST.fullmatch(line))}
 
 
 # The course of an import

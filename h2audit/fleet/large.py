@@ -1,8 +1,4 @@
-"""Tasks of captures that stand in a folder for a while, imported: those whose requests are entered, and large ones.
-
-    answered      the audit of a small capture with its requests
-
-A large one is imported first where it has to be, split, audited in parts, and merged:
+"""Tasks of large captures: each is imported first where it has to be, split, audited in parts, and merged.
 
     import_first  the import of a capture that may be large, into a folder that all workers share
     split         a large capture into parts, in such a folder
@@ -18,14 +14,18 @@ import os
 import shutil
 import tempfile
 import time
+from collections.abc import Iterator
+from contextlib import contextmanager
 from typing import IO
 
-from h2audit.fleet import answers, programs
+from h2audit.fleet import answers, ends, programs
 from h2audit.fleet.tasks import (
     AUDIT,
+    CHANGED,
     IMPORT,
     IMPORT_ALONE,
     MERGE,
+    OPEN_STALL,
     REFUSED,
     SPLIT,
     Answer,
@@ -33,19 +33,23 @@ from h2audit.fleet.tasks import (
     Unread,
     ends_of,
     has_more,
+    holds,
     is_imported,
     kept,
-    may_be_large,
     named,
     on_capture,
     opened,
     parts_of,
     run_on,
+    state_of,
     verdict,
     while_unchanged,
     words_of_keys,
     worker_name,
 )
+
+# What stands in the folder of an import.
+MADE, MAP, COURSE, REPORT = (f"imported.{kind}" for kind in ("pcap", "map", "course", "report"))
 
 
 def import_first(path: bytes, folder: str, order: Order) -> Answer:
@@ -54,9 +58,8 @@ def import_first(path: bytes, folder: str, order: Order) -> Answer:
 
 
 def import_file(file: int, name: str, folder: str, order: Order) -> Answer:
-    made, map_file, course = (os.path.join(folder, each) for each in (answers.MADE, answers.MAP, answers.COURSE))
-    words = [IMPORT_ALONE, *words_of_keys(order), "-o", made, "-m", map_file]
-    words += [*["--course", course] * answers.are_wanted(order), name]
+    made, map_file, course = (os.path.join(folder, each) for each in (MADE, MAP, COURSE))
+    words = [IMPORT_ALONE, *words_of_keys(order), "-o", made, "-m", map_file, "--course", course, name]
     with tempfile.TemporaryFile() as output:
         answer = run_on(words, file, output, order, is_fed=False) | {"program": IMPORT}
     if answer["outcome"] != "audited":
@@ -109,7 +112,7 @@ def part(folder: str, number: int, order: Order) -> Answer:
     answer: Answer = {"outcome": "failed", "status": None, "worker": worker_name()}
     try:
         with open(name + ".report", "w+b") as output:
-            words = [AUDIT, *answers.words_of_audit(order), name + ".pcap"]
+            words = [AUDIT, "--workers", "1", name + ".pcap"]
             run = programs.run(words, None, output, order["timeout"])
     except (programs.NoProgram, OSError) as why:
         return answer | {"reason": named(why)}
@@ -126,8 +129,8 @@ def merge(path: bytes, divided: Answer, order: Order) -> Answer:
     whole |= {"program": IMPORT if "map" in divided else MERGE, "worker": worker_name()}
     answer: Answer = {"outcome": "failed", "status": None}
     try:
-        with answers.report_file(folder_of(divided), order) as output:
-            answer |= verdict(programs.run(words_of_merge(divided, order), None, output, order["timeout"]))
+        with report_file(folder_of(divided), order) as output:
+            answer |= verdict(programs.run(words_of_merge(divided), None, output, order["timeout"]))
             if answer["outcome"] == "audited":
                 answer |= after_merge(path, divided, output, order)
     except (Unread, programs.NoProgram, OSError) as why:
@@ -135,15 +138,26 @@ def merge(path: bytes, divided: Answer, order: Order) -> Answer:
     return whole | answer | {"seconds": time.monotonic() - begin}
 
 
+@contextmanager
+def report_file(folder: str, order: Order) -> Iterator[IO[bytes]]:
+    """Where the report of what was made goes: into the folder of the import where h2audit-why reads it too."""
+    if not answers.are_wanted(order):
+        with tempfile.TemporaryFile() as output:
+            yield output
+        return
+    with open(os.path.join(folder, REPORT), "w+b") as output:
+        yield output
+
+
 def folder_of(divided: Answer) -> str:
     """The folder of an import, or of parts where there is none."""
     return str(os.path.dirname(divided["map"]) if "map" in divided else divided["folder"])
 
 
-def words_of_merge(divided: Answer, order: Order) -> list[str]:
+def words_of_merge(divided: Answer) -> list[str]:
     """What gives the report: the merge of the parts that stand, or the audit of what an import made."""
     if divided["outcome"] == "imported":
-        return [AUDIT, *answers.words_of_audit(order), divided["made"]]
+        return [AUDIT, "--workers", "1", divided["made"]]
     return [MERGE, *["--standing"] * bool(divided["reason"]), divided["folder"]]
 
 
@@ -158,7 +172,7 @@ def after_merge(path: bytes, divided: Answer, report: IO[bytes], order: Order) -
         if has_more(file, order, answer):
             return {"outcome": "import"}
         more = {"outcome": "partial", "reason": divided["reason"]} if divided["reason"] else {}
-        return answer | ends_of(file, MERGE, report, order) | more
+        return answer | ends_of(file, report) | more
     finally:
         os.close(file)
 
@@ -173,38 +187,30 @@ def of_refused_parts(divided: Answer, answer: Answer) -> Answer:
 
 def of_original(file: int, divided: Answer, report: IO[bytes], order: Order) -> Answer:
     """The report of what an import made, as one about the original, and its requests where they are wanted."""
-    with tempfile.TemporaryFile() as plain, tempfile.TemporaryFile() as output:
-        if answers.are_wanted(order):
-            answers.without_credits(report, plain)
-        source = (plain if answers.are_wanted(order) else report).fileno()
-        os.lseek(source, 0, os.SEEK_SET)
-        answer = verdict(programs.run([IMPORT, "--map", divided["map"]], source, output, order["timeout"]))
+    with tempfile.TemporaryFile() as output:
+        os.lseek(report.fileno(), 0, os.SEEK_SET)
+        answer = verdict(programs.run([IMPORT, "--map", divided["map"]], report.fileno(), output, order["timeout"]))
         if answer["outcome"] != "audited":
             return answer
-        answer |= kept(output)
-        if not answers.are_wanted(order):
-            return answer | ends_of(file, IMPORT, output, order)
         folder = folder_of(divided)
-        return answer | answers.ends_of(folder, output) | answers.rows_of(folder, order)
+        answer |= kept(output) | ends_by_import(folder, output)
+    return answer | (rows_of(file, divided, folder, order) if answers.are_wanted(order) else {})
 
 
-def answered(path: bytes, order: Order) -> Answer:
-    """The audit of a capture with its requests; or says that it is, or may be, a large one."""
-    return on_capture(path, lambda file, known: answered_file(path, file, known, order))
+def ends_by_import(folder: str, report: IO[bytes]) -> Answer:
+    """When connections with an open stall had their last packets, by the course of the import."""
+    if not holds(report, OPEN_STALL):
+        return {}
+    with open(os.path.join(folder, COURSE), "rb") as course:
+        return {"ends": ends.by_course(course, ends.with_open_stalls(report))}
 
 
-def answered_all(paths: list[bytes], order: Order) -> list[Answer]:
-    return [answered(path, order) for path in paths]
-
-
-def answered_file(path: bytes, file: int, known: Answer, order: Order) -> Answer:
-    if may_be_large(file, order):
-        return {"outcome": "import"}
-    with tempfile.TemporaryDirectory(prefix="h2audit-fleet-", dir=order.get("scratch")) as folder:
-        imported = while_unchanged(file, lambda name: import_file(file, name, folder, order))
-        if parts_of(imported.get("made_size"), order):
-            return {"outcome": "import"}
-        return merge(path, known | imported, order) if imported["outcome"] == "imported" else imported
+def rows_of(file: int, divided: Answer, folder: str, order: Order) -> Answer:
+    """What h2audit-why tells of the capture and its report, where it is still the capture that was imported."""
+    answer = answers.rows_of(file, os.path.join(folder, REPORT), order)
+    if state_of(file) != (divided["size"], divided["modified"]):
+        return {"outcome": "failed", "status": None, "reason": CHANGED}
+    return answer
 
 
 def in_parts(path: bytes, parts: int, order: Order) -> Answer:
@@ -228,7 +234,7 @@ def imported_in_parts(path: bytes, scratch: str, folder: str, order: Order) -> A
     if not parts:
         return answer
     divided = split_made(answer, folder, parts, order)
-    if divided["outcome"] == "split" and not answers.are_wanted(order):
+    if divided["outcome"] == "split":
         os.unlink(answer["made"])
     return divided
 

@@ -24,7 +24,7 @@ from h2audit.fleet import ends, programs, sniff
 Answer = dict[str, Any]
 
 AUDIT, IMPORT, SPLIT, MERGE = "h2audit", "h2audit-any", "h2audit-split", "h2audit-merge"
-# What h2audit-any does in one, for an import that stands for a while; and what tells of its requests.
+# An import that stands for a while; and what tells of requests.
 IMPORT_ALONE, WHY = "h2audit-import", "h2audit-why"
 NO_FAULT, FAULTS, REFUSED, IO_FAILED, NO_MEMORY, NOTHING_READ = 0, 1, 3, 4, 5, 6
 MOST_PARTS = 500
@@ -33,7 +33,7 @@ USUAL_GROWTH = 10
 TOO_LARGE = "too-large"
 # Refusals of h2audit where an import may read the file, or says better what it is.
 OF_ANOTHER_FORM = ("bad-magic", "bad-version", "link-type")
-WRITE_FAILED = "write-failed"
+WRITE_FAILED, CHANGED = "write-failed", "changed"
 NOTHING_COULD_BE_READ = "no connection could be read"
 # The least and the most nanoseconds since 1970 that a column of the database holds: from 1677 to 2262.
 FIRST_TIME, LAST_TIME = -(1 << 63), (1 << 63) - 1
@@ -179,9 +179,18 @@ def parts_of(size: int | None, order: Order) -> int:
 
 def by_import(file: int, order: Order) -> Answer:
     """The answer of the program that imports and audits. What it made may be too large for h2audit: then it says so."""
-    words = [IMPORT, *words_of_keys(order), "--workers", "1"]
-    answer = while_unchanged(file, lambda name: by_program([*words, name], file, order, is_fed=False))
+    answer = while_unchanged(file, lambda name: imported(file, name, order))
     return {"outcome": "import"} if answer["reason"] == TOO_LARGE and order["split_above"] else answer
+
+
+def imported(file: int, name: str, order: Order) -> Answer:
+    with tempfile.TemporaryDirectory(prefix="h2audit-fleet-", dir=order.get("scratch")) as folder:
+        last_packets = os.path.join(folder, "last-packets")
+        words = [IMPORT, *words_of_keys(order), "--workers", "1", "--last-packets", last_packets, name]
+        answer = by_program(words, file, order, is_fed=False)
+        with suppress(FileNotFoundError), open(last_packets, "rb") as lines:
+            answer["ends"] = ends.by_lines(lines)
+        return answer
 
 
 def words_of_keys(order: Order) -> list[str]:
@@ -196,7 +205,7 @@ def while_unchanged(file: int, work: Callable[[str], Answer]) -> Answer:
     name, before = f"/dev/fd/{file}", state_of(file)
     answer = work(name)
     if state_of(file) != before:
-        return {"outcome": "failed", "status": None, "program": IMPORT, "reason": "changed"}
+        return {"outcome": "failed", "status": None, "program": IMPORT, "reason": CHANGED}
     return answer | {"reason": answer["reason"].removesuffix(f": {name}") if answer["reason"] else None}
 
 
@@ -216,7 +225,7 @@ def by_program(words: list[str], file: int, order: Order, is_fed: bool = True) -
     with tempfile.TemporaryFile() as output:
         answer = run_on(words, file, output, order, is_fed)
         if answer["outcome"] == "audited":
-            answer |= kept(output) | ends_of(file, answer["program"], output, order)
+            answer |= kept(output) | (ends_of(file, output) if is_fed else {})
         elif answer["reason"] == WRITE_FAILED:
             answer["reason"] = no_room()
         return answer
@@ -304,27 +313,12 @@ def number_after(line: bytes, word: bytes) -> int:
 # Open stalls
 
 
-def ends_of(file: int, program: str, report: IO[bytes], order: Order) -> Answer:
-    """When the connections that have an open stall had their last packets, where the report has such a stall."""
+def ends_of(file: int, report: IO[bytes]) -> Answer:
+    """When the connections of a plain capture that have an open stall had their last packets."""
     if not holds(report, OPEN_STALL):
         return {}
-    opened = ends.with_open_stalls(report)
-    if program != IMPORT:
-        with capture_of(file) as capture:
-            return {"ends": ends.by_walk(capture, opened)}
-    return {"ends": ends_by_import(file, opened, order)}
-
-
-def ends_by_import(file: int, opened: list[ends.Opened], order: Order) -> ends.Ends:
-    """The same by the course of an import; nothing where the program that imports writes none."""
-    with tempfile.TemporaryDirectory(prefix="h2audit-fleet-", dir=order.get("scratch")) as folder:
-        course = os.path.join(folder, "course")
-        words = [IMPORT_ALONE, *words_of_keys(order), "-o", os.devnull, "--course", course, f"/dev/fd/{file}"]
-        with suppress(programs.NoProgram, OSError), tempfile.TemporaryFile() as output:
-            programs.run(words, file, output, order["timeout"], is_fed=False)
-            with open(course, "rb") as lines:
-                return ends.by_course(lines, opened)
-    return {}
+    with capture_of(file) as capture:
+        return {"ends": ends.by_walk(capture, ends.with_open_stalls(report))}
 
 
 def version() -> str:

@@ -1,10 +1,10 @@
-"""What a process of the pool does: one task of `tasks` or `large` after the other, until nobody asks any more."""
+"""What a process of the pool does: one task after the other, until nobody asks any more."""
 
 from multiprocessing.connection import Connection
 
-from h2audit.fleet import large, tasks
+from h2audit.fleet import answers, large, tasks
 
-MODULES = {module.__name__: module for module in (tasks, large)}
+MODULES = {module.__name__: module for module in (answers, large, tasks)}
 Said = tuple[object, Exception | None]
 
 

@@ -77,13 +77,13 @@ _h2audit_import() {
 
 _h2audit_any() {
     local word=${COMP_WORDS[COMP_CWORD]} before=${COMP_WORDS[COMP_CWORD - 1]}
-    local options='--key-log -k --jobs -j --sort --workers --groups --block --frames --parts --map --h2audit'
+    local options='--key-log -k --jobs -j --sort --workers --groups --block --frames --parts --last-packets --map --h2audit'
     options+=' --help -h --version -V'
     [[ $before == = ]] && before=${COMP_WORDS[COMP_CWORD - 2]}
     case $before in
     --parts) _h2audit_offer -W '2 4 8 16 32 64 128 256 500' -- "$word" ;;
     --jobs | -j) _h2audit_offer -W "$(echo {1..64})" -- "$word" ;;
-    --key-log | -k | --map | --h2audit) _h2audit_offer -f -- "$word" ;;
+    --key-log | -k | --last-packets | --map | --h2audit) _h2audit_offer -f -- "$word" ;;
     *)
         case $word in
         -*) _h2audit_offer -W "$options" -- "$word" ;;
@@ -96,15 +96,17 @@ _h2audit_any() {
 _h2audit_why() {
     local word=${COMP_WORDS[COMP_CWORD]} before=${COMP_WORDS[COMP_CWORD - 1]}
     local options='--key-log -k --sort --all --query --no-requests --json --json-lines --rows --color --width --h2audit'
-    options+=' --import --fail-on --fail-stall --require-http2 --junit --quiet --compare --ends --help -h --version -V'
+    options+=' --report --last-packets --audit --workers --fail-on --fail-stall --require-http2 --junit --quiet'
+    options+=' --compare --ends --help -h --version -V'
     [[ $word == = ]] && word=
     [[ $before == = ]] && before=${COMP_WORDS[COMP_CWORD - 2]}
     case $before in
     --fail-on) _h2audit_offer -W 'fault certain-fault stall hung tcp error gap not-audited' -- "$word" ;;
     --fail-stall) _h2audit_offer -W '10ms 100ms 1s' -- "$word" ;;
     --color) _h2audit_offer -W 'auto always never' -- "$word" ;;
-    --rows) _h2audit_offer -d -- "$word" ;;
+    --rows | --report | --last-packets | --audit) _h2audit_offer -f -- "$word" ;;
     --width) _h2audit_offer -W '80 100 120 160' -- "$word" ;;
+    --workers) _h2audit_offer -W '1 2 4 8 16 32 64' -- "$word" ;;
     *)
         case $word in
         -*) _h2audit_offer -W "$options" -- "$word" ;;

@@ -12,7 +12,7 @@ from h2audit.report import VERSION
 TOP = pathlib.Path(__file__).resolve().parents[2]
 TOOLS = TOP / "tools"
 
-PROGRAMS = ("h2audit-fleet", "h2audit-page", "h2audit-plot", "h2audit-why", "by-definition", "believed.py")
+PROGRAMS = ("h2audit-fleet", "h2audit-page", "h2audit-plot", "by-definition", "believed.py")
 # Escapes of a terminal, a line feed, a bell, a right-to-left override, and what is no UTF-8.
 HOSTILE = b"no\x1b[31m\nre\x07d\xe2\x80\xae\xff.txt"
 ESCAPED = "no\\x1b[31m\\nre\\x07d\\u202e\\udcff.txt"

@@ -11,7 +11,6 @@ from typing import NamedTuple
 from tests.captures import ACK, BEGINNINGS, PREFACE, SYN, SYN_ACK, Capture, frame_of
 
 TOP = pathlib.Path(__file__).resolve().parents[2]
-GENERATE = TOP / "bench" / "generate.py"
 
 # An acknowledgement that answers nothing: it is told and ends nothing, so frames go through the rounds.
 UNMATCHED = frame_of(["ACK"])
@@ -235,7 +234,7 @@ def write(name: str, path: pathlib.Path, quarters: int = 4) -> None:
     """Writes the capture of this name: the whole, or with one quarter a capture of a fourth of it."""
     if name in GENERATED:
         size = GENERATED[name] * quarters / 4
-        subprocess.run([sys.executable, GENERATE, name, str(size), path], check=True)
+        subprocess.run([sys.executable, "-m", "bench.generate", name, str(size), path], cwd=TOP, check=True)
         return
     make = next(each for each in OWN if each.__name__ == name)
     path.write_bytes(make(quarters).bytes)

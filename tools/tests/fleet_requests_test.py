@@ -13,13 +13,12 @@ from collections.abc import Iterable, Iterator
 from typing import Any, ClassVar
 
 from h2audit.fleet import names
-from h2audit.why.rows import LONGEST_NAME
-from h2audit.why.words import escaped
+from h2audit.report.command import printable
 from tools.tests import cost_captures, random_captures, request_captures
 from tools.tests.fleet_captures import PROGRAM, TOP, Machine, beside, by_hand
 from tools.tests.fleet_parts_test import SPLIT
 from tools.tests.fleet_parts_test import STAND_IN as SPLIT_STAND_IN
-from tools.tests.why_tools import BUILT, Json, said_of
+from tools.tests.why_tools import BUILT, LONGEST_NAME, Json, Refused, said_of
 
 CAPTURES, RANDOM = 300, 190
 SIDES = ("client", "server")
@@ -101,7 +100,7 @@ def stalled(said: Json) -> int:
 
 
 def name_of(text: str | None) -> str | None:
-    return None if text is None else escaped(text[:LONGEST_NAME])[:LONGEST_NAME]
+    return None if text is None else printable(text[:LONGEST_NAME])[:LONGEST_NAME]
 
 
 def sorted_rows(rows: list[dict[str, Any]]) -> list[list[tuple[str, Any]]]:
@@ -331,13 +330,11 @@ class Tables(unittest.TestCase):
 
 def answers(captures: list[pathlib.Path], words: list[str]) -> Iterator[tuple[pathlib.Path, Json]]:
     """What --json says of each capture that is not refused."""
-    from h2audit.report.command import Failed
-
     keys = [word for key in KEYS for word in ("-k", str(key))]
     for path in captures:
         try:
             yield path, said_of(*words, *keys, str(path))
-        except Failed:
+        except Refused:
             continue
 
 
@@ -347,12 +344,12 @@ def secrets_of(said: Iterable[Json]) -> set[bytes]:
     for one in said:
         for connection in one["connections"]:
             for request in connection["requests"]:
-                found |= {escaped(request[key]) for key in ("name", "path", "authority") if request[key]}
+                found |= {printable(request[key]) for key in ("name", "path", "authority") if request[key]}
     return {word.encode() for word in found if len(word) > 5 and not re.match(r"[\[\d]", word)}
 
 
 def name_programs() -> None:
-    """For h2audit-why in this process."""
+    """For h2audit-why, which this process runs."""
     os.environ["H2AUDIT"] = str(PROGRAM)
     os.environ.setdefault("H2AUDIT_IMPORT", str(BUILT["H2AUDIT_IMPORT"]))
 

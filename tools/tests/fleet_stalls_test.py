@@ -96,6 +96,10 @@ last 1 client file 1 packet 20 time 1795331749332005000
 last 1 server file 1 packet 21 time 1795331749332005100
 last 2 client file 1 packet 40 time 1795331749332009900
 """
+LAST_PACKETS = """h2audit-last-packets 1
+something that a later version says
+connection 7 last 1795331749332005100
+"""
 SIX = "client [2001:db8::1]:40000 server [2001:db8::2]:443"
 OF_SIX = f"connection 7 {SIX} record 3 http2 frames 5\n{FLOWS}{open_stall(1795331749332002000)}"
 
@@ -110,16 +114,18 @@ class Course(unittest.TestCase):
         self.assertEqual(ends.by_course(io.BytesIO(b"h2audit-course 2\n"), opened), {})
         self.assertEqual(ends.by_course(io.BytesIO(b""), opened), {})
 
+    def test_lines(self) -> None:
+        """What h2audit-any and h2audit-why write beside a report."""
+        self.assertEqual(ends.by_lines(io.BytesIO(LAST_PACKETS.encode())), {7: 1795331749332005100})
+        for text in (b"", b"h2audit-last-packets 2\nconnection 7 last 1\n", b"h2audit-last-packets 1\n"):
+            self.assertEqual(ends.by_lines(io.BytesIO(text)), {})
+
     def test_imported(self) -> None:
-        """The row of an imported capture has the time that the course tells; nothing where the import writes none."""
-        course = (
-            "case $* in *--course*) ;; *) exit 2 ;; esac\n"
-            'while [ "$1" != --course ]; do shift; done; cat > "$2" << END\n' + COURSE + "END\n"
-        )
-        for script, nanos in ((course, 3100), ("echo 'h2audit-import: unrecognized arguments' >&2; exit 2\n", None)):
+        """The row of an imported capture has the time that the import tells; nothing where it writes none."""
+        last_packets = 'while [ "$1" != --last-packets ]; do shift; done; cat > "$2" << END\n' + LAST_PACKETS + "END\n"
+        for script, nanos in ((last_packets, 3100), ("", None)):
             with Machine([], None) as machine:
-                for name, does in (("h2audit-any", f"cat << END\n{HEAD}{OF_SIX}END\n"), ("h2audit-import", script)):
-                    machine.script(name, does)
+                machine.script("h2audit-any", f"cat << END\n{HEAD}{OF_SIX}END\n{script}")
                 (machine.captures / "a.pcapng").write_bytes(bytes.fromhex("0a0d0d0a") + bytes(40))
                 self.assertEqual(machine.run("--jobs", "1", "captures")[::2], (0, ""))
                 self.assertEqual(
@@ -128,12 +134,12 @@ class Course(unittest.TestCase):
                 self.assertEqual(list((machine.folder / "temporary").iterdir()), [])
 
     def test_collected(self) -> None:
-        """A job's course tells the same."""
+        """A job's file tells the same."""
         with Machine([], None) as machine:
             for name, text in (
                 ("path", "/captures/a"),
                 ("report", HEAD + OF_SIX),
-                ("course", COURSE),
+                ("last-packets", LAST_PACKETS),
                 ("status", "0 1\n"),
             ):
                 (machine.folder / "jobs").mkdir(exist_ok=True)

@@ -18,7 +18,7 @@ from unittest import mock
 from h2audit.page.program import arguments
 from h2audit.page.sources import audit_of
 from h2audit.page.top import asked
-from tools.tests.why_tools import TOP, answer, has_programs, programs_of
+from tools.tests.why_tools import TOP, WHY, has_programs, programs_of, said_of
 
 PAGE = TOP / "tools" / "h2audit-page"
 EXAMPLES = sorted((TOP / "examples").glob("*.pcap"))
@@ -44,7 +44,7 @@ class Examples(unittest.TestCase):
         """The sentence on top, each request with its cause, and each fault."""
         for capture in EXAMPLES:
             with self.subTest(capture.name):
-                said, shown = answer(capture), text_of(page(capture))
+                said, shown = said_of(capture), text_of(page(capture))
                 self.assertIn(f"\n{said['summary']['text']}\n", shown)
                 for one in said["connections"]:
                     for request in one["requests"]:
@@ -55,10 +55,7 @@ class Examples(unittest.TestCase):
 
     def test_sums_hold_the_longest(self) -> None:
         """Of each row of whom to ask: the time of all is no less than that of its longest request."""
-        made = {
-            "H2AUDIT_WHY": str(TOP / "tools" / "h2audit-why"),
-            "H2AUDIT_ANY": str(TOP / "companions" / "target" / "release" / "h2audit-any"),
-        }
+        made = {"H2AUDIT_WHY": str(WHY), "H2AUDIT_ANY": str(TOP / "companions" / "target" / "release" / "h2audit-any")}
         self.enterContext(mock.patch.dict(os.environ, made))
         for capture in EXAMPLES:
             audit = audit_of(arguments([str(capture), "-o", "-"]))
@@ -141,19 +138,21 @@ class Endings(unittest.TestCase):
                 running.stderr.close()
 
     def test_a_signal_leaves_no_plaintext(self) -> None:
-        """h2audit-why has a folder of its own, which it removes itself."""
+        """The programs that the page runs end with it, and what holds plaintext has no name, or goes."""
         with tempfile.TemporaryDirectory() as folder, tempfile.TemporaryDirectory() as place:
             slow = pathlib.Path(place, "slow")
-            slow.write_text("#!/bin/sh\nexec sleep 100\n")
+            slow.write_text(f"#!/bin/sh\ntouch {place}/begun-$$\nexec sleep 100\n")
             slow.chmod(0o755)
-            # h2audit-why waits for the audit of what it has imported.
+            # h2audit-any and h2audit-why wait for the audit of what they have imported.
             words = [str(PAGE), str(EXAMPLES[0]), "-o", "/dev/null"]
             with subprocess.Popen(words, env={**os.environ, "TMPDIR": folder, "H2AUDIT": str(slow)}) as running:
-                while not list(pathlib.Path(folder).glob("h2audit-why-*/imported.pcap")):
+                while len(begun := list(pathlib.Path(place).glob("begun-*"))) < 2:
                     self.assertIsNone(running.poll())
                     time.sleep(0.02)
                 running.terminate()
             self.assertEqual((running.returncode, os.listdir(folder)), (-signal.SIGTERM, []))
+            numbers = [file.name.removeprefix("begun-") for file in begun]
+            self.assertEqual([number for number in numbers if pathlib.Path("/proc", number).exists()], [])
 
     def test_nothing_audited(self) -> None:
         """The page says so, and which connections were not audited, and why."""

@@ -68,6 +68,7 @@ make -q "$split" > /dev/null 2>&1 || split=$program
 PATH=/usr/bin:/bin make --no-print-directory companions || fail 'the programs in Rust could not be built'
 limit=1200 try 'programs in Rust: form' tools/tests/rust_test.sh form
 limit=1200 try 'programs in Rust: their own tests' tools/tests/rust_test.sh tests
+try 'field blocks beside python3-hpack' hpack_test
 try 'form and types of Python, and lines' sources_test
 try 'man pages and completions' words_test
 try 'definitions to believe' believed_test

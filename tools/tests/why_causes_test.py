@@ -28,7 +28,7 @@ from tools.tests.why_peers import (
     proxy_to,
     ran,
 )
-from tools.tests.why_tools import Json, answer, by_port, has_programs, programs_of, request_of, text
+from tools.tests.why_tools import Json, by_port, has_programs, programs_of, request_of, said_of, text
 
 # Far longer than a machine under load takes for an answer at once.
 ROUND_TRIP = 0.24
@@ -60,7 +60,7 @@ class Windows(Causes):
             near = stack.enter_context(proxy_to(port, ROUND_TRIP))
             stack.enter_context(captured(self.capture, port, near))
             self.download(near, "-w16", "-W24")
-        found = answer(self.capture)
+        found = said_of(self.capture)
         self.sums(found)
         there, here = by_port(found, port), by_port(found, near)
         self.assertEqual((there["captured_at"], here["captured_at"]), ("server", "client"))
@@ -90,7 +90,7 @@ class Windows(Causes):
             near = stack.enter_context(proxy_to(port, ROUND_TRIP))
             stack.enter_context(captured(self.capture, port, near))
             ran("nghttp", "-n", "-d", self.folder / "large", f"http://127.0.0.1:{near}/small")
-        found = answer(self.capture)
+        found = said_of(self.capture)
         self.sums(found)
         self.check(request_of(by_port(found, near), "/small"), "stream-window", ("round-trip",), "server")
         self.check(request_of(by_port(found, port), "/small"), "stream-window", ("unshown",), "server")
@@ -103,7 +103,7 @@ class Windows(Causes):
             stack.enter_context(captured(self.capture, port))
             self.download(near, "-w24", "-W16")
         self.check(
-            request_of(by_port(answer(self.capture), port), "/large"), "connection-window", ("round-trip",), "client"
+            request_of(by_port(said_of(self.capture), port), "/large"), "connection-window", ("round-trip",), "client"
         )
 
     def test_named_settings(self) -> None:
@@ -113,7 +113,7 @@ class Windows(Causes):
             near = stack.enter_context(proxy_to(port, ROUND_TRIP))
             stack.enter_context(captured(self.capture, port))
             self.download(near, "-w12", path="/medium")
-        connection = by_port(answer(self.capture), port)
+        connection = by_port(said_of(self.capture), port)
         (setting,) = [one for one in connection["settings"] if one["side"] == "client"]
         self.assertEqual(setting["initial_window"], 4095)
         request = request_of(connection, "/medium")
@@ -140,7 +140,7 @@ class Clients(Causes):
             client.write(frame(8, 0, 0, struct.pack(">I", 1 << 20)) + frame(8, 0, 1, struct.pack(">I", 1 << 20)))
             client.read_until(lambda _: client.content(1) >= 400_000)
             client.close()
-        found = answer(self.capture)
+        found = said_of(self.capture)
         request = request_of(by_port(found, port), "/large")
         self.check(request, "stream-window", ("granted-late",), "client")
         self.assertGreater(request["server"]["shares"]["stream_stall"], 900_000_000)
@@ -149,7 +149,7 @@ class Clients(Causes):
         )
         self.assertIn("/large?secret=1", text("--query", self.capture))
         self.assertNotIn("secret", text(self.capture))
-        self.assertNotIn("/large", text("--no-requests", self.capture) + str(answer("--no-requests", self.capture)))
+        self.assertNotIn("/large", text("--no-requests", self.capture) + str(said_of("--no-requests", self.capture)))
 
     def test_hang(self) -> None:
         """A client never grants, and goes away: it hung up to its FIN."""
@@ -159,7 +159,7 @@ class Clients(Causes):
             client.read_until(lambda _: client.content(1) >= 65535)
             time.sleep(1)
             client.close()
-        request = request_of(by_port(answer(self.capture), port), "/large")
+        request = request_of(by_port(said_of(self.capture), port), "/large")
         self.check(request, "stream-window", ("granted-nothing",), "client")
         self.assertTrue(request["hung"])
         self.assertEqual((request["ended"]["how"], request["ended"]["side"]), ("FIN", "client"))
@@ -179,7 +179,7 @@ class Clients(Causes):
             client.get(7, "/medium")
             client.read_until(lambda _: False, 1)
             client.close()
-        found = answer(self.capture)
+        found = said_of(self.capture)
         request = request_of(by_port(found, port), "/medium")
         self.check(request, "connection-window", ("cancelled-streams",), "client")
         self.assertTrue(request["hung"])
@@ -197,7 +197,7 @@ class Clients(Causes):
                 time.sleep(2)
                 curl.send_signal(signal.SIGCONT)
                 time.sleep(0.3)
-        request = request_of(by_port(answer(self.capture), port), "/huge")
+        request = request_of(by_port(said_of(self.capture), port), "/huge")
         self.check(request, "tcp", ("zero-window",), "client")
         self.assertGreater(request["server"]["shares"]["tcp"], 1_000_000_000)
 
@@ -211,7 +211,7 @@ class Clients(Causes):
             client.write(frame(4, 0, 0, struct.pack(">HI", 4, (1 << 31) - 1)))
             client.read_until(lambda frames: any(kind == 7 for kind, _, _, _ in frames), 5)
             client.close()
-        connection = by_port(answer(self.capture), port)
+        connection = by_port(said_of(self.capture), port)
         goaway = [one for one in connection["signals"] if one["word"] == "GOAWAY"]
         self.assertEqual([(one["side"], one["code_name"]) for one in goaway], [("server", "FLOW_CONTROL_ERROR")])
         self.assertEqual(len(connection["notes"]), 1, connection["notes"])
@@ -230,7 +230,7 @@ class Applications(Causes):
         with node(self.folder) as port, captured(self.capture, port):
             for path in ("/at-once", "/sleeps", "/late", "/reset"):
                 self.download(port, path=path)
-        found = answer(self.capture)
+        found = said_of(self.capture)
         by_path = {one["path"]: one for connection in found["connections"] for one in connection["requests"]}
         self.check(by_path["/sleeps"], "application", ("between",), "server")
         self.check(by_path["/late"], "application", ("before",), "server")
@@ -277,7 +277,7 @@ class Applications(Causes):
                 time.sleep(1.5)
                 watched.cancel()
                 time.sleep(0.2)
-        connection = by_port(answer(self.capture), port)
+        connection = by_port(said_of(self.capture), port)
         watching = request_of(connection, "/shop.Feed/Watch")
         self.check(watching, "stream-window", ("granted-nothing", "granted-late"), "client")
         self.assertEqual((watching["ended"]["how"], watching["ended"]["side"]), ("RST_STREAM", "client"))

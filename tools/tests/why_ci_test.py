@@ -13,17 +13,14 @@ import unittest
 import xml.etree.ElementTree as ElementTree
 from collections import Counter
 
-from h2audit.report.command import Failed
-from h2audit.why import document, gates
-from h2audit.why.answer import Answer
-from h2audit.why.program import Progress, answered, arguments
 from tests.captures import PREFACE, SYN, SYN_ACK, Capture, capture_of, frame
 from tests.reports_test import rows
-from tools.tests.why_tools import TOP, Json, OnCaptures, has_programs, programs_of, ran
+from tools.tests.why_tools import TOP, WHY, Json, OnCaptures, Refused, has_programs, programs_of, ran, said_of
 
 SCHEMA = pathlib.Path(__file__).with_name("junit.xsd")
 EXAMPLES = sorted((TOP / "examples").glob("*.pcap"))
 TLS = sorted((TOP / "tests" / "tls").glob("*.pcap"))
+REASONS = ("fault", "certain-fault", "stall", "hung", "tcp", "error", "gap", "not-audited")
 # The reasons that hold in each example: found by hand, from the descriptions in examples/README.md.
 BROKEN = {"fault", "certain-fault"}
 BY_HAND = {
@@ -97,9 +94,10 @@ def stops(audited: list[Json]) -> list[str]:
     return ["the audit stopped" for one in audited if one["stopped_at"]]
 
 
-def held(answer: Answer) -> set[str]:
-    """The reasons of which each fails the run by itself."""
-    return {one for one in gates.REASONS if gates.failures_of(answer, gates.Gates(frozenset((one,))))}
+def held(path: pathlib.Path) -> set[str]:
+    """The reasons of which each fails the run."""
+    said = ran("--quiet", "--fail-on", ",".join(REASONS), path).stderr.decode()
+    return set(re.findall(r"^h2audit-why: failed: ([a-z-]+): ", said, re.M))
 
 
 class Jobs(OnCaptures):
@@ -107,9 +105,6 @@ class Jobs(OnCaptures):
         path = self.folder / "capture.pcap"
         path.write_bytes(octets)
         return path
-
-    def answer(self, *words: str) -> Answer:
-        return answered(arguments(["--json", *words]), Progress())
 
     def junit(self, path: pathlib.Path, *words: str) -> tuple[int, ElementTree.Element]:
         """The status of a run, and its JUnit file, which is valid."""
@@ -127,17 +122,15 @@ class Reasons(Jobs):
         self.assertEqual({path.stem for path in EXAMPLES}, set(BY_HAND))
         for path in EXAMPLES:
             with self.subTest(path.name):
-                answer = self.answer(str(path))
-                self.assertEqual(held(answer), BY_HAND[path.stem])
-                self.assertEqual(held(answer), expected(document.document_of(answer)))
+                self.assertEqual(held(path), BY_HAND[path.stem])
+                self.assertEqual(held(path), expected(said_of(path)))
 
     def test_alone(self) -> None:
         """A capture for each reason beside the rest."""
         for reason, script in ALONE.items():
             with self.subTest(reason):
-                answer = self.answer(str(self.capture(slower(capture_of(script)))))
                 others = {"stall"} if reason == "hung" else set()
-                self.assertEqual(held(answer), {reason} | others)
+                self.assertEqual(held(self.capture(slower(capture_of(script)))), {reason} | others)
 
     def test_rows(self) -> None:
         """The captures of tests/reports, slowed so that stalls count, and those of TLS without their keys."""
@@ -145,14 +138,16 @@ class Reasons(Jobs):
         captures = [slower(capture_of(text.partition("-- ")[0])) if not text.startswith("bytes") else
                     capture_of(text.partition("-- ")[0]) for _, text in rows()]  # fmt: skip
         for octets in captures + [path.read_bytes() for path in TLS]:
+            path = self.capture(octets)
             try:
-                answer = self.answer(str(self.capture(octets)))
-            except Failed:  # refused
+                found = said_of(path)
+            except Refused:
                 continue
-            self.assertEqual(held(answer), expected(document.document_of(answer)))
-            times.update(held(answer))
-            times["none"] += not held(answer)
-        self.assertTrue(all(times[reason] for reason in (*gates.REASONS, "none") if reason not in ALONE_ONLY), times)
+            holds = held(path)
+            self.assertEqual(holds, expected(found))
+            times.update(holds)
+            times["none"] += not holds
+        self.assertTrue(all(times[reason] for reason in (*REASONS, "none") if reason not in ALONE_ONLY), times)
 
 
 class Statuses(Jobs):
@@ -208,7 +203,7 @@ class JUnit(Jobs):
         for path in EXAMPLES + TLS:
             with self.subTest(path.name):
                 status, top = self.junit(path, "--fail-on", "fault,stall,error,not-audited")
-                found = document.document_of(self.answer(str(path)))
+                found = said_of(path)
                 suites = {suite.get("name"): [case.get("name") for case in suite] for suite in top}
                 wanted = {found["files"][0]: ["capture"]}
                 for one in found["connections"]:
@@ -264,7 +259,7 @@ class Recipes(Jobs):
             for name, status in (("stream_stalls_nghttpd", 0), ("paused_stream_node", 1), ("lost_segment", 1)):
                 (self.folder / "capture.pcap").write_bytes((TOP / "examples" / f"{name}.pcap").read_bytes())
                 (self.folder / "keys.log").write_text("# no secrets\n")
-                surroundings = {**os.environ, "PATH": f"{TOP / 'tools'}:{os.environ['PATH']}"}
+                surroundings = {**os.environ, "PATH": f"{WHY.parent}:{os.environ['PATH']}"}
                 run = subprocess.run(["bash", "-c", line], cwd=self.folder, env=surroundings, capture_output=True)
                 self.assertEqual(run.returncode, status, run.stderr)
                 top = ElementTree.fromstring((self.folder / file).read_bytes())

@@ -3,21 +3,16 @@
     python3 -m tools.tests.why_hostile_test [H2AUDIT] [TEST..]
 """
 
-import os
 import pathlib
-import random
 import struct
-import subprocess
 import sys
 import unittest
-from collections.abc import Iterable, Iterator
-from typing import Any
 
-from h2audit.why.names import LARGEST_TABLE, LONGEST_VALUE
-from h2audit.why.program import Progress, answered, arguments
-from h2audit.why.spans import IDLE, TCP, Course, Life, Span
 from tests.captures import PREFACE, SYN, SYN_ACK, Capture, frame, number
-from tools.tests.why_tools import TOP, WHY, Json, OnCaptures, has_programs, programs_of, ran, said_of
+from tools.tests.why_tools import LONGEST_NAME, TOP, Json, OnCaptures, has_programs, programs_of, ran, said_of
+
+# A larger table of HPACK is not followed.
+LARGEST_TABLE = 1 << 16
 
 
 def block(*fields: tuple[bytes, bytes]) -> bytes:
@@ -94,7 +89,7 @@ class Hostile(OnCaptures):
         self.assertEqual([one["name"] for one in connection["requests"]], ["GET /named", None, None])
 
     def test_long_names(self) -> None:
-        """A long path enters the table once, and each request refers to it by a byte: it is cut, and held once."""
+        """A long path enters the table once, and each request refers to it by a byte: it is cut."""
         path = b"/" + b"n" * 60_000
         octets = prefixed(LARGEST_TABLE, 5, 0x20) + b"\x82\x87" + b"\x44" + prefixed(len(path), 7, 0) + path
         pieces = [octets[at : at + 16_000] for at in range(0, len(octets), 16_000)]
@@ -103,11 +98,10 @@ class Hostile(OnCaptures):
         allows = frame(4, 0, 0, struct.pack(">HI", 1, LARGEST_TABLE))
         frames = [("C", frame(4, 0, 0)), ("S", allows), ("C", first)]
         frames += [("C", frame(1, 5, stream, b"\x82\x87\xbe")) for stream in range(3, 41, 2)]
-        answer = answered(arguments([str(self.capture_of(frames))]), Progress())
-        requests = answer.connections[0].requests
-        name = "GET " + path.decode()[:LONGEST_VALUE]
-        self.assertEqual([one.name for one in requests], [name] * 20)
-        self.assertEqual((len({id(one.name) for one in requests}), len({id(one.path) for one in requests})), (1, 1))
+        requests = said_of(str(self.capture_of(frames)))["connections"][0]["requests"]
+        name = ("GET " + path.decode())[:LONGEST_NAME]
+        self.assertEqual([one["name"] for one in requests], [name] * 20)
+        self.assertEqual({one["path"] for one in requests}, {path.decode()[:LONGEST_NAME]})
 
     def test_huge_tables(self) -> None:
         """A table that is larger than what is followed: the names of that side are unknown from there on."""
@@ -122,20 +116,6 @@ class Hostile(OnCaptures):
             self.assertEqual([one["name"] for one in connection["requests"]], ["GET /named", *rest])
             why = [one for one in connection["notes"] if one.endswith("unknown: a table of more than 65,536 bytes")]
             self.assertEqual(len(why), not is_followed)
-
-    def test_encodings(self) -> None:
-        """Where standard output is not UTF-8, what it has not is written as an escape, whatever the capture holds."""
-        fields = (*GET[:2], (b":path", "/é中".encode()), GET[3])
-        path = self.capture_of([("C", frame(4, 0, 0)), ("S", frame(4, 0, 0)), ("C", frame(1, 5, 1, block(*fields)))])
-        surroundings = {"LC_ALL": "C", "PYTHONUTF8": "0", "PYTHONCOERCECLOCALE": "0"}
-        for more, said in (
-            ({"PYTHONIOENCODING": "ascii"}, b"GET /\\xe9\\u4e2d "),
-            ({"PYTHONIOENCODING": "latin1"}, b"GET /\xe9\\u4e2d "),
-            (surroundings, b"GET /\\xe9\\u4e2d "), ({"PYTHONIOENCODING": "utf-8"}, "GET /é中 ".encode()),
-        ):  # fmt: skip
-            run = subprocess.run([WHY, path], env={**os.environ, **more}, capture_output=True)
-            self.assertEqual((run.returncode, run.stderr), (0, b""), more)
-            self.assertIn(said, run.stdout)
 
     def test_unprintable(self) -> None:
         """What a terminal would act on is escaped in text, and kept in JSON."""
@@ -182,60 +162,6 @@ class Hostile(OnCaptures):
         run = ran(self.folder / "nothere.pcap")
         self.assertEqual((run.returncode, run.stdout), (4, b""))
         self.assertRegex(run.stderr.decode(), "^h2audit-why: .*nothere.pcap: No such file or directory\n$")
-
-
-class Counted(Course):
-    """Counts the spans that are gone along."""
-
-    gone = 0
-
-    def spans(self, *words: Any) -> Iterator[Span]:
-        for span in super().spans(*words):
-            self.gone += 1
-            yield span
-
-
-class Within(unittest.TestCase):
-    """Spans within a frame, where a pause is TCP's."""
-
-    PAUSE = 5
-
-    def life(self, course: Course, begin: int, end: int, has_spans: bool = True) -> Life:
-        """Of a frame that has two packets, one at the begin and one at the end."""
-        life = Life(begin, end, course, has_spans)
-        life.divide([(begin, begin, False), (end, end, True)], [])
-        return life
-
-    def test_many_marks(self) -> None:
-        """A frame that lasts as long as 10,000 marks of TCP is one span, for which the marks are not gone along."""
-        course = Counted([], [(at, at + 10) for at in range(100, 1_000_000, 100)], self.PAUSE, 1 << 60)
-        life = self.life(course, 1, 1_000_000)
-        self.assertEqual(life.spans, [Span(1, 1_000_000, TCP)])
-        self.assertLess(course.gone, 10)
-
-    def test_as_one_by_one(self) -> None:
-        """The spans are those of the marks one by one, and sum to the shares that are measured."""
-        turn = random.Random(17)
-        for _ in range(2000):
-            end = turn.randrange(20, 200)
-            begins = [turn.randrange(end) for _ in range(turn.randrange(10))]
-            marks = [(begin, begin + turn.randrange(12)) for begin in begins]
-            course = Course(marks[:2], marks[2:], self.PAUSE, 1 << 60)
-            begin = turn.randrange(end)
-            life = self.life(course, begin, end)
-            self.assertEqual(life.spans, merged(course.spans(begin, end)))
-            self.assertEqual(life.shares, self.life(course, begin, end, False).shares)
-
-
-def merged(spans: Iterable[Span]) -> list[Span]:
-    """One by one, where what is idle is TCP's and neighbours of a kind are one."""
-    found: list[Span] = []
-    for begin, end, kind in spans:
-        kind = TCP if kind == IDLE else kind
-        if found and found[-1].kind == kind:
-            begin = found.pop().begin
-        found.append(Span(begin, end, kind))
-    return found
 
 
 class Certainty(OnCaptures):

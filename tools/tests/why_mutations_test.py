@@ -1,21 +1,14 @@
-"""Damages captures, and has h2audit-why say what it can: no damage ends in a traceback, and shares sum to each life.
+"""Damages captures, and has h2audit-why say what it can: no damage ends it otherwise, and shares sum to each life.
 
     python3 -m tools.tests.why_mutations_test [H2AUDIT] [NUMBER [FIRST]]
 """
 
-import contextlib
-import io
 import pathlib
 import random
 import sys
 import tempfile
 
-from h2audit.report.command import Failed
-from h2audit.why import document
-from h2audit.why.answer import Answer
-from h2audit.why.program import Progress, answered, arguments
-from h2audit.why.text import Page
-from tools.tests.why_tools import TOP, has_programs, programs_of
+from tools.tests.why_tools import SIDES, TOP, Json, Refused, has_programs, programs_of, ran, said_of
 
 USUAL = 300
 LONGEST = 60_000
@@ -42,29 +35,29 @@ def damaged(source: random.Random, octets: bytes) -> bytes:
     return bytes(made[: source.randrange(24, len(made))] if source.random() < 0.05 else made)
 
 
-def said_of(path: pathlib.Path, keys: pathlib.Path) -> Answer | None:
-    """The answer in all forms, or None where the capture is refused."""
+def answered(path: pathlib.Path, keys: pathlib.Path) -> Json | None:
+    """The answer, which has a text too; or None where the capture is refused."""
     words = [str(path), *(["-k", str(keys)] if keys.exists() else [])]
-    with contextlib.redirect_stderr(io.StringIO()):
-        try:
-            answer = answered(arguments(["--json", *words]), Progress())
-        except Failed as why:
-            if why.status != 3 or "refused" not in str(why):
-                raise
-            return None
-    document.document_of(answer)
-    for line in Page(answer, False, 100, True).lines():
+    try:
+        found = said_of(*words)
+    except Refused as why:
+        if "refused" not in str(why):
+            raise
+        return None
+    text = ran("--all", *words).stdout.decode()
+    for line in text.splitlines():
         if not line.isprintable():
             raise AssertionError(repr(line))
-    return answer
+    return found
 
 
-def check(answer: Answer) -> None:
-    for one in answer.connections:
-        for request in one.requests:
-            for side in request.sides:
-                if sum(side.shares) != side.nanos or min(side.shares) < 0:
-                    raise AssertionError(f"stream {request.stream}: {side.shares} of {side.nanos}")
+def check(found: Json) -> None:
+    for one in found["connections"]:
+        for request in one["requests"]:
+            for side in (request[name] for name in SIDES):
+                shares = side["shares"].values()
+                if sum(shares) != side["nanos"] or min(shares) < 0:
+                    raise AssertionError(f"stream {request['stream']}: {side['shares']} of {side['nanos']}")
 
 
 def main(words: list[str]) -> int:
@@ -77,14 +70,14 @@ def main(words: list[str]) -> int:
             sample = source.choice(SAMPLES)
             path.write_bytes(damaged(source, sample.read_bytes()))
             try:
-                answer = said_of(path, sample.with_suffix(".keys"))
-                if answer is not None:
-                    check(answer)
+                found = answered(path, sample.with_suffix(".keys"))
+                if found is not None:
+                    check(found)
             except BaseException:
                 print(f"seed {seed}, {sample.name}")
                 raise
-            refused += answer is None
-            audited += answer is not None and bool(answer.audited)
+            refused += found is None
+            audited += found is not None and bool(found["summary"]["audited"])
     print(f"{number} damaged captures: {audited} audited, {refused} refused")
     return 0 if audited * 2 > number else 1
 

@@ -11,7 +11,7 @@ import time
 import unittest
 
 from tools.tests.why_peers import Peers, can_capture, process
-from tools.tests.why_tools import Json, answer, has_programs, programs_of, request_of
+from tools.tests.why_tools import Json, has_programs, programs_of, request_of, said_of
 from tools.tests.why_wire import SERVER, Loses, captured_at, wire
 
 ROUND_TRIP = 0.16
@@ -36,7 +36,7 @@ class Ends(Peers):
             for end, capture in enumerate(captures):
                 stack.enter_context(captured_at(made, end, capture))
             subprocess.run(asks, capture_output=True, timeout=60)
-        found = [answer(capture)["connections"] for capture in captures]
+        found = [said_of(capture)["connections"] for capture in captures]
         self.assertEqual([len(one) for one in found], [1, 1])
         return [one[0] for one in found]
 

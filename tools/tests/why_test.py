@@ -12,15 +12,13 @@ import unittest
 from collections import Counter
 from collections.abc import Iterator
 
-from h2audit.report.command import Failed
-from h2audit.why.spans import IDLE, NAMES, SENDING, STREAM_STALL, TCP, UNSEEN, WAITING, Course, Life
 from tools.tests import random_captures
 from tools.tests.packages import needs
-from tools.tests.why_tools import TOP, OnCaptures, has_programs, programs_of, ran, said_of
+from tools.tests.why_tools import TOP, OnCaptures, Refused, has_programs, programs_of, ran, said_of
 
 EXAMPLES = sorted((TOP / "examples").glob("*.pcap"))
 TLS = sorted(path for path in (TOP / "tests" / "tls").iterdir() if path.suffix in (".pcap", ".pcapng"))
-SCHEMA = json.loads((TOP / "h2audit" / "why" / "schema.json").read_text())
+SCHEMA = json.loads((TOP / "companions" / "why" / "schema.json").read_text())
 RANDOM_CAPTURES = 300
 
 
@@ -122,8 +120,7 @@ class Random(OnCaptures):
                 path.write_bytes(made)
                 try:
                     found = said_of(str(path))
-                except Failed as why:
-                    self.assertIn("refused", str(why))
+                except Refused:
                     continue
                 self.sums(found)
                 self.same_numbers(found, self.report_of(str(path)))
@@ -131,71 +128,6 @@ class Random(OnCaptures):
                 kinds[verdict] = kinds.get(verdict, 0) + 1
         self.assertGreater(kinds["faults"], 20)
         self.assertGreater(kinds["nothing-audited"], 5)
-
-
-class Shares(unittest.TestCase):
-    """The division of a life, beside one that asks of each nanosecond what it is."""
-
-    def test_brute(self) -> None:
-        source = random.Random(1)
-        for turn in range(3000):
-            begin, end = sorted(source.sample(range(60), 2))
-            frames = sorted(
-                (one, one + source.choice((0, 0, 3))) for one in source.sample(range(70), source.randint(0, 5))
-            )
-            frames = [(max(first, before), last) for (first, last), before in
-                      zip(frames, [0, *(last for _, last in frames)]) if last >= before]  # fmt: skip
-            stalls, connection, held = (intervals(source) for _ in range(3))
-            pause, unseen = source.choice((0, 2, 5, 60)), source.choice((1000, 1000, 30))
-            cut = [(one, min(other, unseen)) for one, other in stalls]
-            course = Course([(one, min(other, unseen)) for one, other in connection], held, pause, unseen)
-            within = [False, *(source.random() < 0.3 for _ in frames)]
-            for has_spans in (True, False):
-                life = Life(begin, end, course, has_spans)
-                life.divide(((*frame, is_within) for frame, is_within in zip(frames, within)), cut, within[-1])
-                self.assertEqual(sum(life.shares), end - begin)
-                wanted = brute(begin, end, frames, cut, course, within)
-                self.assertEqual(life.shares, wanted, (turn, begin, end, frames, cut, course.marked, pause, unseen))
-
-
-def intervals(source: random.Random) -> list[tuple[int, int]]:
-    """Some stretches in order of their begins, of which some overlap."""
-    begins = sorted(source.sample(range(60), source.randint(0, 4)))
-    return [(one, one + source.randint(0, 15)) for one in begins]
-
-
-def brute(
-    begin: int, end: int, frames: list[tuple[int, int]], stalls: list[tuple[int, int]], course: Course,
-    within: list[bool],
-) -> list[int]:  # fmt: skip
-    """The kind of each nanosecond by the definitions of docs/WHY.md, then the lengths of what is free."""
-    kinds = [-1] * (end - begin)
-    first = frames[0][0] if frames else end
-    for at in range(begin, end):
-        marked = [span.kind for span in course.marked if span.begin <= at < span.end]
-        if at < first:
-            kinds[at - begin] = WAITING
-        elif any(one <= at < other for one, other in frames):
-            kinds[at - begin] = SENDING
-        elif any(one <= at < other for one, other in stalls):
-            kinds[at - begin] = STREAM_STALL
-        elif at < course.unseen and marked:
-            kinds[at - begin] = marked[0]
-    borders = {at for pair in frames for at in pair} | {course.unseen}
-    at = 0
-    while at < len(kinds):
-        if kinds[at] >= 0:
-            at += 1
-            continue
-        upto = at
-        while upto < len(kinds) and kinds[upto] < 0 and not (upto > at and begin + upto in borders):
-            upto += 1
-        length = upto - at
-        before = sum(last <= begin + at for _, last in frames)
-        long = UNSEEN if begin + at >= course.unseen else TCP if within[before] else IDLE
-        kinds[at:upto] = [SENDING if length <= course.pause else long] * length
-        at = upto
-    return [kinds.count(kind) for kind in range(len(NAMES))]
 
 
 if __name__ == "__main__":

@@ -10,20 +10,26 @@ import unittest
 from typing import Any
 
 from h2audit.report.lines import Finding, Opening, Stall, read_lines
-from h2audit.why import document
-from h2audit.why.program import Progress, answered, arguments
-from h2audit.why.spans import NAMES
 from tests.programs import named
+from tools.tests.companions import companion
 
 TOP = pathlib.Path(__file__).resolve().parents[2]
 
-WHY = TOP / "tools" / "h2audit-why"
+WHY = companion("h2audit-why")
 BUILT = {
     "H2AUDIT": TOP / "crates" / "h2audit_cli" / "out" / "h2audit_cli",
-    "H2AUDIT_IMPORT": TOP / "companions" / "target" / "release" / "h2audit-import",
+    "H2AUDIT_IMPORT": companion("h2audit-import"),
 }
 SIDES = ("client", "server")
+# The shares of a direction's life.
+NAMES = ("waiting", "sending", "stream_stall", "connection_stall", "tcp", "idle", "unseen")
+# So many letters of a name are kept.
+LONGEST_NAME = 1024
 Json = dict[str, Any]
+
+
+class Refused(Exception):
+    """Why a capture is refused."""
 
 
 def programs_of(words: list[str]) -> list[str]:
@@ -36,17 +42,19 @@ def programs_of(words: list[str]) -> list[str]:
 
 
 def has_programs() -> bool:
-    """Whether both programs are there that h2audit-why runs."""
-    return all(os.environ.get(name) or shutil.which(path.name) for name, path in BUILT.items())
+    """Whether h2audit-why is there, the program that it runs, and the one that imports as it does."""
+    return WHY.exists() and all(os.environ.get(name) or shutil.which(path.name) for name, path in BUILT.items())
 
 
 def ran(*words: str | pathlib.Path, stdin: bytes | None = None) -> subprocess.CompletedProcess[bytes]:
     return subprocess.run([str(WHY), *map(str, words)], input=stdin, capture_output=True)
 
 
-def answer(*words: str | pathlib.Path) -> Json:
-    """What h2audit-why --json says."""
+def said_of(*words: str | pathlib.Path) -> Json:
+    """What --json says."""
     run = ran("--json", *words)
+    if run.returncode == 3:
+        raise Refused(run.stderr.decode())
     if run.returncode not in (0, 1, 6):
         raise AssertionError(f"status {run.returncode}: {run.stderr.decode()}")
     found: Json = json.loads(run.stdout)
@@ -70,11 +78,6 @@ def request_of(connection: Json, path: str) -> Json:
     (request,) = [one for one in connection["requests"] if one["path"] == path]
     found: Json = request
     return found
-
-
-def said_of(*words: str) -> Json:
-    """What --json says, without a start of the program."""
-    return document.document_of(answered(arguments(["--json", *words]), Progress()))
 
 
 class OnCaptures(unittest.TestCase):

@@ -9,14 +9,7 @@ import subprocess
 import sys
 import unittest
 import xml.etree.ElementTree as ElementTree
-from collections.abc import Iterator
 
-from h2audit.why import two
-from h2audit.why.answer import Request
-from h2audit.why.ends import joined
-from h2audit.why.ends_said import by_place
-from h2audit.why.program import Progress, answered, arguments
-from h2audit.why.text import Page
 from tests.captures import PREFACE, frame, number
 from tools.tests.why_both_ends import AHEAD, ASKED, DELAY, GET, MS, BothEnds, Event, ends, granted
 from tools.tests.why_tools import TOP, Json, has_programs, programs_of, ran
@@ -26,16 +19,6 @@ LATER = 1_000_000  # milliseconds
 LATE = [*ASKED, granted(703 + 50 + 400, 0, 1)]
 # Long after the rest, so that clocks are apart by then.
 PINGS: list[Event] = [(LATER, "C", frame(6, 0, 0, bytes(8))), (LATER, "S", frame(6, 0, 0, bytes(8)))]
-
-
-class Counted(list[Request]):
-    """Requests that count how often all are gone along."""
-
-    gone = 0
-
-    def __iter__(self) -> Iterator[Request]:
-        self.gone += 1
-        return super().__iter__()
 
 
 def first_records(path: pathlib.Path, number: int) -> pathlib.Path:
@@ -175,20 +158,15 @@ class JUnit(BothEnds):
         self.assertIn("are in the server's capture alone", text)
 
     def test_many_stalls(self) -> None:
-        """All requests are gone along once for a connection, and not for each stall."""
+        """Each stall stands with its request, also where there are many."""
         asked: list[Event] = [(200, "C", PREFACE + frame(4, 0, 0, struct.pack(">HI", 4, 10))), *ASKED[1:3]]
         for stream in range(1, 41, 2):
             sent = frame(1, 4, stream, b"\x88") + frame(0, 0, stream, bytes(10))
             asked += [(500, "C", frame(1, 5, stream, GET)), (600, "S", sent), granted(1000, stream)]
-        words = arguments(["--ends", *map(str, self.captures(sorted(asked)))])
-        answers = [answered(two.of_file(words, file), Progress()) for file in words.ends]
-        counted = [Counted(answer.connections[0].requests) for answer in answers]
-        for answer, requests in zip(answers, counted):
-            answer.connections[0].requests = requests
-        found = joined(*answers)
-        said = by_place(found, Page(answers[1], False, None, False))
-        stalls = [place for place in said[1] if place[1]]
-        self.assertEqual((len(stalls), [one.gone for one in counted]), (20, [1, 1]))
+        _, suites = self.junit("--ends", *self.captures(sorted(asked)))
+        (suite,) = [suite for name, suite in suites.items() if name.startswith("server's connection")]
+        said = [case.findtext("system-out") or "" for case in suite if (case.get("name") or "").startswith("stream")]
+        self.assertEqual((len(said), sum("the server stalled for" in text for text in said)), (20, 20))
 
     def test_one_place(self) -> None:
         """The same examples twice; those that were made at one side are refused, and no file is written."""

@@ -5,15 +5,18 @@
 
 import contextlib
 import os
+import pathlib
 import pty
 import re
 import struct
 import subprocess
 import sys
+import time
 import unittest
 from collections.abc import Iterator
 
-from tools.tests.why_tools import TOP, OnCaptures, has_programs, programs_of, ran, said_of
+from tools.tests.companions import companion
+from tools.tests.why_tools import TOP, WHY, OnCaptures, has_programs, programs_of, ran, said_of
 
 
 def records_of(capture: bytes) -> Iterator[bytes]:
@@ -42,7 +45,7 @@ class Words(OnCaptures):
         for more, has_colours in (({"TERM": "xterm"}, True), ({"NO_COLOR": "1"}, False)):
             leader, follower = pty.openpty()
             surroundings = {name: word for name, word in os.environ.items() if name != "NO_COLOR"}
-            words = [TOP / "tools" / "h2audit-why", self.EXAMPLE]
+            words = [WHY, self.EXAMPLE]
             with subprocess.Popen(words, stdout=follower, env={**surroundings, "COLUMNS": "70", **more}) as child:
                 os.close(follower)
                 text = b""
@@ -121,66 +124,71 @@ class Words(OnCaptures):
         self.assertEqual(ran(TOP / "examples" / "stream_overrun_go.pcap").returncode, 1)
         self.assertEqual(ran(self.EXAMPLE).returncode, 0)
         self.assertEqual(ran("--h2audit", "/nothere", self.EXAMPLE).returncode, 4)
-        self.assertEqual(ran("--import", "/bin/false", self.EXAMPLE).returncode, 4)
+        self.assertEqual(ran("--h2audit", "/bin/false", self.EXAMPLE).returncode, 4)
 
     def test_rows(self) -> None:
-        """--rows takes a folder and no capture; what is missing in it, or is of another capture, is named."""
-        capture = str(self.EXAMPLE)
-        for words in ((capture,), ("-k", "keys"), ("--quiet",), ("--json",), ("--compare", "a", "b")):
-            run = ran("--rows", self.folder, *words)
+        """--rows goes with what is about the report alone."""
+        rows = str(self.folder / "rows")
+        for words in (("--quiet",), ("--json",), ("--compare", "a", "b"), ("--report", rows)):
+            run = ran("--rows", rows, *words)
             self.assertEqual((run.returncode, run.stdout, len(run.stderr.splitlines())), (2, b"", 1), words)
-        self.refuses("imported.map: No such file or directory")
-        self.imported(capture, str(TOP / "examples" / "stream_stalls_nghttpd.pcap"))
-        self.audited()
-        self.imported(capture)
-        self.refuses("the report is not about it: it has connections that are not in the capture that was made")
-        self.audited()
-        self.assertEqual(ran("--rows", self.folder).returncode, 0)
-        (self.folder / "imported.course").write_text("h2audit-course 2\n")
-        self.refuses("what h2audit-import told of TCP is of another version")
 
-    def audited(self) -> None:
-        words = [os.environ["H2AUDIT"], "--frames", str(self.folder / "imported.pcap")]
-        (self.folder / "imported.report").write_bytes(subprocess.run(words, capture_output=True).stdout)
+    def test_report(self) -> None:
+        """One run writes the rows, and what h2audit-any prints, with its status."""
+        for path in sorted((TOP / "examples").glob("*.pcap")):
+            rows, report = self.folder / "rows", self.folder / "report"
+            run = ran("--rows", rows, "--report", report, path)
+            other = subprocess.run([companion("h2audit-any"), path], capture_output=True)
+            self.assertEqual((run.returncode, run.stdout), (other.returncode, b""))
+            self.assertEqual(report.read_bytes(), other.stdout)
+            self.assertEqual(ran("--rows", "-", path).stdout, rows.read_bytes())
+            self.assertEqual(ran("--rows", rows, "--report", "-", path).stdout, other.stdout)
 
-    def imported(self, *captures: str) -> None:
-        words = ["-o", "imported.pcap", "-m", "imported.map", "--course", "imported.course", *captures]
-        subprocess.run([os.environ["H2AUDIT_IMPORT"], *words], cwd=self.folder, check=True, capture_output=True)
+    def test_audit(self) -> None:
+        """Rows by a report that is there are the same, and what is no report of that capture is named."""
+        capture, report = str(self.EXAMPLE), self.folder / "report"
+        other = str(TOP / "examples" / "stream_stalls_nghttpd.pcap")
+        report.write_bytes(self.audited(capture))
+        self.assertEqual(ran("--rows", "-", "--audit", report, capture).stdout, ran("--rows", "-", capture).stdout)
+        run = ran("--rows", "-", "--audit", report, other)
+        self.assertEqual((run.returncode, run.stdout), (4, b""))
+        self.assertRegex(run.stderr.decode(), "^h2audit-why: the report is not about the capture that was made: .*\n$")
+        report.write_bytes(self.audited(capture, other))
+        self.assertEqual(ran("--rows", "-", "--audit", report, capture).returncode, 4)
+        # Of some parts alone: connections that it has not are left out.
+        report.write_bytes(self.audited(capture))
+        both = ran("--rows", "-", "--audit", report, capture, other)
+        self.assertEqual((both.returncode, both.stdout), (0, ran("--rows", "-", capture).stdout))
 
-    def test_damaged_import(self) -> None:
-        """A report or a map that was cut or changed is refused by name."""
-        self.imported(str(TOP / "examples" / "paused_stream_node.pcap"))
-        self.audited()
-        whole = {name: (self.folder / f"imported.{name}").read_bytes() for name in ("report", "map", "course")}
-        is_other = "the report is not about it: connection 1 has places that are not in the capture"
+    def test_damaged_report(self) -> None:
+        """A report that was cut or changed is refused by name."""
+        capture = str(TOP / "examples" / "paused_stream_node.pcap")
+        whole, report = self.audited(capture), self.folder / "report"
+        is_other = "the report is not about the capture that was made: "
         huge = b" 99999999999999999999 "
-        for name, octets, status, why in (
-            ("report", whole["report"][:322], 3, "report refused: line 5 is no line of a report"),
-            ("report", re.sub(rb"frame 7 (.*-credit)", rb"frame x \1", whole["report"]), 3, "line 6 is no line"),
-            ("report", re.sub(rb"frame 7 (.*-credit)", rb"frame" + huge + rb"\1", whole["report"]), 3, "line 6 is no"),
-            ("report", whole["report"].replace(b"of all frames", b"stopped at frame 99999"), 4, is_other),
-            ("report", re.sub(rb"frame \d+ (.*stall-begin)", rb"frame 99999 \1", whole["report"]), 4, is_other),
-            ("report", re.sub(rb"time \d+ (.*stall-begin)", b"time" + huge + rb"\1", whole["report"]), 4, is_other),
-            ("map", re.sub(rb"packet 1\n", b"packet" + huge + b"\n", whole["map"]), 4, "is no map of it"),
-            ("map", re.sub(rb"record .*\n", b"", whole["map"]), 4, "the map of h2audit-import has no record 1"),
-            ("course", re.sub(rb" time \d+", b" time" + huge.rstrip(), whole["course"]), 4, "is no course of it"),
+        for octets, status, why in (
+            (whole[:322], 3, "line 5 is no line of a report"),
+            (whole.replace(b"of all frames", b"stopped at frame 99999"), 4, is_other),
+            (re.sub(rb"frame \d+ (.*stall-begin)", rb"frame 99999 \1", whole), 4, is_other),
+            (re.sub(rb"time \d+ (.*stall-begin)", b"time" + huge + rb"\1", whole), 3, "no line of a report"),
+            (b"", 3, "not a report of h2audit"),
         ):
-            self.assertNotEqual(octets, whole[name], why)
-            (self.folder / f"imported.{name}").write_bytes(octets)
-            self.refuses(why, status)
-            (self.folder / f"imported.{name}").write_bytes(whole[name])
-        self.assertEqual(ran("--rows", self.folder).returncode, 0)
+            self.assertNotEqual(octets, whole, why)
+            report.write_bytes(octets)
+            run = ran("--rows", "-", "--audit", report, capture)
+            self.assertEqual((run.returncode, run.stdout), (status, b""), run.stderr)
+            self.assertRegex(run.stderr.decode(), f"^h2audit-why: .*{why}.*\n$")
 
-    def refuses(self, why: str, status: int = 4) -> None:
-        run = ran("--rows", self.folder)
-        self.assertEqual(run.returncode, status)
-        self.assertRegex(run.stderr.decode(), f"^h2audit-why: .*{why}.*\n$")
+    def audited(self, *captures: str) -> bytes:
+        """The report of what an import makes of captures."""
+        words = [os.environ["H2AUDIT"], str(self.made_of(*captures))]
+        return subprocess.run(words, capture_output=True).stdout
 
     def test_full(self) -> None:
         """Where nothing can be written, one line says so."""
         for words in (["--help"], ["--version"], [str(self.EXAMPLE)], ["--json", str(self.EXAMPLE)]):
             with open("/dev/full", "wb") as full:
-                run = subprocess.run([TOP / "tools" / "h2audit-why", *words], stdout=full, stderr=subprocess.PIPE)
+                run = subprocess.run([WHY, *words], stdout=full, stderr=subprocess.PIPE)
             self.assertEqual(run.returncode, 4)
             self.assertRegex(run.stderr.decode(), "^h2audit-why: .*No space left on device\n$")
 
@@ -191,25 +199,28 @@ class Words(OnCaptures):
         self.assertTrue(all(one["proved"] == (one["kind"] == "connection-window") for one in causes))
 
     def test_nothing_is_left(self) -> None:
-        """What held plaintext is gone after each end, also where the program is interrupted."""
+        """What holds plaintext has no name, and h2audit ends with the program, also where that is interrupted."""
         home = self.folder / "tmp"
         home.mkdir()
         surroundings = {**os.environ, "TMPDIR": str(home)}
-        subprocess.run([TOP / "tools" / "h2audit-why", self.EXAMPLE], env=surroundings, capture_output=True)
+        subprocess.run([WHY, self.EXAMPLE], env=surroundings, capture_output=True)
         self.assertEqual(list(home.iterdir()), [])
-        slow = self.folder / "slow"
-        slow.write_text("#!/bin/sh\nexec sleep 60\n")
+        slow, running = self.folder / "slow", self.folder / "running"
+        slow.write_text(f"#!/bin/sh\necho $$ > {running}.part\nmv {running}.part {running}\nexec sleep 60\n")
         slow.chmod(0o755)
-        words = [str(TOP / "tools" / "h2audit-why"), "--import", str(slow), str(self.EXAMPLE)]
+        words = [str(WHY), "--h2audit", str(slow), str(self.EXAMPLE)]
         for signal in (2, 15, 1):
             child = subprocess.Popen(words, env=surroundings, stdout=subprocess.PIPE, stderr=subprocess.PIPE)
-            while not (made := list(home.glob("h2audit-why-*"))):
+            while not running.exists():
                 self.assertIsNone(child.poll())
-            self.assertEqual([folder.stat().st_mode & 0o777 for folder in made], [0o700])
+                time.sleep(0.01)
+            audit = int(running.read_text())
+            running.unlink()
+            self.assertEqual(list(home.iterdir()), [])
             child.send_signal(signal)
             said = child.communicate(timeout=30)
             self.assertEqual((child.returncode, said), (-signal, (b"", b"")))
-            self.assertEqual(list(home.iterdir()), [])
+            self.assertFalse(pathlib.Path(f"/proc/{audit}").exists())
 
 
 if __name__ == "__main__":

@@ -23,8 +23,8 @@ TOP = pathlib.Path(__file__).resolve().parents[2]
 MAN = TOP / "tools" / "man"
 COMPLETIONS = TOP / "tools" / "completions"
 HELP_TEXTS = {"h2audit": TOP / "tests" / "help.txt", "h2audit-split": TOP / "tests" / "split_help.txt"}
-IN_PYTHON = ("fleet", "page", "plot", "why")
-IN_RUST = ("any", "comment", "import", "merge")
+IN_PYTHON = ("fleet", "page", "plot")
+IN_RUST = ("any", "comment", "import", "merge", "why")
 OPTION = re.compile(r"(?<![\w-])(--[a-z][a-z0-9-]*)")
 
 

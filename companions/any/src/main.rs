@@ -2,40 +2,30 @@
 
 #![forbid(unsafe_code)]
 
-mod audit;
 mod making;
-mod original;
 mod parts;
-mod private_file;
 mod read_map;
-mod report;
 mod words;
 
 use std::ffi::OsString;
 use std::io::{BufRead, BufReader};
 use std::path::Path;
 
-use programs::{end_cleanly, print, run, say, Failure, Input, Outcome, Output};
+use originals::{bring_back, no_report, write_last_packets, Original, Shown};
+use programs::{end_cleanly, print, program_named, run, say, Audit, Failure, Input, Outcome, Output, PrivateFile};
 
-use audit::{program_named, Audit};
-use original::{Original, Other};
 use parts::PartPrograms;
-use private_file::{temporary_failure, PrivateFile};
-use report::{bring_back, Broken, Shown};
 use words::{words_of, Audited, Words};
 
 const NAME: &str = "h2audit-any";
 const HELP: &str = include_str!("help.txt");
 const VERSION: &str = concat!("h2audit-any ", env!("CARGO_PKG_VERSION"), "\n");
-const NO_REPORT: &str = "h2audit: what it said is no report";
 const NO_FAULTS: i32 = 0;
 const FAULTS: i32 = 1;
 const CAPTURE_REFUSED: i32 = 3;
 const NOTHING_READ: i32 = 6;
 /// So many bytes of a report are read at a time.
 const BUFFER: usize = 1 << 18;
-/// What is passed over and is no tunnel: other uses of a network, and what is named by number alone.
-const NO_TUNNELS: [&str; 9] = ["arp", "lldp", "llc", "icmp", "icmpv6", "udp", "sctp", "quic", "-"];
 
 fn any(words: Vec<OsString>) -> Outcome {
     let asked = match words_of(words)? {
@@ -59,9 +49,7 @@ fn of_original(map: &Path) -> Outcome {
     if !shown.is_there {
         return Err(no_report());
     }
-    if let Some(packet) = original.back {
-        say(NAME, &import::times_go_back(packet));
-    }
+    say_back(&original);
     let status = if shown.has_faults { FAULTS } else { NO_FAULTS };
     Ok(ending(&original, status))
 }
@@ -72,24 +60,28 @@ fn audited(asked: &Audited) -> Outcome {
     let part_programs = asked.parts.map(|parts| PartPrograms::find().map(|found| (found, parts))).transpose()?;
     let files = if asked.is_sorted { import::sorted(&asked.files)? } else { asked.files.clone() };
     let mut made = PrivateFile::new()?;
-    let mut original = making::make(asked, &files, &mut made)?;
+    let (mut original, last_packets) = making::make(asked, &files, &mut made)?;
+    say_back(&original);
     let capture = made.path()?;
-    let status = match part_programs {
+    let (shown, status) = match part_programs {
         None => of_audit(Audit::start(&program, &asked.options, &capture)?, &mut original)?,
         Some((found, parts)) => {
             let parts = found.audit(&program, &asked.options, parts, &capture)?;
             match of_audit(parts.merging, &mut original)? {
-                status if status > FAULTS => return Err(parts::as_ours(parts::MERGE, status, "")),
-                _ if !parts.is_whole => CAPTURE_REFUSED,
-                status => status,
+                (_, status) if status > FAULTS => return Err(parts::as_ours(parts::MERGE, status, "")),
+                (shown, _) if !parts.is_whole => (shown, CAPTURE_REFUSED),
+                found => found,
             }
         }
     };
+    if let (Some(last_packets), Some(file)) = (last_packets, &asked.last_packets) {
+        write_last_packets(&last_packets.with_open_stalls(&shown), file)?;
+    }
     Ok(ending(&original, status))
 }
 
-/// Prints the report of an audit, and answers the status of what audits.
-fn of_audit(audit: Audit, original: &mut Original) -> Outcome {
+/// Prints the report of an audit, and answers what it shows and the status of what audits.
+fn of_audit(audit: Audit, original: &mut Original) -> Result<(Shown, i32), Failure> {
     let shown = match write(audit.report, original) {
         Ok(shown) => shown,
         Err(failure) => {
@@ -102,7 +94,7 @@ fn of_audit(audit: Audit, original: &mut Original) -> Outcome {
     };
     match audit.running.status()? {
         NO_FAULTS | FAULTS if !shown.is_there => Err(no_report()),
-        status => Ok(status),
+        status => Ok((shown, status)),
     }
 }
 
@@ -110,40 +102,26 @@ fn of_audit(audit: Audit, original: &mut Original) -> Outcome {
 fn write(report: impl BufRead, original: &mut Original) -> Result<Shown, Failure> {
     let mut output = Output::standard()?;
     let written = bring_back(report, original, &mut output);
-    let shown = written.map_err(|broken| match broken {
-        Broken::NoReport => no_report(),
-        Broken::Read(error) => Failure::from_io("h2audit", &error),
-        Broken::Write(error) => output.failure(&error),
-        Broken::Temporary(error) => temporary_failure(&error),
-    })?;
+    let shown = written.map_err(|broken| broken.failure(&output))?;
     output.finish().map(|()| shown)
 }
 
-fn no_report() -> Failure {
-    Failure::Io(NO_REPORT.to_string())
+/// Says that times go back, where they do.
+fn say_back(original: &Original) {
+    if let Some(packet) = original.back {
+        say(NAME, &import::times_go_back(packet));
+    }
 }
 
 /// The last line: whether anything could be read, and what was passed over that may hold more.
 fn ending(original: &Original, status: i32) -> i32 {
     let is_nothing_read = status == NO_FAULTS && original.read() == 0;
-    let others = original.others.iter().filter(|one| is_nothing_read || !NO_TUNNELS.contains(&one.name.as_str()));
-    let passed_over: Vec<String> = others.map(named).collect();
-    match (is_nothing_read, passed_over.is_empty()) {
-        (true, true) => say(NAME, "no connection could be read"),
-        (true, false) => say(NAME, &format!("no connection could be read; passed over: {}", passed_over.join(", "))),
-        (false, false) => say(NAME, &format!("passed over: {}", passed_over.join(", "))),
-        (false, true) => {}
-    }
+    original.passed_over_words(is_nothing_read).iter().for_each(|words| say(NAME, words));
     if is_nothing_read {
         NOTHING_READ
     } else {
         status
     }
-}
-
-fn named(other: &Other) -> String {
-    let name = if other.name == "-" { "of another protocol" } else { other.name.as_str() };
-    format!("{} packets {name}", reports::grouped(other.packets))
 }
 
 fn main() {

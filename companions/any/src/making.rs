@@ -1,112 +1,25 @@
 //! Makes the capture that is audited, and keeps what brings its report back to the original.
 
-use std::ffi::{OsStr, OsString};
-use std::io;
+use std::ffi::OsString;
 
-use captures::PassedOver;
-use import::{Addresses, Became as Outcome, Map, Sink, Summary, Target};
-use programs::Failure;
-use reports::Capture;
+use import::{Courses, Sink};
+use originals::{Keeping, LastPackets, Original};
+use programs::{Failure, PrivateFile};
 
-use crate::original::{Became, Connection, Original, Other, SideRead};
-use crate::private_file::{temporary_failure, PrivateFile};
 use crate::words::Audited;
 use crate::NAME;
 
 /// Imports the files into a private file, and answers what is known of the original.
-pub fn make(asked: &Audited, files: &[OsString], made: &mut PrivateFile) -> Result<Original, Failure> {
+pub fn make(
+    asked: &Audited,
+    files: &[OsString],
+    made: &mut PrivateFile,
+) -> Result<(Original, Option<LastPackets>), Failure> {
     let mut keeping = Keeping::default();
+    let mut courses = asked.last_packets.as_ref().map(|_| Courses::default());
     let mut sink = Sink::new(made, &mut keeping)?;
     let import = import::Asked { program: NAME, files, key_logs: &asked.key_logs, can_repeat: true };
-    import::imported(&import, &mut sink, &mut None)?;
+    let summary = import::imported(&import, &mut sink, courses.as_mut())?;
     drop(sink);
-    Ok(keeping.original)
-}
-
-impl Target for PrivateFile {
-    fn begin_anew(&mut self) -> io::Result<()> {
-        PrivateFile::begin_anew(self)
-    }
-
-    fn failure(&self, error: &io::Error) -> Failure {
-        temporary_failure(error)
-    }
-}
-
-/// A map that is kept in memory.
-#[derive(Default)]
-struct Keeping {
-    original: Original,
-    addresses: Addresses,
-    failure: Option<Failure>,
-}
-
-impl Keeping {
-    fn note(&mut self, packet: u64, why: &str) {
-        if let (Err(error), None) = (self.original.add_passed(packet, why), &self.failure) {
-            self.failure = Some(temporary_failure(&error));
-        }
-    }
-}
-
-impl Map for Keeping {
-    fn begin_file(&mut self, _path: &OsStr, _packets_before: u64) {}
-
-    fn address(&mut self, stand_in: [u8; 4], original: [u8; 16]) {
-        let original = self.addresses.add(stand_in, original).to_string();
-        self.original.add_address(stand_in, original);
-    }
-
-    fn record(&mut self, _number: u64, packet: u64) {
-        self.original.add_record(packet);
-    }
-
-    fn passed(&mut self, packet: u64, why: &PassedOver) {
-        match why {
-            PassedOver::Fragment(_) => self.note(packet, "fragment"),
-            PassedOver::Refused(why) => self.note(packet, &format!("refused {why}")),
-            PassedOver::NotIp(_) | PassedOver::NotTcp(..) => {}
-        }
-    }
-
-    fn cut(&mut self, packet: u64) {
-        self.note(packet, "cut");
-    }
-
-    fn finish(&mut self, summary: &Summary) {
-        let counts = summary.counts;
-        self.original.capture = Capture {
-            records: counts.records,
-            segments: counts.segments,
-            snapped: counts.snapped,
-            not_ipv4: counts.not_ip,
-            fragments: counts.fragments,
-            not_tcp: counts.not_tcp,
-            refused: counts.refused,
-        };
-        self.original.back = summary.back.map(|back| back.packet);
-        let others = summary.others.iter();
-        self.original.others = others.map(|one| Other { name: one.kind.name().into(), packets: one.packets }).collect();
-        for outcome in &summary.outcomes {
-            let became = match &outcome.became {
-                Outcome::Clear => Became::Clear,
-                Outcome::Refused(why) => Became::Refused(why.to_string()),
-                Outcome::Read(read) => Became::Read([side_of(&read.client), side_of(&read.server)]),
-            };
-            self.original.add_connection(outcome.opening, Connection { became, fragments: outcome.fragments });
-        }
-    }
-
-    fn begin_anew(&mut self) -> Result<(), Failure> {
-        *self = Keeping::default();
-        Ok(())
-    }
-
-    fn take_failure(&mut self) -> Option<Failure> {
-        self.failure.take()
-    }
-}
-
-fn side_of(side: &import::SideRead) -> SideRead {
-    SideRead { has_gap: side.has_gap, tail: side.tail as u64, end: side.end.to_string() }
+    Ok((keeping.original, courses.map(|courses| LastPackets::of(&summary, &courses))))
 }

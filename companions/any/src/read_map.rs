@@ -3,11 +3,10 @@
 use std::io::{BufRead, BufReader};
 use std::path::Path;
 
+use originals::{Became, Connection, Original, Other, SideRead};
 use programs::{printable, Failure, Input};
 use reports::maps::{MapError, MapLine, MapReader};
 use reports::Capture;
-
-use crate::original::{Became, Connection, Original, Other, SideRead};
 
 const BUFFER: usize = 1 << 18;
 
@@ -140,9 +139,9 @@ impl Reading {
 #[cfg(test)]
 mod tests {
     use mutations::changed;
+    use originals::bring_back;
 
     use super::Reading;
-    use crate::report::bring_back;
 
     const INTERESTING: [&[u8]; 8] =
         [b"\n", b" ", b"18446744073709551615", b"connection ", b"frame ", b"\xff", b"refused", b"flow client "];

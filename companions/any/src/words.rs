@@ -30,6 +30,8 @@ pub struct Audited {
     /// h2audit's.
     pub options: Vec<String>,
     pub parts: Option<u64>,
+    /// Where the times of last packets go.
+    pub last_packets: Option<PathBuf>,
     pub program: Option<OsString>,
 }
 
@@ -52,6 +54,7 @@ pub fn words_of(words: Vec<OsString>) -> Result<Words, Failure> {
             Long("block") => block = Some(count(&mut parser, "--block", MOST_FRAMES)?),
             Long("frames") => has_frames = true,
             Long("parts") => asked.parts = Some(count(&mut parser, "--parts", MOST_PARTS)?),
+            Long("last-packets") => asked.last_packets = Some(PathBuf::from(parser.value().map_err(wrong)?)),
             Long("map") => map = Some(PathBuf::from(parser.value().map_err(wrong)?)),
             Long("h2audit") => asked.program = Some(parser.value().map_err(wrong)?),
             Value(file) => asked.files.push(file),
@@ -72,7 +75,7 @@ pub fn words_of(words: Vec<OsString>) -> Result<Words, Failure> {
 impl Audited {
     fn is_empty(&self) -> bool {
         let has_words = !self.files.is_empty() || !self.key_logs.is_empty() || !self.options.is_empty();
-        !has_words && !self.is_sorted && self.parts.is_none() && self.program.is_none()
+        !has_words && !self.is_sorted && self.parts.is_none() && self.last_packets.is_none() && self.program.is_none()
     }
 }
 

@@ -8,6 +8,8 @@ use std::borrow::Cow;
 use std::cmp::Reverse;
 use std::collections::{BinaryHeap, HashMap};
 
+use crate::internet::flags;
+
 pub const END_OF_OFFSETS: u32 = 1 << 31;
 pub const MOST_HELD: usize = 64 << 20;
 const COST_OF_A_PIECE: usize = 200;
@@ -17,6 +19,25 @@ const COST_OF_A_PIECE: usize = 200;
 pub struct Arrival {
     pub packet: u64,
     pub nanos: i64,
+}
+
+/// The offset of a segment's first byte among those of its side, which begin behind the initial sequence number
+/// (RFC 9293, 3.4). Bytes before these have offsets from 2^31 on.
+#[inline]
+pub fn offset_of(initial: u32, sequence: u32, flags: u8) -> u32 {
+    let syn = u32::from(flags & flags::SYN != 0);
+    sequence.wrapping_add(syn).wrapping_sub(initial).wrapping_sub(1)
+}
+
+/// Where a payload stands among the bytes of its side, and what of it counts.
+#[inline]
+pub fn placed(initial: u32, sequence: u32, flags: u8, payload: &[u8]) -> Option<(u32, &[u8])> {
+    let offset = offset_of(initial, sequence, flags);
+    if offset < END_OF_OFFSETS {
+        return (!payload.is_empty()).then_some((offset, payload));
+    }
+    let before = offset.wrapping_neg() as usize;
+    (before < payload.len()).then(|| (0, &payload[before..]))
 }
 
 /// Takes segments in the order of the capture, and gives bytes as soon as all before them are there.

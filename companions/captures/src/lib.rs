@@ -34,7 +34,8 @@
 //! # To find segments
 //!
 //! [`Decoder`] makes a TCP [`Segment`] of a packet, or says why there is none ([`PassedOver`]); segments of IPv6 become
-//! ones of IPv4, between stand-ins for their addresses. [`Flow`] puts the bytes of a side in order.
+//! ones of IPv4, between stand-ins for their addresses. [`placed`] says where the bytes of a segment stand among those of
+//! its side, and [`Flow`] puts them in order.
 //!
 //! The rules are those of h2audit (docs/AUDIT_RULES.md, 2 and 3).
 
@@ -54,7 +55,7 @@ mod stand_ins;
 
 pub use bytes::Order;
 pub use error::Error;
-pub use flows::{Arrival, Flow, END_OF_OFFSETS, MOST_HELD};
+pub use flows::{offset_of, placed, Arrival, Flow, END_OF_OFFSETS, MOST_HELD};
 pub use internet::{flags, swapped, Decoder, Ends, Fragment, HeldSegment, PassedOver, Segment};
 pub use link_layers::{is_read, RAW};
 pub use packets::{Item, Packet, Reader, MOST_CAPTURED};

@@ -4,6 +4,9 @@ use std::rc::Rc;
 
 use reports::{Finding, Side};
 
+use crate::frames::Frames;
+pub use crate::requests::Requests;
+
 /// Nanoseconds since 1970, or between two moments.
 pub type Nanos = i64;
 
@@ -138,7 +141,7 @@ pub struct Span {
 }
 
 /// What one side sends on a stream.
-#[derive(Clone, Debug, PartialEq)]
+#[derive(Clone, Debug, PartialEq, Eq)]
 pub struct Direction {
     pub nanos: Nanos,
     pub shares: Shares,
@@ -220,7 +223,7 @@ pub struct Cause {
 }
 
 /// A request, and what answered it.
-#[derive(Clone, Debug, PartialEq)]
+#[derive(Clone, Debug, PartialEq, Eq)]
 pub struct Request {
     pub stream: u32,
     pub name: Option<Rc<str>>,
@@ -306,6 +309,19 @@ pub enum Outcome {
     Refused,
 }
 
+impl Outcome {
+    /// The report's word.
+    pub fn name(self) -> &'static str {
+        match self {
+            Outcome::Http2 => "http2",
+            Outcome::NotHttp2 => "not-http2",
+            Outcome::NoPreface => "no-preface",
+            Outcome::NoHandshake => "no-handshake",
+            Outcome::Refused => "refused",
+        }
+    }
+}
+
 #[derive(Clone, Debug)]
 pub struct ConnectionSaid {
     pub number: u64,
@@ -342,40 +358,13 @@ pub struct ConnectionSaid {
     pub stopped_at: Option<At>,
     /// The offset from which on bytes of a side are missing.
     pub gaps: Vec<(Side, u64)>,
+    /// Where both ends of connections are asked about.
+    pub all_frames: Option<Frames>,
 }
 
 impl ConnectionSaid {
     pub fn is_audited(&self) -> bool {
         self.outcome == Outcome::Http2
-    }
-}
-
-/// The requests of a connection; they may be held packed.
-#[derive(Clone, Debug, Default)]
-pub struct Requests {
-    all: Vec<Request>,
-}
-
-impl Requests {
-    pub fn push(&mut self, request: Request) {
-        self.all.push(request);
-    }
-
-    pub fn len(&self) -> usize {
-        self.all.len()
-    }
-
-    pub fn is_empty(&self) -> bool {
-        self.all.is_empty()
-    }
-
-    pub fn get(&self, index: usize) -> Option<Request> {
-        self.all.get(index).cloned()
-    }
-
-    /// Each one by itself, in the order of openings.
-    pub fn iter(&self) -> impl Iterator<Item = Request> + '_ {
-        self.all.iter().cloned()
     }
 }
 
@@ -400,6 +389,20 @@ pub struct NotAudited {
 pub struct Files {
     pub names: Vec<String>,
     pub starts: Vec<u64>,
+}
+
+impl Files {
+    /// The number of the file that has a packet, from 1, and the packet's number in it.
+    pub fn place(&self, packet: u64) -> (usize, u64) {
+        match self.starts.partition_point(|start| *start < packet) {
+            0 => (0, packet),
+            file => (file, packet - self.starts[file - 1]),
+        }
+    }
+
+    pub fn name(&self, file: usize) -> &str {
+        file.checked_sub(1).and_then(|index| self.names.get(index)).map_or("", String::as_str)
+    }
 }
 
 #[derive(Clone, Debug, Default)]

@@ -6,4 +6,55 @@
 
 #![forbid(unsafe_code)]
 
+use reports::Side;
+
 pub mod answer;
+mod audit;
+mod blocks;
+mod building;
+mod causes;
+mod certainty;
+mod connection;
+mod course;
+mod cutter;
+mod doubts;
+mod findings;
+pub mod frames;
+mod intervals;
+mod leaks;
+mod learning;
+mod life;
+mod listening;
+mod made;
+mod names;
+mod packed;
+mod reported;
+mod requests;
+mod rounds;
+mod seen;
+mod settings;
+mod signals;
+mod stalls;
+mod stream;
+mod table;
+mod tcp;
+mod telling;
+mod unanswered;
+mod unshown;
+mod walk;
+mod windows;
+pub mod words;
+
+pub use building::{answer_of, answer_with_report, Asked};
+pub use import::{CLIENT, SERVER};
+pub use originals::write_last_packets;
+pub use reported::Reported;
+
+/// The side of this number.
+pub(crate) fn side_of(number: usize) -> Side {
+    if number == CLIENT {
+        Side::Client
+    } else {
+        Side::Server
+    }
+}

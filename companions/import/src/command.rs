@@ -7,8 +7,9 @@ use std::path::{Path, PathBuf};
 use captures::{Error, Item, Reader, Source};
 use programs::{end_cleanly, is_special, print, printable, say, Failure, Outcome, Output};
 
-use crate::course::Course;
-use crate::importing::{imported, Asked};
+use crate::course::Courses;
+use crate::course_file::CourseFile;
+use crate::importing::{imported, times_go_back, Asked};
 use crate::map_file::MapFile;
 use crate::outcomes::Summary;
 use crate::sink::Sink;
@@ -65,6 +66,9 @@ fn import(asked: &Import) -> Outcome {
     let mut map = asked.map.as_deref().map(Output::begin_private).transpose()?;
     let mut course = asked.course.as_deref().map(Output::begin_private).transpose()?;
     let summary = made(asked, &files, &mut output, map.as_mut(), course.as_mut())?;
+    if let Some(back) = &summary.back {
+        say(NAME, &times_go_back(back.packet()));
+    }
     output.finish()?;
     [map, course].into_iter().flatten().try_for_each(Output::finish)?;
     if summary.read() > 0 {
@@ -86,9 +90,17 @@ fn made(
         .flatten()
         .all(|path| path.as_os_str() != "-" && !is_special(path).unwrap_or(true));
     let mut map = MapFile::new(map);
-    let mut course = course.map(Course::new);
-    let mut sink = Sink::new(output, &mut map)?;
-    imported(&Asked { program: NAME, files, key_logs: &asked.key_logs, can_repeat }, &mut sink, &mut course)
+    let mut courses = Courses::default();
+    let summary = {
+        let mut sink = Sink::new(output, &mut map)?;
+        let courses = course.is_some().then_some(&mut courses);
+        imported(&Asked { program: NAME, files, key_logs: &asked.key_logs, can_repeat }, &mut sink, courses)?
+    };
+    if let Some(out) = course {
+        let (files_of, addresses) = map.names();
+        CourseFile { out, files: files_of, addresses }.write(files, &summary, &courses)?;
+    }
+    Ok(summary)
 }
 
 /// The files in the order of their first packets; those without any come last.

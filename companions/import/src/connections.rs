@@ -4,11 +4,12 @@
 //! as it stands. Of a TLS connection its openings are written, and a segment for the plaintext of each record. What a
 //! proxy put before the bytes is left out.
 
-use captures::{flags, swapped, Arrival, Ends, Flow, HeldSegment, Segment, END_OF_OFFSETS, MOST_HELD};
+use captures::{flags, placed, swapped, Arrival, Ends, Flow, HeldSegment, Segment, MOST_HELD};
 use tls::{looks_like_tls, Known, Shared, CLIENT, SERVER};
 
+use crate::listener::{Sender, Written};
 use crate::outcomes::{Became, Outcome};
-use crate::plaintext::{became, Numbers, Plain};
+use crate::plaintext::{became, Later, Numbers, Plain};
 use crate::preamble::{look, Found, Preamble};
 use crate::shifted::Shift;
 use crate::sink::Sink;
@@ -62,10 +63,13 @@ pub struct Connection {
 }
 
 impl Connection {
-    pub fn new(arrival: Arrival, segment: &Segment<'_>) -> Connection {
+    /// Of this number, which counts from 0 on.
+    pub fn new(number: usize, arrival: Arrival, segment: &Segment<'_>) -> Connection {
         Connection {
             opening: arrival.packet,
             numbers: Numbers {
+                connection: number,
+                later: None,
                 ends: [segment.ends, swapped(&segment.ends)],
                 initial: [Some(segment.sequence), None],
                 sent: [0; 2],
@@ -89,6 +93,20 @@ impl Connection {
     /// The number of the SYN that opened it.
     pub fn initial(&self) -> Option<u32> {
         self.numbers.initial[CLIENT]
+    }
+
+    /// How many connections opened before it.
+    pub fn number(&self) -> usize {
+        self.numbers.connection
+    }
+
+    /// Notes its pair's last connection.
+    pub fn note_later(&mut self, later: Option<Later>) {
+        self.numbers.later = later;
+    }
+
+    fn sender(&self, side: usize) -> Option<Sender> {
+        Some(Sender { connection: self.numbers.connection, side })
     }
 
     pub fn is_clear(&self) -> bool {
@@ -121,10 +139,9 @@ impl Connection {
         }
         match &self.mode {
             Mode::Undecided(_) => self.take_undecided(shared, sink, arrival, side, segment, is_answer),
-            Mode::Clear => sink.emit(arrival, segment.original, segment.datagram()),
-            Mode::Behind(shift) => shift.emit(sink, arrival, side, segment, &self.numbers.initial),
+            Mode::Clear | Mode::Behind(_) => self.emit(sink, arrival, side, segment),
             Mode::Tls(_) if is_answer => {
-                sink.emit(arrival, segment.start as u32, without_payload(segment, &mut Vec::new()));
+                sink.emit(arrival, self.sender(side), Written::headers(segment, &mut Vec::new()));
                 for one in std::mem::take(&mut self.held) {
                     self.take_tls(shared, sink, one.arrival, one.side, &one.segment.segment());
                 }
@@ -138,7 +155,17 @@ impl Connection {
     fn placed<'a>(&self, side: usize, segment: &Segment<'a>) -> Option<(u32, &'a [u8])> {
         let before = self.preamble.map_or(0, |preamble| preamble.lengths[side]);
         let initial = self.numbers.initial[side]?.wrapping_add(before);
-        placed(initial, segment)
+        placed(initial, segment.sequence, segment.flags, segment.payload())
+    }
+
+    /// Writes a segment in the clear.
+    fn emit(&self, sink: &mut Sink<'_>, arrival: Arrival, side: usize, segment: &Segment<'_>) {
+        let mut room = Vec::new();
+        let written = match &self.mode {
+            Mode::Behind(shift) => shift.written(side, segment, &self.numbers.initial, &mut room),
+            _ => Written::whole(segment),
+        };
+        sink.emit(arrival, self.sender(side), written);
     }
 
     // Undecided
@@ -159,7 +186,7 @@ impl Connection {
             _ => None,
         };
         if begun.is_none() && is_syn && !segment.has_payload() {
-            sink.emit(arrival, segment.original, segment.datagram());
+            self.emit(sink, arrival, side, segment);
             return;
         }
         let mut undecided = begun.unwrap_or_default();
@@ -220,11 +247,7 @@ impl Connection {
             Some(preamble) => Mode::Behind(Box::new(Shift::new(preamble.lengths))),
         };
         for one in &held {
-            let segment = one.segment.segment();
-            match &self.mode {
-                Mode::Behind(shift) => shift.emit(sink, one.arrival, one.side, &segment, &self.numbers.initial),
-                _ => sink.emit(one.arrival, segment.original, segment.datagram()),
-            }
+            self.emit(sink, one.arrival, one.side, &one.segment.segment());
         }
     }
 
@@ -233,7 +256,7 @@ impl Connection {
         for one in held {
             let segment = one.segment.segment();
             if segment.flags & flags::SYN != 0 {
-                sink.emit(one.arrival, segment.start as u32, without_payload(&segment, &mut Vec::new()));
+                sink.emit(one.arrival, self.sender(one.side), Written::headers(&segment, &mut Vec::new()));
             }
             self.take_tls(shared, sink, one.arrival, one.side, &segment);
         }
@@ -355,27 +378,4 @@ impl Connection {
         let preamble = self.preamble.filter(|_| !matches!(became, Became::Refused(_)));
         Outcome { opening: self.opening, ends: self.numbers.ends[CLIENT], became, preamble, fragments: 0 }
     }
-}
-
-/// Where a segment's payload stands behind this number, and what of it counts.
-pub fn placed<'a>(initial: u32, segment: &Segment<'a>) -> Option<(u32, &'a [u8])> {
-    if !segment.has_payload() {
-        return None;
-    }
-    let syn = u32::from(segment.flags & flags::SYN != 0);
-    let offset = segment.sequence.wrapping_add(syn).wrapping_sub(initial).wrapping_sub(1);
-    let data = segment.payload();
-    if offset < END_OF_OFFSETS {
-        return Some((offset, data));
-    }
-    let before = offset.wrapping_neg() as usize;
-    (before < data.len()).then(|| (0, &data[before..]))
-}
-
-/// A segment's datagram with its headers alone, for which there is some room.
-pub fn without_payload<'a>(segment: &Segment<'_>, room: &'a mut Vec<u8>) -> [&'a [u8]; 2] {
-    segment.headers().iter().for_each(|part| room.extend_from_slice(part));
-    let length = (segment.start as u16).to_be_bytes();
-    room[2..4].copy_from_slice(&length);
-    [room, &[]]
 }

@@ -1,159 +1,110 @@
-//! Writes the course of TCP: of each connection its openings and ends, what was sent again, bytes that were missing, and
-//! spans in which a side's receive window was 0 (docs/MAP.md, "The course of TCP").
+//! What TCP did on each connection, encrypted or not: its openings and ends, what was sent and sent again, and the
+//! stretches of time in which TCP held back what a side sends.
+//!
+//! A segment was captured twice, and not sent again, if its side's last 32 segments with payload have one with the same
+//! bytes, as their CRC-32 tells, and the same IP identification or, without one, within a millisecond.
 
-use std::collections::HashMap;
-use std::ffi::OsStr;
-use std::io::Write;
+use std::num::NonZeroU64;
 
-use captures::{swapped, Arrival, Ends, Segment};
-use programs::{Failure, Output};
-use tls::{CLIENT, SERVER};
+use captures::{Arrival, Segment};
 
-use crate::addresses::{escaped_path, Addresses};
-use crate::map::Files;
-use crate::tracked::{Fact, Side, Tracked};
+use crate::listener::Sender;
+use crate::table::Taken;
+use crate::tracked::Tracked;
 
-const FIRST_LINE: &str = "h2audit-course 1";
-const SIDES: [&str; 2] = ["client", "server"];
+/// Where a stretch lasts to the end of the capture.
+pub const NEVER: i64 = i64::MAX;
 
-/// The lines of a course, written as they become known.
-pub struct Course<'a> {
-    out: &'a mut Output,
-    files: Files,
-    addresses: Addresses,
-    connections: Vec<Tracked>,
-    /// The last connection of each pair, by what either side sends.
-    of_ends: HashMap<Ends, (usize, usize)>,
-    failure: Option<Failure>,
+/// The connections of a capture, which are told from each other as h2audit does. An import fills it.
+#[derive(Default)]
+pub struct Courses {
+    /// In the order of openings.
+    pub connections: Vec<Course>,
+    /// What is known of each, until the end.
+    tracked: Vec<Tracked>,
 }
 
-impl<'a> Course<'a> {
-    pub fn new(out: &'a mut Output) -> Course<'a> {
-        let mut course = Course {
-            out,
-            files: Files::default(),
-            addresses: Addresses::default(),
-            connections: Vec::new(),
-            of_ends: HashMap::new(),
-            failure: None,
-        };
-        course.line(format_args!("{FIRST_LINE}"));
-        course
+/// What TCP did on one connection.
+#[derive(Debug)]
+pub struct Course {
+    /// The SYN that opened it.
+    pub syn: Arrival,
+    /// The server's first SYN ACK, and the client's first ACK behind it.
+    pub syn_ack: Option<Arrival>,
+    pub ack: Option<Arrival>,
+    /// [`tls::CLIENT`] and [`tls::SERVER`].
+    pub sides: [Side; 2],
+    /// In the order in which they ended.
+    pub held: Vec<Held>,
+}
+
+/// What one side sent.
+#[derive(Debug, Default)]
+pub struct Side {
+    /// Its first FIN and its first RST, and its last segment.
+    pub fin: Option<Arrival>,
+    pub rst: Option<Arrival>,
+    pub last: Option<Arrival>,
+    /// The first segment behind bytes that never came.
+    pub lost: Option<Arrival>,
+    /// Segments with payload, and those of them that were captured before.
+    pub segments: u64,
+    pub doubled: u64,
+    /// New bytes, and bytes that were sent again.
+    pub bytes: u64,
+    pub resent: u64,
+}
+
+/// Why TCP held back what a side sends.
+#[derive(Clone, Copy, Debug, PartialEq, Eq)]
+pub enum Why {
+    /// The other side's receive window was 0: from its packet to its next one with a window above 0. The window of an
+    /// RST says nothing, nor that of an opening SYN.
+    ZeroWindow,
+    /// Bytes came that the side had sent before: since its segment with payload before that one.
+    Resent,
+    /// Bytes were missing: from the first segment behind them to the one after which none is missing up to the last
+    /// that came.
+    Hole,
+}
+
+/// A stretch of time in which TCP held back what a side sends.
+#[derive(Clone, Copy, Debug, PartialEq, Eq)]
+pub struct Held {
+    pub begin: i64,
+    /// [`NEVER`] where it lasts.
+    pub end: i64,
+    /// The packets at which it begins and ends; both are that which brought bytes again.
+    pub first: u64,
+    pub last: Option<NonZeroU64>,
+    /// How many bytes were sent again.
+    pub bytes: u32,
+    pub why: Why,
+    /// Whose bytes were held back.
+    pub side: u8,
+}
+
+impl Courses {
+    /// Takes a segment of a connection.
+    pub(crate) fn take(&mut self, taken: &Taken, arrival: Arrival, segment: &Segment<'_>) {
+        let Taken { sender: Sender { connection, side }, opens } = *taken;
+        if opens {
+            self.connections.push(Course::of(arrival));
+            self.tracked.push(Tracked::default());
+        }
+        self.tracked[connection].take(&mut self.connections[connection], side, arrival, segment);
     }
 
-    /// Takes back all that was said.
-    pub fn begin_anew(self) -> Result<Course<'a>, Failure> {
-        let out = self.out;
-        out.begin_anew().map_err(|error| out.failure(&error))?;
-        Ok(Course::new(out))
-    }
-
-    /// What went wrong first in writing.
-    pub fn take_failure(&mut self) -> Option<Failure> {
-        self.failure.take()
-    }
-
-    fn line(&mut self, text: std::fmt::Arguments<'_>) {
-        if self.failure.is_none() {
-            let written = self.out.write_fmt(text).and_then(|()| self.out.write_all(b"\n"));
-            self.failure = written.err().map(|error| self.out.failure(&error));
+    /// Takes the end of the capture.
+    pub(crate) fn finish(&mut self) {
+        for (tracked, course) in std::mem::take(&mut self.tracked).into_iter().zip(&mut self.connections) {
+            tracked.finish(course);
         }
     }
+}
 
-    fn place(&self, arrival: Arrival) -> String {
-        let (file, packet) = self.files.place(arrival.packet);
-        format!("file {file} packet {packet} time {}", arrival.nanos)
-    }
-
-    pub fn begin_file(&mut self, path: &OsStr, packets_before: u64) {
-        self.files.begin(packets_before);
-        self.line(format_args!("file {} {}", self.files.count(), escaped_path(path)));
-    }
-
-    pub fn address(&mut self, stand_in: [u8; 4], original: [u8; 16]) {
-        self.addresses.add(stand_in, original);
-    }
-
-    /// A packet whose time lies so far before that of the packet before it.
-    pub fn back(&mut self, arrival: Arrival, nanos: u64) {
-        let place = self.place(arrival);
-        self.line(format_args!("back {place} nanos {nanos}"));
-    }
-
-    /// A segment that opens a connection.
-    pub fn opened(&mut self, arrival: Arrival, segment: &Segment<'_>) {
-        let at = self.connections.len();
-        let number = at as u64 + 1;
-        let (client, server) = self.addresses.endpoints(&segment.ends);
-        self.line(format_args!("connection {number} client {client} server {server}"));
-        let place = self.place(arrival);
-        self.line(format_args!("syn {number} {place}"));
-        self.connections.push(Tracked::new(number));
-        self.of_ends.insert(swapped(&segment.ends), (at, SERVER));
-        self.of_ends.insert(segment.ends, (at, CLIENT));
-        self.segment(arrival, segment);
-    }
-
-    /// A segment of any connection.
-    pub fn segment(&mut self, arrival: Arrival, segment: &Segment<'_>) {
-        let (at, side) = match self.of_ends.get(&segment.ends) {
-            Some(found) => *found,
-            None => return,
-        };
-        let number = self.connections[at].number;
-        for fact in self.connections[at].met(side, arrival, segment) {
-            self.fact(number, SIDES[side], arrival, fact);
-        }
-    }
-
-    fn fact(&mut self, number: u64, side: &str, arrival: Arrival, fact: Fact) {
-        let place = self.place(arrival);
-        match fact {
-            Fact::SynAck => self.line(format_args!("syn-ack {number} {place}")),
-            Fact::Ack => self.line(format_args!("ack {number} {place}")),
-            Fact::Fin => self.line(format_args!("fin {number} {side} {place}")),
-            Fact::Rst => self.line(format_args!("rst {number} {side} {place}")),
-            Fact::Resent { bytes, after: None } => {
-                self.line(format_args!("resent {number} {side} {place} bytes {bytes}"))
-            }
-            Fact::Resent { bytes, after: Some(after) } => {
-                self.line(format_args!("resent {number} {side} {place} bytes {bytes} after {after}"));
-            }
-            Fact::WindowZero { from } => self.span("window-zero", number, side, from, &place),
-            Fact::Hole { from } => self.span("hole", number, side, from, &place),
-        }
-    }
-
-    fn span(&mut self, word: &str, number: u64, side: &str, from: Arrival, to: &str) {
-        let from = self.place(from);
-        self.line(format_args!("{word} {number} {side} from {from} to {to}"));
-    }
-
-    /// Ends all connections.
-    pub fn finish(&mut self) {
-        for connection in std::mem::take(&mut self.connections) {
-            for (side, name) in connection.sides.iter().zip(SIDES) {
-                self.sums(connection.number, name, side);
-            }
-        }
-    }
-
-    /// What is known of a side at the end, where it sent something.
-    fn sums(&mut self, number: u64, name: &str, side: &Side) {
-        let last = match side.last {
-            Some(last) => self.place(last),
-            None => return,
-        };
-        if let Some(from) = side.closed {
-            self.span("window-zero", number, name, from, "none");
-        }
-        if let Some(from) = side.holed {
-            self.span("hole", number, name, from, "none");
-        }
-        self.line(format_args!("last {number} {name} {last}"));
-        let Side { segments, bytes, resent, doubled, .. } = side;
-        self.line(format_args!(
-            "sums {number} {name} segments {segments} bytes {bytes} resent {resent} doubled {doubled}"
-        ));
+impl Course {
+    fn of(syn: Arrival) -> Course {
+        Course { syn, syn_ack: None, ack: None, sides: Default::default(), held: Vec::new() }
     }
 }

@@ -1,4 +1,4 @@
-//! The pipeline: from files to the capture that is made, and its map.
+//! The pipeline: from files to the capture that is made, and what listens to it.
 
 use std::collections::HashMap;
 use std::ffi::{OsStr, OsString};
@@ -8,11 +8,12 @@ use captures::{
     pcapng, Arrival, Decoder, Ends, Error, Fragment, Item, Packet, PassedOver, Reader, Source, STANDARD_INPUT,
 };
 use programs::{printable, say, Failure};
+use reports::Capture;
 use tls::Shared;
 
-use crate::course::Course;
+use crate::course::Courses;
 use crate::others::Others;
-use crate::outcomes::{Back, Counts, Summary};
+use crate::outcomes::{Back, Older, Summary};
 use crate::progress::Progress;
 use crate::sink::{Problem, Sink};
 use crate::table::Table;
@@ -32,21 +33,20 @@ pub struct Asked<'a> {
     pub can_repeat: bool,
 }
 
-/// Reads all files into the sink; once more where the sessions in them show secrets for more connections. What a user
-/// should know besides is said on standard error.
-pub fn imported(asked: &Asked<'_>, sink: &mut Sink<'_>, course: &mut Option<Course<'_>>) -> Result<Summary, Failure> {
+/// Reads all files into the sink; once more where the sessions in them show secrets for more connections. What was
+/// passed over of files and key logs is said on standard error. What TCP did is noted where that is asked for.
+pub fn imported(asked: &Asked<'_>, sink: &mut Sink<'_>, mut courses: Option<&mut Courses>) -> Result<Summary, Failure> {
     let standard = [OsString::from(STANDARD_INPUT)];
     let files = if asked.files.is_empty() { &standard[..] } else { asked.files };
     let mut shared = Shared::default();
     read_keys(asked, files, &mut shared)?;
     shared.keys.waits_for_sessions = shared.more_keys || !asked.can_repeat;
-    let (mut summary, missed) = read_through(asked, files, &mut shared, sink, course, true)?;
+    let (mut summary, missed) = read_through(asked, files, &mut shared, sink, courses.as_deref_mut(), true)?;
     if !missed.is_empty() {
         sink.begin_anew()?;
-        *course = course.take().map(Course::begin_anew).transpose()?;
         shared.sessions = Default::default();
         shared.keys.add_text(&missed);
-        summary = read_through(asked, files, &mut shared, sink, course, false)?.0;
+        summary = read_through(asked, files, &mut shared, sink, courses, false)?.0;
     }
     Ok(summary)
 }
@@ -83,10 +83,14 @@ fn read_through(
     files: &[OsString],
     shared: &mut Shared,
     sink: &mut Sink<'_>,
-    course: &mut Option<Course<'_>>,
+    courses: Option<&mut Courses>,
     is_first: bool,
 ) -> Result<(Summary, Vec<u8>), Failure> {
-    let mut importer = Importer::new(shared, sink, course, Progress::new(asked.program));
+    let courses = courses.map(|courses| {
+        *courses = Courses::default();
+        courses
+    });
+    let mut importer = Importer::new(shared, sink, courses, Progress::new(asked.program));
     for path in files {
         let has_bytes_behind = importer.file(path).map_err(|problem| problem.failure(Some(path)))?;
         if has_bytes_behind && is_first {
@@ -95,10 +99,6 @@ fn read_through(
         }
     }
     let (summary, missed) = importer.finish().map_err(|problem| problem.failure(None))?;
-    if let Some(back) = summary.back.filter(|_| is_first) {
-        let packet = back.packet;
-        say(asked.program, &times_go_back(packet));
-    }
     Ok((summary, missed))
 }
 
@@ -135,37 +135,37 @@ impl Early {
 }
 
 /// Takes files, and hands their segments to the table of connections.
-struct Importer<'a, 'b, 'c> {
+struct Importer<'a, 'b> {
     shared: &'a mut Shared,
     sink: &'a mut Sink<'b>,
-    course: &'a mut Option<Course<'c>>,
+    courses: Option<&'a mut Courses>,
     progress: Progress,
     decoder: Decoder,
     table: Table,
     packets: u64,
-    counts: Counts,
+    counts: Capture,
     others: Others,
     last: Option<i64>,
     back: Option<Back>,
     fragmented: HashMap<([u8; 8], u32), Ends>,
 }
 
-impl<'a, 'b, 'c> Importer<'a, 'b, 'c> {
+impl<'a, 'b> Importer<'a, 'b> {
     fn new(
         shared: &'a mut Shared,
         sink: &'a mut Sink<'b>,
-        course: &'a mut Option<Course<'c>>,
+        courses: Option<&'a mut Courses>,
         progress: Progress,
-    ) -> Importer<'a, 'b, 'c> {
+    ) -> Importer<'a, 'b> {
         Importer {
             shared,
             sink,
-            course,
+            courses,
             progress,
             decoder: Decoder::default(),
             table: Table::default(),
             packets: 0,
-            counts: Counts::default(),
+            counts: Capture::default(),
             others: Others::default(),
             last: None,
             back: None,
@@ -176,16 +176,13 @@ impl<'a, 'b, 'c> Importer<'a, 'b, 'c> {
     /// Reads a file, and answers whether bytes stood behind the end of what gzip packed.
     fn file(&mut self, path: &OsStr) -> Result<bool, Early> {
         let source = Source::open(path)?;
-        self.sink.map.begin_file(path, self.packets);
-        if let Some(course) = self.course {
-            course.begin_file(path, self.packets);
-        }
+        self.sink.listener.begin_file(path, self.packets);
         let mut reader = Reader::new(source)?;
         while let Some(item) = reader.next()? {
             match item {
                 Item::Packet(packet) => self.packet(&packet)?,
                 Item::Secrets(text) => self.secrets(text),
-                Item::Cut => self.sink.map.cut(self.packets + 1),
+                Item::Cut => self.sink.listener.passed(self.packets + 1, "cut"),
             }
             if self.sink.has_problem() {
                 break;
@@ -196,8 +193,7 @@ impl<'a, 'b, 'c> Importer<'a, 'b, 'c> {
     }
 
     fn look_for_problems(&mut self) -> Result<(), Early> {
-        let course = self.course.as_mut().and_then(|course| course.take_failure()).map(Problem::Failed);
-        match self.sink.take_problem().or(course) {
+        match self.sink.take_problem() {
             None => Ok(()),
             Some(problem) => Err(Early::Problem(problem)),
         }
@@ -225,11 +221,9 @@ impl<'a, 'b, 'c> Importer<'a, 'b, 'c> {
         if self.decoder.has_addresses() {
             self.name_addresses();
         }
-        let opens = self.table.take(self.shared, self.sink, arrival, &segment);
-        match self.course {
-            Some(course) if opens => course.opened(arrival, &segment),
-            Some(course) => course.segment(arrival, &segment),
-            None => {}
+        let taken = self.table.take(self.shared, self.sink, arrival, &segment);
+        if let (Some(courses), Some(taken)) = (self.courses.as_deref_mut(), taken) {
+            courses.take(&taken, arrival, &segment);
         }
         Ok(())
     }
@@ -238,38 +232,33 @@ impl<'a, 'b, 'c> Importer<'a, 'b, 'c> {
         let before = self.last.replace(arrival.nanos).unwrap_or(arrival.nanos);
         if arrival.nanos < before {
             let nanos = before.abs_diff(arrival.nanos);
-            let back = self.back.get_or_insert(Back { packet: arrival.packet, packets: 0, nanos });
-            back.packets += 1;
-            back.nanos = back.nanos.max(nanos);
-            if let Some(course) = self.course {
-                course.back(arrival, nanos);
-            }
+            self.back.get_or_insert_with(Back::default).add(Older { arrival, nanos });
         }
     }
 
     fn name_addresses(&mut self) {
         for (stand_in, original) in self.decoder.take_addresses() {
-            self.sink.map.address(stand_in, original);
-            if let Some(course) = self.course {
-                course.address(stand_in, original);
-            }
+            self.sink.listener.address(stand_in, original);
         }
     }
 
     fn pass_over(&mut self, why: &PassedOver) {
         self.others.add(why);
         match why {
-            PassedOver::NotIp(_) => self.counts.not_ip += 1,
+            PassedOver::NotIp(_) => self.counts.not_ipv4 += 1,
             PassedOver::NotTcp(..) => self.counts.not_tcp += 1,
-            PassedOver::Refused(_) => self.counts.refused += 1,
+            PassedOver::Refused(why) => {
+                self.counts.refused += 1;
+                self.sink.listener.passed(self.packets, &format!("refused {why}"));
+            }
             PassedOver::Fragment(fragment) => {
                 self.counts.fragments += 1;
                 if let Some(fragment) = fragment {
                     self.count_fragment(fragment);
                 }
+                self.sink.listener.passed(self.packets, "fragment");
             }
         }
-        self.sink.map.passed(self.packets, why);
     }
 
     /// Counts a fragment at its connection: the first one of a datagram has the ports.
@@ -307,11 +296,16 @@ impl<'a, 'b, 'c> Importer<'a, 'b, 'c> {
         }
         self.counts.records = self.packets;
         let (outcomes, unopened) = std::mem::take(&mut self.table).finish_all(self.shared, self.sink);
-        let summary =
-            Summary { counts: self.counts, back: self.back, others: self.others.most_seen(), unopened, outcomes };
-        self.sink.map.finish(&summary);
-        if let Some(course) = self.course {
-            course.finish();
+        let summary = Summary {
+            counts: self.counts,
+            back: self.back.take(),
+            others: self.others.most_seen(),
+            unopened,
+            outcomes,
+        };
+        self.sink.listener.finish(&summary);
+        if let Some(courses) = self.courses.as_deref_mut() {
+            courses.finish();
         }
         self.look_for_problems()?;
         self.progress.end();

@@ -1,15 +1,25 @@
 //! Turns captures as people have them into one that h2audit reads, and says which packet of the original made each
-//! record: h2audit-import, and what stands before the audit of h2audit-any.
+//! record: h2audit-import, and what stands before the audit of other programs.
 //!
 //! The way of a packet:
 //!
 //! ```text
 //! captures ─ importing ─ table, connections ─ tls ─ sink
-//! segments               clear or TLS                capture and map
+//! segments               clear or TLS                capture and listener
 //! ```
 //!
-//! [`imported`] does the work of [`Asked`], into a [`Sink`] over a [`Target`] and a [`Map`]. [`Summary`] says what became
-//! of each connection.
+//! [`imported`] does the work of [`Asked`], into a [`Sink`] over a [`Target`], which takes the bytes of the capture that
+//! is made, and a [`Listener`], which takes all else in the same process:
+//!
+//! - each [`Record`] as it is written, with its number, its packet and its connection, so that who reads what is made
+//!   needs no table of connections. [`Written`] has its bytes, and where its payload stands;
+//! - what is passed over, and at the end the [`Summary`], which says what became of each connection;
+//! - `begin_anew`, where all files are read once more, as the sessions in them gave more keys.
+//!
+//! [`Courses`] has, after the import, what TCP did on each connection, where that is asked for; the memory for it is
+//! bounded by connections and by the stretches of time in which TCP held back what a side sends.
+//!
+//! Connections count from 0 on in the order of openings, in [`Sender`], [`Summary`] and [`Courses`] alike.
 
 #![forbid(unsafe_code)]
 
@@ -17,8 +27,9 @@ mod addresses;
 pub mod command;
 mod connections;
 mod course;
+mod course_file;
 mod importing;
-mod map;
+mod listener;
 mod map_file;
 mod others;
 mod outcomes;
@@ -34,11 +45,12 @@ mod words;
 
 pub use addresses::{escaped, Addresses};
 pub use command::sorted;
-pub use course::Course;
+pub use course::{Course, Courses, Held, Side, Why, NEVER};
 pub use importing::{imported, times_go_back, Asked};
-pub use map::{Files, Map};
+pub use listener::{Files, Listener, Record, Sender, Written};
 pub use map_file::MapFile;
 pub use others::{Kind, Other};
-pub use outcomes::{Back, Became, Counts, End, Outcome, Read, SideRead, Summary, Unopened};
+pub use outcomes::{Back, Became, End, Older, Outcome, Read, SideRead, Summary, Unopened};
 pub use preamble::Preamble;
 pub use sink::{Problem, Sink, Target};
+pub use tls::{CLIENT, SERVER};

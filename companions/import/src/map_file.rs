@@ -4,11 +4,10 @@ use std::ffi::OsStr;
 use std::io::{self, Write};
 use std::net::Ipv4Addr;
 
-use captures::PassedOver;
 use programs::{Failure, Output};
 
-use crate::addresses::{escaped, escaped_path, Addresses};
-use crate::map::{Files, Map};
+use crate::addresses::{escaped_path, Addresses};
+use crate::listener::{Files, Listener, Record};
 use crate::others::Kind;
 use crate::outcomes::{Became, Outcome, Read, SideRead, Summary};
 
@@ -32,6 +31,11 @@ impl<'a> MapFile<'a> {
         map
     }
 
+    /// The files, and what addresses stand for.
+    pub fn names(&self) -> (&Files, &Addresses) {
+        (&self.files, &self.addresses)
+    }
+
     fn line(&mut self, text: std::fmt::Arguments<'_>) {
         self.written(|out| out.write_fmt(text).and_then(|()| out.write_all(b"\n")));
     }
@@ -47,7 +51,7 @@ impl<'a> MapFile<'a> {
     fn connection(&mut self, outcome: &Outcome) {
         let (client, server) = self.addresses.endpoints(&outcome.ends);
         let (file, packet) = self.files.place(outcome.opening);
-        let said = said_of(&outcome.became);
+        let said = outcome.became.words();
         self.line(format_args!("connection client {client} server {server} file {file} packet {packet} {said}"));
         if let Became::Read(read) = &outcome.became {
             self.sides(read);
@@ -77,18 +81,7 @@ impl<'a> MapFile<'a> {
     }
 }
 
-fn said_of(became: &Became) -> String {
-    match became {
-        Became::Clear => "clear".to_string(),
-        Became::Refused(why) => format!("refused {why}"),
-        Became::Read(read) => {
-            let protocol = read.protocol.as_ref().map_or("none".to_string(), |protocol| escaped(protocol));
-            format!("tls {} {} alpn {protocol} records {}", read.version, read.suite, read.records)
-        }
-    }
-}
-
-impl Map for MapFile<'_> {
+impl Listener for MapFile<'_> {
     fn begin_file(&mut self, path: &OsStr, packets_before: u64) {
         self.files.begin(packets_before);
         self.line(format_args!("file {} {}", self.files.count(), escaped_path(path)));
@@ -99,15 +92,15 @@ impl Map for MapFile<'_> {
         self.line(format_args!("address {} {original}", Ipv4Addr::from(stand_in)));
     }
 
-    fn record(&mut self, number: u64, packet: u64) {
+    fn record(&mut self, record: &Record<'_>) {
         if self.out.is_none() {
             return;
         }
-        let (file, packet) = self.files.place(packet);
+        let (file, packet) = self.files.place(record.arrival.packet);
         let mut digits = [itoa::Buffer::new(), itoa::Buffer::new(), itoa::Buffer::new()];
         let [first, second, third] = &mut digits;
-        let parts =
-            ["record ", first.format(number), " file ", second.format(file), " packet ", third.format(packet), "\n"];
+        let number = first.format(record.number);
+        let parts = ["record ", number, " file ", second.format(file), " packet ", third.format(packet), "\n"];
         let mut line = std::mem::take(&mut self.line);
         line.clear();
         parts.iter().for_each(|part| line.extend_from_slice(part.as_bytes()));
@@ -115,34 +108,15 @@ impl Map for MapFile<'_> {
         self.line = line;
     }
 
-    fn passed(&mut self, packet: u64, why: &PassedOver) {
+    fn passed(&mut self, packet: u64, why: &str) {
         let (file, packet) = self.files.place(packet);
-        match why {
-            PassedOver::Fragment(_) => self.line(format_args!("passed file {file} packet {packet} fragment")),
-            PassedOver::Refused(why) => self.line(format_args!("passed file {file} packet {packet} refused {why}")),
-            PassedOver::NotIp(_) | PassedOver::NotTcp(..) => {}
-        }
-    }
-
-    fn cut(&mut self, packet: u64) {
-        let (file, packet) = self.files.place(packet);
-        self.line(format_args!("passed file {file} packet {packet} cut"));
+        self.line(format_args!("passed file {file} packet {packet} {why}"));
     }
 
     fn finish(&mut self, summary: &Summary) {
-        let counts = &summary.counts;
-        self.line(format_args!(
-            "capture records {} segments {} snapped {} not-ipv4 {} fragments {} not-tcp {} refused {}",
-            counts.records,
-            counts.segments,
-            counts.snapped,
-            counts.not_ip,
-            counts.fragments,
-            counts.not_tcp,
-            counts.refused
-        ));
-        if let Some(back) = summary.back {
-            let (file, packet) = self.files.place(back.packet);
+        self.line(format_args!("{}", summary.counts.line().trim_end()));
+        if let Some(back) = &summary.back {
+            let (file, packet) = self.files.place(back.packet());
             let (packets, nanos) = (back.packets, back.nanos);
             self.line(format_args!("back file {file} packet {packet} packets {packets} nanos {nanos}"));
         }

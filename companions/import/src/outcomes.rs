@@ -3,9 +3,14 @@
 use std::fmt;
 
 use captures::{Arrival, Ends};
+use reports::Capture;
 use tls::Reason;
 
+use crate::addresses::escaped;
 use crate::preamble::Preamble;
+
+/// So many packets are named whose times go back.
+const MOST_KEPT: usize = 16;
 
 /// Why a flow of plaintext ends.
 #[derive(Clone, Copy, Debug, PartialEq, Eq)]
@@ -61,6 +66,20 @@ pub enum Became {
     Read(Box<Read>),
 }
 
+impl Became {
+    /// As the map says it (docs/MAP.md).
+    pub fn words(&self) -> String {
+        match self {
+            Became::Clear => "clear".to_string(),
+            Became::Refused(why) => format!("refused {why}"),
+            Became::Read(read) => {
+                let protocol = read.protocol.as_ref().map_or("none".to_string(), |protocol| escaped(protocol));
+                format!("tls {} {} alpn {protocol} records {}", read.version, read.suite, read.records)
+            }
+        }
+    }
+}
+
 /// What became of a connection.
 #[derive(Clone, Debug)]
 pub struct Outcome {
@@ -84,32 +103,42 @@ pub struct Unopened {
     pub segments: u64,
 }
 
-/// How many packets of a kind there were.
-#[derive(Clone, Copy, Debug, Default)]
-pub struct Counts {
-    pub records: u64,
-    pub segments: u64,
-    pub snapped: u64,
-    pub not_ip: u64,
-    pub fragments: u64,
-    pub not_tcp: u64,
-    pub refused: u64,
+/// A packet whose time lies so far before that of the packet before it.
+#[derive(Clone, Copy, Debug)]
+pub struct Older {
+    pub arrival: Arrival,
+    pub nanos: u64,
 }
 
-/// Packets whose times lie before that of the packet before them.
-#[derive(Clone, Copy, Debug)]
+/// All such packets.
+#[derive(Clone, Debug, Default)]
 pub struct Back {
-    /// The first of them.
-    pub packet: u64,
+    /// The first 16 of them.
+    pub first: Vec<Older>,
     pub packets: u64,
     /// The longest way back.
     pub nanos: u64,
 }
 
+impl Back {
+    pub(crate) fn add(&mut self, one: Older) {
+        if self.first.len() < MOST_KEPT {
+            self.first.push(one);
+        }
+        self.packets += 1;
+        self.nanos = self.nanos.max(one.nanos);
+    }
+
+    /// The first of them.
+    pub fn packet(&self) -> u64 {
+        self.first.first().map_or(0, |one| one.arrival.packet)
+    }
+}
+
 /// All that is known at the end.
 #[derive(Debug, Default)]
 pub struct Summary {
-    pub counts: Counts,
+    pub counts: Capture,
     pub back: Option<Back>,
     /// What was passed over, the most frequent first.
     pub others: Vec<crate::others::Other>,

@@ -3,6 +3,7 @@
 use captures::{Arrival, Ends, END_OF_OFFSETS};
 use tls::{Emit, CLIENT, SERVER, TLS_1_2};
 
+use crate::listener::{Sender, Written};
 use crate::outcomes::{Became, End, Read, SideRead};
 use crate::sink::Sink;
 
@@ -11,9 +12,20 @@ const PUSH_AND_ACK: u8 = 0x18;
 
 /// Ends and numbers of a connection, of which the plaintext that is written has its own.
 pub struct Numbers {
+    pub connection: usize,
+    /// Its pair's last connection, where that is another one.
+    pub later: Option<Later>,
     pub ends: [Ends; 2],
     pub initial: [Option<u32>; 2],
     pub sent: [u32; 2],
+}
+
+/// A later connection of the same pair: to h2audit what is written of the pair from its opening on belongs to it.
+#[derive(Clone, Copy)]
+pub struct Later {
+    pub connection: usize,
+    /// Which side of it client and server are.
+    pub sides: [usize; 2],
 }
 
 /// What became of a connection of TLS, at its end.
@@ -85,6 +97,17 @@ impl Numbers {
         headers[24..28].copy_from_slice(&sequence.to_be_bytes());
         headers[28..32].copy_from_slice(&answer.to_be_bytes());
         headers[32..36].copy_from_slice(&[0x50, PUSH_AND_ACK, 0xFF, 0xFF]);
-        sink.emit(arrival, total as u32, [&headers, content]);
+        let parts = [&headers[..], content];
+        let flags = PUSH_AND_ACK;
+        let segment = Written { sequence, flags, parts, start: HEADERS_LENGTH, end: total, original: total as u32 };
+        sink.emit(arrival, Some(self.sender(sink, side)), segment);
+    }
+
+    /// Whose the segments of a side are that are written now.
+    fn sender(&self, sink: &Sink<'_>, side: usize) -> Sender {
+        match self.later.filter(|later| sink.has_opening(later.connection)) {
+            Some(Later { connection, sides }) => Sender { connection, side: sides[side] },
+            None => Sender { connection: self.connection, side },
+        }
     }
 }

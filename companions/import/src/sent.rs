@@ -1,11 +1,9 @@
 //! Which bytes a side has sent, so that those that come again are told from new ones, and packets that were captured
 //! twice from either.
 
-use std::collections::hash_map::DefaultHasher;
 use std::collections::{BTreeMap, VecDeque};
-use std::hash::Hasher;
 
-use captures::{flags, Arrival, Segment, END_OF_OFFSETS};
+use captures::{flags, offset_of, Arrival, Segment, END_OF_OFFSETS};
 
 /// A packet that was captured twice stands so close to its double.
 const MOST_BETWEEN: usize = 32;
@@ -19,7 +17,7 @@ pub enum Fresh {
     /// It was captured before.
     Doubled,
     /// New bytes, and bytes that were sent before.
-    Bytes { fresh: u64, again: u64 },
+    Bytes { fresh: u32, again: u32 },
 }
 
 #[derive(Default)]
@@ -29,15 +27,24 @@ pub struct Sent {
     reached: u32,
     /// Holes before that: begin and end of each.
     holes: BTreeMap<u32, u32>,
-    recent: VecDeque<Recent>,
+    /// The last packets, each with its time.
+    recent: VecDeque<(i64, Print)>,
 }
 
-struct Recent {
-    arrival: Arrival,
+/// What tells one packet from another.
+#[derive(PartialEq, Eq)]
+struct Print {
     sequence: u32,
+    length: u32,
+    sum: u32,
     identification: u16,
-    length: usize,
-    hash: u64,
+}
+
+impl Print {
+    fn of(segment: &Segment<'_>, payload: &[u8]) -> Print {
+        let Segment { sequence, identification, .. } = *segment;
+        Print { sequence, length: payload.len() as u32, sum: crc32fast::hash(payload), identification }
+    }
 }
 
 impl Sent {
@@ -46,9 +53,13 @@ impl Sent {
         !self.holes.is_empty()
     }
 
+    /// The time of the last segment with payload.
+    pub fn last(&self) -> Option<i64> {
+        self.recent.back().map(|(nanos, _)| *nanos)
+    }
+
     pub fn add(&mut self, arrival: Arrival, segment: &Segment<'_>) -> Fresh {
-        let is_syn = segment.flags & flags::SYN != 0;
-        if is_syn {
+        if segment.flags & flags::SYN != 0 {
             self.initial.get_or_insert(segment.sequence);
         }
         let payload = segment.payload();
@@ -56,40 +67,40 @@ impl Sent {
             Some(initial) => initial,
             None => return Fresh::None,
         };
-        if self.is_double(arrival, segment, payload) {
+        let print = Print::of(segment, payload);
+        let is_double = self.may_be_double(initial, segment) && self.is_double(arrival, &print);
+        self.note(arrival, print);
+        if is_double {
             return Fresh::Doubled;
         }
-        let offset = segment.sequence.wrapping_add(u32::from(is_syn)).wrapping_sub(initial).wrapping_sub(1);
+        let offset = offset_of(initial, segment.sequence, segment.flags);
         if offset >= END_OF_OFFSETS {
-            return Fresh::Bytes { fresh: 0, again: payload.len() as u64 };
+            return Fresh::Bytes { fresh: 0, again: payload.len() as u32 };
         }
         let end = (u64::from(offset) + payload.len() as u64).min(u64::from(END_OF_OFFSETS)) as u32;
         let fresh = self.cover(offset, end);
-        Fresh::Bytes { fresh: u64::from(fresh), again: u64::from(end - offset - fresh) }
+        Fresh::Bytes { fresh, again: end - offset - fresh }
     }
 
-    /// Whether these bytes came with a packet just before that was no other one: with the same identification, or, where
-    /// packets have none, at nearly the same time.
-    fn is_double(&mut self, arrival: Arrival, segment: &Segment<'_>, payload: &[u8]) -> bool {
-        let mut hasher = DefaultHasher::new();
-        hasher.write(payload);
-        let one = Recent {
-            arrival,
-            sequence: segment.sequence,
-            identification: segment.identification,
-            length: payload.len(),
-            hash: hasher.finish(),
-        };
-        let is_found = self.recent.iter().any(|before| {
-            let is_same = (before.sequence, before.length, before.hash) == (one.sequence, one.length, one.hash);
-            let is_close = arrival.nanos.saturating_sub(before.arrival.nanos).saturating_abs() <= CLOSE;
-            is_same && before.identification == one.identification && (one.identification != 0 || is_close)
-        });
+    /// What begins behind all bytes that came was in no packet before. A number of a SYN is that before its bytes.
+    fn may_be_double(&self, initial: u32, segment: &Segment<'_>) -> bool {
+        let place = offset_of(initial, segment.sequence, 0);
+        place < self.reached || place >= END_OF_OFFSETS - 1
+    }
+
+    /// Whether these bytes came with a packet just before that was no other one: with the same identification, or,
+    /// where packets have none, at nearly the same time.
+    fn is_double(&self, arrival: Arrival, print: &Print) -> bool {
+        let is_close = |nanos: i64| arrival.nanos.saturating_sub(nanos).saturating_abs() <= CLOSE;
+        let mut recent = self.recent.iter();
+        recent.any(|(nanos, one)| one == print && (print.identification != 0 || is_close(*nanos)))
+    }
+
+    fn note(&mut self, arrival: Arrival, print: Print) {
         if self.recent.len() == MOST_BETWEEN {
             self.recent.pop_front();
         }
-        self.recent.push_back(one);
-        is_found
+        self.recent.push_back((arrival.nanos, print));
     }
 
     /// Notes bytes from one offset to another, and answers how many of them are new.

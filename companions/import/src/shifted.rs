@@ -1,9 +1,9 @@
 //! The segments of a connection in the clear behind a preamble, which is left out of the capture that is made: so the
 //! numbers of what follows it are smaller by its length.
 
-use captures::{flags, Arrival, Segment, END_OF_OFFSETS};
+use captures::{flags, offset_of, Segment, END_OF_OFFSETS};
 
-use crate::sink::Sink;
+use crate::listener::Written;
 
 const SEQUENCE: usize = 4;
 const ACKNOWLEDGEMENT: usize = 8;
@@ -18,28 +18,25 @@ impl Shift {
         Shift { lengths }
     }
 
-    /// Writes a segment without what of it belongs to the preamble. Its checksum is left out.
-    pub fn emit(
+    /// A segment without what of it belongs to the preamble; there is room for its headers. Its checksum is left out.
+    pub fn written<'a>(
         &self,
-        sink: &mut Sink<'_>,
-        arrival: Arrival,
         side: usize,
-        segment: &Segment<'_>,
+        segment: &'a Segment<'_>,
         initial: &[Option<u32>; 2],
-    ) {
-        let payload = segment.payload();
+        headers: &'a mut Vec<u8>,
+    ) -> Written<'a> {
+        let Segment { flags, start, end, original, .. } = *segment;
         let (sequence, cut) = match initial[side] {
             Some(initial) => shifted(segment, initial, self.lengths[side]),
             None => (segment.sequence, 0),
         };
         let other = 1 - side;
         let answer = match initial[other] {
-            Some(initial) if segment.flags & flags::ACK != 0 => {
-                less(segment.acknowledgement, initial, self.lengths[other])
-            }
+            Some(initial) if flags & flags::ACK != 0 => less(segment.acknowledgement, initial, self.lengths[other]),
             _ => segment.acknowledgement,
         };
-        let mut headers = segment.headers().concat();
+        segment.headers().iter().for_each(|part| headers.extend_from_slice(part));
         let tcp = segment.tcp;
         headers[tcp + SEQUENCE..tcp + SEQUENCE + 4].copy_from_slice(&sequence.to_be_bytes());
         headers[tcp + ACKNOWLEDGEMENT..tcp + ACKNOWLEDGEMENT + 4].copy_from_slice(&answer.to_be_bytes());
@@ -48,14 +45,15 @@ impl Shift {
         if said > 0 && cut > 0 {
             headers[2..4].copy_from_slice(&((said - cut) as u16).to_be_bytes());
         }
-        sink.emit(arrival, segment.original.saturating_sub(cut as u32), [&headers, &payload[cut..]]);
+        let parts = [&headers[..], &segment.payload()[cut..]];
+        Written { sequence, flags, parts, start, end: end - cut, original: original.saturating_sub(cut as u32) }
     }
 }
 
 /// The number of a segment behind a preamble of this length, and how many bytes of its payload belong to that.
 fn shifted(segment: &Segment<'_>, initial: u32, length: u32) -> (u32, usize) {
     let syn = u32::from(segment.flags & flags::SYN != 0);
-    let offset = segment.sequence.wrapping_add(syn).wrapping_sub(initial).wrapping_sub(1);
+    let offset = offset_of(initial, segment.sequence, segment.flags);
     if offset >= END_OF_OFFSETS {
         return (segment.sequence, 0);
     }

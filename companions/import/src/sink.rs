@@ -4,9 +4,9 @@
 use std::io::{self, Write};
 
 use captures::{pcap, Arrival, RAW};
-use programs::{Failure, Output};
+use programs::{temporary_failure, Failure, Output, PrivateFile};
 
-use crate::map::Map;
+use crate::listener::{Listener, Record, Sender, Written};
 
 const NANOS: i64 = 1_000_000_000;
 
@@ -29,6 +29,16 @@ impl Target for Output {
     }
 }
 
+impl Target for PrivateFile {
+    fn begin_anew(&mut self) -> io::Result<()> {
+        PrivateFile::begin_anew(self)
+    }
+
+    fn failure(&self, error: &io::Error) -> Failure {
+        temporary_failure(error)
+    }
+}
+
 /// Why the capture cannot be made.
 pub enum Problem {
     /// A time that classic pcap cannot say.
@@ -38,16 +48,19 @@ pub enum Problem {
 
 pub struct Sink<'a> {
     writer: pcap::Writer<&'a mut dyn Target>,
-    pub map: &'a mut dyn Map,
+    pub listener: &'a mut dyn Listener,
     count: u64,
+    /// Of which connections an opening is written.
+    opened: Vec<bool>,
     problem: Option<Problem>,
 }
 
 impl<'a> Sink<'a> {
-    pub fn new(target: &'a mut dyn Target, map: &'a mut dyn Map) -> Result<Sink<'a>, Failure> {
+    pub fn new(target: &'a mut dyn Target, listener: &'a mut dyn Listener) -> Result<Sink<'a>, Failure> {
         let written = pcap::write_header(target, RAW);
         written.map_err(|error| target.failure(&error))?;
-        Ok(Sink { writer: pcap::Writer::after_header(target), map, count: 0, problem: None })
+        let writer = pcap::Writer::after_header(target);
+        Ok(Sink { writer, listener, count: 0, opened: Vec::new(), problem: None })
     }
 
     /// Takes back all that was written.
@@ -56,11 +69,12 @@ impl<'a> Sink<'a> {
         let begun = target.begin_anew().and_then(|()| pcap::write_header(*target, RAW));
         begun.map_err(|error| target.failure(&error))?;
         self.count = 0;
-        self.map.begin_anew()
+        self.opened.clear();
+        self.listener.begin_anew()
     }
 
-    /// Writes a packet, which stands in two parts.
-    pub fn emit(&mut self, arrival: Arrival, original: u32, parts: [&[u8]; 2]) {
+    /// Writes a segment of a connection, or of none.
+    pub fn emit(&mut self, arrival: Arrival, sender: Option<Sender>, segment: Written<'_>) {
         if self.problem.is_some() {
             return;
         }
@@ -72,10 +86,24 @@ impl<'a> Sink<'a> {
             }
         };
         self.count += 1;
-        if let Err(error) = self.writer.write(time, original, parts) {
+        if let Err(error) = self.writer.write(time, segment.original, segment.parts) {
             self.problem = Some(Problem::Failed(self.writer.get_mut().failure(&error)));
         }
-        self.map.record(self.count, arrival.packet);
+        let is_opening = sender.map_or(false, |sender| self.opens(sender.connection));
+        self.listener.record(&Record { number: self.count, arrival, sender, is_opening, segment });
+    }
+
+    /// Whether nothing of a connection was written before. Its opening comes first.
+    fn opens(&mut self, connection: usize) -> bool {
+        if self.opened.len() <= connection {
+            self.opened.resize(connection + 1, false);
+        }
+        !std::mem::replace(&mut self.opened[connection], true)
+    }
+
+    /// Whether the opening of a connection is written.
+    pub fn has_opening(&self, connection: usize) -> bool {
+        self.opened.get(connection).copied().unwrap_or(false)
     }
 
     /// Whether something went wrong with the capture.
@@ -83,8 +111,8 @@ impl<'a> Sink<'a> {
         self.problem.is_some()
     }
 
-    /// What went wrong first, of the capture and of its map.
+    /// What went wrong first, of the capture and of what listens.
     pub fn take_problem(&mut self) -> Option<Problem> {
-        self.problem.take().or_else(|| self.map.take_failure().map(Problem::Failed))
+        self.problem.take().or_else(|| self.listener.take_failure().map(Problem::Failed))
     }
 }

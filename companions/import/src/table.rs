@@ -8,15 +8,20 @@ use std::collections::{HashMap, VecDeque};
 use captures::{flags, swapped, Arrival, Ends, Segment};
 use tls::{Random, Shared, CLIENT, SERVER};
 
-use crate::connections::{without_payload, Connection};
+use crate::connections::Connection;
+use crate::listener::{Sender, Written};
 use crate::outcomes::{Outcome, Unopened};
+use crate::plaintext::Later;
 use crate::sink::Sink;
 
 /// Twice the life of a segment (RFC 9293, 3.4.2), in nanoseconds.
 const LONGEST_WAY: i64 = 240_000_000_000;
 
 /// What is known of a pair of endpoints.
+#[derive(Clone, Copy)]
 struct Place {
+    /// Its last opening.
+    connection: usize,
     /// Whether the client of its last opening is the lesser of the two.
     client_is_less: bool,
     state: State,
@@ -36,6 +41,12 @@ struct Stray {
     segments: u64,
 }
 
+/// Where a segment belongs, and whether it opens the connection.
+pub struct Taken {
+    pub sender: Sender,
+    pub opens: bool,
+}
+
 /// The connections of a capture, and the pairs of endpoints that were not seen to open one.
 #[derive(Default)]
 pub struct Table {
@@ -44,6 +55,8 @@ pub struct Table {
     slots: Vec<Option<Box<Connection>>>,
     free: Vec<usize>,
     outcomes: Vec<Outcome>,
+    /// How many connections opened.
+    count: usize,
     /// With the time of an RST, until that is long ago.
     reset: VecDeque<(i64, u64, usize)>,
     /// Which connections wait for the keys of a client random.
@@ -63,31 +76,47 @@ fn pair_of(ends: &Ends) -> (Ends, bool) {
     }
 }
 
+/// The last connection of a connection's pair, where it is another one.
+fn later_than(connection: &Connection, places: &HashMap<Ends, Place>) -> Option<Later> {
+    let (pair, is_less) = pair_of(connection.ends());
+    let place = places.get(&pair).filter(|place| place.connection != connection.number())?;
+    let sides = if place.client_is_less == is_less { [CLIENT, SERVER] } else { [SERVER, CLIENT] };
+    Some(Later { connection: place.connection, sides })
+}
+
 impl Table {
-    /// Takes a segment to its connection, and answers whether it opens one.
-    pub fn take(&mut self, shared: &mut Shared, sink: &mut Sink<'_>, arrival: Arrival, segment: &Segment<'_>) -> bool {
+    /// Takes a segment to its connection, and answers which one that is.
+    pub fn take(
+        &mut self,
+        shared: &mut Shared,
+        sink: &mut Sink<'_>,
+        arrival: Arrival,
+        segment: &Segment<'_>,
+    ) -> Option<Taken> {
         let (pair, is_less) = pair_of(&segment.ends);
-        let place = self.places.get(&pair).map(|place| (place.client_is_less == is_less, place.state));
-        if segment.flags & (flags::SYN | flags::ACK) == flags::SYN && !self.repeats(place, segment.sequence) {
-            let slot = self.open(shared, sink, arrival, segment, place.map(|place| place.1));
-            self.places.insert(pair, Place { client_is_less: is_less, state: State::Open(slot) });
+        let place = self.places.get(&pair).copied();
+        let side = place.map(|place| if place.client_is_less == is_less { CLIENT } else { SERVER });
+        if segment.flags & (flags::SYN | flags::ACK) == flags::SYN && !self.repeats(side, place, segment.sequence) {
+            let slot = self.open(shared, sink, arrival, segment, place.map(|place| place.state));
+            let connection = self.count - 1;
+            self.places.insert(pair, Place { connection, client_is_less: is_less, state: State::Open(slot) });
             self.take_open(shared, sink, arrival, CLIENT, segment, slot);
-            return true;
+            return Some(Taken { sender: Sender { connection, side: CLIENT }, opens: true });
         }
-        let (from_client, state) = match place {
-            None => {
+        let (place, side) = match (place, side) {
+            (Some(place), Some(side)) => (place, side),
+            _ => {
                 self.stray(sink, arrival, segment, pair);
-                return false;
+                return None;
             }
-            Some(place) => place,
         };
-        let side = if from_client { CLIENT } else { SERVER };
-        match state {
+        let sender = Sender { connection: place.connection, side };
+        match place.state {
             State::Open(slot) => self.take_open(shared, sink, arrival, side, segment, slot),
-            State::Over { passes: true, .. } => sink.emit(arrival, segment.original, segment.datagram()),
+            State::Over { passes: true, .. } => sink.emit(arrival, Some(sender), Written::whole(segment)),
             State::Over { passes: false, .. } => {}
         }
-        false
+        Some(Taken { sender, opens: false })
     }
 
     fn take_open(
@@ -125,14 +154,13 @@ impl Table {
     }
 
     /// Whether a SYN with this number is the one that opened the sender's last connection once more.
-    fn repeats(&self, place: Option<(bool, State)>, sequence: u32) -> bool {
-        match place {
-            Some((true, State::Open(slot))) => {
-                self.slots[slot].as_ref().map_or(false, |connection| connection.initial() == Some(sequence))
-            }
-            Some((true, State::Over { sequence: opened, .. })) => opened == Some(sequence),
-            _ => false,
-        }
+    fn repeats(&self, side: Option<usize>, place: Option<Place>, sequence: u32) -> bool {
+        let opened = match place.filter(|_| side == Some(CLIENT)).map(|place| place.state) {
+            Some(State::Open(slot)) => self.slots[slot].as_ref().and_then(|connection| connection.initial()),
+            Some(State::Over { sequence, .. }) => sequence,
+            None => None,
+        };
+        opened == Some(sequence)
     }
 
     /// A new connection, and its slot. One that its pair had before has all its segments now.
@@ -150,7 +178,8 @@ impl Table {
             }
         }
         self.end_reset(shared, sink, arrival.nanos);
-        let connection = Some(Box::new(Connection::new(arrival, segment)));
+        let connection = Some(Box::new(Connection::new(self.count, arrival, segment)));
+        self.count += 1;
         match self.free.pop() {
             Some(slot) => {
                 self.slots[slot] = connection;
@@ -182,8 +211,7 @@ impl Table {
     fn stray(&mut self, sink: &mut Sink<'_>, arrival: Arrival, segment: &Segment<'_>, pair: Ends) {
         let stray = self.strays.entry(pair).or_insert(Stray { first: arrival, ends: segment.ends, segments: 0 });
         stray.segments += 1;
-        self.room.clear();
-        sink.emit(arrival, segment.start as u32, without_payload(segment, &mut self.room));
+        sink.emit(arrival, None, Written::headers(segment, &mut self.room));
     }
 
     /// Goes on with what waited for keys of these connections, in the order of openings.
@@ -194,6 +222,7 @@ impl Table {
             if let Some(connection) = self.slots[slot].as_mut().filter(|one| one.opening == opening) {
                 connection.is_listed = false;
                 if connection.waits_for_key() {
+                    connection.note_later(later_than(connection, &self.places));
                     connection.advance(shared, sink);
                 }
                 self.list(slot);
@@ -235,6 +264,7 @@ impl Table {
             None => return,
         };
         self.free.push(slot);
+        connection.note_later(later_than(&connection, &self.places));
         self.outcomes.push(connection.finish(shared, sink));
         if let Some(place) = self.places.get_mut(&pair_of(connection.ends()).0) {
             if matches!(place.state, State::Open(open) if open == slot) {

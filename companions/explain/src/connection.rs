@@ -1,0 +1,289 @@
+//! The second walk over one connection: its bytes in order, their frames, and at its end all that is said of it.
+
+use captures::{placed, Arrival, Flow};
+use programs::Failure;
+
+use crate::answer::{ConnectionSaid, Nanos, StallSaid, StallWhy};
+use crate::audit::{broken, Audit};
+use crate::blocks::Blocks;
+use crate::course::Course;
+use crate::cutter::{kind, Cutter, Head};
+use crate::doubts::limits_of;
+use crate::findings::Findings;
+use crate::frames::Frames;
+use crate::intervals::Stretches;
+use crate::leaks::{Candidate, Leaks};
+use crate::learning::Known;
+use crate::made::Record;
+use crate::requests::Packed;
+use crate::rounds::round_trip_of;
+use crate::seen::{end_of, in_force, About, Refusal, Seen, WindowStalls};
+use crate::side_of;
+use crate::stalls::may_be_leaks;
+use crate::stream::Stream;
+use crate::table::Table;
+use crate::tcp::Tcp;
+use crate::unanswered::Unanswered;
+use crate::unshown::Unshown;
+use crate::walk::{note_content, Asking, Walk};
+use crate::windows::FIRST_CREDIT;
+
+/// What of a field block is wanted: enough to see that it is too long.
+const MOST_FIELDS: usize = hpack::LONGEST_BLOCK + 512;
+const MOST_GOAWAY: usize = 8 + 1024;
+
+/// A connection whose frames come.
+pub struct Connection {
+    flows: [Flow; 2],
+    cutters: [Cutter; 2],
+    walk: Walk,
+    frames: u64,
+    all_frames: Option<Frames>,
+}
+
+fn wants(head: &Head) -> usize {
+    match head.kind {
+        kind::DATA => 1,
+        kind::HEADERS | kind::PUSH_PROMISE | kind::CONTINUATION => MOST_FIELDS,
+        kind::RST_STREAM | kind::WINDOW_UPDATE => 4,
+        kind::SETTINGS => head.length as usize,
+        kind::GOAWAY => MOST_GOAWAY,
+        _ => 0,
+    }
+}
+
+impl Connection {
+    /// Of what the import, the first walk and the report say.
+    pub fn new(
+        known: Known,
+        audit: Audit,
+        course: &mut import::Course,
+        asking: &Asking,
+    ) -> Result<Connection, Failure> {
+        let frames = audit.frames().unwrap_or(0);
+        let stop = stop_of(&audit)?;
+        let all_frames = asking.has_frames.then(|| Frames::new(known.initials, course));
+        let about = about(&known, &audit, course, stop);
+        let findings = Findings::new(audit.faults, &audit.stalls, &about);
+        let unshown =
+            [0, 1].map(|side| Walk::unshown_of(&about, side).map(|nanos| (Unshown::of_connection(nanos), Vec::new())));
+        let walk = Walk {
+            number: 0,
+            stopped_at: audit.stopped_at,
+            stop: None,
+            initials: Default::default(),
+            windows: Default::default(),
+            settings: Default::default(),
+            table: Table::new(about.round_trip.nanos().unwrap_or(0), asking.numbers, asking.live.clone()),
+            blocks: [(); 2].map(|()| Blocks::new(asking.names.are_wanted)),
+            signals: Default::default(),
+            leaks: leaks_of(&findings.stalls),
+            findings,
+            unanswered: Unanswered::new(known.unanswered.clone(), known.acknowledged),
+            unshown,
+            uses_window: [false; 2],
+            overflow: None,
+            early_grants: Default::default(),
+            about,
+            known,
+        };
+        Ok(Connection {
+            flows: Default::default(),
+            cutters: [true, false].map(|is_client| Cutter::new(is_client, wants)),
+            walk,
+            frames,
+            all_frames,
+        })
+    }
+
+    /// Takes a record of it.
+    pub fn take(&mut self, asking: &mut Asking, record: &Record<'_>) -> Result<(), Failure> {
+        let Record { number, at, side, sequence, flags, payload, .. } = *record;
+        let placed = self.walk.known.initials[side].and_then(|initial| placed(initial, sequence, flags, payload));
+        let (offset, data) = match placed {
+            Some(placed) => placed,
+            None => return Ok(()),
+        };
+        let data = self.flows[side].add(offset, data, Arrival { packet: number, nanos: at.time });
+        let (walk, all_frames, mut taken) = (&mut self.walk, &mut self.all_frames, Ok(()));
+        self.cutters[side].take(&data, at.time, |cut| {
+            if taken.is_ok() {
+                taken = walk.take(asking, side, cut, (number, at));
+                all_frames.iter_mut().for_each(|frames| frames.take(side_of(side), cut, at));
+            }
+        });
+        taken
+    }
+
+    /// Packs streams that go on.
+    pub fn park(&mut self) {
+        self.walk.table.park();
+    }
+
+    /// Whether no record of it with payload comes behind this one.
+    pub fn is_last(&self, record: u64) -> bool {
+        self.walk.known.last_record == record
+    }
+
+    /// All that is said of it, and what its requests are told from.
+    pub fn end(mut self, said: &mut ConnectionSaid) -> Result<(Packed, Seen), Failure> {
+        if u64::from(self.walk.number) != self.frames {
+            let (number, frames, here) = (said.number, self.frames, self.walk.number);
+            let why = format!("connection {number} has {frames} frames by the report, and {here} here");
+            return Err(broken(&why));
+        }
+        if !self.walk.findings.is_done() {
+            return Err(broken(&format!("connection {} has findings at frames that are not there", said.number)));
+        }
+        self.walk.leaks.iter_mut().flatten().for_each(|leaks| leaks.end());
+        self.cut_frames();
+        let Connection { cutters, walk, all_frames, .. } = self;
+        said.all_frames = all_frames;
+        let cuts = [0, 1].map(|side| cutters[side].cut_frame());
+        Ok(ended(walk, cuts, said))
+    }
+
+    /// Of a stream that is over the packets of a frame whose rest did not come.
+    fn cut_frames(&mut self) {
+        if self.walk.known.back.is_some() {
+            return;
+        }
+        for (side, cutter) in self.cutters.iter().enumerate() {
+            if let Some((number, times)) = cutter.cut_frame() {
+                let Walk { table, about, signals, .. } = &mut self.walk;
+                table.touch(number, |stream| {
+                    let end = end_of(stream, side, &signals.refusing, &about.tcp);
+                    let until = end.at.map_or(stream.opened.time, |at| at.time);
+                    let holding = about.holding(side, number);
+                    let one = &mut stream.sides[side];
+                    one.life.until = until.max(one.life.at);
+                    one.cut(&holding, times);
+                    one.finish(&holding, until, true);
+                });
+            }
+        }
+    }
+}
+
+/// When the frame at which the audit stopped came: the error that stopped it stands there.
+fn stop_of(audit: &Audit) -> Result<Option<Nanos>, Failure> {
+    let frame = match audit.stopped_at {
+        Some(frame) => frame,
+        None => return Ok(None),
+    };
+    let error = audit.faults.last().filter(|fault| fault.frame == u64::from(frame));
+    let time = error.and_then(|fault| Nanos::try_from(fault.time).ok());
+    time.map(Some).ok_or_else(|| broken("it stopped without an error"))
+}
+
+fn about(known: &Known, audit: &Audit, course: &mut import::Course, stop: Option<Nanos>) -> About {
+    let gaps = known.gaps.iter().flatten().map(|gap| gap.nanos);
+    let unseen = gaps.chain(stop).min().unwrap_or(Nanos::MAX);
+    let round_trip = round_trip_of(handshake_of(course), known.quickest);
+    let tcp = Tcp::new(course, known.last);
+    let pause = round_trip.pause();
+    let courses = [0, 1].map(|side| {
+        let stalls = audit.stalls.iter().filter(|one| one.stream == 0 && one.side == side);
+        let stalls = stalls.map(|one| (one.begin.time, one.end.map_or(Nanos::MAX, |end| end.time).min(unseen)));
+        Course::new(stalls.collect(), tcp.held_times(side), pause, unseen)
+    });
+    About {
+        opened: known.opened,
+        captured_at: round_trip.place(),
+        round_trip,
+        unseen,
+        courses,
+        stalls: About::stalls_of(&audit.stalls, unseen),
+        tcp,
+    }
+}
+
+/// From SYN to SYN ACK the way to the server and back, from there to ACK that to the client.
+fn handshake_of(course: &import::Course) -> Option<[Nanos; 2]> {
+    let (answer, ack) = (course.syn_ack?, course.ack?);
+    let to_server = answer.nanos.saturating_sub(course.syn.nanos);
+    let to_client = ack.nanos.saturating_sub(answer.nanos);
+    (to_server >= 0 && to_client >= 0).then_some([to_client, to_server])
+}
+
+fn leaks_of(stalls: &[StallSaid]) -> [Option<Box<Leaks>>; 2] {
+    let candidates = may_be_leaks(stalls);
+    [0, 1].map(|side| {
+        let of_side = candidates.iter().filter(|at| stalls[**at].side as usize == side);
+        let found: Vec<Candidate> = of_side
+            .map(|at| Candidate {
+                stall: *at,
+                begin: stalls[*at].begin.frame,
+                end: stalls[*at].end.map(|end| end.frame),
+            })
+            .collect();
+        (!found.is_empty()).then(|| Box::new(Leaks::new(side, found)))
+    })
+}
+
+type CutFrames<'a> = [Option<(u32, &'a [Nanos])>; 2];
+
+fn ended(walk: Walk, cuts: CutFrames<'_>, said: &mut ConnectionSaid) -> (Packed, Seen) {
+    let Walk { about, known, table, initials, windows, settings, blocks, signals, findings, leaks, .. } = walk;
+    let Walk { unanswered, unshown, mut uses_window, stop, .. } = walk;
+    let packed = table.end(|stream| {
+        stream.sides.iter_mut().zip(&initials).for_each(|(one, initial)| one.window.look(initial));
+        if known.back.is_some() {
+            finish_kept(stream, &about, &signals.refusing, &cuts);
+        }
+        note_content(stream, &mut uses_window);
+    });
+    said.round_trip = about.round_trip;
+    said.captured_at = about.captured_at;
+    said.until = about.tcp.last.time.max(said.begin);
+    said.limits = limits_of(&about.round_trip, about.captured_at, uses_window);
+    said.notes = unanswered.said();
+    said.notes.extend(blocks.iter().zip(["requests", "answers"]).filter_map(|(blocks, whose)| blocks.unknown(whose)));
+    said.stopped_at = stop;
+    said.closing = about.tcp.closing(about.opened.time);
+    said.ended = signals.error().unwrap_or(said.closing);
+    said.connection_windows = windows.map(|window| window.largest.unwrap_or(0).max(FIRST_CREDIT));
+    said.faults = findings.said;
+    let refusing = signals.refusing;
+    said.signals = signals.said();
+    stalls_and_leaks(said, findings.stalls, leaks);
+    let (announced, told) = settings.said();
+    said.settings = announced.get(..told).unwrap_or_default().to_vec();
+    said.announced = announced;
+    let unshown = unshown.map(|one| {
+        let found = one.map(|one| one.1).filter(|found| !found.is_empty())?;
+        Some(Box::new(Stretches::new(found.into_iter().map(|(begin, end)| (begin, end, ())).collect())))
+    });
+    let seen = Seen {
+        windows: WindowStalls::by_window(&said.stalls),
+        refusing,
+        connection_windows: said.connection_windows,
+        unshown,
+        in_force: in_force(&said.announced),
+        about,
+    };
+    (packed, seen)
+}
+
+fn stalls_and_leaks(said: &mut ConnectionSaid, mut stalls: Vec<StallSaid>, leaks: [Option<Box<Leaks>>; 2]) {
+    for (stall, leak) in leaks.into_iter().flatten().flat_map(|leaks| leaks.found) {
+        if let Some(stall) = stalls.get_mut(stall) {
+            stall.why = StallWhy::CancelledStreams;
+        }
+        said.leaks.push(leak);
+    }
+    stalls.sort_by_key(|one| (one.begin.frame, one.stream, one.side as usize));
+    said.leaks.sort_by_key(|one| (one.begin, one.side));
+    said.stalls = stalls;
+}
+
+/// Divides the life of a stream whose times go back.
+fn finish_kept(stream: &mut Stream, about: &About, refusing: &[Option<Refusal>; 2], cuts: &CutFrames<'_>) {
+    for (side, cut) in cuts.iter().enumerate() {
+        let end = end_of(stream, side, refusing, &about.tcp);
+        let until = end.at.map_or(stream.opened.time, |at| at.time);
+        let (opened, holding) = (stream.opened.time, about.holding(side, stream.number));
+        let cut = cut.filter(|cut| cut.0 == stream.number).map(|cut| cut.1);
+        stream.sides[side].finish_kept(&holding, opened, until, cut);
+    }
+}

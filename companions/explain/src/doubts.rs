@@ -1,0 +1,155 @@
+//! What limits an answer: what was not audited, what was lost, clocks that go back, and what cannot be seen
+//! (docs/WHY.md, 8).
+
+use std::collections::BTreeMap;
+
+use import::{Courses, Older, Summary};
+use reports::grouped;
+
+use crate::answer::{Answer, Files, NotAudited, Outcome, Place, RoundTrip, Warning};
+use crate::rounds::NEAR;
+use crate::side_of;
+use crate::tcp::at_of;
+use crate::words::{count, reason_words, time_of};
+
+/// What the capture holds beside what was audited, by reasons.
+pub fn not_audited(answer: &Answer, summary: &Summary) -> Vec<NotAudited> {
+    let mut reasons: BTreeMap<&str, u64> = BTreeMap::new();
+    for one in answer.connections.iter().filter(|one| !one.is_audited()) {
+        let reason = if one.reason.is_empty() { one.outcome.name() } else { &one.reason };
+        *reasons.entry(reason).or_default() += 1;
+    }
+    let mut said: Vec<NotAudited> = Vec::new();
+    let mut say = |reason: &str, count: u64, text: String| said.push(NotAudited { reason: reason.into(), count, text });
+    reasons.iter().for_each(|(why, number)| say(why, *number, reason_words(why, *number)));
+    let unopened = summary.unopened.len() as u64;
+    if unopened > 0 {
+        say("unopened", unopened, count(unopened, "connection") + " that began before the capture");
+    }
+    let counts = &summary.counts;
+    let passed = [
+        ("not-ipv4", counts.not_ipv4, "neither IPv4 nor IPv6"),
+        ("fragments", counts.fragments, "IP fragments"),
+        ("refused", counts.refused, "with damaged or cut headers"),
+    ];
+    for (name, number, words) in passed.into_iter().filter(|one| one.1 > 0) {
+        say(name, number, format!("{} {words}", count(number, "packet")));
+    }
+    said
+}
+
+fn warning(kind: &'static str, text: String) -> Warning {
+    Warning { kind, text, connection: None, at: None }
+}
+
+/// What stands before all else. `names` are those that the import has for connections, in their order.
+pub fn doubts_of(answer: &Answer, summary: &Summary, courses: &Courses) -> Vec<Warning> {
+    let mut said = clocks(&answer.files, summary);
+    if answer.audited().next().is_none() {
+        let packets = count(answer.packets, "packet");
+        let text =
+            format!("nothing was audited: {packets}, and no HTTP/2 connection that could be read from its beginning");
+        said.push(warning("nothing-audited", text));
+    }
+    said.extend(doubled(courses));
+    said.extend(one_direction(answer));
+    for one in &answer.connections {
+        for (side, offset) in &one.gaps {
+            let offset = grouped(*offset);
+            let text = format!(
+                "bytes of the {side} are missing from offset {offset} on: what is found behind it may not have happened"
+            );
+            said.push(Warning { kind: "gap", text, connection: Some(one.number), at: Some(one.opened) });
+        }
+    }
+    let snapped = summary.counts.snapped;
+    if snapped > 0 && answer.connections.iter().any(|one| !one.gaps.is_empty()) {
+        said.push(warning("snapped", count(snapped, "packet") + " were not captured whole: tcpdump -s 0"));
+    }
+    said
+}
+
+/// Times that go back: within a file, or from one file to the next.
+fn clocks(files: &Files, summary: &Summary) -> Vec<Warning> {
+    let mut said: Vec<Warning> = Vec::new();
+    let back = match &summary.back {
+        Some(back) => back,
+        None => return said,
+    };
+    for one in &back.first {
+        let one = clock(files, one, back.packets);
+        if !said.iter().any(|before| before.kind == one.kind) {
+            said.push(one);
+        }
+    }
+    said
+}
+
+fn clock(files: &Files, one: &Older, packets: u64) -> Warning {
+    let nanos = time_of(i64::try_from(one.nanos).unwrap_or(i64::MAX));
+    let (file, packet) = files.place(one.arrival.packet);
+    let at = Some(at_of(one.arrival));
+    if file > 1 && packet == 1 {
+        let (name, before) = (files.name(file), files.name(file - 1));
+        let text = format!(
+            "{name} begins {nanos} before {before} ends: the files overlap, or stand in the wrong order (mergecap puts them \
+             in order)"
+        );
+        return Warning { at, ..warning("files-out-of-order", text) };
+    }
+    let many = match packets {
+        0 | 1 => String::new(),
+        _ => format!(", and in {} other places", grouped(packets - 1)),
+    };
+    let text = format!(
+        "times go back at packet {packet} by {nanos}{many}: what is said of order and of durations may be wrong (reordercap)"
+    );
+    Warning { at, ..warning("times-go-back", text) }
+}
+
+fn one_direction(answer: &Answer) -> Option<Warning> {
+    let is_one = |one: &&crate::answer::ConnectionSaid| {
+        one.outcome == Outcome::NoHandshake || one.reason == Outcome::NoHandshake.name()
+    };
+    let some: Vec<_> = answer.connections.iter().filter(is_one).collect();
+    let first = some.first()?;
+    let connections = count(some.len() as u64, "connection");
+    let text =
+        format!("one direction alone was captured of {connections}: capture on one of the two hosts, or on both paths");
+    Some(Warning { connection: Some(first.number), at: Some(first.opened), ..warning("one-direction", text) })
+}
+
+/// Connections of which most segments came twice, as where a bridge and its port are both captured.
+fn doubled(courses: &Courses) -> Option<Warning> {
+    let is_one = |course: &import::Course| {
+        let [client, server] = &course.sides;
+        4 * (u128::from(client.doubled) + u128::from(server.doubled))
+            > u128::from(client.segments) + u128::from(server.segments)
+    };
+    let mut found = (1..).zip(&courses.connections).filter(|one| is_one(one.1)).map(|one| one.0);
+    let first = found.next()?;
+    let connections = count(1 + found.count() as u64, "connection");
+    let text = format!("each packet of {connections} was captured twice: name one interface");
+    Some(Warning { connection: Some(first), ..warning("doubled", text) })
+}
+
+/// What cannot be seen from where the connection was captured.
+pub fn limits_of(round_trip: &RoundTrip, captured_at: Option<Place>, uses_window: [bool; 2]) -> Vec<String> {
+    let here = match captured_at {
+        Some(Place::AtClient) => 0,
+        Some(Place::AtServer) => 1,
+        _ => return Vec::new(),
+    };
+    let nanos = round_trip.nanos().unwrap_or(0);
+    let there = 1 - here;
+    if nanos < NEAR || !uses_window[there] {
+        return Vec::new();
+    }
+    vec![format!(
+        "captured at the {}: a stall of the {} may not show, since what it uses up within the round trip of {} is granted \
+         again here before the credit seems to be 0",
+        side_of(here),
+        side_of(there),
+        time_of(nanos)
+    )]
+}

@@ -1,0 +1,144 @@
+//! The frames of a connection, for what the captures of both of its ends tell together.
+
+use reports::Side;
+
+use crate::answer::{At, Nanos};
+use crate::cutter::{kind, Cut};
+
+const SERVER: u32 = 1 << 31;
+const KIND_BITS: u32 = 8;
+const FLAGS_BITS: u32 = 8;
+
+/// All frames of a connection, in the order of their numbers, which count from 1; what they grant; and how TCP began.
+#[derive(Clone, Debug, Default, PartialEq, Eq)]
+pub struct Frames {
+    /// The initial sequence numbers of the client and of the server.
+    pub initials: [Option<u32>; 2],
+    /// When the SYN and the SYN ACK came.
+    pub syn: Option<Nanos>,
+    pub syn_ack: Option<Nanos>,
+    all: Vec<Frame>,
+    grants: Vec<Grant>,
+}
+
+/// A frame, in 24 bytes.
+#[derive(Clone, Copy, Debug, PartialEq, Eq)]
+pub struct Frame {
+    /// When its last byte came.
+    pub time: Nanos,
+    /// The packet that completes it, above its kind.
+    packet_and_kind: u64,
+    side_and_stream: u32,
+    length_and_flags: u32,
+}
+
+impl Frame {
+    pub fn new(side: Side, (kind, flags): (u8, u8), stream: u32, length: u32, (packet, time): (u64, Nanos)) -> Frame {
+        let server = if side == Side::Server { SERVER } else { 0 };
+        Frame {
+            time,
+            packet_and_kind: packet << KIND_BITS | u64::from(kind),
+            side_and_stream: server | stream & !SERVER,
+            length_and_flags: length << FLAGS_BITS | u32::from(flags),
+        }
+    }
+
+    pub fn side(&self) -> Side {
+        if self.side_and_stream & SERVER == 0 {
+            Side::Client
+        } else {
+            Side::Server
+        }
+    }
+
+    pub fn kind(&self) -> u8 {
+        self.packet_and_kind as u8
+    }
+
+    pub fn packet(&self) -> u64 {
+        self.packet_and_kind >> KIND_BITS
+    }
+
+    pub fn length(&self) -> u32 {
+        self.length_and_flags >> FLAGS_BITS
+    }
+
+    /// Whether another frame is the same but for when and where it was captured.
+    pub fn is_as(&self, other: &Frame) -> bool {
+        self.kind() == other.kind()
+            && self.side_and_stream == other.side_and_stream
+            && self.length_and_flags == other.length_and_flags
+    }
+}
+
+/// What a WINDOW_UPDATE of four bytes grants.
+#[derive(Clone, Copy, Debug, PartialEq, Eq)]
+pub struct Grant {
+    /// The frame's number.
+    pub frame: u32,
+    /// The side that may send more, and the stream on which it may; 0 is the connection's window.
+    pub side: Side,
+    pub stream: u32,
+    pub amount: u32,
+}
+
+impl Frames {
+    /// None yet, of a connection that began with these sequence numbers.
+    pub(crate) fn new(initials: [Option<u32>; 2], course: &import::Course) -> Frames {
+        let syn_ack = course.syn_ack.map(|arrival| arrival.nanos);
+        Frames { initials, syn: Some(course.syn.nanos), syn_ack, ..Frames::default() }
+    }
+
+    /// Takes the next one, which a packet completes.
+    pub(crate) fn take(&mut self, side: Side, cut: &Cut<'_>, at: At) {
+        let head = cut.head;
+        self.push(Frame::new(side, (head.kind, head.flags), head.stream, head.length, (at.packet, at.time)));
+        if let (kind::WINDOW_UPDATE, 4, Some(amount)) = (head.kind, head.length, cut.number()) {
+            self.push_grant(amount & !SERVER);
+        }
+    }
+
+    pub fn push(&mut self, frame: Frame) {
+        self.all.push(frame);
+    }
+
+    /// The last frame is a WINDOW_UPDATE that grants so much.
+    pub fn push_grant(&mut self, amount: u32) {
+        if let Some(last) = self.all.last() {
+            let frame = u32::try_from(self.all.len()).unwrap_or(u32::MAX);
+            let (side, stream) = (last.side().other(), last.side_and_stream & !SERVER);
+            self.grants.push(Grant { frame, side, stream, amount });
+        }
+    }
+
+    pub fn all(&self) -> &[Frame] {
+        &self.all
+    }
+
+    pub fn grants(&self) -> &[Grant] {
+        &self.grants
+    }
+}
+
+#[cfg(test)]
+mod tests {
+    use reports::Side;
+
+    use super::{Frame, Frames};
+
+    #[test]
+    fn what_a_frame_holds() {
+        let frame = Frame::new(Side::Server, (8, 0xff), 0x7fff_ffff, 0xff_ffff, (1 << 40, -5));
+        assert_eq!((frame.side(), frame.kind(), frame.length()), (Side::Server, 8, 0xff_ffff));
+        assert_eq!((frame.packet(), frame.time), (1 << 40, -5));
+        let later = Frame::new(Side::Server, (8, 0xff), 0x7fff_ffff, 0xff_ffff, (2, 7));
+        assert!(frame.is_as(&later));
+        assert!(!frame.is_as(&Frame::new(Side::Client, (8, 0xff), 0x7fff_ffff, 0xff_ffff, (2, 7))));
+        assert!(!frame.is_as(&Frame::new(Side::Server, (8, 0xfe), 0x7fff_ffff, 0xff_ffff, (2, 7))));
+        let mut frames = Frames::default();
+        frames.push(frame);
+        frames.push_grant(9);
+        let grant = frames.grants()[0];
+        assert_eq!((grant.frame, grant.side, grant.stream, grant.amount), (1, Side::Client, 0x7fff_ffff, 9));
+    }
+}

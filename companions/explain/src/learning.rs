@@ -1,0 +1,298 @@
+//! The first walk, while the import writes: of each connection its quickest answers, its gaps, its last record, where its
+//! times go back, and how many frames it has.
+
+use std::collections::{HashMap, VecDeque};
+use std::ffi::OsStr;
+use std::os::unix::ffi::OsStrExt;
+
+use captures::{flags, placed, Arrival, Flow};
+use import::{Addresses, Listener, Summary};
+use programs::{temporary_failure, Failure};
+
+use crate::answer::{At, Files, Nanos};
+use crate::cutter::{flag, kind, Cut, Cutter, Head};
+use crate::made::Notes;
+use crate::names::text_of;
+
+/// So many PINGs without an answer are remembered.
+const MOST_PINGS: usize = 1 << 16;
+/// SETTINGS without an acknowledgement that are looked at; a peer that answers none is told by the first ones.
+pub const MOST_UNANSWERED: usize = 8;
+const PING: usize = 8;
+
+/// What is known of a connection once the capture is made.
+#[derive(Debug)]
+pub struct Known {
+    /// The record that opened it, with its packet and time; its last one, and the last one with payload.
+    pub record: u64,
+    pub opened: At,
+    pub last: At,
+    pub last_record: u64,
+    /// The first record whose time lies before that of the connection's record before it, with its packet.
+    pub back: Option<(u64, u64)>,
+    /// The initial sequence numbers of both sides.
+    pub initials: [Option<u32>; 2],
+    /// Whether it is HTTP/2 that can be read.
+    pub is_http2: bool,
+    /// The record that came first past bytes of a side that are missing; and the one that brought its last byte in order.
+    pub gaps: [Option<Arrival>; 2],
+    pub arrivals: [u64; 2],
+    pub frames: u32,
+    /// The quickest answer of each side to SETTINGS or PING of the other.
+    pub quickest: [Option<Nanos>; 2],
+    /// How many SETTINGS of each side were acknowledged, and the frames of the first that were not.
+    pub acknowledged: [u32; 2],
+    pub unanswered: Vec<u32>,
+}
+
+/// What is learned of a connection.
+pub struct Learned {
+    record: u64,
+    opened: At,
+    last_record: u64,
+    last: At,
+    back: Option<(u64, u64)>,
+    initials: [Option<u32>; 2],
+    /// Bytes of the server came before its initial sequence number was known.
+    is_early: bool,
+    sides: [Side; 2],
+    frames: u32,
+    answers: Answers,
+}
+
+/// What is learned of one side.
+struct Side {
+    flow: Flow,
+    cutter: Cutter,
+    arrival: u64,
+}
+
+/// Answers to SETTINGS and PING.
+#[derive(Debug, Default)]
+struct Answers {
+    /// SETTINGS that wait for an acknowledgement, by their frames; and how many of each side do not.
+    settings: [VecDeque<(u32, Nanos)>; 2],
+    acknowledged: [u32; 2],
+    pings: HashMap<(usize, [u8; PING]), Nanos>,
+    quickest: [Option<Nanos>; 2],
+}
+
+/// How much of a payload is wanted.
+fn wants(head: &Head) -> usize {
+    if head.kind == kind::PING {
+        PING
+    } else {
+        0
+    }
+}
+
+impl Learned {
+    pub fn new(record: u64, opened: At, sequence: u32) -> Learned {
+        let side = |is_client| Side { flow: Flow::default(), cutter: Cutter::new(is_client, wants), arrival: 0 };
+        Learned {
+            record,
+            opened,
+            last_record: record,
+            last: opened,
+            back: None,
+            initials: [Some(sequence), None],
+            is_early: false,
+            sides: [side(true), side(false)],
+            frames: 0,
+            answers: Answers::default(),
+        }
+    }
+
+    /// One that begins anew, with what is known of it now, where it has to be read once more.
+    pub fn anew(&self) -> Option<Box<Learned>> {
+        let Learned { record, opened, last, back, initials, .. } = *self;
+        let again = Learned::new(record, opened, initials[0].unwrap_or(0));
+        (self.is_early && initials[1].is_some()).then(|| Box::new(Learned { last, back, initials, ..again }))
+    }
+
+    /// A record of a side came.
+    pub fn met(&mut self, number: u64, at: At, side: usize, (sequence, bits): (u32, u8)) {
+        if at.time < self.last.time {
+            self.back.get_or_insert((number, at.packet));
+        }
+        self.last = at;
+        if side == import::SERVER && bits & flags::SYN != 0 && bits & flags::ACK != 0 {
+            self.initials[side].get_or_insert(sequence);
+        }
+    }
+
+    /// Takes the payload of a record.
+    pub fn take(&mut self, number: u64, at: At, side: usize, (sequence, bits): (u32, u8), payload: &[u8]) {
+        if payload.is_empty() || self.sides[import::CLIENT].cutter.is_other() {
+            return;
+        }
+        self.last_record = number;
+        match self.initials[side] {
+            None => self.is_early = true,
+            Some(initial) => {
+                if let Some((offset, data)) = placed(initial, sequence, bits, payload) {
+                    self.bytes(number, at, side, offset, data);
+                }
+            }
+        }
+    }
+
+    fn bytes(&mut self, number: u64, at: At, side: usize, offset: u32, data: &[u8]) {
+        let Learned { sides, frames, answers, .. } = self;
+        let one = &mut sides[side];
+        let data = one.flow.add(offset, data, Arrival { packet: number, nanos: at.time });
+        if data.is_empty() {
+            return;
+        }
+        one.arrival = number;
+        one.cutter.take(&data, at.time, |cut| {
+            *frames += 1;
+            answers.take(side, *frames, cut, at.time);
+        });
+    }
+
+    /// What is known at the end of the capture.
+    pub fn known(self) -> Known {
+        let client = &self.sides[import::CLIENT].cutter;
+        Known {
+            record: self.record,
+            opened: self.opened,
+            last_record: self.last_record,
+            last: self.last,
+            back: self.back,
+            initials: self.initials,
+            is_http2: self.initials[import::SERVER].is_some() && client.has_preface() && !client.is_other(),
+            gaps: [0, 1].map(|side| self.sides[side].flow.behind_hole()),
+            arrivals: [0, 1].map(|side| self.sides[side].arrival),
+            frames: self.frames,
+            quickest: self.answers.quickest,
+            acknowledged: self.answers.acknowledged,
+            unanswered: self.answers.unanswered(),
+        }
+    }
+}
+
+impl Answers {
+    fn unanswered(&self) -> Vec<u32> {
+        let first = |side: usize| self.settings[side].iter().take(MOST_UNANSWERED).map(|one| one.0);
+        let mut frames: Vec<u32> = first(0).chain(first(1)).collect();
+        frames.sort_unstable();
+        frames.truncate(MOST_UNANSWERED);
+        frames
+    }
+
+    fn take(&mut self, side: usize, frame: u32, cut: &Cut<'_>, time: Nanos) {
+        match cut.head.kind {
+            kind::SETTINGS if cut.head.has(flag::ACK) => {
+                let asked = if cut.head.length == 0 { self.settings[1 - side].pop_front() } else { None };
+                if let Some((_, asked)) = asked {
+                    self.acknowledged[1 - side] += 1;
+                    self.answered(side, time, asked);
+                }
+            }
+            kind::SETTINGS if cut.head.length % 6 == 0 => self.settings[side].push_back((frame, time)),
+            kind::PING => self.ping(side, cut, time),
+            _ => {}
+        }
+    }
+
+    fn ping(&mut self, side: usize, cut: &Cut<'_>, time: Nanos) {
+        let octets = match <[u8; PING]>::try_from(cut.payload) {
+            Ok(octets) if cut.head.length as usize == PING => octets,
+            _ => return,
+        };
+        if cut.head.has(flag::ACK) {
+            if let Some(asked) = self.pings.remove(&(1 - side, octets)) {
+                self.answered(side, time, asked);
+            }
+        } else if self.pings.len() < MOST_PINGS || self.pings.contains_key(&(side, octets)) {
+            self.pings.insert((side, octets), time);
+        }
+    }
+
+    fn answered(&mut self, side: usize, time: Nanos, asked: Nanos) {
+        let took = time.saturating_sub(asked);
+        let quickest = &mut self.quickest[side];
+        if took >= 0 && quickest.map_or(true, |before| took < before) {
+            *quickest = Some(took);
+        }
+    }
+}
+
+/// Listens to an import.
+pub struct Learning {
+    /// By the import's numbers.
+    pub connections: Vec<Option<Box<Learned>>>,
+    /// Those numbers in the order of the records that open connections, which is h2audit's.
+    pub order: Vec<usize>,
+    pub files: Files,
+    pub addresses: Addresses,
+    pub notes: Notes,
+    failure: Option<Failure>,
+}
+
+impl Learning {
+    pub fn new() -> Result<Learning, Failure> {
+        Ok(Learning {
+            connections: Vec::new(),
+            order: Vec::new(),
+            files: Files::default(),
+            addresses: Addresses::default(),
+            notes: Notes::new()?,
+            failure: None,
+        })
+    }
+
+    fn opened(&mut self, connection: usize, record: &import::Record<'_>, at: At) {
+        if self.connections.len() <= connection {
+            self.connections.resize_with(connection + 1, || None);
+        }
+        self.connections[connection] = Some(Box::new(Learned::new(record.number, at, record.segment.sequence)));
+        self.order.push(connection);
+    }
+}
+
+impl Listener for Learning {
+    fn begin_file(&mut self, path: &OsStr, packets_before: u64) {
+        self.files.names.push(text_of(path.as_bytes()).into_owned());
+        self.files.starts.push(packets_before);
+    }
+
+    fn address(&mut self, stand_in: [u8; 4], original: [u8; 16]) {
+        self.addresses.add(stand_in, original);
+    }
+
+    fn record(&mut self, record: &import::Record<'_>) {
+        let at = At { packet: record.arrival.packet, time: record.arrival.nanos, frame: 0 };
+        let (segment, sender) = (&record.segment, record.sender.map(|sender| (sender.connection, sender.side)));
+        let payload = segment.payload();
+        if let (Err(error), None) = (self.notes.add(sender.filter(|_| !payload.is_empty()), at.packet), &self.failure) {
+            self.failure = Some(temporary_failure(&error));
+        }
+        if let Some((connection, side)) = sender {
+            if record.is_opening {
+                self.opened(connection, record, at);
+            }
+            if let Some(Some(learned)) = self.connections.get_mut(connection) {
+                learned.met(record.number, at, side, (segment.sequence, segment.flags));
+                learned.take(record.number, at, side, (segment.sequence, segment.flags), payload);
+            }
+        }
+    }
+
+    fn passed(&mut self, _packet: u64, _why: &str) {}
+
+    fn finish(&mut self, _summary: &Summary) {}
+
+    fn begin_anew(&mut self) -> Result<(), Failure> {
+        self.connections.clear();
+        self.order.clear();
+        self.files = Files::default();
+        self.addresses = Addresses::default();
+        self.notes.begin_anew().map_err(|error| temporary_failure(&error))
+    }
+
+    fn take_failure(&mut self) -> Option<Failure> {
+        self.failure.take()
+    }
+}

@@ -1,0 +1,325 @@
+//! Streams that are over, each in some hundred bytes: numbers beside those of the stream's opening, seven bits a byte.
+
+use crate::answer::{At, Nanos, Share, Span};
+use crate::life::Life;
+use crate::stream::{Answer, Answered, Asked, Direction, Idle, Reset, Stream};
+use crate::unshown::Unshown;
+use crate::windows::Window;
+
+/// Writes numbers.
+struct Packer<'a> {
+    bytes: &'a mut Vec<u8>,
+    opened: At,
+}
+
+/// Reads them; where there are no more, each is 0.
+struct Unpacker<'a> {
+    bytes: &'a [u8],
+    opened: At,
+}
+
+/// Adds a stream to some bytes.
+pub fn pack(stream: &Stream, bytes: &mut Vec<u8>) {
+    let mut packer = Packer { bytes, opened: At { packet: 0, time: 0, frame: 0 } };
+    packer.numbers(&[stream.number, stream.order, stream.promised_on]);
+    packer.at(stream.opened);
+    packer.opened = stream.opened;
+    packer.option(stream.request, |packer, asked| {
+        packer.numbers(&[u32::from(asked.is_empty), asked.method, asked.path, asked.authority]);
+    });
+    packer.option(stream.answer.fields, |packer, fields| {
+        packer.number(u64::from(fields.is_informational));
+        packer.small(fields.status);
+        packer.small(fields.grpc_status);
+    });
+    packer.small(stream.answer.grpc_status);
+    packer.option(stream.reset, |packer, reset| {
+        packer.number(reset.side as u64);
+        packer.at(reset.at);
+        packer.number(u64::from(reset.code));
+    });
+    stream.sides.iter().for_each(|side| packer.direction(side));
+}
+
+/// The stream that begins here.
+pub fn unpack(bytes: &[u8], round_trip: Nanos) -> Stream {
+    let mut unpacker = Unpacker { bytes, opened: At { packet: 0, time: 0, frame: 0 } };
+    let [number, order, promised_on] = [(); 3].map(|()| unpacker.small());
+    let opened = unpacker.at();
+    unpacker.opened = opened;
+    let request = unpacker.option(|unpacker| Asked {
+        is_empty: unpacker.flag(),
+        method: unpacker.small(),
+        path: unpacker.small(),
+        authority: unpacker.small(),
+    });
+    let fields = unpacker.option(|unpacker| Answered {
+        is_informational: unpacker.flag(),
+        status: unpacker.option(Unpacker::small),
+        grpc_status: unpacker.option(Unpacker::small),
+    });
+    let answer = Answer { fields, grpc_status: unpacker.option(Unpacker::small) };
+    let reset = unpacker.option(|unpacker| Reset {
+        side: usize::from(unpacker.flag()),
+        at: unpacker.at(),
+        code: unpacker.small(),
+    });
+    let sides = [(); 2].map(|()| unpacker.direction(round_trip));
+    Stream { number, order, promised_on, opened, sides, request, answer, reset }
+}
+
+impl Packer<'_> {
+    fn number(&mut self, number: u64) {
+        let mut rest = number;
+        while rest >= 0x80 {
+            self.bytes.push(rest as u8 | 0x80);
+            rest >>= 7;
+        }
+        self.bytes.push(rest as u8);
+    }
+
+    fn numbers(&mut self, numbers: &[u32]) {
+        numbers.iter().for_each(|number| self.number(u64::from(*number)));
+    }
+
+    fn signed(&mut self, number: i64) {
+        self.number((number << 1 ^ number >> 63) as u64);
+    }
+
+    fn option<T>(&mut self, value: Option<T>, put: impl FnOnce(&mut Self, T)) {
+        self.bytes.push(u8::from(value.is_some()));
+        if let Some(value) = value {
+            put(self, value);
+        }
+    }
+
+    fn small(&mut self, value: Option<u32>) {
+        self.option(value, |packer, value| packer.number(u64::from(value)));
+    }
+
+    fn time(&mut self, time: Nanos) {
+        self.signed(time.wrapping_sub(self.opened.time));
+    }
+
+    fn at(&mut self, at: At) {
+        self.signed(at.packet.wrapping_sub(self.opened.packet) as i64);
+        self.time(at.time);
+        self.signed(i64::from(at.frame) - i64::from(self.opened.frame));
+    }
+
+    fn direction(&mut self, one: &Direction) {
+        self.life(&one.life);
+        self.number(one.content);
+        for at in [one.first, one.last, one.end] {
+            self.option(at, Packer::at);
+        }
+        self.option(one.last_credit, Packer::signed);
+        self.number(u64::from(one.is_reset));
+        self.option(one.idle.as_deref(), |packer, idle| {
+            packer.option(idle.before, Packer::at);
+            packer.option(idle.credit, Packer::signed);
+            packer.option(idle.after, Packer::at);
+        });
+        self.at(one.asked);
+        self.option(one.asked_credit, Packer::signed);
+        self.window(&one.window);
+        self.number(one.granted);
+        self.option(one.unshown.as_deref(), |packer, unshown| packer.option(unshown.since, Packer::time));
+        self.signed(one.unshown_nanos);
+    }
+
+    fn window(&mut self, window: &Window) {
+        self.bytes.push(u8::from(window.was_live) | u8::from(window.is_live) << 1);
+        if window.was_live {
+            self.signed(window.credit);
+            self.option(window.largest, Packer::signed);
+            self.number(u64::from(window.change));
+        }
+    }
+
+    fn life(&mut self, life: &Life) {
+        self.time(life.at);
+        self.option(Some(life.until).filter(|until| *until != Nanos::MAX), Packer::time);
+        let bits =
+            life.shares.iter().enumerate().filter(|share| *share.1 != 0).fold(0, |bits, share| bits | 1 << share.0);
+        self.bytes.push(bits);
+        life.shares.iter().filter(|share| **share != 0).for_each(|share| self.signed(*share));
+        let (begin, end) = life.longest_idle;
+        self.time(begin);
+        self.signed(end - begin);
+        self.numbers(&[u32::from(life.has_begun), life.stall, u32::from(life.count), life.last as u32]);
+        self.option(life.spans.as_deref(), |packer, spans| {
+            packer.number(spans.len() as u64);
+            packer.time(spans.first().map_or(0, |span| span.begin));
+            for span in spans {
+                packer.signed(span.end - span.begin);
+                packer.bytes.push(span.share as u8);
+            }
+        });
+    }
+}
+
+impl Unpacker<'_> {
+    fn byte(&mut self) -> u8 {
+        match self.bytes.split_first() {
+            Some((byte, rest)) => {
+                self.bytes = rest;
+                *byte
+            }
+            None => 0,
+        }
+    }
+
+    fn number(&mut self) -> u64 {
+        let (mut number, mut shift) = (0_u64, 0_u32);
+        loop {
+            let byte = self.byte();
+            number |= u64::from(byte & 0x7F).checked_shl(shift).unwrap_or(0);
+            shift += 7;
+            if byte < 0x80 || shift > 63 {
+                return number;
+            }
+        }
+    }
+
+    fn small(&mut self) -> u32 {
+        self.number() as u32
+    }
+
+    fn flag(&mut self) -> bool {
+        self.number() != 0
+    }
+
+    fn signed(&mut self) -> i64 {
+        let number = self.number();
+        (number >> 1) as i64 ^ -((number & 1) as i64)
+    }
+
+    fn option<T>(&mut self, get: impl FnOnce(&mut Self) -> T) -> Option<T> {
+        (self.byte() != 0).then(|| get(self))
+    }
+
+    fn time(&mut self) -> Nanos {
+        self.signed().wrapping_add(self.opened.time)
+    }
+
+    fn at(&mut self) -> At {
+        let packet = self.opened.packet.wrapping_add(self.signed() as u64);
+        let time = self.time();
+        At { packet, time, frame: (i64::from(self.opened.frame) + self.signed()) as u32 }
+    }
+
+    fn direction(&mut self, round_trip: Nanos) -> Direction {
+        let life = self.life();
+        let content = self.number();
+        let [first, last, end] = [(); 3].map(|()| self.option(Unpacker::at));
+        let last_credit = self.option(Unpacker::signed);
+        let is_reset = self.flag();
+        let idle = self.option(|unpacker| {
+            let before = unpacker.option(Unpacker::at);
+            let credit = unpacker.option(Unpacker::signed);
+            Box::new(Idle { before, credit, after: unpacker.option(Unpacker::at) })
+        });
+        let asked = self.at();
+        let asked_credit = self.option(Unpacker::signed);
+        let window = self.window();
+        let granted = self.number();
+        let unshown = self.option(|unpacker| Unshown::waiting(round_trip, unpacker.option(Unpacker::time)));
+        Direction {
+            life,
+            content,
+            first,
+            last,
+            last_credit,
+            end,
+            is_reset,
+            idle,
+            asked,
+            asked_credit,
+            window,
+            granted,
+            unshown: unshown.map(Box::new),
+            unshown_nanos: self.signed(),
+            kept: None,
+        }
+    }
+
+    fn window(&mut self) -> Window {
+        let bits = self.byte();
+        if bits & 1 == 0 {
+            return Window::default();
+        }
+        let credit = self.signed();
+        let largest = self.option(Unpacker::signed);
+        Window { is_live: bits & 2 != 0, was_live: true, credit, largest, change: self.small() }
+    }
+
+    fn life(&mut self) -> Life {
+        let at = self.time();
+        let until = self.option(Unpacker::time).unwrap_or(Nanos::MAX);
+        let bits = self.byte();
+        let mut shares = [0; 7];
+        for (place, share) in shares.iter_mut().enumerate() {
+            *share = if bits & 1 << place != 0 { self.signed() } else { 0 };
+        }
+        let begin = self.time();
+        let longest_idle = (begin, begin.wrapping_add(self.signed()));
+        let has_begun = self.flag();
+        let (stall, count, last) = (self.small(), self.small() as u16, self.small());
+        let last = share_of(last as u8);
+        let spans = self.option(Unpacker::spans);
+        Life { at, until, shares, longest_idle, has_begun, stall, count, last, spans }
+    }
+
+    fn spans(&mut self) -> Vec<Span> {
+        let count = self.number();
+        let mut begin = self.time();
+        let spans = (0..count).map(|_| {
+            let end = begin.wrapping_add(self.signed());
+            let span = Span { begin, end, share: share_of(self.byte()) };
+            begin = end;
+            span
+        });
+        spans.collect()
+    }
+}
+
+fn share_of(number: u8) -> Share {
+    Share::ALL.get(usize::from(number)).copied().unwrap_or(Share::Waiting)
+}
+
+#[cfg(test)]
+mod tests {
+    use super::*;
+    use crate::windows::Initial;
+
+    #[test]
+    fn what_is_packed_is_the_same() {
+        let at = |packet: u64, time, frame| At { packet, time, frame };
+        let mut stream = Stream::new(7, 3, at(1 << 33, 1_795_333_223_952_849_000, 90), true);
+        stream.promised_on = 5;
+        stream.request = Some(Asked { is_empty: false, method: 1, path: 200, authority: 0 });
+        stream.answer.fields = Some(Answered { is_informational: true, status: Some(103), grpc_status: None });
+        stream.answer.grpc_status = Some(14);
+        stream.reset = Some(Reset { side: 1, at: at(3, -5, 1), code: u32::MAX });
+        let one = &mut stream.sides[1];
+        one.content = u64::MAX;
+        one.first = Some(at(u64::MAX, Nanos::MIN, u32::MAX));
+        one.life.shares = [0, 5, 0, 0, -7, 0, Nanos::MAX];
+        one.life.spans = Some(vec![
+            Span { begin: 10, end: 20, share: Share::Tcp },
+            Span { begin: 20, end: 21, share: Share::Unseen },
+        ]);
+        one.life.last = Share::Idle;
+        one.idle = Some(Box::new(Idle { before: None, credit: Some(-9), after: one.first }));
+        let mut initial = Initial::default();
+        initial.change(7);
+        one.window.open(&initial);
+        one.window.content(&initial, 3);
+        one.unshown = Some(Box::new(Unshown::waiting(40, Some(17))));
+        let mut bytes = Vec::new();
+        pack(&stream, &mut bytes);
+        assert_eq!(unpack(&bytes, 40), stream);
+        assert_eq!(unpack(&bytes[..5], 40).number, 7, "no bytes are zeros");
+    }
+}

@@ -1,0 +1,111 @@
+//! The report of h2audit on what was made: of a run of it, or one that is there; and the same about the original.
+
+use std::ffi::OsStr;
+use std::fs::File;
+use std::io::{self, BufReader, Read, Seek};
+use std::path::Path;
+use std::process::{Command, Stdio};
+
+use originals::{bring_back, no_report, LastPacket, LastPackets, Original};
+use programs::{printable, temporary_failure, Audit as Running, Failure, Output, H2AUDIT};
+use reports::ReadError;
+
+use crate::audit::{of_h2audit, read_audits, Audit};
+
+/// So much is read of what h2audit said.
+const MOST_SAID: u64 = 1 << 16;
+
+/// What the report of the original shows, as the status of h2audit-any says it.
+#[derive(Clone, Debug, Default, PartialEq, Eq)]
+pub struct Reported {
+    pub has_faults: bool,
+    pub is_nothing_read: bool,
+    /// The packet at which times go back.
+    pub back: Option<u64>,
+    /// What was passed over that may hold more, or that nothing was read.
+    pub words: Option<String>,
+    /// Of the connections with a stall that did not end.
+    pub last_packets: Vec<LastPacket>,
+}
+
+/// The connections of a report that is there, which may be of some parts alone.
+pub fn read_report(path: &Path) -> Result<Vec<Audit>, Failure> {
+    let file = File::open(path).map_err(|error| Failure::of_file(path, &error))?;
+    read_audits(BufReader::new(file), |error| match error {
+        ReadError::Io(error) => Failure::from_io("report", &error),
+        other => Failure::Refused(format!("report refused: {other}")),
+    })
+}
+
+/// The connections of the report of what was made. It goes into a file too where that is wanted.
+pub fn audited(
+    program: &OsStr,
+    options: &[String],
+    path: &Path,
+    copy: Option<&mut File>,
+) -> Result<Vec<Audit>, Failure> {
+    let mut said = tempfile::tempfile().map_err(|error| temporary_failure(&error))?;
+    let errors = said.try_clone().map_err(|error| temporary_failure(&error))?;
+    let mut command = Command::new(program);
+    let Running { mut report, running } = Running::of(command.args(options).arg(path).stderr(Stdio::from(errors)))?;
+    let read = match copy {
+        None => read_audits(report, of_h2audit),
+        Some(file) => copied(&mut report, file).and_then(|()| read_audits(BufReader::new(&*file), of_h2audit)),
+    };
+    match running.status()? {
+        0 | 1 => read,
+        status => Err(failure_of(status, &last_words(&mut said).map_err(|error| temporary_failure(&error))?)),
+    }
+}
+
+/// What a program said last, without its name in front.
+fn last_words(said: &mut File) -> io::Result<String> {
+    let mut octets = Vec::new();
+    said.rewind()?;
+    said.take(MOST_SAID).read_to_end(&mut octets)?;
+    let text = String::from_utf8_lossy(&octets);
+    let last = text.trim().lines().last().unwrap_or_default();
+    Ok(match last.split_once(": ") {
+        Some((name, words)) if name.starts_with(H2AUDIT) => words.to_string(),
+        _ => last.to_string(),
+    })
+}
+
+/// What ended h2audit, in its own words where it had some.
+fn failure_of(status: i32, said: &str) -> Failure {
+    let said = if said.is_empty() { format!("{H2AUDIT}: failed") } else { printable(said) };
+    match status {
+        2 => Failure::Usage(said),
+        3 => Failure::Refused(said),
+        5 => Failure::Memory,
+        _ => Failure::Io(said),
+    }
+}
+
+fn copied(report: &mut impl io::Read, file: &mut File) -> Result<(), Failure> {
+    let done = io::copy(report, file).and_then(|_| file.rewind());
+    done.map_err(|error| temporary_failure(&error))
+}
+
+/// Writes the report of the original, which is h2audit-any's.
+pub fn of_original(
+    mut report: File,
+    original: &mut Original,
+    last_packets: &LastPackets,
+    output: &mut Output,
+) -> Result<Reported, Failure> {
+    report.rewind().map_err(|error| temporary_failure(&error))?;
+    let written = bring_back(BufReader::new(report), original, output);
+    let shown = written.map_err(|broken| broken.failure(output))?;
+    if !shown.is_there {
+        return Err(no_report());
+    }
+    let is_nothing_read = !shown.has_faults && original.read() == 0;
+    Ok(Reported {
+        has_faults: shown.has_faults,
+        is_nothing_read,
+        back: original.back,
+        words: original.passed_over_words(is_nothing_read),
+        last_packets: last_packets.with_open_stalls(&shown),
+    })
+}

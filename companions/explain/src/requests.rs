@@ -1,0 +1,175 @@
+//! The requests of a connection. They are held packed, and told one by one: ends, shares and causes rest on what is
+//! known of the connection.
+
+use std::rc::Rc;
+
+use crate::answer::{Direction, Ended, Nanos, Request};
+use crate::causes::{no_cause, Held};
+use crate::names::{name_of, Texts};
+use crate::packed::{pack, unpack};
+use crate::seen::Seen;
+use crate::stream::{Asked, Stream};
+
+/// The requests of a connection, in the order of their openings.
+#[derive(Clone, Debug, Default)]
+pub struct Requests {
+    /// Those that are told from nothing else.
+    all: Vec<Request>,
+    packed: Option<Rc<(Packed, Seen)>>,
+    texts: Rc<Texts>,
+}
+
+impl Requests {
+    pub fn of(packed: Packed, seen: Seen, texts: Rc<Texts>) -> Requests {
+        Requests { all: Vec::new(), packed: Some(Rc::new((packed, seen))), texts }
+    }
+
+    pub fn push(&mut self, request: Request) {
+        self.all.push(request);
+    }
+
+    pub fn len(&self) -> usize {
+        self.all.len() + self.packed.as_ref().map_or(0, |packed| packed.0.places.len())
+    }
+
+    pub fn is_empty(&self) -> bool {
+        self.len() == 0
+    }
+
+    pub fn get(&self, index: usize) -> Option<Request> {
+        match &self.packed {
+            Some(packed) => packed.0.get(index).map(|stream| told(stream, &packed.1, &self.texts)),
+            None => self.all.get(index).cloned(),
+        }
+    }
+
+    /// Each one by itself, in the order of openings.
+    pub fn iter(&self) -> impl Iterator<Item = Request> + '_ {
+        (0..self.len()).filter_map(|index| self.get(index))
+    }
+}
+
+/// Streams in the order of their openings, some hundred bytes each.
+#[derive(Debug, Default)]
+pub struct Packed {
+    bytes: Vec<u8>,
+    /// Where each begins, and the length that there is for it.
+    places: Vec<(u64, u32)>,
+    /// Bytes that hold nothing any more.
+    idle: usize,
+    round_trip: Nanos,
+    room: Vec<u8>,
+}
+
+/// Of a stream that is not packed yet.
+const NOWHERE: (u64, u32) = (u64::MAX, 0);
+
+impl Packed {
+    pub fn new(round_trip: Nanos) -> Packed {
+        Packed { round_trip, ..Packed::default() }
+    }
+
+    /// Puts a stream in its place among those that were opened.
+    pub fn put(&mut self, stream: &Stream) {
+        let mut room = std::mem::take(&mut self.room);
+        room.clear();
+        pack(stream, &mut room);
+        let index = stream.order as usize;
+        if self.places.len() <= index {
+            self.places.resize(index + 1, NOWHERE);
+        }
+        let (begin, length) = self.places[index];
+        let place = self.bytes.get_mut(begin as usize..).and_then(|rest| rest.get_mut(..room.len()));
+        match place.filter(|_| room.len() <= length as usize) {
+            Some(place) => place.copy_from_slice(&room),
+            None => {
+                self.idle += length as usize;
+                self.places[index] = (self.bytes.len() as u64, room.len() as u32);
+                self.bytes.extend_from_slice(&room);
+                self.tidy();
+            }
+        }
+        self.room = room;
+    }
+
+    /// Lets go of what is idle, where that is most.
+    fn tidy(&mut self) {
+        if self.idle * 2 <= self.bytes.len() {
+            return;
+        }
+        let mut bytes = Vec::with_capacity(self.bytes.len() - self.idle);
+        for place in self.places.iter_mut().filter(|place| **place != NOWHERE) {
+            let begin = bytes.len() as u64;
+            bytes.extend_from_slice(&self.bytes[place.0 as usize..][..place.1 as usize]);
+            place.0 = begin;
+        }
+        (self.bytes, self.idle) = (bytes, 0);
+    }
+
+    /// The stream that was opened behind so many others, if it is packed.
+    pub fn get(&self, index: usize) -> Option<Stream> {
+        let (begin, length) = *self.places.get(index).filter(|place| **place != NOWHERE)?;
+        let bytes = self.bytes.get(begin as usize..)?.get(..length as usize)?;
+        Some(unpack(bytes, self.round_trip))
+    }
+
+    /// No more come.
+    pub fn end(&mut self) {
+        self.bytes.shrink_to_fit();
+        self.places.shrink_to_fit();
+        self.room = Vec::new();
+    }
+}
+
+/// The request that a stream is.
+fn told(mut stream: Stream, seen: &Seen, texts: &Texts) -> Request {
+    let ends = [0, 1].map(|side| seen.end_of(&stream, side));
+    let time = |end: &Ended| end.at.map_or(0, |at| at.time);
+    let ended = if time(&ends[1]) > time(&ends[0]) { ends[1] } else { ends[0] };
+    let until = ends.iter().filter_map(|end| end.at).map(|at| at.time).fold(stream.opened.time, Nanos::max);
+    let sides = [0, 1].map(|side| direction(&mut stream, side, seen, &ends[side]));
+    let [method, path, authority] = names(stream.request, texts);
+    let fields = stream.answer.fields;
+    let mut request = Request {
+        stream: stream.number,
+        name: name_of(method.as_deref(), path.as_deref().or(authority.as_deref())),
+        method,
+        path,
+        authority,
+        status: fields.and_then(|fields| fields.status),
+        grpc_status: stream.answer.grpc_status.or_else(|| fields?.grpc_status),
+        promised_on: stream.promised_on,
+        opened: stream.opened,
+        ended,
+        until,
+        sides,
+        cause: no_cause(),
+        is_hung: false,
+    };
+    let held = Held { seen, stream: &stream, request: &request };
+    let cause = held.cause();
+    let is_hung = held.is_hung(&cause);
+    (request.cause, request.is_hung) = (cause, is_hung);
+    request
+}
+
+fn names(asked: Option<Asked>, texts: &Texts) -> [Option<Rc<str>>; 3] {
+    let asked = asked.unwrap_or_default();
+    [asked.method, asked.path, asked.authority].map(|number| texts.get(number).cloned())
+}
+
+fn direction(stream: &mut Stream, side: usize, seen: &Seen, ended: &Ended) -> Direction {
+    let (begin, number) = (stream.opened.time, stream.number);
+    let one = &mut stream.sides[side];
+    let end = ended.at.map_or(begin, |at| at.time).max(begin);
+    one.finish(&seen.about.holding(side, number), end, false);
+    Direction {
+        nanos: end - begin,
+        shares: one.life.shares,
+        spans: one.life.spans.take(),
+        content: one.content,
+        first: one.first,
+        end: ended.at,
+        stalls: seen.about.stalls.get(&(side, number)).map_or(0, |one| one.0),
+    }
+}

@@ -1,0 +1,175 @@
+//! What is known of a connection before its streams are told: by the import, the first walk and the report; and what the
+//! second walk adds to it.
+
+use std::collections::HashMap;
+
+use crate::answer::{At, Ended, How, Nanos, Place, RoundTrip, SettingSaid, StallSaid, StallWhy};
+use crate::course::Course;
+use crate::intervals::{disjoint, Interval, Stretches};
+use crate::life::Holding;
+use crate::side_of;
+use crate::stream::{Direction, Stream};
+use crate::tcp::Tcp;
+
+/// By a side and a stream, of which 0 is the connection.
+pub type Key = (usize, u32);
+
+/// What is known before the second walk.
+#[derive(Debug)]
+pub struct About {
+    pub opened: At,
+    pub tcp: Tcp,
+    pub round_trip: RoundTrip,
+    pub captured_at: Option<Place>,
+    /// The time from which something of it was not seen, or not judged.
+    pub unseen: Nanos,
+    pub courses: [Course; 2],
+    /// How many stalls each stream's window has, and when they were.
+    pub stalls: HashMap<Key, (u32, Vec<Interval>)>,
+}
+
+impl About {
+    /// What holds back a direction.
+    pub fn holding(&self, side: usize, stream: u32) -> Holding<'_> {
+        let stalls = if self.stalls.is_empty() { None } else { self.stalls.get(&(side, stream)) };
+        Holding { stalls: stalls.map_or(&[], |one| &one.1), course: &self.courses[side] }
+    }
+
+    /// The stalls of each window, as far as they were seen.
+    pub fn stalls_of(audit: &[crate::audit::Stalled], unseen: Nanos) -> HashMap<Key, (u32, Vec<Interval>)> {
+        let mut found: HashMap<Key, (u32, Vec<Interval>)> = HashMap::new();
+        for one in audit {
+            let window = found.entry((one.side, one.stream)).or_default();
+            window.0 += 1;
+            window.1.push((one.begin.time, one.end.map_or(Nanos::MAX, |end| end.time).min(unseen)));
+        }
+        for window in found.values_mut() {
+            window.1 = disjoint(std::mem::take(&mut window.1));
+        }
+        found
+    }
+}
+
+/// A GOAWAY that refuses streams above its last one.
+#[derive(Clone, Copy, Debug)]
+pub struct Refusal {
+    pub side: usize,
+    pub at: At,
+    pub last: u32,
+    pub code: u32,
+}
+
+/// Stalls of a window in the order of their begins, with their reasons.
+#[derive(Debug)]
+pub struct WindowStalls {
+    pub stalls: Vec<StallSaid>,
+    pub times: Stretches<u8>,
+}
+
+/// All that requests are told from.
+#[derive(Debug)]
+pub struct Seen {
+    pub about: About,
+    pub windows: HashMap<Key, WindowStalls>,
+    /// Of each side the GOAWAY with the lowest last stream.
+    pub refusing: [Option<Refusal>; 2],
+    /// The most credit of the connection's windows.
+    pub connection_windows: [i64; 2],
+    /// Pauses that began with the connection's credit used up, where stalls may not show.
+    pub unshown: [Option<Box<Stretches<()>>>; 2],
+    /// By the side that sends: each acknowledgement of an initial window, and which of all that were announced it is.
+    pub in_force: [Vec<(u32, u32)>; 2],
+}
+
+/// Reasons in the order of their names, of which the first counts where several took as long.
+const REASONS: [StallWhy; 6] = [
+    StallWhy::CancelledStreams,
+    StallWhy::GrantLost,
+    StallWhy::GrantedLate,
+    StallWhy::GrantedNothing,
+    StallWhy::NotNeeded,
+    StallWhy::RoundTrip,
+];
+
+impl WindowStalls {
+    /// Of all stalls of a connection, by window.
+    pub fn by_window(stalls: &[StallSaid]) -> HashMap<Key, WindowStalls> {
+        let mut found: HashMap<Key, Vec<StallSaid>> = HashMap::new();
+        for one in stalls {
+            found.entry((one.side as usize, one.stream)).or_default().push(*one);
+        }
+        let of = |(key, mut stalls): (Key, Vec<StallSaid>)| {
+            stalls.sort_by_key(|one| one.begin.time);
+            let times = stalls.iter().map(|one| (one.begin.time, one.until, rank(one.why))).collect();
+            (key, WindowStalls { stalls, times: Stretches::new(times) })
+        };
+        found.into_iter().map(of).collect()
+    }
+
+    /// The reason that took most of a stretch of time, and the first and the last stall of it.
+    pub fn most(&self, (begin, end): Interval) -> Option<(StallWhy, &StallSaid, &StallSaid)> {
+        let (first, last) = self.times.within(begin, end);
+        let some = self.stalls.get(first..last)?;
+        let why = self.times.reason(first, last).and_then(|rank| REASONS.get(usize::from(rank)))?;
+        Some((*why, some.first()?, some.last()?))
+    }
+}
+
+fn rank(why: StallWhy) -> u8 {
+    REASONS.iter().position(|one| *one == why).unwrap_or(0) as u8
+}
+
+impl Seen {
+    /// How a direction ended: by its END_STREAM, a reset of either side, or with the connection.
+    pub fn end_of(&self, stream: &Stream, side: usize) -> Ended {
+        end_of(stream, side, &self.refusing, &self.about.tcp)
+    }
+
+    /// Which SETTINGS made the initial window of a side what it was at a frame.
+    pub fn setting(&self, side: usize, frame: u32) -> Option<u32> {
+        let acknowledged = self.in_force[side].partition_point(|one| one.0 <= frame);
+        acknowledged.checked_sub(1).and_then(|at| self.in_force[side].get(at)).map(|one| one.1)
+    }
+}
+
+/// The acknowledgements of what the other side announced, by the side that sends.
+pub fn in_force(announced: &[SettingSaid]) -> [Vec<(u32, u32)>; 2] {
+    let mut found = [Vec::new(), Vec::new()];
+    for (at, one) in announced.iter().enumerate() {
+        let acknowledged = one.acknowledged.map(|answer| (answer.frame, at as u32));
+        found[1 - one.side as usize].extend(acknowledged);
+    }
+    found
+}
+
+pub fn end_of(stream: &Stream, side: usize, refusing: &[Option<Refusal>; 2], tcp: &Tcp) -> Ended {
+    let one: &Direction = &stream.sides[side];
+    match (one.end, stream.reset) {
+        (Some(at), Some(reset)) if one.is_reset => {
+            Ended { how: How::RstStream, side: Some(side_of(reset.side)), code: Some(reset.code), at: Some(at) }
+        }
+        (Some(at), _) => Ended { how: How::EndStream, side: Some(side_of(side)), code: None, at: Some(at) },
+        (None, _) => with_connection(stream, one.last, refusing, tcp),
+    }
+}
+
+fn with_connection(stream: &Stream, last: Option<At>, refusing: &[Option<Refusal>; 2], tcp: &Tcp) -> Ended {
+    let closing = tcp.closing(last.map_or(stream.opened.time, |last| last.time));
+    // A GOAWAY says that streams which the other side opened above its last one are not taken up.
+    let refuser = if stream.promised_on == 0 { 1 } else { 0 };
+    match refusing[refuser].filter(|one| one.last < stream.number) {
+        Some(one) => {
+            let (side, code) = (Some(side_of(one.side)), Some(one.code));
+            Ended { how: How::GoAway, side, code, at: latest(Some(one.at), last) }
+        }
+        None => Ended { at: latest(closing.at, last), ..closing },
+    }
+}
+
+fn latest(one: Option<At>, other: Option<At>) -> Option<At> {
+    match (one, other) {
+        (Some(one), Some(other)) if other.time > one.time => Some(other),
+        (None, other) => other,
+        (one, _) => one,
+    }
+}

@@ -1,0 +1,405 @@
+//! The second walk over one connection: its frames, in the order of the report's numbers.
+
+use std::cell::Cell;
+use std::collections::HashMap;
+use std::rc::Rc;
+
+use programs::Failure;
+
+use crate::answer::{At, Nanos, Place};
+use crate::blocks::{answered_of, asked_of, Blocks, Decoded, Names};
+use crate::cutter::{flag, kind, Cut};
+use crate::findings::{Findings, Here};
+use crate::intervals::Interval;
+use crate::leaks::Leaks;
+use crate::learning::Known;
+use crate::names::Interner;
+use crate::seen::{About, Key};
+use crate::settings::{Settings, Values};
+use crate::signals::Signals;
+use crate::stream::{Answer, Asked, Kept, Met, Reset, Stream};
+use crate::table::{Numbers, Table};
+use crate::unanswered::Unanswered;
+use crate::unshown::Unshown;
+use crate::windows::{ConnectionWindow, Initial};
+
+const STREAM: u32 = (1 << 31) - 1;
+const PRIORITY_FIELDS: usize = 5;
+const PROMISED_STREAM: usize = 4;
+const GOAWAY_FIELDS: usize = 8;
+/// Of so many streams that are not opened yet, so many grants are remembered.
+const MOST_EARLY: usize = 256;
+
+/// What is asked of all connections.
+pub struct Asking {
+    pub names: Names,
+    pub has_spans: bool,
+    pub has_frames: bool,
+    pub interner: Interner,
+    /// How numbers of streams are hashed; and how many streams are not packed.
+    pub numbers: Numbers,
+    pub live: Rc<Cell<usize>>,
+}
+
+/// What the frames of a connection told so far.
+pub struct Walk {
+    pub about: About,
+    pub known: Known,
+    /// The number of the last frame, and that at which the audit stopped.
+    pub number: u32,
+    pub stopped_at: Option<u32>,
+    pub stop: Option<At>,
+    pub initials: [Initial; 2],
+    pub windows: [ConnectionWindow; 2],
+    pub settings: Settings,
+    pub table: Table,
+    pub blocks: [Blocks; 2],
+    pub signals: Signals,
+    pub findings: Findings,
+    pub leaks: [Option<Box<Leaks>>; 2],
+    pub unanswered: Unanswered,
+    /// Where stalls of a side may not show: the connection's credit as it is known there, and pauses without it.
+    pub unshown: [Option<(Unshown, Vec<Interval>)>; 2],
+    /// Whether a side sent more on a stream than its window held at once.
+    pub uses_window: [bool; 2],
+    /// What of a frame's grant would be too high.
+    pub overflow: Option<i64>,
+    /// Grants for streams that are not opened yet: by the side that may send, with their times.
+    pub early_grants: HashMap<Key, Vec<(Nanos, u32)>>,
+}
+
+/// A frame of a side: when its packets came, where it ends, and at which record.
+#[derive(Clone, Copy)]
+pub struct Frame<'a> {
+    side: usize,
+    cut: &'a Cut<'a>,
+    at: At,
+    record: u64,
+    /// Whether the report judges it.
+    is_judged: bool,
+}
+
+impl Walk {
+    /// The sides of which stalls may not show are those that send to where the capture was made.
+    pub fn unshown_of(about: &About, side: usize) -> Option<Nanos> {
+        let receiver = [Place::AtServer, Place::AtClient][side];
+        (about.captured_at == Some(receiver)).then(|| about.round_trip.nanos().unwrap_or(0))
+    }
+
+    /// Takes the next frame, which a side sent.
+    pub fn take(
+        &mut self,
+        asking: &mut Asking,
+        side: usize,
+        cut: &Cut<'_>,
+        (record, at): (u64, At),
+    ) -> Result<(), Failure> {
+        self.number += 1;
+        let at = At { frame: self.number, ..at };
+        let is_judged = self.stopped_at.map_or(true, |stop| self.number < stop);
+        if self.stopped_at == Some(self.number) {
+            self.stop = Some(at);
+        }
+        let frame = Frame { side, cut, at, record, is_judged };
+        match cut.head.kind {
+            kind::DATA => self.data(frame),
+            kind::HEADERS => self.headers(asking, frame),
+            kind::RST_STREAM => self.reset(frame),
+            kind::SETTINGS => self.settings(asking, frame),
+            kind::PUSH_PROMISE => self.promise(asking, frame),
+            kind::GOAWAY => self.goaway(frame),
+            kind::WINDOW_UPDATE => self.grant(frame),
+            kind::CONTINUATION => self.continuation(asking, frame),
+            _ => {}
+        }
+        self.after(frame)
+    }
+
+    /// All that a frame does is done.
+    fn after(&mut self, frame: Frame<'_>) -> Result<(), Failure> {
+        if self.findings.stands_at(self.number) {
+            let Walk { findings, about, known, settings, table, initials, windows, overflow, .. } = self;
+            let (at, record, kind) = (frame.at, frame.record, frame.cut.head.kind);
+            let here = Here { at, record, kind, overflow: *overflow, known, about, settings };
+            findings.take(&here, |window| credit_of(window, table, initials, windows))?;
+        }
+        for leaks in self.leaks.iter_mut().flatten() {
+            leaks.after(self.number, &self.table);
+        }
+        self.overflow = None;
+        let head = &frame.cut.head;
+        if (head.kind == kind::RST_STREAM || head.has(flag::END_STREAM)) && self.known.back.is_none() {
+            self.table.settle(head.stream);
+        }
+        Ok(())
+    }
+
+    fn data(&mut self, frame: Frame<'_>) {
+        let Frame { side, cut, is_judged, .. } = frame;
+        if cut.body(0).is_none() {
+            return;
+        }
+        let length = cut.head.length;
+        self.windows[side].content(if is_judged { length } else { 0 });
+        if let (Some((unshown, found)), Some(first), Some(last)) =
+            (&mut self.unshown[side], cut.times.first(), cut.times.last())
+        {
+            found.extend(unshown.content((*first, *last), length, None));
+        }
+        let Walk { table, initials, windows, about, leaks, uses_window, .. } = self;
+        let touched = table.touch(cut.head.stream, |stream| {
+            let one = &mut stream.sides[side];
+            let before = one.window.value(&initials[side]);
+            one.content(cut.times, length, before);
+            one.window.content(&initials[side], if is_judged { length } else { 0 });
+            if let Some(leaks) = &mut leaks[side] {
+                leaks.content(Some(stream), length);
+            }
+            met(stream, frame, about, initials, windows);
+            note_use(stream, uses_window);
+        });
+        if let (None, Some(leaks)) = (touched, &mut leaks[side]) {
+            leaks.content(None, length);
+        }
+    }
+
+    fn headers(&mut self, asking: &mut Asking, frame: Frame<'_>) {
+        let Frame { side, cut, .. } = frame;
+        let fields = if cut.head.has(flag::PRIORITY) { PRIORITY_FIELDS } else { 0 };
+        let body = cut.body(fields);
+        let number = cut.head.stream;
+        if body.is_some() {
+            if side == import::CLIENT && number % 2 == 1 && !self.table.has(number) {
+                self.open(asking, frame, number, 0);
+            }
+            let Walk { table, initials, windows, about, uses_window, .. } = self;
+            table.touch(number, |stream| {
+                met(stream, frame, about, initials, windows);
+                note_use(stream, uses_window);
+            });
+        }
+        let octets = body.and_then(|(begin, end)| cut.payload.get(begin..end.min(cut.payload.len())));
+        self.block(asking, frame, (number, false), octets.unwrap_or_default());
+    }
+
+    /// A stream opens by HEADERS of the client, or by a promise of the server.
+    fn open(&mut self, asking: &Asking, frame: Frame<'_>, number: u32, promised_on: u32) {
+        let Walk { table, initials, about, known, windows, early_grants, .. } = self;
+        let ends_client = promised_on != 0 || frame.cut.head.has(flag::END_STREAM);
+        table.open(number, |order| {
+            let mut stream = Stream::new(number, order, frame.at, asking.has_spans);
+            stream.promised_on = promised_on;
+            for (side, one) in stream.sides.iter_mut().enumerate() {
+                if frame.is_judged && !(side == import::CLIENT && ends_client) {
+                    one.window.open(&initials[side]);
+                }
+                one.unshown = Walk::unshown_of(about, side).map(|nanos| Box::new(Unshown::new(nanos)));
+                for (time, amount) in early_grants.remove(&(side, number)).unwrap_or_default() {
+                    one.granted(time, amount, known.back.is_none());
+                }
+                one.kept = known.back.map(|_| Box::new(Kept::default()));
+                one.asked_credit = one.window.value(&initials[side]).map(|credit| credit.min(windows[side].credit));
+            }
+            if promised_on != 0 {
+                stream.sides[import::CLIENT].finish_at(frame.at);
+            }
+            stream
+        });
+    }
+
+    fn promise(&mut self, asking: &mut Asking, frame: Frame<'_>) {
+        let Frame { side, cut, .. } = frame;
+        let (begin, end) = match cut.body(PROMISED_STREAM) {
+            Some(body) => body,
+            None => return,
+        };
+        let named = cut.payload.get(begin - PROMISED_STREAM..begin).and_then(|bytes| bytes.try_into().ok());
+        let number = named.map_or(0, u32::from_be_bytes) & STREAM;
+        let is_new = number != 0 && number != cut.head.stream && !self.table.has(number);
+        if side == import::SERVER && number % 2 == 0 && is_new {
+            self.open(asking, frame, number, cut.head.stream);
+        }
+        let octets = cut.payload.get(begin..end.min(cut.payload.len())).unwrap_or_default();
+        self.block(asking, frame, (number, true), octets);
+    }
+
+    fn block(&mut self, asking: &mut Asking, frame: Frame<'_>, of: (u32, bool), octets: &[u8]) {
+        let is_whole = frame.cut.head.has(flag::END_HEADERS);
+        let decoded = self.blocks[frame.side].begin(frame.at, of, octets, is_whole);
+        self.decoded(asking, frame.side, decoded);
+    }
+
+    fn continuation(&mut self, asking: &mut Asking, frame: Frame<'_>) {
+        let Frame { side, cut, .. } = frame;
+        let is_promise = match self.blocks[side].is_promise() {
+            Some(is_promise) => is_promise,
+            None => return,
+        };
+        if !is_promise {
+            let Walk { table, initials, windows, about, .. } = self;
+            table.touch(cut.head.stream, |stream| met(stream, frame, about, initials, windows));
+        }
+        let decoded = self.blocks[side].go_on(cut.payload, cut.head.has(flag::END_HEADERS));
+        self.decoded(asking, side, decoded);
+    }
+
+    fn decoded(&mut self, asking: &mut Asking, side: usize, decoded: Option<Decoded>) {
+        let Decoded { stream, is_promise, fields } = match decoded {
+            Some(decoded) => decoded,
+            None => return,
+        };
+        let Asking { names, interner, .. } = asking;
+        self.table.touch(stream, |stream| {
+            let is_known = |request: Asked| !is_promise || !request.is_empty;
+            let is_asked = stream.request.map_or(false, is_known);
+            if (is_promise || side == import::CLIENT) && !is_asked {
+                stream.request = Some(asked_of(&fields, *names, interner));
+            }
+            if !is_promise && side == import::SERVER {
+                answer(&mut stream.answer, &fields);
+            }
+        });
+    }
+
+    fn reset(&mut self, frame: Frame<'_>) {
+        let Frame { side, cut, at, .. } = frame;
+        let code = match cut.number() {
+            Some(code) if cut.head.length == 4 => code,
+            _ => return,
+        };
+        let Walk { table, initials, leaks, signals, unanswered, uses_window, .. } = self;
+        table.touch(cut.head.stream, |stream| {
+            if stream.reset.is_some() {
+                return;
+            }
+            let reset = Reset { side, at, code };
+            stream.sides.iter_mut().zip(&*initials).for_each(|(one, initial)| one.window.end(initial));
+            stream.reset(reset);
+            leaks.iter_mut().flatten().for_each(|leaks| leaks.reset(stream));
+            signals.reset(stream, &reset);
+            unanswered.reset(side, at, code, stream);
+            note_use(stream, uses_window);
+        });
+    }
+
+    fn settings(&mut self, asking: &Asking, frame: Frame<'_>) {
+        let Frame { side, cut, at, is_judged, .. } = frame;
+        if cut.head.has(flag::ACK) {
+            let initial = if cut.head.length == 0 { self.settings.acknowledged(side, at) } else { None };
+            if let Some(initial) = initial.filter(|_| is_judged) {
+                self.initials[side].change(i64::from(initial));
+            }
+            return;
+        }
+        if cut.head.length % 6 != 0 {
+            return;
+        }
+        let Values { header_table, values } = Values::of(cut.payload);
+        self.unanswered.sent(side, at, &values, (&self.table, &self.initials[1 - side]));
+        self.settings.sent(side, at, values);
+        if let Some(size) = header_table.filter(|_| asking.names.are_wanted) {
+            self.blocks[1 - side].allow_table(size);
+        }
+    }
+
+    fn goaway(&mut self, frame: Frame<'_>) {
+        let Frame { side, cut, at, .. } = frame;
+        if let Some([a, b, c, d, e, f, g, h]) =
+            cut.payload.get(..GOAWAY_FIELDS).and_then(|front| <[u8; 8]>::try_from(front).ok())
+        {
+            let (last, code) = (u32::from_be_bytes([a, b, c, d]) & STREAM, u32::from_be_bytes([e, f, g, h]));
+            self.signals.goaway(side, at, (last, code), &cut.payload[GOAWAY_FIELDS..]);
+            self.unanswered.goaway(side, at, code);
+        }
+    }
+
+    fn grant(&mut self, frame: Frame<'_>) {
+        let Frame { side, cut, at, is_judged, .. } = frame;
+        let (amount, sender, number) = match cut.number() {
+            Some(amount) if cut.head.length == 4 => (amount & STREAM, 1 - side, cut.head.stream),
+            _ => return,
+        };
+        let is_in_order = self.known.back.is_none();
+        if let Some(grants) = self.findings.grants.get_mut(&(sender, number)) {
+            grants.add(at, amount);
+        }
+        if number == 0 {
+            self.windows[sender].grant(if is_judged { amount } else { 0 });
+            if let Some((unshown, _)) = &mut self.unshown[sender] {
+                unshown.grant(at.time, amount, is_in_order);
+            }
+            if let Some(leaks) = &mut self.leaks[sender] {
+                leaks.grant(amount);
+            }
+            return;
+        }
+        let Walk { table, initials, overflow, early_grants, .. } = self;
+        let touched = table.touch(number, |stream| {
+            let one = &mut stream.sides[sender];
+            if is_judged {
+                *overflow = one.window.grant(&initials[sender], amount);
+            }
+            one.granted(at.time, amount, is_in_order);
+        });
+        if touched.is_none() && (early_grants.len() < MOST_EARLY || early_grants.contains_key(&(sender, number))) {
+            let grants = early_grants.entry((sender, number)).or_default();
+            if grants.len() < MOST_EARLY {
+                grants.push((at.time, amount));
+            }
+        }
+    }
+}
+
+/// A frame of a stream came, that may end its direction.
+fn met(stream: &mut Stream, frame: Frame<'_>, about: &About, initials: &[Initial; 2], windows: &[ConnectionWindow; 2]) {
+    let Frame { side, cut, at, .. } = frame;
+    let credit = |stream: &Stream, side: usize| {
+        stream.sides[side].window.value(&initials[side]).map(|credit| credit.min(windows[side].credit))
+    };
+    let met = Met { times: cut.times, at, credit: credit(stream, side) };
+    stream.sides[side].met(&about.holding(side, stream.number), &met);
+    let other = 1 - side;
+    if stream.sides[other].first.is_none() {
+        stream.sides[other].asked_credit = credit(stream, other);
+        stream.sides[other].asked = at;
+    }
+    if cut.head.kind != kind::CONTINUATION && cut.head.has(flag::END_STREAM) {
+        stream.sides[side].window.end(&initials[side]);
+        stream.sides[side].finish_at(at);
+    }
+}
+
+fn note_use(stream: &Stream, uses: &mut [bool; 2]) {
+    if stream.is_over() {
+        note_content(stream, uses);
+    }
+}
+
+/// Whether a stream that is over had more content than its window held at once, so that its sender may have waited.
+pub fn note_content(stream: &Stream, uses: &mut [bool; 2]) {
+    for (side, uses) in stream.sides.iter().zip(uses) {
+        let window = side.window.largest.unwrap_or(0);
+        *uses |= window > 0 && i128::from(side.content) >= i128::from(window);
+    }
+}
+
+fn answer(answer: &mut Answer, fields: &hpack::Fields) {
+    let said = answered_of(fields);
+    match answer.fields {
+        Some(before) if !before.is_informational => answer.grpc_status = said.grpc_status,
+        _ => answer.fields = Some(said),
+    }
+}
+
+/// What is left of a window.
+fn credit_of(
+    (side, stream): Key,
+    table: &Table,
+    initials: &[Initial; 2],
+    windows: &[ConnectionWindow; 2],
+) -> Option<i64> {
+    match stream {
+        0 => Some(windows[side].credit),
+        _ => table.look(stream, |stream| stream.sides[side].window.value(&initials[side])).flatten(),
+    }
+}

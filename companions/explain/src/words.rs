@@ -1,0 +1,111 @@
+//! How the answer is worded: durations, counts, codes, reasons.
+
+use reports::grouped;
+
+use crate::answer::Nanos;
+
+const CODES: [&str; 14] = [
+    "NO_ERROR",
+    "PROTOCOL_ERROR",
+    "INTERNAL_ERROR",
+    "FLOW_CONTROL_ERROR",
+    "SETTINGS_TIMEOUT",
+    "STREAM_CLOSED",
+    "FRAME_SIZE_ERROR",
+    "REFUSED_STREAM",
+    "CANCEL",
+    "COMPRESSION_ERROR",
+    "CONNECT_ERROR",
+    "ENHANCE_YOUR_CALM",
+    "INADEQUATE_SECURITY",
+    "HTTP_1_1_REQUIRED",
+];
+const UNITS: [(&str, Nanos); 3] = [("s", 1_000_000_000), ("ms", 1_000_000), ("µs", 1_000)];
+/// Reasons of an import and forms of the report, in words behind "3 connections".
+const REASONS: [(&str, &str); 6] = [
+    ("no-key", " of TLS without a key in the key logs (-k)"),
+    ("wrong-key", " of TLS whose keys in the key logs are those of another run"),
+    ("no-handshake", " of which one direction alone was captured"),
+    ("not-http2", " that spoke no HTTP/2, or began by an upgrade"),
+    ("no-preface", " whose client sent no whole preface of HTTP/2"),
+    ("handshake-unfinished", " of TLS that ended before the handshake did"),
+];
+
+/// The name of an error code of HTTP/2 (RFC 9113, 7).
+pub fn code_name(code: u32) -> String {
+    match CODES.get(code as usize) {
+        Some(name) => name.to_string(),
+        None => format!("error 0x{code:x}"),
+    }
+}
+
+/// A duration as a person says it: four digits from a second on, three below.
+pub fn time_of(nanos: Nanos) -> String {
+    for (unit, size) in UNITS {
+        if nanos < size {
+            continue;
+        }
+        let (nanos, size) = (i128::from(nanos), i128::from(size));
+        if nanos >= 100 * size {
+            return format!("{} {unit}", grouped((nanos + size / 2) / size));
+        }
+        let digits = match nanos < 10 * size {
+            true if unit == "s" => 3,
+            true => 2,
+            false => 1,
+        };
+        let power = 10_i128.pow(digits);
+        let scaled = (nanos * power + size / 2) / size;
+        let width = digits as usize;
+        let text = format!("{}.{:0width$}", scaled / power, scaled % power);
+        return format!("{} {unit}", text.trim_end_matches('0').trim_end_matches('.'));
+    }
+    format!("{nanos} ns")
+}
+
+/// So many of these.
+pub fn count(number: u64, one: &str) -> String {
+    let many = if number == 1 { "" } else { "s" };
+    format!("{} {one}{many}", grouped(number))
+}
+
+/// Why so many connections were not audited.
+pub fn reason_words(why: &str, number: u64) -> String {
+    let connections = count(number, "connection");
+    let first = why.split(' ').next().unwrap_or_default();
+    match REASONS.iter().find(|reason| reason.0 == first) {
+        Some((_, words)) => connections + words,
+        None => format!("{connections} of TLS that could not be read ({why})"),
+    }
+}
+
+#[cfg(test)]
+mod tests {
+    use super::*;
+
+    #[test]
+    fn durations() {
+        let cases: [(Nanos, &str); 10] = [
+            (0, "0 ns"),
+            (999, "999 ns"),
+            (1_000, "1 µs"),
+            (1_234, "1.23 µs"),
+            (9_999_999, "10 ms"),
+            (39_650_000, "39.7 ms"),
+            (100_000_000, "100 ms"),
+            (2_300_540_000, "2.301 s"),
+            (12_340_000_000, "12.3 s"),
+            (1_234_500_000_000, "1,235 s"),
+        ];
+        for (nanos, said) in cases {
+            assert_eq!(time_of(nanos), said);
+        }
+    }
+
+    #[test]
+    fn reasons() {
+        assert_eq!(reason_words("not-http2", 1), "1 connection that spoke no HTTP/2, or began by an upgrade");
+        assert_eq!(reason_words("gap 12", 2), "2 connections of TLS that could not be read (gap 12)");
+        assert_eq!((code_name(3), code_name(14)), ("FLOW_CONTROL_ERROR".to_string(), "error 0xe".to_string()));
+    }
+}

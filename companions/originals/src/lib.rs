@@ -1,0 +1,13 @@
+//! The original of a capture that an import makes: what is kept of it, and the report of h2audit brought back to it.
+
+#![forbid(unsafe_code)]
+
+mod keeping;
+mod last_packets;
+mod original;
+mod report;
+
+pub use keeping::Keeping;
+pub use last_packets::{write_last_packets, LastPacket, LastPackets};
+pub use original::{Became, Connection, Original, Other, SideRead};
+pub use report::{bring_back, no_report, Broken, Shown};

@@ -1,0 +1,162 @@
+//! What a report of a capture that was made needs to become one of the original.
+//!
+//! It keeps 8 bytes for each record, and what is said of connections. What is said of packets that were passed over goes
+//! into a temporary file where it is long.
+
+use std::collections::HashMap;
+use std::io::{self, Seek, SeekFrom, Write};
+use std::net::SocketAddrV4;
+
+use reports::{grouped, Capture, Side};
+use tempfile::SpooledTempFile;
+
+/// So many bytes about packets that were passed over are kept in memory.
+const MOST_SAID: usize = 1 << 20;
+/// Flows that end so end as any other does: what was lost shows as a gap, what is cut as a tail.
+const PLAIN_ENDS: [&str; 3] = ["whole", "cut", "lost"];
+/// What is passed over and is no tunnel: other uses of a network, and what is named by number alone.
+const NO_TUNNELS: [&str; 9] = ["arp", "lldp", "llc", "icmp", "icmpv6", "udp", "sctp", "quic", "-"];
+
+/// What became of a connection.
+pub enum Became {
+    /// It went through as it stands.
+    Clear,
+    /// Nothing of it could be read, for this reason.
+    Refused(String),
+    /// It was decrypted: its client's flow and its server's.
+    Read([SideRead; 2]),
+}
+
+/// How one side's plaintext ends.
+pub struct SideRead {
+    pub has_gap: bool,
+    /// Encrypted bytes of a record that is cut.
+    pub tail: u64,
+    pub end: String,
+}
+
+impl SideRead {
+    /// Why the flow ends, where a report's other words do not tell.
+    pub fn special_end(&self) -> Option<&str> {
+        Some(self.end.as_str()).filter(|end| !PLAIN_ENDS.contains(end))
+    }
+}
+
+/// A connection, and how many IP fragments of its packets were passed over.
+pub struct Connection {
+    pub became: Became,
+    pub fragments: u64,
+}
+
+/// Packets that hold no TCP segment, by what they are.
+pub struct Other {
+    pub name: String,
+    pub packets: u64,
+}
+
+pub struct Original {
+    /// Of each record, the packet that completed it, numbered through all files.
+    packets: Vec<u64>,
+    addresses: HashMap<[u8; 4], String>,
+    passed_over: SpooledTempFile,
+    pub capture: Capture,
+    /// By the packets of their openings.
+    connections: HashMap<u64, Connection>,
+    /// The first packet whose time lies before that of the packet before it.
+    pub back: Option<u64>,
+    pub others: Vec<Other>,
+}
+
+impl Default for Original {
+    fn default() -> Original {
+        Original {
+            packets: Vec::new(),
+            addresses: HashMap::new(),
+            passed_over: SpooledTempFile::new(MOST_SAID),
+            capture: Capture::default(),
+            connections: HashMap::new(),
+            back: None,
+            others: Vec::new(),
+        }
+    }
+}
+
+impl Original {
+    pub fn add_record(&mut self, packet: u64) {
+        self.packets.push(packet);
+    }
+
+    pub fn records(&self) -> u64 {
+        self.packets.len() as u64
+    }
+
+    pub fn add_address(&mut self, stand_in: [u8; 4], original: String) {
+        self.addresses.insert(stand_in, original);
+    }
+
+    /// A packet that was passed over, or is cut, as a report says why.
+    pub fn add_passed(&mut self, packet: u64, why: &str) -> io::Result<()> {
+        writeln!(self.passed_over, "record {packet} {why}")
+    }
+
+    pub fn add_connection(&mut self, opening: u64, connection: Connection) {
+        self.connections.insert(opening, connection);
+    }
+
+    /// The connection that this packet opened.
+    pub fn connection(&self, opening: u64) -> Option<&Connection> {
+        self.connections.get(&opening)
+    }
+
+    /// How many connections could be read.
+    pub fn read(&self) -> usize {
+        self.connections.values().filter(|one| !matches!(one.became, Became::Refused(_))).count()
+    }
+
+    /// The packet that completed a record; records count from 1.
+    pub fn packet(&self, record: u64) -> Option<u64> {
+        self.packets.get(usize::try_from(record.checked_sub(1)?).ok()?).copied()
+    }
+
+    /// An endpoint as the original has it: an address of IPv6 stands in brackets (RFC 3986, 3.2.2; RFC 5952).
+    pub fn endpoint(&self, text: &str) -> Option<String> {
+        let endpoint: SocketAddrV4 = text.parse().ok()?;
+        match self.addresses.get(&endpoint.ip().octets()) {
+            Some(original) => Some(format!("[{original}]:{}", endpoint.port())),
+            None => Some(text.to_string()),
+        }
+    }
+
+    /// Whether anything could be read, where it is nothing, and what was passed over that may hold more.
+    pub fn passed_over_words(&self, is_nothing_read: bool) -> Option<String> {
+        let others = self.others.iter().filter(|one| is_nothing_read || !NO_TUNNELS.contains(&one.name.as_str()));
+        let named: Vec<String> = others.map(named).collect();
+        match (is_nothing_read, named.is_empty()) {
+            (true, true) => Some("no connection could be read".to_string()),
+            (true, false) => Some(format!("no connection could be read; passed over: {}", named.join(", "))),
+            (false, false) => Some(format!("passed over: {}", named.join(", "))),
+            (false, true) => None,
+        }
+    }
+
+    /// The lines about packets that were passed over.
+    pub fn passed_over(&mut self) -> io::Result<&mut SpooledTempFile> {
+        self.passed_over.seek(SeekFrom::Start(0))?;
+        Ok(&mut self.passed_over)
+    }
+}
+
+impl Connection {
+    pub fn side(&self, side: Side) -> Option<&SideRead> {
+        match (&self.became, side) {
+            (Became::Read([client, _]), Side::Client) => Some(client),
+            (Became::Read([_, server]), Side::Server) => Some(server),
+            _ => None,
+        }
+    }
+}
+
+fn named(other: &Other) -> String {
+    let name = if other.name == "-" { "of another protocol" } else { other.name.as_str() };
+    format!("{} packets {name}", grouped(other.packets))
+}

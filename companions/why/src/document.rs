@@ -1,0 +1,377 @@
+//! The answer for machines: one document, or a line for each request. companions/why/schema.json says what stands in it.
+
+use std::io::{self, Write};
+
+use explain::answer::{
+    Answer, At, Cause, CauseKind, CauseWhy, Certainty, ConnectionSaid, Direction, Ended, FaultSaid, Files, Nanos,
+    Place, Request, RoundTrip, Share, Signal, Source, Span, StallEnd, StallSaid, StallWhy,
+};
+use reports::{section_of, sentence_of, Side};
+
+use crate::json::Json;
+use crate::phrases::{how_name, Phrases};
+use crate::summing::{Connection, Summary, Whole};
+use crate::wording::{code_name, grpc_name};
+
+const VERSION: u32 = 1;
+
+/// The document, and a line feed.
+pub fn write(whole: &Whole<'_>, to: &mut dyn Write) -> io::Result<()> {
+    let answer = whole.answer;
+    let mut json = Json::new(to);
+    json.open(b'{');
+    json.name("h2audit_why").number(VERSION);
+    files(json.name("files"), answer);
+    summary(json.name("summary"), answer, &whole.summary);
+    json.name("warnings").list(&answer.warnings, |json, one| {
+        json.object(|json| {
+            json.name("kind").word(one.kind);
+            json.name("text").text(&one.text);
+            json.name("connection").some_number(one.connection);
+            place(json.name("at"), one.at, &answer.files);
+        });
+    });
+    json.name("not_audited").list(&answer.not_audited, |json, one| {
+        json.object(|json| {
+            json.name("reason").text(&one.reason);
+            json.name("count").number(one.count);
+            json.name("text").text(&one.text);
+        });
+    });
+    json.name("connections").open(b'[');
+    whole.connections.iter().try_for_each(|one| connection(&mut json, one, &answer.files))?;
+    json.close(b']');
+    json.close(b'}');
+    json.line();
+    json.finish()
+}
+
+/// A line for each request, with the connection that it is of.
+pub fn write_lines(whole: &Whole<'_>, to: &mut dyn Write) -> io::Result<()> {
+    let mut json = Json::new(to);
+    for one in whole.audited() {
+        for found in one.said.requests.iter() {
+            json.object(|json| {
+                json.name("h2audit_why").number(VERSION);
+                json.name("connection").number(one.said.number);
+                json.name("client_address").text(&one.said.client);
+                json.name("server_address").text(&one.said.server);
+                request(json, &found, &one.phrases, &whole.answer.files);
+            });
+            json.line();
+            json.give()?;
+        }
+    }
+    json.finish()
+}
+
+pub fn files(json: &mut Json<'_>, answer: &Answer) {
+    json.list(&answer.files.names, |json, name| json.text(name));
+}
+
+pub fn summary(json: &mut Json<'_>, answer: &Answer, one: &Summary) {
+    json.object(|json| {
+        json.name("verdict").word(one.verdict.name());
+        json.name("text").text(&one.text);
+        json.name("packets").number(answer.packets);
+        json.name("connections").number(answer.connections.len());
+        json.name("audited").number(one.audited);
+        json.name("requests").number(one.tally.requests);
+        json.name("faults").number(one.faults);
+        json.name("held_back").number(one.tally.held);
+        json.name("held_by_tcp").number(one.tally.tcp);
+        json.name("hung").number(one.tally.hung);
+        json.name("begin").number(one.begin);
+        json.name("nanos").number(one.nanos);
+    });
+}
+
+pub fn place(json: &mut Json<'_>, at: Option<At>, files: &Files) {
+    json.some(at, |json, at| {
+        let (file, packet) = files.place(at.packet);
+        json.object(|json| {
+            json.name("packet").number(packet);
+            json.name("file").number(file);
+            json.name("time").number(at.time);
+            json.name("frame").some_number(Some(at.frame).filter(|frame| *frame > 0));
+        });
+    });
+}
+
+fn connection(json: &mut Json<'_>, one: &Connection<'_>, files: &Files) -> io::Result<()> {
+    let said = one.said;
+    json.open(b'{');
+    of_connection(json, said, files);
+    json.name("faults").open(b'[');
+    for found in &said.faults {
+        json.object(|json| fault(json, found, files));
+        json.give()?;
+    }
+    json.close(b']');
+    json.name("stalls").open(b'[');
+    for found in &said.stalls {
+        stall(json, found, files);
+        json.give()?;
+    }
+    json.close(b']');
+    json.name("requests").open(b'[');
+    for found in said.requests.iter() {
+        json.object(|json| request(json, &found, &one.phrases, files));
+        json.give()?;
+    }
+    json.close(b']');
+    json.name("signals").list(&said.signals, |json, found| signal(json, found, files));
+    ended(json.name("ended"), &said.ended, files);
+    place(json.name("stopped_at"), said.stopped_at, files);
+    json.name("gaps").list(&said.gaps, |json, (side, offset)| {
+        json.object(|json| {
+            json.name("side").word(side.name());
+            json.name("offset").number(*offset);
+        });
+    });
+    json.name("notes").list(&said.notes, |json, note| json.text(note));
+    json.close(b'}');
+    json.give()
+}
+
+/// What is said of a connection before its findings.
+fn of_connection(json: &mut Json<'_>, said: &ConnectionSaid, files: &Files) {
+    json.name("number").number(said.number);
+    json.name("client").text(&said.client);
+    json.name("server").text(&said.server);
+    place(json.name("opened"), Some(said.opened), files);
+    json.name("outcome").word(said.outcome.name());
+    json.name("reason").some_text(Some(&said.reason));
+    json.name("tls").some_text(Some(&said.tls));
+    json.name("frames").number(said.frames);
+    json.name("begin").number(said.begin);
+    json.name("nanos").number(said.until - said.begin);
+    round_trip(json.name("round_trip"), &said.round_trip);
+    json.name("captured_at").some_word(said.captured_at.map(place_name));
+    json.name("limits").list(&said.limits, |json, limit| json.text(limit));
+    json.name("settings").list(&said.settings, |json, one| {
+        json.object(|json| {
+            json.name("side").word(one.side.name());
+            json.name("initial_window").number(one.value);
+            place(json.name("at"), Some(one.at), files);
+            place(json.name("acknowledged"), one.acknowledged, files);
+        });
+    });
+}
+
+fn round_trip(json: &mut Json<'_>, one: &RoundTrip) {
+    fn by_sides(json: &mut Json<'_>, [client, server]: [Option<Nanos>; 2]) {
+        json.object(|json| {
+            json.name("client").some_number(client);
+            json.name("server").some_number(server);
+        });
+    }
+    json.object(|json| {
+        json.name("nanos").some_number(one.to.map(|[client, server]| client + server));
+        json.name("source").some_word(one.source.map(source_name));
+        let handshake = one.handshake.map_or([None; 2], |[client, server]| [Some(client), Some(server)]);
+        by_sides(json.name("handshake"), handshake);
+        by_sides(json.name("http2"), one.http2);
+    });
+}
+
+/// The members of a fault.
+pub fn fault(json: &mut Json<'_>, said: &FaultSaid, files: &Files) {
+    let finding = &said.finding;
+    json.name("kind").text(finding.kind.name());
+    json.name("side").word(finding.side.name());
+    json.name("broke").some_word(finding.who_broke_it().map(Side::name));
+    json.name("section").some_text(Some(&section_of(finding)));
+    json.name("stream").number(finding.stream);
+    json.name("value").number(finding.value);
+    place(json.name("at"), Some(said.at), files);
+    json.name("certainty").word(certainty_name(said.certainty));
+    json.name("doubt").some_text(Some(&said.doubt));
+    json.name("set_by").list(&said.set_by, |json, at| place(json, Some(*at), files));
+    json.name("set_by_text").some_text(Some(&said.set_text));
+    json.name("text").text(&sentence_of(finding, ""));
+}
+
+fn stall(json: &mut Json<'_>, said: &StallSaid, files: &Files) {
+    json.object(|json| {
+        json.name("side").word(said.side.name());
+        json.name("stream").number(said.stream);
+        place(json.name("begin"), Some(said.begin), files);
+        place(json.name("end"), said.end, files);
+        json.name("nanos").number(said.nanos);
+        json.name("ended_by").some_word(said.ended_by.map(stall_end_name));
+        json.name("why").word(stall_name(said.why));
+        json.name("ask").word(said.side.other().name());
+        json.name("late_nanos").number(said.late);
+    });
+}
+
+fn ended(json: &mut Json<'_>, one: &Ended, files: &Files) {
+    json.object(|json| {
+        json.name("how").word(how_name(one.how));
+        json.name("side").some_word(one.side.map(Side::name));
+        json.name("code").some_number(one.code);
+        json.name("code_name").some(one.code, |json, code| json.text(&code_name(code)));
+        place(json.name("at"), one.at, files);
+    });
+}
+
+fn signal(json: &mut Json<'_>, one: &Signal, files: &Files) {
+    json.object(|json| {
+        json.name("word").word(signal_word(one));
+        json.name("side").word(one.side.name());
+        json.name("code").number(one.code);
+        json.name("code_name").text(&code_name(one.code));
+        json.name("stream").number(one.stream);
+        json.name("last_stream").some_number(one.last);
+        json.name("debug").some_text(one.debug.as_deref());
+        place(json.name("at"), Some(one.at), files);
+    });
+}
+
+/// The members of a request.
+fn request(json: &mut Json<'_>, one: &Request, phrases: &Phrases<'_>, files: &Files) {
+    json.name("stream").number(one.stream);
+    json.name("name").some(one.name.as_deref(), Json::text);
+    json.name("method").some(one.method.as_deref(), Json::text);
+    json.name("path").some(one.path.as_deref(), Json::text);
+    json.name("authority").some(one.authority.as_deref(), Json::text);
+    json.name("status").some_number(one.status);
+    json.name("grpc_status").some_number(one.grpc_status);
+    json.name("grpc_status_name").some(one.grpc_status, |json, code| json.text(&grpc_name(code)));
+    json.name("promised_on").some_number(Some(one.promised_on).filter(|stream| *stream > 0));
+    place(json.name("opened"), Some(one.opened), files);
+    ended(json.name("ended"), &one.ended, files);
+    json.name("nanos").number(one.nanos());
+    direction(json.name("client"), &one.sides[0], one.opened.time, files);
+    direction(json.name("server"), &one.sides[1], one.opened.time, files);
+    json.name("hung").truth(one.is_hung);
+    cause(json.name("cause"), one, phrases, files);
+    json.name("needed_window").some_number(phrases.needed_window(one));
+}
+
+fn direction(json: &mut Json<'_>, one: &Direction, opened: Nanos, files: &Files) {
+    json.object(|json| {
+        json.name("nanos").number(one.nanos);
+        json.name("content").number(one.content);
+        json.name("shares").object(|json| {
+            for (share, nanos) in Share::ALL.iter().zip(one.shares) {
+                json.name(share.name()).number(nanos);
+            }
+        });
+        json.name("stalls").number(one.stalls);
+        place(json.name("first"), one.first, files);
+        place(json.name("end"), one.end, files);
+        json.name("spans")
+            .some(one.spans.as_ref(), |json, spans| json.list(spans, |json, one| span(json, one, opened)));
+    });
+}
+
+fn span(json: &mut Json<'_>, one: &Span, opened: Nanos) {
+    json.open(b'[');
+    json.number(one.begin - opened);
+    json.number(one.end - one.begin);
+    json.word(one.share.name());
+    json.close(b']');
+}
+
+/// What held back a request.
+pub fn cause(json: &mut Json<'_>, of: &Request, phrases: &Phrases<'_>, files: &Files) {
+    let one = &of.cause;
+    json.object(|json| {
+        json.name("kind").word(kind_name(one.kind));
+        json.name("why").some_word(why_name(one.why));
+        json.name("side").some_word(cause_side(one));
+        json.name("ask").some_word(one.ask.map(Side::name));
+        json.name("nanos").number(one.nanos);
+        place(json.name("first"), one.first, files);
+        place(json.name("last"), one.last, files);
+        json.name("text").text(&phrases.of(of));
+        json.name("proved").truth(one.is_proved);
+    });
+}
+
+/// The side that had to wait, or sent nothing, where one is named.
+pub fn cause_side(one: &Cause) -> Option<&'static str> {
+    match one.kind {
+        CauseKind::None | CauseKind::Unseen => None,
+        _ => Some(one.side.name()),
+    }
+}
+
+pub fn kind_name(kind: CauseKind) -> &'static str {
+    match kind {
+        CauseKind::None => "none",
+        CauseKind::StreamWindow => "stream-window",
+        CauseKind::ConnectionWindow => "connection-window",
+        CauseKind::Tcp => "tcp",
+        CauseKind::Application => "application",
+        CauseKind::Unseen => "unseen",
+    }
+}
+
+pub fn why_name(why: CauseWhy) -> Option<&'static str> {
+    match why {
+        CauseWhy::None => None,
+        CauseWhy::Stalls(why) => Some(stall_name(why)),
+        CauseWhy::Unshown => Some("unshown"),
+        CauseWhy::ZeroWindow => Some("zero-window"),
+        CauseWhy::Resent => Some("resent"),
+        CauseWhy::Hole => Some("hole"),
+        CauseWhy::WithinFrame => Some("within-frame"),
+        CauseWhy::Between => Some("between"),
+        CauseWhy::Before => Some("before"),
+    }
+}
+
+fn stall_name(why: StallWhy) -> &'static str {
+    match why {
+        StallWhy::GrantedNothing => "granted-nothing",
+        StallWhy::GrantedLate => "granted-late",
+        StallWhy::GrantLost => "grant-lost",
+        StallWhy::RoundTrip => "round-trip",
+        StallWhy::CancelledStreams => "cancelled-streams",
+        StallWhy::NotNeeded => "not-needed",
+    }
+}
+
+fn stall_end_name(end: StallEnd) -> &'static str {
+    match end {
+        StallEnd::Grant => "grant",
+        StallEnd::Settings => "settings",
+        StallEnd::Reset => "reset",
+        StallEnd::EndOfStream => "end-of-stream",
+    }
+}
+
+pub fn signal_word(one: &Signal) -> &'static str {
+    if one.is_goaway {
+        "GOAWAY"
+    } else {
+        "RST_STREAM"
+    }
+}
+
+pub fn certainty_name(certainty: Certainty) -> &'static str {
+    match certainty {
+        Certainty::Certain => "certain",
+        Certainty::Settings => "settings",
+        Certainty::Gap => "gap",
+        Certainty::Clock => "clock",
+    }
+}
+
+fn place_name(place: Place) -> &'static str {
+    match place {
+        Place::AtClient => "client",
+        Place::AtServer => "server",
+        Place::Between => "between",
+    }
+}
+
+fn source_name(source: Source) -> &'static str {
+    match source {
+        Source::Handshake => "handshake",
+        Source::Http2 => "http2",
+    }
+}

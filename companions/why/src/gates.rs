@@ -1,0 +1,235 @@
+//! What fails a run in CI: the reasons that a command line may name, and what holds of each in an answer.
+
+use explain::answer::{At, CauseKind, ConnectionSaid, Files, Nanos, Request, Share};
+use reports::{grouped, sentence_of};
+
+use crate::document::signal_word;
+use crate::summing::{is_held, Connection, Whole};
+use crate::wording::{code_name, escaped, time_of};
+
+/// Why a run fails.
+#[derive(Clone, Copy, Debug, PartialEq, Eq)]
+pub enum Reason {
+    Fault,
+    CertainFault,
+    Stall,
+    Hung,
+    Tcp,
+    Error,
+    Gap,
+    NotAudited,
+    /// Windows held a request back for as long as an option of its own says.
+    LongStall,
+    /// Nothing was audited, and an option of its own asks for more.
+    NoHttp2,
+}
+
+impl Reason {
+    /// Those that `--fail-on` takes.
+    pub const NAMED: [Reason; 8] = [
+        Reason::Fault,
+        Reason::CertainFault,
+        Reason::Stall,
+        Reason::Hung,
+        Reason::Tcp,
+        Reason::Error,
+        Reason::Gap,
+        Reason::NotAudited,
+    ];
+
+    pub fn name(self) -> &'static str {
+        match self {
+            Reason::Fault => "fault",
+            Reason::CertainFault => "certain-fault",
+            Reason::Stall => "stall",
+            Reason::Hung => "hung",
+            Reason::Tcp => "tcp",
+            Reason::Error => "error",
+            Reason::Gap => "gap",
+            Reason::NotAudited => "not-audited",
+            Reason::LongStall => "fail-stall",
+            Reason::NoHttp2 => "require-http2",
+        }
+    }
+}
+
+/// What the command line wants to fail on.
+#[derive(Clone, Debug, Default)]
+pub struct Gates {
+    pub reasons: Vec<Reason>,
+    pub stall: Option<Nanos>,
+    pub needs_http2: bool,
+}
+
+/// A connection, and a stream of it. Connection 0 is the capture.
+pub type Place = (u64, Option<u32>);
+
+/// One thing that fails a run: of a request, of a connection, or of the capture.
+#[derive(Clone, Debug, PartialEq, Eq)]
+pub struct Failure {
+    pub reason: Reason,
+    pub text: String,
+    pub place: Place,
+}
+
+impl Gates {
+    fn is_wanted(&self, reason: Reason) -> bool {
+        match reason {
+            Reason::LongStall => self.stall.is_some(),
+            Reason::NoHttp2 => self.needs_http2,
+            named => self.reasons.contains(&named),
+        }
+    }
+
+    fn wants_requests(&self) -> bool {
+        [Reason::Hung, Reason::Stall, Reason::Tcp, Reason::LongStall].into_iter().any(|one| self.is_wanted(one))
+    }
+}
+
+/// All that fails the run: the capture's first, then by connections.
+pub fn failures_of(whole: &Whole<'_>, gates: &Gates) -> Vec<Failure> {
+    let mut finding = Finding { gates, files: &whole.answer.files, found: Vec::new() };
+    finding.of_capture(whole);
+    for one in &whole.connections {
+        finding.of_connection(one.said);
+        if gates.wants_requests() {
+            one.said.requests.iter().for_each(|request| finding.of_request(one, &request));
+        }
+    }
+    finding.found
+}
+
+struct Finding<'a> {
+    gates: &'a Gates,
+    files: &'a Files,
+    found: Vec<Failure>,
+}
+
+impl Finding<'_> {
+    fn add(&mut self, reason: Reason, place: Place, text: impl FnOnce() -> String) {
+        if self.gates.is_wanted(reason) {
+            self.found.push(Failure { reason, text: text(), place });
+        }
+    }
+
+    /// The number of a packet in its file.
+    fn packet(&self, at: At) -> u64 {
+        self.files.place(at.packet).1
+    }
+
+    fn of_capture(&mut self, whole: &Whole<'_>) {
+        let nothing = || "nothing was audited".to_string();
+        if whole.summary.audited == 0 {
+            self.add(Reason::NoHttp2, (0, None), nothing);
+            self.add(Reason::NotAudited, (0, None), nothing);
+        }
+        let connections = &whole.answer.connections;
+        for said in &whole.answer.not_audited {
+            // Of connections it is told with them.
+            if !connections.iter().any(|one| !one.is_audited() && why_not_audited(one) == said.reason) {
+                self.add(Reason::NotAudited, (0, None), || said.text.clone());
+            }
+        }
+    }
+
+    fn of_connection(&mut self, one: &ConnectionSaid) {
+        let place = (one.number, None);
+        if !one.is_audited() {
+            self.add(Reason::NotAudited, place, || format!("not audited: {}", why_not_audited(one)));
+        }
+        for fault in &one.faults {
+            let doubt = if fault.doubt.is_empty() { String::new() } else { format!("; doubtful: {}", fault.doubt) };
+            let (sentence, packet) = (sentence_of(&fault.finding, ""), self.packet(fault.at));
+            let text = format!("{sentence}; packet {packet}, frame {}{doubt}", fault.at.frame);
+            self.add(Reason::Fault, place, || text.clone());
+            if fault.doubt.is_empty() {
+                self.add(Reason::CertainFault, place, || text);
+            }
+        }
+        for said in one.signals.iter().filter(|said| said.code != 0) {
+            let stream = if said.is_goaway { String::new() } else { format!(" on stream {}", said.stream) };
+            let (word, code, packet) = (signal_word(said), code_name(said.code), self.packet(said.at));
+            self.add(Reason::Error, place, || format!("the {} sent {word} {code}{stream}; packet {packet}", said.side));
+        }
+        for (side, offset) in &one.gaps {
+            let offset = grouped(*offset);
+            self.add(Reason::Gap, place, || format!("bytes of the {side} are missing from offset {offset} on"));
+        }
+        if let Some(at) = one.stopped_at {
+            let packet = self.packet(at);
+            self.add(Reason::NotAudited, place, || format!("the audit stopped at frame {}, packet {packet}", at.frame));
+        }
+    }
+
+    fn of_request(&mut self, one: &Connection<'_>, request: &Request) {
+        let place = (one.said.number, Some(request.stream));
+        let text = || format!("{}: {}", name_of(request), one.phrases.of(request));
+        if request.is_hung {
+            self.add(Reason::Hung, place, text);
+        }
+        if is_held(request) {
+            self.add(Reason::Stall, place, text);
+        }
+        if request.cause.kind == CauseKind::Tcp {
+            self.add(Reason::Tcp, place, text);
+        }
+        let nanos = stalled(request);
+        if let Some(longest) = self.gates.stall.filter(|longest| nanos > 0 && nanos >= *longest) {
+            let (name, longest) = (name_of(request), time_of(longest));
+            let text = || format!("{name}: stalled for {}: {longest} fail", time_of(nanos));
+            self.add(Reason::LongStall, place, text);
+        }
+    }
+}
+
+/// Why a connection was not audited.
+pub fn why_not_audited(one: &ConnectionSaid) -> &str {
+    match one.reason.as_str() {
+        "" => one.outcome.name(),
+        reason => reason,
+    }
+}
+
+pub fn name_of(request: &Request) -> String {
+    match request.name.as_deref() {
+        None | Some("") => format!("stream {}", request.stream),
+        Some(name) => format!("stream {} {}", request.stream, escaped(name)),
+    }
+}
+
+/// For how long windows held a request back: by the stalls of one direction, or by those that do not show.
+pub fn stalled(request: &Request) -> Nanos {
+    let windows = [Share::StreamStall, Share::ConnectionStall];
+    let by_sides = request.sides.iter().map(|said| windows.map(|share| said.shares[share as usize]).iter().sum());
+    let shown: Nanos = by_sides.max().unwrap_or(0);
+    if is_held(request) {
+        shown.max(request.cause.nanos)
+    } else {
+        shown
+    }
+}
+
+/// One line for each reason that holds: how often, and where first.
+pub fn lines_of(failures: &[Failure]) -> Vec<String> {
+    let mut firsts: Vec<(&Failure, u64)> = Vec::new();
+    for one in failures {
+        match firsts.iter_mut().find(|(first, _)| first.reason == one.reason) {
+            Some((_, times)) => *times += 1,
+            None => firsts.push((one, 1)),
+        }
+    }
+    firsts.into_iter().map(|(first, times)| line_of(first, times)).collect()
+}
+
+fn line_of(first: &Failure, times: u64) -> String {
+    let place = match first.place.0 {
+        0 => String::new(),
+        number => format!("connection {number}: "),
+    };
+    let more = match times - 1 {
+        0 => String::new(),
+        1 => format!("; and {} more of it", grouped(1_u64)),
+        more => format!("; and {} more of them", grouped(more)),
+    };
+    format!("failed: {}: {place}{}{more}", first.reason.name(), first.text)
+}

@@ -1,0 +1,69 @@
+//! What an answer is in words and in forms for machines (docs/WHY.md), and what of it fails a run.
+
+#![forbid(unsafe_code)]
+
+pub mod compare;
+mod compare_said;
+mod document;
+pub mod ends;
+mod ends_said;
+mod ends_stalls;
+mod gates;
+mod json;
+mod junit;
+mod page;
+mod phrases;
+mod rows;
+mod summing;
+mod text;
+mod wording;
+
+pub use ends_said::by_place;
+pub use gates::{failures_of, lines_of, Failure, Gates, Place, Reason};
+pub use junit::{write as write_junit, Judged};
+pub use page::Look;
+pub use phrases::Phrases;
+pub use summing::{Connection, Summary, Tally, Verdict, Whole};
+
+use std::io::{self, Write};
+
+use compare::Compared;
+use ends::Joined;
+use page::Page;
+
+/// A form in which an answer is written.
+#[derive(Clone, Copy, Debug)]
+pub enum Form {
+    Text(Look),
+    /// One document of JSON.
+    Document,
+    /// A line of JSON for each request.
+    Lines,
+    /// Rows for a database.
+    Rows,
+}
+
+pub fn write(whole: &Whole<'_>, form: Form, to: &mut dyn Write) -> io::Result<()> {
+    match form {
+        Form::Text(look) => text::write(whole, look, to),
+        Form::Document => document::write(whole, to),
+        Form::Lines => document::write_lines(whole, to),
+        Form::Rows => rows::write(whole, to),
+    }
+}
+
+/// Writes what two captures of the same work show side by side: text where it has a look, else a document of JSON.
+pub fn write_compared(both: &Compared<'_>, look: Option<Look>, to: &mut dyn Write) -> io::Result<()> {
+    match look {
+        Some(look) => compare_said::write(both, &mut Page::new(look, &both.after.answer.files, to)),
+        None => compare_said::write_document(both, to),
+    }
+}
+
+/// Writes what both ends of connections tell of their stalls, likewise.
+pub fn write_joined(found: &Joined<'_>, look: Option<Look>, to: &mut dyn Write) -> io::Result<()> {
+    match look {
+        Some(look) => ends_said::write(found, &mut Page::new(look, &found.wholes[1].answer.files, to)),
+        None => ends_said::write_document(found, to),
+    }
+}

@@ -1,0 +1,188 @@
+//! The answer in one sentence, and what the requests of each connection come to.
+
+use explain::answer::{Answer, CauseKind, ConnectionSaid, Nanos, Request};
+use reports::{grouped, section_of, Side};
+
+use crate::phrases::Phrases;
+use crate::wording::{count, time_of};
+
+/// So many rules are named.
+const MOST_RULES: usize = 3;
+
+/// What all that was found comes to.
+#[derive(Clone, Copy, Debug, PartialEq, Eq)]
+pub enum Verdict {
+    NothingAudited,
+    Faults,
+    Stalls,
+    Clean,
+}
+
+impl Verdict {
+    pub fn name(self) -> &'static str {
+        match self {
+            Verdict::NothingAudited => "nothing-audited",
+            Verdict::Faults => "faults",
+            Verdict::Stalls => "stalls",
+            Verdict::Clean => "clean",
+        }
+    }
+}
+
+/// The answer as all its forms need it: what is said, and sums and phrases of the requests of each connection.
+pub struct Whole<'a> {
+    pub answer: &'a Answer,
+    pub connections: Vec<Connection<'a>>,
+    pub summary: Summary,
+}
+
+/// A connection, with what its requests come to, and the phrases about each.
+pub struct Connection<'a> {
+    pub said: &'a ConnectionSaid,
+    pub tally: Tally,
+    pub phrases: Phrases<'a>,
+}
+
+/// What the requests of a connection, or of all, come to.
+#[derive(Clone, Copy, Debug, Default)]
+pub struct Tally {
+    pub requests: u64,
+    /// Held back by windows, and of these hung.
+    pub held: u64,
+    pub hung: u64,
+    pub tcp: u64,
+    /// The longest time for which one was held back, by no application.
+    pub worst: Nanos,
+}
+
+#[derive(Clone, Debug)]
+pub struct Summary {
+    pub verdict: Verdict,
+    pub text: String,
+    pub audited: u64,
+    pub faults: u64,
+    pub tally: Tally,
+    pub begin: Nanos,
+    pub nanos: Nanos,
+}
+
+impl<'a> Whole<'a> {
+    pub fn new(answer: &'a Answer) -> Whole<'a> {
+        let connections: Vec<_> = answer.connections.iter().map(|said| Connection::new(said, answer)).collect();
+        let summary = summary_of(answer, &connections);
+        Whole { answer, connections, summary }
+    }
+
+    pub fn audited(&self) -> impl Iterator<Item = &Connection<'a>> {
+        self.connections.iter().filter(|one| one.said.is_audited())
+    }
+}
+
+impl<'a> Connection<'a> {
+    fn new(said: &'a ConnectionSaid, answer: &'a Answer) -> Connection<'a> {
+        let (mut tally, mut phrases) = (Tally::default(), Phrases::new(said, &answer.files));
+        for request in said.requests.iter() {
+            tally.add(&request);
+            phrases.meet(&request);
+        }
+        phrases.all_met();
+        Connection { said, tally, phrases }
+    }
+}
+
+/// Whether a window held a request back.
+pub fn is_held(request: &Request) -> bool {
+    matches!(request.cause.kind, CauseKind::StreamWindow | CauseKind::ConnectionWindow)
+}
+
+impl Tally {
+    fn add(&mut self, request: &Request) {
+        self.requests += 1;
+        self.held += u64::from(is_held(request));
+        self.hung += u64::from(request.is_hung);
+        self.tcp += u64::from(request.cause.kind == CauseKind::Tcp);
+        if request.cause.kind != CauseKind::Application {
+            self.worst = self.worst.max(request.trouble());
+        }
+    }
+
+    fn and(self, other: &Tally) -> Tally {
+        Tally {
+            requests: self.requests + other.requests,
+            held: self.held + other.held,
+            hung: self.hung + other.hung,
+            tcp: self.tcp + other.tcp,
+            worst: self.worst.max(other.worst),
+        }
+    }
+}
+
+fn summary_of(answer: &Answer, connections: &[Connection<'_>]) -> Summary {
+    let audited = answer.audited().count() as u64;
+    let of_audited = connections.iter().filter(|one| one.said.is_audited());
+    let tally = of_audited.fold(Tally::default(), |sum, one| sum.and(&one.tally));
+    let faults = answer.audited().map(|one| one.faults.len() as u64).sum();
+    let begin = answer.connections.iter().map(|one| one.begin).filter(|begin| *begin != 0).min().unwrap_or(0);
+    let until = answer.connections.iter().map(|one| one.until).max().unwrap_or(0);
+    let nanos = until.saturating_sub(begin).max(0);
+    let verdict = match () {
+        () if audited == 0 => Verdict::NothingAudited,
+        () if faults > 0 => Verdict::Faults,
+        () if tally.held > 0 => Verdict::Stalls,
+        () => Verdict::Clean,
+    };
+    let text = sentences(answer, audited, &tally, nanos).join(" ");
+    Summary { verdict, text, audited, faults, tally, begin, nanos }
+}
+
+fn sentences(answer: &Answer, audited: u64, tally: &Tally, nanos: Nanos) -> Vec<String> {
+    if audited == 0 {
+        return vec!["Nothing was audited, so nothing is said of flow control.".to_string()];
+    }
+    let connections = count(audited, "connection");
+    let mut said =
+        vec![format!("{connections}, {}, {}.", count(tally.requests, "request"), time_of(nanos)), broken(answer)];
+    said.push(if tally.held > 0 {
+        let hung = if tally.hung > 0 { format!(", of which {} hung", grouped(tally.hung)) } else { String::new() };
+        format!("Flow control held back {}{hung}.", count(tally.held, "request"))
+    } else if answer.audited().any(|one| !one.stalls.is_empty()) {
+        "Flow control held back no request for as long as a millisecond.".to_string()
+    } else {
+        "No side used up its credit.".to_string()
+    });
+    if tally.tcp > 0 {
+        said.push(format!("TCP held back {}.", count(tally.tcp, "request")));
+    }
+    said
+}
+
+/// Who broke which rule, how often, the most frequent first.
+fn broken(answer: &Answer) -> String {
+    let mut rules: Vec<(Option<Side>, String, &str, u64)> = Vec::new();
+    for fault in answer.audited().flat_map(|one| &one.faults) {
+        let finding = &fault.finding;
+        let (who, section, kind) = (finding.who_broke_it(), section_of(finding), finding.kind.name());
+        match rules.iter_mut().find(|rule| (rule.0, rule.1.as_str(), rule.2) == (who, section.as_str(), kind)) {
+            Some(known) => known.3 += 1,
+            None => rules.push((who, section, kind, 1)),
+        }
+    }
+    if rules.is_empty() {
+        // Of a part alone a clean answer is one of that part.
+        let is_partial = !answer.not_audited.is_empty() || answer.audited().any(|one| !one.gaps.is_empty());
+        return format!("No rule was broken{}.", if is_partial { " in what was audited" } else { "" });
+    }
+    rules.sort_by_key(|rule| std::cmp::Reverse(rule.3));
+    let named: Vec<String> = rules.iter().take(MOST_RULES).map(rule_words).collect();
+    let more = rules.len() - named.len();
+    let more = if more > 0 { format!("; and {more} rules more") } else { String::new() };
+    let text = named.join("; ");
+    format!("T{}{more}.", text.strip_prefix('t').unwrap_or(&text))
+}
+
+fn rule_words((who, section, kind, times): &(Option<Side>, String, &str, u64)) -> String {
+    let side = who.map_or("", Side::name);
+    let rule = if section.is_empty() { "a rule".to_string() } else { format!("RFC 9113, {section}") };
+    let times = if *times > 1 { format!(" {} times", grouped(*times)) } else { String::new() };
+    format!("the {side} broke {rule} ({kind}){times}")
+}

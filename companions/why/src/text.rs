@@ -1,0 +1,267 @@
+//! The answer as text: a warning first, then the connections with the most trouble, and in each the worst request.
+
+use std::collections::{HashMap, HashSet};
+use std::io::{self, Write};
+
+use explain::answer::{At, ConnectionSaid, FaultSaid, How, Nanos, Place, Request, Signal, Source, StallSaid};
+use explain::answer::{CauseKind, RoundTrip};
+use reports::{grouped, sentence_of, Side};
+
+use crate::document::signal_word;
+use crate::page::{Colour, Look, Page};
+use crate::phrases::how_name;
+use crate::summing::{is_held, Connection, Whole};
+use crate::wording::{code_name, count, escaped, grpc_name, letters, time_of};
+
+/// So many are shown where not all are asked for.
+const MOST_REQUESTS: usize = 8;
+const MOST_CONNECTIONS: usize = 12;
+const MOST_FAULTS: usize = 8;
+const MOST_SIGNALS: usize = 4;
+/// Names have at most so many columns.
+const MOST_COLUMNS: usize = 48;
+const NAME_UNKNOWN: &str = "(name unknown)";
+const PROVED: &str = "Faults and stalls are those of h2audit's proved report. Names, credits, lives, causes, TCP and \
+                      place of capture are not: h2audit-why reads them from the frames and the packets.";
+
+/// The side that waited for the connection's window, and why: told once, with the stream of which it was told.
+type Told = HashMap<(Side, String), u32>;
+
+pub fn write(whole: &Whole<'_>, look: Look, to: &mut dyn Write) -> io::Result<()> {
+    let answer = whole.answer;
+    let mut page = Page::new(look, &answer.files, to);
+    for warning in &answer.warnings {
+        let of = warning.connection.map_or(String::new(), |number| format!("connection {number}: "));
+        page.folded(&format!("warning: {of}{}", escaped(&warning.text)), "  ", Colour::Yellow)?;
+    }
+    let colour = match &whole.summary {
+        summary if summary.faults > 0 || summary.audited == 0 => Colour::Red,
+        summary if summary.tally.held > 0 => Colour::Yellow,
+        _ => Colour::Bold,
+    };
+    page.folded(&whole.summary.text, "  ", colour)?;
+    connections(whole, &mut page)?;
+    if !answer.not_audited.is_empty() {
+        let said: Vec<&str> = answer.not_audited.iter().map(|one| one.text.as_str()).collect();
+        page.line("")?;
+        page.folded(&format!("Not audited: {}", said.join(", ")), "  ", Colour::Yellow)?;
+    }
+    if whole.summary.audited > 0 {
+        page.line("")?;
+        page.folded(PROVED, "  ", Colour::Dim)?;
+    }
+    Ok(())
+}
+
+/// Those with faults first, then those with hung requests, then by the time of the worst one.
+fn connections(whole: &Whole<'_>, page: &mut Page<'_>) -> io::Result<()> {
+    let mut shown: Vec<&Connection<'_>> = whole.audited().collect();
+    shown.sort_by_key(|one| {
+        (one.said.faults.len(), one.tally.hung, one.tally.worst, std::cmp::Reverse(one.said.number))
+    });
+    shown.reverse();
+    let most = if page.look.is_all { shown.len() } else { shown.len().min(MOST_CONNECTIONS) };
+    for one in &shown[..most] {
+        page.line("")?;
+        connection(one, page)?;
+    }
+    if shown.len() > most {
+        page.line("")?;
+        page.line(&format!("{} with less trouble: --all", count((shown.len() - most) as u64, "connection")))?;
+    }
+    Ok(())
+}
+
+fn connection(one: &Connection<'_>, page: &mut Page<'_>) -> io::Result<()> {
+    let said = one.said;
+    page.folded(&head(said), "  ", Colour::Bold)?;
+    let most = if page.look.is_all { said.faults.len() } else { said.faults.len().min(MOST_FAULTS) };
+    for found in &said.faults[..most] {
+        fault(found, page)?;
+    }
+    if said.faults.len() > most {
+        page.line(&format!("  {} more: --all", count((said.faults.len() - most) as u64, "fault")))?;
+    }
+    requests(one, page)?;
+    idle_stall(said, page)?;
+    for note in &said.notes {
+        page.folded(&format!("  {}", escaped(note)), "    ", Colour::Plain)?;
+    }
+    ending(said, page)?;
+    said.limits.iter().try_for_each(|limit| page.folded(&format!("  {limit}"), "    ", Colour::Dim))
+}
+
+fn head(said: &ConnectionSaid) -> String {
+    let mut text = format!("connection {}  {} -> {}", said.number, said.client, said.server);
+    if let RoundTrip { to: Some([client, server]), source, .. } = said.round_trip {
+        let by = if source == Some(Source::Http2) { " by SETTINGS and PING" } else { "" };
+        text += &format!("   round trip {}{by}", time_of(client + server));
+    }
+    match said.captured_at {
+        None => text,
+        Some(Place::AtClient) => text + ", captured at the client",
+        Some(Place::AtServer) => text + ", captured at the server",
+        Some(Place::Between) => text + ", captured between the peers",
+    }
+}
+
+fn fault(one: &FaultSaid, page: &mut Page<'_>) -> io::Result<()> {
+    let sentence = sentence_of(&one.finding, "");
+    let mut text = format!("  FAULT: {sentence}; {}, frame {}", page.packet(Some(one.at)), one.at.frame);
+    if !one.set_text.is_empty() {
+        text += &format!("; its window: {}", one.set_text);
+    }
+    text += &if one.doubt.is_empty() { ". Certain".to_string() } else { format!(". Doubtful: {}", one.doubt) };
+    page.folded(&text, "    ", Colour::Red)
+}
+
+/// The requests of a connection, of which the hung ones come first, then those that were held back longest.
+fn requests(one: &Connection<'_>, page: &mut Page<'_>) -> io::Result<()> {
+    let keys = one.said.requests.iter().enumerate();
+    let mut ordered: Vec<(bool, Nanos, u32, usize)> =
+        keys.map(|(index, one)| (!one.is_hung, -one.trouble(), one.stream, index)).collect();
+    ordered.sort_unstable();
+    let most = if page.look.is_all { ordered.len() } else { ordered.len().min(MOST_REQUESTS) };
+    let is_shown = |key: &(bool, Nanos, u32, usize)| page.look.is_all || key.1 != 0 || ordered.len() <= most;
+    let shown: Vec<usize> = ordered[..most].iter().filter(|key| is_shown(key)).map(|key| key.3).collect();
+    let found = || shown.iter().filter_map(|index| one.said.requests.get(*index));
+    let width = found().map(|request| letters(&name_of(&request))).max().unwrap_or(0).min(MOST_COLUMNS);
+    let (mut told, mut held) = (Told::new(), 0);
+    for request in found() {
+        held += u64::from(is_held(&request));
+        let colour = match () {
+            () if request.is_hung => Colour::Red,
+            () if is_held(&request) => Colour::Yellow,
+            () => Colour::Plain,
+        };
+        let cause = cause(&request, &one.phrases.of(&request), &mut told);
+        page.folded(&line_of(&request, width, &cause, page), "      ", colour)?;
+    }
+    if ordered.len() > shown.len() {
+        let rest = count((ordered.len() - shown.len()) as u64, "request");
+        let held = one.tally.held - held;
+        let held = if held > 0 { format!(", of which {} held back", grouped(held)) } else { String::new() };
+        page.line(&format!("  {rest} more{held}: --all"))?;
+    }
+    Ok(())
+}
+
+fn name_of(request: &Request) -> String {
+    let pushed = if request.promised_on > 0 { "pushed " } else { "" };
+    format!("{pushed}{}", request.name.as_deref().unwrap_or(NAME_UNKNOWN))
+}
+
+/// What held back a request; where the connection's window did, what it was is told once.
+fn cause(request: &Request, text: &str, told: &mut Told) -> String {
+    if request.cause.kind != CauseKind::ConnectionWindow {
+        return text.to_string();
+    }
+    let (lasts, why) = text.split_once(": ").unwrap_or((text, ""));
+    let stream = *told.entry((request.cause.side, why.to_string())).or_insert(request.stream);
+    if stream == request.stream {
+        return text.to_string();
+    }
+    format!("{lasts}: the connection's window, as stream {stream}")
+}
+
+fn line_of(request: &Request, width: usize, cause: &str, page: &Page<'_>) -> String {
+    let mut status = request.status.map_or("-".to_string(), |status| status.to_string());
+    if let Some(code) = request.grpc_status.filter(|code| *code > 0) {
+        status += &format!(" grpc {}", grpc_name(code));
+    }
+    let (name, stream) = (name_of(request), format!("stream {}", request.stream));
+    let lasts = time_of(request.nanos());
+    let mut text = format!("  {name:width$}  {stream:10}  {status}  {lasts:>9}   {cause}");
+    let ended = &request.ended;
+    match (ended.how, ended.side) {
+        (How::RstStream, Some(side)) => {
+            text += &format!("; {side}'s RST_STREAM {}", code_name(ended.code.unwrap_or(0)));
+        }
+        (How::EndStream | How::RstStream, _) => {}
+        _ if request.is_hung => {}
+        (how, Some(side)) if how != How::Capture => {
+            let code = ended.code.map_or(String::new(), |code| format!(" {}", code_name(code)));
+            text += &format!("; not ended: the {side}'s {}{code}", how_name(how));
+        }
+        _ => text += "; not ended: the capture ends",
+    }
+    if request.cause.first.is_some() {
+        text += &format!("   {}", page.packets(request.cause.first, request.cause.last));
+    }
+    text
+}
+
+/// A stall without an end that no request hung in, as where every stream had ended.
+fn idle_stall(said: &ConnectionSaid, page: &mut Page<'_>) -> io::Result<()> {
+    if said.stalls.iter().all(|stall| stall.end.is_some()) {
+        return Ok(());
+    }
+    let held = said.requests.iter().filter(is_held);
+    let named: HashSet<(Side, u32)> = held
+        .map(|request| match request.cause.kind {
+            CauseKind::StreamWindow => (request.cause.side, request.stream),
+            _ => (request.cause.side, 0),
+        })
+        .collect();
+    match said.stalls.iter().find(|one| one.end.is_none() && !named.contains(&(one.side, one.stream))) {
+        Some(stall) => page.folded(&format!("  {}", open_stall(stall, page)), "    ", Colour::Plain),
+        None => Ok(()),
+    }
+}
+
+fn open_stall(stall: &StallSaid, page: &Page<'_>) -> String {
+    let window = match stall.stream {
+        0 => "of the connection".to_string(),
+        stream => format!("on stream {stream}"),
+    };
+    let (packet, lasts) = (page.packet(Some(stall.begin)), time_of(stall.nanos));
+    format!(
+        "the {}'s credit {window} was used up in {packet}, and no grant was seen in the {lasts} that followed",
+        stall.side
+    )
+}
+
+/// What the peers said, how the connection ended, and where the audit stopped.
+fn ending(said: &ConnectionSaid, page: &mut Page<'_>) -> io::Result<()> {
+    let most = if page.look.is_all { usize::MAX } else { MOST_SIGNALS };
+    let has_more = |one: &&Signal| one.code != 0 || one.debug.as_deref().map_or(false, |debug| !debug.is_empty());
+    for one in said.signals.iter().filter(has_more).take(most) {
+        let text = signal(one, page);
+        page.folded(&format!("  {text}"), "    ", Colour::Yellow)?;
+    }
+    match (said.ended.how, said.ended.side) {
+        (how @ (How::Fin | How::Rst), Some(side)) => {
+            let has_goaway = said.signals.iter().any(|one| one.is_goaway && one.side == side);
+            let without = if has_goaway { "" } else { ", no GOAWAY" };
+            let packet = page.packet(said.ended.at);
+            let text = format!("  ended by the {side}: {}, {packet}{without}", how_name(how));
+            page.folded(&text, "    ", Colour::Plain)?;
+        }
+        (How::Capture, _) => {
+            let packet = page.packet(said.ended.at);
+            page.folded(&format!("  the capture ends with it open, {packet}"), "    ", Colour::Plain)?;
+        }
+        _ => {}
+    }
+    said.stopped_at.map_or(Ok(()), |at| stopped(at, page))
+}
+
+fn stopped(at: At, page: &mut Page<'_>) -> io::Result<()> {
+    let packet = page.packet(Some(at));
+    let text = format!("  the audit stopped at frame {}, {packet}: nothing is judged past it", at.frame);
+    page.folded(&text, "    ", Colour::Plain)
+}
+
+fn signal(one: &Signal, page: &Page<'_>) -> String {
+    let who = if one.is_goaway { format!("ended by the {}: ", one.side) } else { format!("the {} sent ", one.side) };
+    let (word, code, packet) = (signal_word(one), code_name(one.code), page.packet(Some(one.at)));
+    let mut text = format!("{who}{word} {code}, {packet}");
+    text += &match one.is_goaway {
+        true => format!(", last stream {}", one.last.unwrap_or(0)),
+        false => format!(", on stream {}", one.stream),
+    };
+    match one.debug.as_deref() {
+        Some(debug) if !debug.is_empty() => format!("{text}, \"{}\"", escaped(debug)),
+        _ => text,
+    }
+}
