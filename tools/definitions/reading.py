@@ -326,15 +326,16 @@ def read_group(tokens: list[Token], name: str, module: Module) -> None:
     for item in items_of(tokens[reader.at + 1 :]):
         Reader(item, name).item(inside)
     given = [Term("name", (parameter,), tokens[0].line) for parameter in parameters]
-    for item in inside.definitions.values():
-        if isinstance(item, Record):
-            fields = [(field, in_group(kind, {*inside.definitions}, given)) for field, kind in item.fields]
-            module.definitions[item.name] = Record(item.name, [*parameters, *item.parameters], fields)
+    for defined in inside.definitions.values():
+        if isinstance(defined, Record):
+            fields = [(field, in_group(kind, {*inside.definitions}, given)) for field, kind in defined.fields]
+            module.definitions[defined.name] = Record(defined.name, [*parameters, *defined.parameters], fields)
         else:
             clauses = [
-                ((*given, *patterns), in_group(body, {*inside.definitions}, given)) for patterns, body in item.clauses
+                ((*given, *patterns), in_group(body, {*inside.definitions}, given))
+                for patterns, body in defined.clauses
             ]
-            module.definitions[item.name] = Function(item.name, clauses)
+            module.definitions[defined.name] = Function(defined.name, clauses)
 
 
 def read_item(tokens: list[Token], name: str, module: Module) -> None:
