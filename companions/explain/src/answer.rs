@@ -232,7 +232,7 @@ pub struct Request {
     pub authority: Option<Rc<str>>,
     pub status: Option<u32>,
     pub grpc_status: Option<u32>,
-    /// The stream of the promise, 0 where the client opened it.
+    /// The stream of the promise, 0 where the client opened it, or the promise stood on stream 0.
     pub promised_on: u32,
     pub opened: At,
     pub ended: Ended,
@@ -241,6 +241,11 @@ pub struct Request {
     pub sides: [Direction; 2],
     pub cause: Cause,
     pub is_hung: bool,
+}
+
+/// Whether the server opened a stream, by a promise: those of the client are odd (RFC 9113, 5.1.1).
+pub fn is_pushed(stream: u32) -> bool {
+    stream % 2 == 0
 }
 
 impl Request {

@@ -3,7 +3,7 @@
 
 use std::collections::HashMap;
 
-use crate::answer::{At, Ended, How, Nanos, Place, RoundTrip, SettingSaid, StallSaid, StallWhy};
+use crate::answer::{is_pushed, At, Ended, How, Nanos, Place, RoundTrip, SettingSaid, StallSaid, StallWhy};
 use crate::course::Course;
 use crate::intervals::{disjoint, Interval, Stretches};
 use crate::life::Holding;
@@ -156,7 +156,7 @@ pub fn end_of(stream: &Stream, side: usize, refusing: &[Option<Refusal>; 2], tcp
 fn with_connection(stream: &Stream, last: Option<At>, refusing: &[Option<Refusal>; 2], tcp: &Tcp) -> Ended {
     let closing = tcp.closing(last.map_or(stream.opened.time, |last| last.time));
     // A GOAWAY says that streams which the other side opened above its last one are not taken up.
-    let refuser = if stream.promised_on == 0 { 1 } else { 0 };
+    let refuser = usize::from(!is_pushed(stream.number));
     match refusing[refuser].filter(|one| one.last < stream.number) {
         Some(one) => {
             let (side, code) = (Some(side_of(one.side)), Some(one.code));

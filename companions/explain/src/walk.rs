@@ -6,7 +6,7 @@ use std::rc::Rc;
 
 use programs::Failure;
 
-use crate::answer::{At, Nanos, Place};
+use crate::answer::{is_pushed, At, Nanos, Place};
 use crate::blocks::{answered_of, asked_of, Blocks, Decoded, Names};
 use crate::cutter::{flag, kind, Cut};
 use crate::findings::{Findings, Here};
@@ -185,7 +185,8 @@ impl Walk {
     /// A stream opens by HEADERS of the client, or by a promise of the server.
     fn open(&mut self, asking: &Asking, frame: Frame<'_>, number: u32, promised_on: u32) {
         let Walk { table, initials, about, known, windows, early_grants, .. } = self;
-        let ends_client = promised_on != 0 || frame.cut.head.has(flag::END_STREAM);
+        let is_pushed = is_pushed(number);
+        let ends_client = is_pushed || frame.cut.head.has(flag::END_STREAM);
         table.open(number, |order| {
             let mut stream = Stream::new(number, order, frame.at, asking.has_spans);
             stream.promised_on = promised_on;
@@ -200,7 +201,7 @@ impl Walk {
                 one.kept = known.back.map(|_| Box::new(Kept::default()));
                 one.asked_credit = one.window.value(&initials[side]).map(|credit| credit.min(windows[side].credit));
             }
-            if promised_on != 0 {
+            if is_pushed {
                 stream.sides[import::CLIENT].finish_at(frame.at);
             }
             stream

@@ -4,7 +4,7 @@ use std::collections::{HashMap, HashSet};
 use std::io::{self, Write};
 
 use explain::answer::{At, ConnectionSaid, FaultSaid, How, Nanos, Place, Request, Signal, Source, StallSaid};
-use explain::answer::{CauseKind, RoundTrip};
+use explain::answer::{is_pushed, CauseKind, RoundTrip};
 use reports::{grouped, sentence_of, Side};
 
 use crate::document::signal_word;
@@ -147,7 +147,7 @@ fn requests(one: &Connection<'_>, page: &mut Page<'_>) -> io::Result<()> {
 }
 
 fn name_of(request: &Request) -> String {
-    let pushed = if request.promised_on > 0 { "pushed " } else { "" };
+    let pushed = if is_pushed(request.stream) { "pushed " } else { "" };
     format!("{pushed}{}", request.name.as_deref().unwrap_or(NAME_UNKNOWN))
 }
 
