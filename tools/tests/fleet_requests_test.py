@@ -349,7 +349,7 @@ def secrets_of(said: Iterable[Json]) -> set[bytes]:
 
 
 def name_programs() -> None:
-    """For h2audit-why in this process."""
+    """For h2audit-why, which this process runs."""
     os.environ["H2AUDIT"] = str(PROGRAM)
     os.environ.setdefault("H2AUDIT_IMPORT", str(BUILT["H2AUDIT_IMPORT"]))
 

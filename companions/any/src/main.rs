@@ -11,9 +11,8 @@ use std::ffi::OsString;
 use std::io::{BufRead, BufReader};
 use std::path::Path;
 
-use audits::{program_named, Audit, PrivateFile};
 use originals::{bring_back, no_report, write_last_packets, Original, Shown};
-use programs::{end_cleanly, print, run, say, Failure, Input, Outcome, Output};
+use programs::{end_cleanly, print, program_named, run, say, Audit, Failure, Input, Outcome, Output, PrivateFile};
 
 use parts::PartPrograms;
 use words::{words_of, Audited, Words};

@@ -2,10 +2,9 @@
 
 use std::ffi::OsString;
 
-use audits::PrivateFile;
 use import::{Courses, Sink};
 use originals::{Keeping, LastPackets, Original};
-use programs::Failure;
+use programs::{Failure, PrivateFile};
 
 use crate::words::Audited;
 use crate::NAME;

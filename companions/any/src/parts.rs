@@ -13,8 +13,9 @@ use std::process::{Command, Stdio};
 use std::time::Duration;
 use std::{io, thread};
 
-use audits::{beside_or_in_path, Audit, Running, H2AUDIT};
-use programs::{printable, say, Cleanup, Failure, Guard};
+use programs::{
+    beside_or_in_path, printable, say, temporary_failure, Audit, Cleanup, Failure, Guard, Running, H2AUDIT,
+};
 
 use crate::NAME;
 
@@ -86,7 +87,7 @@ fn private_folder() -> Result<(Guard, PathBuf), Failure> {
         let path = folder.into_path();
         Ok((Cleanup::Folder(path.clone()), path))
     });
-    made.map_err(|error| audits::temporary_failure(&error))
+    made.map_err(|error| temporary_failure(&error))
 }
 
 /// Makes the report of each part, beside it.

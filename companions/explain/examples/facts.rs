@@ -321,7 +321,9 @@ fn main() {
     }
     let files: Vec<OsString> = files;
     let (files, key_logs) = (&files[..], &key_logs[..]);
-    let asked = Asked { program: "facts", files, key_logs, h2audit: None, has_names, has_query, has_spans };
+    let (h2audit, report, has_frames) = (None, None, false);
+    let asked =
+        Asked { program: "facts", files, key_logs, h2audit, report, has_names, has_query, has_spans, has_frames };
     match answer_of(&asked) {
         Ok(answer) if is_quiet => {
             let requests = answer.connections.iter().flat_map(|one| one.requests.iter());

@@ -5,10 +5,9 @@ use std::fs::File;
 use std::path::Path;
 use std::rc::Rc;
 
-use audits::{program_named, temporary_failure, PrivateFile};
 use import::{Became, Courses, Sink, Summary};
 use originals::{Keeping, LastPackets};
-use programs::{Failure, Output};
+use programs::{program_named, temporary_failure, Failure, Output, PrivateFile};
 use reports::Form;
 
 use crate::answer::{Answer, At, ConnectionSaid, Ended, Files, How, Outcome, Requests, RoundTrip};
@@ -23,6 +22,7 @@ use crate::names::Interner;
 use crate::reported::{audited, of_original, read_report, Reported};
 use crate::requests::Packed;
 use crate::seen::Seen;
+use crate::table::Numbers;
 use crate::tcp::last_of;
 use crate::walk::Asking;
 
@@ -145,7 +145,8 @@ struct Walked {
 fn tell(asked: &Asked<'_>, made: &mut Made, audits: Vec<Audit>, answer: &mut Answer) -> Result<(), Failure> {
     let names = Names { are_wanted: asked.has_names, has_query: asked.has_query };
     let Asked { has_spans, has_frames, .. } = *asked;
-    let mut asking = Asking { names, has_spans, has_frames, interner: Interner::default() };
+    let (interner, numbers) = (Interner::default(), Numbers::new());
+    let mut asking = Asking { names, has_spans, has_frames, interner, numbers };
     let mut walked: Vec<Option<Box<Walked>>> = Vec::new();
     walked.resize_with(made.known.len(), || None);
     let mut numbers = std::mem::take(&mut made.order).into_iter();

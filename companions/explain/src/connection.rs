@@ -74,7 +74,7 @@ impl Connection {
             initials: Default::default(),
             windows: Default::default(),
             settings: Default::default(),
-            table: Table::new(about.round_trip.nanos().unwrap_or(0)),
+            table: Table::new(about.round_trip.nanos().unwrap_or(0), asking.numbers),
             blocks: [(); 2].map(|()| Blocks::new(asking.names.are_wanted)),
             signals: Default::default(),
             leaks: leaks_of(&findings.stalls),
@@ -83,6 +83,7 @@ impl Connection {
             unshown,
             uses_window: [false; 2],
             overflow: None,
+            early_grants: Default::default(),
             about,
             known,
         };
@@ -114,7 +115,7 @@ impl Connection {
         taken
     }
 
-    /// Whether no record of it comes behind this one.
+    /// Whether no record of it with payload comes behind this one.
     pub fn is_last(&self, record: u64) -> bool {
         self.walk.known.last_record == record
     }

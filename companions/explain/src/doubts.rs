@@ -28,7 +28,7 @@ pub fn not_audited(answer: &Answer, summary: &Summary) -> Vec<NotAudited> {
     }
     let counts = &summary.counts;
     let passed = [
-        ("not-ipv4", counts.not_ip, "neither IPv4 nor IPv6"),
+        ("not-ipv4", counts.not_ipv4, "neither IPv4 nor IPv6"),
         ("fragments", counts.fragments, "IP fragments"),
         ("refused", counts.refused, "with damaged or cut headers"),
     ];

@@ -79,7 +79,7 @@ impl Leaks {
                 one.used += content;
                 one.unread -= unread;
                 one.streams.push(name);
-            } else if stream.opened.frame <= one.candidate.begin {
+            } else if ended_before(stream, one.candidate.begin) {
                 one.used += content;
                 one.streams.push(name);
             }
@@ -141,6 +141,11 @@ impl Leaks {
     }
 }
 
+/// Whether both sides had ended a stream up to a frame, so that it was over before it was reset.
+fn ended_before(stream: &Stream, frame: u32) -> bool {
+    stream.sides.iter().all(|side| !side.is_reset && side.end.map_or(false, |end| end.frame <= frame))
+}
+
 #[cfg(test)]
 mod tests {
     use super::*;
@@ -176,6 +181,16 @@ mod tests {
         one.after(30, live.iter());
         let (stall, leak) = &one.found[0];
         assert_eq!((*stall, &leak.streams[..], leak.used, leak.granted), (7, &[1, 3][..], 50_000, 1000));
+    }
+
+    #[test]
+    fn content_behind_the_begin_is_not_used() {
+        let mut one = leaks(None);
+        one.content(None, 1);
+        one.after(20, [stream(1, 0, 0)].iter());
+        reset(&mut one, stream(1, 65_535, 0));
+        one.end();
+        assert!(one.found.is_empty());
     }
 
     #[test]

@@ -5,10 +5,9 @@ use std::collections::{HashMap, VecDeque};
 use std::ffi::OsStr;
 use std::os::unix::ffi::OsStrExt;
 
-use audits::temporary_failure;
-use captures::{flags, placed, Arrival, Flow, PassedOver};
+use captures::{flags, placed, Arrival, Flow};
 use import::{Addresses, Listener, Summary};
-use programs::Failure;
+use programs::{temporary_failure, Failure};
 
 use crate::answer::{At, Files, Nanos};
 use crate::cutter::{flag, kind, Cut, Cutter, Head};
@@ -24,11 +23,11 @@ const PING: usize = 8;
 /// What is known of a connection once the capture is made.
 #[derive(Debug)]
 pub struct Known {
-    /// The record that opened it, with its packet and time; and its last one.
+    /// The record that opened it, with its packet and time; its last one, and the last one with payload.
     pub record: u64,
     pub opened: At,
-    pub last_record: u64,
     pub last: At,
+    pub last_record: u64,
     /// The first record whose time lies before that of the connection's record before it, with its packet.
     pub back: Option<(u64, u64)>,
     /// The initial sequence numbers of both sides.
@@ -106,22 +105,28 @@ impl Learned {
 
     /// One that begins anew, with what is known of it now, where it has to be read once more.
     pub fn anew(&self) -> Option<Learned> {
-        let again = Learned::new(self.record, self.opened, self.initials[0].unwrap_or(0));
-        (self.is_early && self.initials[1].is_some()).then(|| Learned { initials: self.initials, ..again })
+        let Learned { record, opened, last, back, initials, .. } = *self;
+        let again = Learned::new(record, opened, initials[0].unwrap_or(0));
+        (self.is_early && initials[1].is_some()).then(|| Learned { last, back, initials, ..again })
     }
 
-    /// Takes a record of a side.
-    pub fn take(&mut self, number: u64, at: At, side: usize, (sequence, bits): (u32, u8), payload: &[u8]) {
+    /// A record of a side came.
+    pub fn met(&mut self, number: u64, at: At, side: usize, (sequence, bits): (u32, u8)) {
         if at.time < self.last.time {
             self.back.get_or_insert((number, at.packet));
         }
-        (self.last_record, self.last) = (number, at);
+        self.last = at;
         if side == import::SERVER && bits & flags::SYN != 0 && bits & flags::ACK != 0 {
             self.initials[side].get_or_insert(sequence);
         }
+    }
+
+    /// Takes the payload of a record.
+    pub fn take(&mut self, number: u64, at: At, side: usize, (sequence, bits): (u32, u8), payload: &[u8]) {
         if payload.is_empty() || self.sides[import::CLIENT].cutter.is_other() {
             return;
         }
+        self.last_record = number;
         match self.initials[side] {
             None => self.is_early = true,
             Some(initial) => {
@@ -259,24 +264,23 @@ impl Listener for Learning {
 
     fn record(&mut self, record: &import::Record<'_>) {
         let at = At { packet: record.arrival.packet, time: record.arrival.nanos, frame: 0 };
-        let sender = record.sender.map(|sender| (sender.connection, sender.side));
-        if let (Err(error), None) = (self.notes.add(sender, at.packet), &self.failure) {
+        let (segment, sender) = (&record.segment, record.sender.map(|sender| (sender.connection, sender.side)));
+        let payload = segment.payload();
+        if let (Err(error), None) = (self.notes.add(sender.filter(|_| !payload.is_empty()), at.packet), &self.failure) {
             self.failure = Some(temporary_failure(&error));
         }
         if let Some((connection, side)) = sender {
             if record.is_opening {
                 self.opened(connection, record, at);
             }
-            let segment = &record.segment;
             if let Some(Some(learned)) = self.connections.get_mut(connection) {
-                learned.take(record.number, at, side, (segment.sequence, segment.flags), segment.payload());
+                learned.met(record.number, at, side, (segment.sequence, segment.flags));
+                learned.take(record.number, at, side, (segment.sequence, segment.flags), payload);
             }
         }
     }
 
-    fn passed(&mut self, _packet: u64, _why: &PassedOver) {}
-
-    fn cut(&mut self, _packet: u64) {}
+    fn passed(&mut self, _packet: u64, _why: &str) {}
 
     fn finish(&mut self, _summary: &Summary) {}
 

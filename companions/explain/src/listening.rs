@@ -2,7 +2,6 @@
 
 use std::ffi::OsStr;
 
-use captures::PassedOver;
 use import::{Listener, Record, Summary};
 use originals::Keeping;
 use programs::Failure;
@@ -30,14 +29,9 @@ impl Listener for Listening {
         self.keeping.iter_mut().for_each(|keeping| keeping.record(record));
     }
 
-    fn passed(&mut self, packet: u64, why: &PassedOver) {
+    fn passed(&mut self, packet: u64, why: &str) {
         self.learning.passed(packet, why);
         self.keeping.iter_mut().for_each(|keeping| keeping.passed(packet, why));
-    }
-
-    fn cut(&mut self, packet: u64) {
-        self.learning.cut(packet);
-        self.keeping.iter_mut().for_each(|keeping| keeping.cut(packet));
     }
 
     fn finish(&mut self, summary: &Summary) {

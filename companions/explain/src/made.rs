@@ -1,13 +1,12 @@
 //! The capture that is made, in a file without a name, and beside it what is known of each record by the import: its
-//! packet, its connection and its side.
+//! packet, its connection and its side, where it has payload.
 
 use std::ffi::OsString;
 use std::fs::File;
 use std::io::{self, BufReader, BufWriter, Read, Seek, SeekFrom, Write};
 
-use audits::{temporary_failure, PrivateFile};
 use captures::{Decoder, Error, Item, Reader, Source};
-use programs::{Failure, BUFFER};
+use programs::{temporary_failure, Failure, PrivateFile, BUFFER};
 
 use crate::answer::At;
 use crate::audit::broken;
@@ -39,7 +38,7 @@ impl Notes {
         Ok(Notes { file: BufWriter::with_capacity(BUFFER, file) })
     }
 
-    /// The next record is this side's, or nobody's.
+    /// The next record has payload of this side, or none.
     pub fn add(&mut self, sender: Option<(usize, usize)>, packet: u64) -> io::Result<()> {
         let number = sender.and_then(|(connection, side)| u32::try_from(connection * 2 + side).ok());
         let mut note = [0; NOTE];
@@ -62,7 +61,7 @@ impl Notes {
     }
 }
 
-/// Reads all records of connections, in their order.
+/// Reads all records of connections that have payload, in their order.
 pub fn each_record(
     made: &mut PrivateFile,
     notes: &mut Notes,

@@ -6,9 +6,8 @@ use std::io::{self, BufReader, Read, Seek};
 use std::path::Path;
 use std::process::{Command, Stdio};
 
-use audits::{temporary_failure, Audit as Running, H2AUDIT};
 use originals::{bring_back, no_report, LastPacket, LastPackets, Original};
-use programs::{printable, Failure, Output};
+use programs::{printable, temporary_failure, Audit as Running, Failure, Output, H2AUDIT};
 use reports::ReadError;
 
 use crate::audit::{of_h2audit, read_audits, Audit};

@@ -233,6 +233,14 @@ impl Direction {
         }
     }
 
+    /// The other side granted.
+    pub fn granted(&mut self, time: Nanos, amount: u32, is_in_order: bool) {
+        self.granted += u64::from(amount);
+        if let Some(unshown) = &mut self.unshown {
+            unshown.grant(time, amount, is_in_order);
+        }
+    }
+
     /// DATA came: pauses before it that began without credit, as far as they began within its life.
     pub fn content(&mut self, times: &[Nanos], length: u32, credit: Option<i64>) {
         self.content += u64::from(length);

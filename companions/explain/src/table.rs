@@ -1,6 +1,8 @@
 //! The streams of a connection: those that go on, and those that are over, which are packed.
 
+use std::collections::hash_map::RandomState;
 use std::collections::HashMap;
+use std::hash::{BuildHasher, Hasher};
 
 use crate::answer::Nanos;
 use crate::requests::Packed;
@@ -8,7 +10,7 @@ use crate::stream::Stream;
 
 #[derive(Debug)]
 pub struct Table {
-    live: HashMap<u32, Box<Stream>>,
+    live: HashMap<u32, Box<Stream>, Numbers>,
     packed: Packed,
     orders: Orders,
 }
@@ -19,6 +21,45 @@ struct Orders {
     growing: [Vec<(u32, u32)>; 2],
     others: HashMap<u32, u32>,
     count: u32,
+}
+
+/// Hashes numbers of streams by a factor that nobody knows before.
+#[derive(Clone, Copy, Debug)]
+pub struct Numbers {
+    factor: u64,
+}
+
+pub struct NumberHasher {
+    factor: u64,
+    hash: u64,
+}
+
+impl Numbers {
+    pub fn new() -> Numbers {
+        Numbers { factor: RandomState::new().build_hasher().finish() | 1 }
+    }
+}
+
+impl BuildHasher for Numbers {
+    type Hasher = NumberHasher;
+
+    fn build_hasher(&self) -> NumberHasher {
+        NumberHasher { factor: self.factor, hash: 0 }
+    }
+}
+
+impl Hasher for NumberHasher {
+    fn finish(&self) -> u64 {
+        self.hash ^ self.hash >> 32
+    }
+
+    fn write(&mut self, bytes: &[u8]) {
+        bytes.iter().for_each(|byte| self.write_u32(u32::from(*byte)));
+    }
+
+    fn write_u32(&mut self, number: u32) {
+        self.hash = (self.hash.rotate_left(32) ^ u64::from(number)).wrapping_add(1).wrapping_mul(self.factor);
+    }
 }
 
 impl Orders {
@@ -45,8 +86,8 @@ impl Orders {
 }
 
 impl Table {
-    pub fn new(round_trip: Nanos) -> Table {
-        Table { live: HashMap::new(), packed: Packed::new(round_trip), orders: Orders::default() }
+    pub fn new(round_trip: Nanos, numbers: Numbers) -> Table {
+        Table { live: HashMap::with_hasher(numbers), packed: Packed::new(round_trip), orders: Orders::default() }
     }
 
     /// Whether a stream of this number was opened.
@@ -119,7 +160,7 @@ mod tests {
 
     #[test]
     fn streams_are_found_when_they_are_over() {
-        let mut table = Table::new(0);
+        let mut table = Table::new(0, Numbers::new());
         for number in [1, 2, 7, 5, 9] {
             open(&mut table, number);
         }
@@ -139,7 +180,7 @@ mod tests {
 
     #[test]
     fn what_is_idle_goes() {
-        let mut table = Table::new(0);
+        let mut table = Table::new(0, Numbers::new());
         open(&mut table, 1);
         table.touch(1, |stream| stream.sides.iter_mut().for_each(|side| side.finish_at(OPENED)));
         table.settle(1);

@@ -1,5 +1,7 @@
 //! The second walk over one connection: its frames, in the order of the report's numbers.
 
+use std::collections::HashMap;
+
 use programs::Failure;
 
 use crate::answer::{At, Nanos, Place};
@@ -14,7 +16,7 @@ use crate::seen::{About, Key};
 use crate::settings::{Settings, Values};
 use crate::signals::Signals;
 use crate::stream::{Answer, Asked, Kept, Met, Reset, Stream};
-use crate::table::Table;
+use crate::table::{Numbers, Table};
 use crate::unanswered::Unanswered;
 use crate::unshown::Unshown;
 use crate::windows::{ConnectionWindow, Initial};
@@ -23,6 +25,8 @@ const STREAM: u32 = (1 << 31) - 1;
 const PRIORITY_FIELDS: usize = 5;
 const PROMISED_STREAM: usize = 4;
 const GOAWAY_FIELDS: usize = 8;
+/// Of so many streams that are not opened yet, so many grants are remembered.
+const MOST_EARLY: usize = 256;
 
 /// What is asked of all connections.
 pub struct Asking {
@@ -30,6 +34,8 @@ pub struct Asking {
     pub has_spans: bool,
     pub has_frames: bool,
     pub interner: Interner,
+    /// How numbers of streams are hashed.
+    pub numbers: Numbers,
 }
 
 /// What the frames of a connection told so far.
@@ -55,6 +61,8 @@ pub struct Walk {
     pub uses_window: [bool; 2],
     /// What of a frame's grant would be too high.
     pub overflow: Option<i64>,
+    /// Grants for streams that are not opened yet: by the side that may send, with their times.
+    pub early_grants: HashMap<Key, Vec<(Nanos, u32)>>,
 }
 
 /// A frame of a side: when its packets came, where it ends, and at which record.
@@ -173,7 +181,7 @@ impl Walk {
 
     /// A stream opens by HEADERS of the client, or by a promise of the server.
     fn open(&mut self, asking: &Asking, frame: Frame<'_>, number: u32, promised_on: u32) {
-        let Walk { table, initials, about, known, windows, .. } = self;
+        let Walk { table, initials, about, known, windows, early_grants, .. } = self;
         let ends_client = promised_on != 0 || frame.cut.head.has(flag::END_STREAM);
         table.open(number, |order| {
             let mut stream = Stream::new(number, order, frame.at, asking.has_spans);
@@ -183,6 +191,9 @@ impl Walk {
                     one.window.open(&initials[side]);
                 }
                 one.unshown = Walk::unshown_of(about, side).map(|nanos| Box::new(Unshown::new(nanos)));
+                for (time, amount) in early_grants.remove(&(side, number)).unwrap_or_default() {
+                    one.granted(time, amount, known.back.is_none());
+                }
                 one.kept = known.back.map(|_| Box::new(Kept::default()));
                 one.asked_credit = one.window.value(&initials[side]).map(|credit| credit.min(windows[side].credit));
             }
@@ -319,17 +330,20 @@ impl Walk {
             }
             return;
         }
-        let Walk { table, initials, overflow, .. } = self;
-        table.touch(number, |stream| {
+        let Walk { table, initials, overflow, early_grants, .. } = self;
+        let touched = table.touch(number, |stream| {
             let one = &mut stream.sides[sender];
             if is_judged {
                 *overflow = one.window.grant(&initials[sender], amount);
             }
-            one.granted += u64::from(amount);
-            if let Some(unshown) = &mut one.unshown {
-                unshown.grant(at.time, amount, is_in_order);
-            }
+            one.granted(at.time, amount, is_in_order);
         });
+        if touched.is_none() && (early_grants.len() < MOST_EARLY || early_grants.contains_key(&(sender, number))) {
+            let grants = early_grants.entry((sender, number)).or_default();
+            if grants.len() < MOST_EARLY {
+                grants.push((at.time, amount));
+            }
+        }
     }
 }
 

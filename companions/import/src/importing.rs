@@ -8,11 +8,12 @@ use captures::{
     pcapng, Arrival, Decoder, Ends, Error, Fragment, Item, Packet, PassedOver, Reader, Source, STANDARD_INPUT,
 };
 use programs::{printable, say, Failure};
+use reports::Capture;
 use tls::Shared;
 
 use crate::course::Courses;
 use crate::others::Others;
-use crate::outcomes::{Back, Counts, Older, Summary};
+use crate::outcomes::{Back, Older, Summary};
 use crate::progress::Progress;
 use crate::sink::{Problem, Sink};
 use crate::table::Table;
@@ -141,7 +142,7 @@ struct Importer<'a, 'b> {
     decoder: Decoder,
     table: Table,
     packets: u64,
-    counts: Counts,
+    counts: Capture,
     others: Others,
     last: Option<i64>,
     back: Option<Back>,
@@ -163,7 +164,7 @@ impl<'a, 'b> Importer<'a, 'b> {
             decoder: Decoder::default(),
             table: Table::default(),
             packets: 0,
-            counts: Counts::default(),
+            counts: Capture::default(),
             others: Others::default(),
             last: None,
             back: None,
@@ -180,7 +181,7 @@ impl<'a, 'b> Importer<'a, 'b> {
             match item {
                 Item::Packet(packet) => self.packet(&packet)?,
                 Item::Secrets(text) => self.secrets(text),
-                Item::Cut => self.sink.listener.cut(self.packets + 1),
+                Item::Cut => self.sink.listener.passed(self.packets + 1, "cut"),
             }
             if self.sink.has_problem() {
                 break;
@@ -243,17 +244,20 @@ impl<'a, 'b> Importer<'a, 'b> {
     fn pass_over(&mut self, why: &PassedOver) {
         self.others.add(why);
         match why {
-            PassedOver::NotIp(_) => self.counts.not_ip += 1,
+            PassedOver::NotIp(_) => self.counts.not_ipv4 += 1,
             PassedOver::NotTcp(..) => self.counts.not_tcp += 1,
-            PassedOver::Refused(_) => self.counts.refused += 1,
+            PassedOver::Refused(why) => {
+                self.counts.refused += 1;
+                self.sink.listener.passed(self.packets, &format!("refused {why}"));
+            }
             PassedOver::Fragment(fragment) => {
                 self.counts.fragments += 1;
                 if let Some(fragment) = fragment {
                     self.count_fragment(fragment);
                 }
+                self.sink.listener.passed(self.packets, "fragment");
             }
         }
-        self.sink.listener.passed(self.packets, why);
     }
 
     /// Counts a fragment at its connection: the first one of a datagram has the ports.

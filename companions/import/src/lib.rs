@@ -50,7 +50,7 @@ pub use importing::{imported, times_go_back, Asked};
 pub use listener::{Files, Listener, Record, Sender, Written};
 pub use map_file::MapFile;
 pub use others::{Kind, Other};
-pub use outcomes::{Back, Became, Counts, End, Older, Outcome, Read, SideRead, Summary, Unopened};
+pub use outcomes::{Back, Became, End, Older, Outcome, Read, SideRead, Summary, Unopened};
 pub use preamble::Preamble;
 pub use sink::{Problem, Sink, Target};
 pub use tls::{CLIENT, SERVER};

@@ -3,7 +3,7 @@
 
 use std::ffi::OsStr;
 
-use captures::{placed, Arrival, PassedOver, Segment};
+use captures::{placed, Arrival, Segment};
 use programs::Failure;
 
 use crate::outcomes::Summary;
@@ -19,11 +19,9 @@ pub trait Listener {
     /// A record of the capture that is made.
     fn record(&mut self, record: &Record<'_>);
 
-    /// A packet that is passed over.
-    fn passed(&mut self, packet: u64, why: &PassedOver);
-
-    /// The file ends within this packet.
-    fn cut(&mut self, packet: u64);
+    /// A packet that is passed over, though it may have bytes of a connection, by the reason that a map names; `cut` is
+    /// one within which its file ends.
+    fn passed(&mut self, packet: u64, why: &str);
 
     /// What there was, at the end.
     fn finish(&mut self, summary: &Summary);

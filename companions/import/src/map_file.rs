@@ -4,7 +4,6 @@ use std::ffi::OsStr;
 use std::io::{self, Write};
 use std::net::Ipv4Addr;
 
-use captures::PassedOver;
 use programs::{Failure, Output};
 
 use crate::addresses::{escaped_path, Addresses};
@@ -109,32 +108,13 @@ impl Listener for MapFile<'_> {
         self.line = line;
     }
 
-    fn passed(&mut self, packet: u64, why: &PassedOver) {
+    fn passed(&mut self, packet: u64, why: &str) {
         let (file, packet) = self.files.place(packet);
-        match why {
-            PassedOver::Fragment(_) => self.line(format_args!("passed file {file} packet {packet} fragment")),
-            PassedOver::Refused(why) => self.line(format_args!("passed file {file} packet {packet} refused {why}")),
-            PassedOver::NotIp(_) | PassedOver::NotTcp(..) => {}
-        }
-    }
-
-    fn cut(&mut self, packet: u64) {
-        let (file, packet) = self.files.place(packet);
-        self.line(format_args!("passed file {file} packet {packet} cut"));
+        self.line(format_args!("passed file {file} packet {packet} {why}"));
     }
 
     fn finish(&mut self, summary: &Summary) {
-        let counts = &summary.counts;
-        self.line(format_args!(
-            "capture records {} segments {} snapped {} not-ipv4 {} fragments {} not-tcp {} refused {}",
-            counts.records,
-            counts.segments,
-            counts.snapped,
-            counts.not_ip,
-            counts.fragments,
-            counts.not_tcp,
-            counts.refused
-        ));
+        self.line(format_args!("{}", summary.counts.line().trim_end()));
         if let Some(back) = &summary.back {
             let (file, packet) = self.files.place(back.packet());
             let (packets, nanos) = (back.packets, back.nanos);

@@ -3,6 +3,7 @@
 use std::fmt;
 
 use captures::{Arrival, Ends};
+use reports::Capture;
 use tls::Reason;
 
 use crate::addresses::escaped;
@@ -102,18 +103,6 @@ pub struct Unopened {
     pub segments: u64,
 }
 
-/// How many packets of a kind there were.
-#[derive(Clone, Copy, Debug, Default)]
-pub struct Counts {
-    pub records: u64,
-    pub segments: u64,
-    pub snapped: u64,
-    pub not_ip: u64,
-    pub fragments: u64,
-    pub not_tcp: u64,
-    pub refused: u64,
-}
-
 /// A packet whose time lies so far before that of the packet before it.
 #[derive(Clone, Copy, Debug)]
 pub struct Older {
@@ -149,7 +138,7 @@ impl Back {
 /// All that is known at the end.
 #[derive(Debug, Default)]
 pub struct Summary {
-    pub counts: Counts,
+    pub counts: Capture,
     pub back: Option<Back>,
     /// What was passed over, the most frequent first.
     pub others: Vec<crate::others::Other>,

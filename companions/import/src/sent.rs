@@ -1,9 +1,7 @@
 //! Which bytes a side has sent, so that those that come again are told from new ones, and packets that were captured
 //! twice from either.
 
-use std::collections::hash_map::DefaultHasher;
 use std::collections::{BTreeMap, VecDeque};
-use std::hash::Hasher;
 
 use captures::{flags, offset_of, Arrival, Segment, END_OF_OFFSETS};
 
@@ -29,21 +27,35 @@ pub struct Sent {
     reached: u32,
     /// Holes before that: begin and end of each.
     holes: BTreeMap<u32, u32>,
-    recent: VecDeque<Recent>,
+    /// The last packets, each with its time.
+    recent: VecDeque<(i64, Print)>,
 }
 
-struct Recent {
-    arrival: Arrival,
+/// What tells one packet from another.
+#[derive(PartialEq, Eq)]
+struct Print {
     sequence: u32,
+    length: u32,
+    sum: u32,
     identification: u16,
-    length: usize,
-    hash: u64,
+}
+
+impl Print {
+    fn of(segment: &Segment<'_>, payload: &[u8]) -> Print {
+        let Segment { sequence, identification, .. } = *segment;
+        Print { sequence, length: payload.len() as u32, sum: crc32fast::hash(payload), identification }
+    }
 }
 
 impl Sent {
     /// Whether bytes are missing before some that came.
     pub fn has_hole(&self) -> bool {
         !self.holes.is_empty()
+    }
+
+    /// The time of the last segment with payload.
+    pub fn last(&self) -> Option<i64> {
+        self.recent.back().map(|(nanos, _)| *nanos)
     }
 
     pub fn add(&mut self, arrival: Arrival, segment: &Segment<'_>) -> Fresh {
@@ -55,7 +67,10 @@ impl Sent {
             Some(initial) => initial,
             None => return Fresh::None,
         };
-        if self.is_double(arrival, segment, payload) {
+        let print = Print::of(segment, payload);
+        let is_double = self.may_be_double(initial, segment) && self.is_double(arrival, &print);
+        self.note(arrival, print);
+        if is_double {
             return Fresh::Doubled;
         }
         let offset = offset_of(initial, segment.sequence, segment.flags);
@@ -67,28 +82,25 @@ impl Sent {
         Fresh::Bytes { fresh, again: end - offset - fresh }
     }
 
+    /// What begins behind all bytes that came was in no packet before. A number of a SYN is that before its bytes.
+    fn may_be_double(&self, initial: u32, segment: &Segment<'_>) -> bool {
+        let place = offset_of(initial, segment.sequence, 0);
+        place < self.reached || place >= END_OF_OFFSETS - 1
+    }
+
     /// Whether these bytes came with a packet just before that was no other one: with the same identification, or, where
     /// packets have none, at nearly the same time.
-    fn is_double(&mut self, arrival: Arrival, segment: &Segment<'_>, payload: &[u8]) -> bool {
-        let mut hasher = DefaultHasher::new();
-        hasher.write(payload);
-        let one = Recent {
-            arrival,
-            sequence: segment.sequence,
-            identification: segment.identification,
-            length: payload.len(),
-            hash: hasher.finish(),
-        };
-        let is_found = self.recent.iter().any(|before| {
-            let is_same = (before.sequence, before.length, before.hash) == (one.sequence, one.length, one.hash);
-            let is_close = arrival.nanos.saturating_sub(before.arrival.nanos).saturating_abs() <= CLOSE;
-            is_same && before.identification == one.identification && (one.identification != 0 || is_close)
-        });
+    fn is_double(&self, arrival: Arrival, print: &Print) -> bool {
+        let is_close = |nanos: i64| arrival.nanos.saturating_sub(nanos).saturating_abs() <= CLOSE;
+        let mut recent = self.recent.iter();
+        recent.any(|(nanos, one)| one == print && (print.identification != 0 || is_close(*nanos)))
+    }
+
+    fn note(&mut self, arrival: Arrival, print: Print) {
         if self.recent.len() == MOST_BETWEEN {
             self.recent.pop_front();
         }
-        self.recent.push_back(one);
-        is_found
+        self.recent.push_back((arrival.nanos, print));
     }
 
     /// Notes bytes from one offset to another, and answers how many of them are new.

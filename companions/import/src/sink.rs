@@ -4,7 +4,7 @@
 use std::io::{self, Write};
 
 use captures::{pcap, Arrival, RAW};
-use programs::{Failure, Output};
+use programs::{temporary_failure, Failure, Output, PrivateFile};
 
 use crate::listener::{Listener, Record, Sender, Written};
 
@@ -26,6 +26,16 @@ impl Target for Output {
 
     fn failure(&self, error: &io::Error) -> Failure {
         Output::failure(self, error)
+    }
+}
+
+impl Target for PrivateFile {
+    fn begin_anew(&mut self) -> io::Result<()> {
+        PrivateFile::begin_anew(self)
+    }
+
+    fn failure(&self, error: &io::Error) -> Failure {
+        temporary_failure(error)
     }
 }
 

@@ -21,8 +21,6 @@ struct State {
     closed: Option<Arrival>,
     /// Since when bytes of it are missing.
     holed: Option<Arrival>,
-    /// The time of its last segment with payload.
-    last_payload: Option<i64>,
 }
 
 impl Tracked {
@@ -51,6 +49,7 @@ impl Tracked {
     fn count(&mut self, course: &mut Course, side: usize, arrival: Arrival, segment: &Segment<'_>) {
         let state = &mut self.sides[side];
         let known = &mut course.sides[side];
+        let before = state.sent.last();
         match state.sent.add(arrival, segment) {
             Fresh::None => return,
             Fresh::Doubled => known.doubled += 1,
@@ -58,14 +57,12 @@ impl Tracked {
                 known.bytes += u64::from(fresh);
                 known.resent += u64::from(again);
                 if again > 0 {
-                    let begin = state.last_payload.unwrap_or(arrival.nanos);
-                    let from = Arrival { nanos: begin, packet: arrival.packet };
+                    let from = Arrival { nanos: before.unwrap_or(arrival.nanos), ..arrival };
                     course.held.push(Held { bytes: again, ..held(Why::Resent, side, from, Some(arrival)) });
                 }
             }
         }
         known.segments += 1;
-        state.last_payload = Some(arrival.nanos);
         if state.sent.has_hole() {
             state.holed.get_or_insert(arrival);
         } else if let Some(from) = state.holed.take() {

@@ -2,9 +2,11 @@
 //!
 //! Mutations are of the captures of tests/tls and tests/corpus.
 
+mod common;
+
 use std::ffi::OsString;
 use std::fs;
-use std::path::{Path, PathBuf};
+use std::path::Path;
 use std::time::{Duration, Instant};
 
 use import::{imported, Asked, Courses, MapFile, Sink};
@@ -12,41 +14,9 @@ use mutations::changed;
 use programs::{Failure, Output};
 
 const MOST_SECONDS: u64 = 60;
-const INTERESTING: [&[u8]; 8] = [
-    b"\x00",
-    b"\xff",
-    b"\x7f\xff",
-    b"\x80\x00",
-    b"\x16\x03\x03",
-    b"\xff\xff\xff\xff",
-    b"\x00\x00\x00\x00",
-    b"PROXY TCP4 ",
-];
 /// What is made of a capture is at most so many times its size, besides what its header takes: the smallest record of TLS
 /// with content has 23 bytes, in a packet of some size, and becomes a packet of 57.
 const MOST_GROWTH: usize = 8;
-
-fn top() -> PathBuf {
-    Path::new(env!("CARGO_MANIFEST_DIR")).join("../..")
-}
-
-/// Captures, each with its key log where it has one.
-fn originals() -> Vec<(Vec<u8>, Vec<u8>)> {
-    let mut found = Vec::new();
-    for folder in ["tests/tls", "tests/corpus"] {
-        let mut paths: Vec<_> = fs::read_dir(top().join(folder)).unwrap().map(|entry| entry.unwrap().path()).collect();
-        paths.sort();
-        for path in paths {
-            let name = path.file_name().unwrap().to_str().unwrap();
-            if let Some(end) = name.find(".pcap") {
-                let keys = fs::read(path.with_file_name(format!("{}.keys", &name[..end]))).unwrap_or_default();
-                found.push((fs::read(&path).unwrap(), keys));
-            }
-        }
-    }
-    assert!(found.len() > 20);
-    found
-}
 
 /// Imports these files into a folder, and answers the lines of the map.
 fn import(folder: &Path) -> Result<Vec<u8>, Failure> {
@@ -96,13 +66,14 @@ fn try_one(folder: &Path, capture: &[u8], keys: &[u8]) {
 #[test]
 fn mutated_captures_and_key_logs() {
     let folder = tempfile::tempdir().unwrap();
-    let originals = originals();
+    let read = |(capture, keys)| (fs::read(capture).unwrap(), fs::read(keys).unwrap_or_default());
+    let originals: Vec<(Vec<u8>, Vec<u8>)> = common::captures().into_iter().map(read).collect();
     mutations::each(3000, |dice| {
         let (capture, keys) = dice.of_these(&originals).clone();
         if !keys.is_empty() && dice.below(4) == 0 {
-            try_one(folder.path(), &capture, &changed(&keys, dice, &INTERESTING));
+            try_one(folder.path(), &capture, &changed(&keys, dice, &common::INTERESTING));
         } else {
-            try_one(folder.path(), &changed(&capture, dice, &INTERESTING), &keys);
+            try_one(folder.path(), &changed(&capture, dice, &common::INTERESTING), &keys);
         }
     });
 }

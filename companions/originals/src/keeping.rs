@@ -2,10 +2,8 @@
 
 use std::ffi::OsStr;
 
-use captures::PassedOver;
 use import::{Addresses, Became as Outcome, Listener, Record, Summary};
-use programs::Failure;
-use reports::Capture;
+use programs::{temporary_failure, Failure};
 
 use crate::original::{Became, Connection, Original, Other, SideRead};
 
@@ -15,14 +13,6 @@ pub struct Keeping {
     pub original: Original,
     addresses: Addresses,
     failure: Option<Failure>,
-}
-
-impl Keeping {
-    fn note(&mut self, packet: u64, why: &str) {
-        if let (Err(error), None) = (self.original.add_passed(packet, why), &self.failure) {
-            self.failure = Some(audits::temporary_failure(&error));
-        }
-    }
 }
 
 impl Listener for Keeping {
@@ -37,29 +27,14 @@ impl Listener for Keeping {
         self.original.add_record(record.arrival.packet);
     }
 
-    fn passed(&mut self, packet: u64, why: &PassedOver) {
-        match why {
-            PassedOver::Fragment(_) => self.note(packet, "fragment"),
-            PassedOver::Refused(why) => self.note(packet, &format!("refused {why}")),
-            PassedOver::NotIp(_) | PassedOver::NotTcp(..) => {}
+    fn passed(&mut self, packet: u64, why: &str) {
+        if let (Err(error), None) = (self.original.add_passed(packet, why), &self.failure) {
+            self.failure = Some(temporary_failure(&error));
         }
     }
 
-    fn cut(&mut self, packet: u64) {
-        self.note(packet, "cut");
-    }
-
     fn finish(&mut self, summary: &Summary) {
-        let counts = summary.counts;
-        self.original.capture = Capture {
-            records: counts.records,
-            segments: counts.segments,
-            snapped: counts.snapped,
-            not_ipv4: counts.not_ip,
-            fragments: counts.fragments,
-            not_tcp: counts.not_tcp,
-            refused: counts.refused,
-        };
+        self.original.capture = summary.counts;
         self.original.back = summary.back.as_ref().map(import::Back::packet);
         let others = summary.others.iter();
         self.original.others = others.map(|one| Other { name: one.kind.name().into(), packets: one.packets }).collect();

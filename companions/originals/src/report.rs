@@ -3,8 +3,7 @@
 
 use std::io::{self, BufRead, Write};
 
-use audits::temporary_failure;
-use programs::{Failure, Output};
+use programs::{temporary_failure, Failure, Output};
 use reports::{finding_in, is_fault, read_line, Capture, Flow, Form, Line, Opening, LONGEST_LINE};
 
 use crate::original::{Became, Original};

@@ -6,9 +6,11 @@ use std::os::unix::io::AsRawFd;
 use std::path::PathBuf;
 use std::{env, process};
 
-use import::Target;
-use programs::{io_reason, printable, Failure, BUFFER};
+use crate::failure::{io_reason, Failure};
+use crate::messages::printable;
+use crate::output::BUFFER;
 
+/// It is written first, and then read by other programs, or by this one.
 pub struct PrivateFile {
     writer: BufWriter<File>,
 }
@@ -39,16 +41,6 @@ impl Write for PrivateFile {
 
     fn flush(&mut self) -> io::Result<()> {
         self.writer.flush()
-    }
-}
-
-impl Target for PrivateFile {
-    fn begin_anew(&mut self) -> io::Result<()> {
-        PrivateFile::begin_anew(self)
-    }
-
-    fn failure(&self, error: &io::Error) -> Failure {
-        temporary_failure(error)
     }
 }
 

@@ -1,35 +1,23 @@
-//! Runs h2audit on a capture that was made.
+//! Programs that this one finds and starts.
 
-use std::ffi::{OsStr, OsString};
-use std::io::BufReader;
+use std::ffi::OsString;
 use std::os::unix::fs::PermissionsExt;
 use std::os::unix::process::ExitStatusExt;
 use std::path::{Path, PathBuf};
-use std::process::{Child, ChildStdout, Command, ExitStatus, Stdio};
+use std::process::{Child, ChildStdout, Command, ExitStatus};
 use std::time::Duration;
 use std::{env, fs, thread};
 
-use programs::{printable, Cleanup, Failure, Guard};
+use crate::failure::Failure;
+use crate::messages::printable;
+use crate::signals::{Cleanup, Guard};
 
-pub const H2AUDIT: &str = "h2audit";
-const VARIABLE: &str = "H2AUDIT";
-/// So many bytes of a report are read at a time.
-const BUFFER: usize = 1 << 18;
 /// SIGHUP, SIGINT and SIGTERM, which a terminal or a service manager sends to all that it started.
 const ENDING: [i32; 3] = [1, 2, 15];
 /// So long a signal takes at most to reach this program too.
 const UNTIL_OURS: Duration = Duration::from_millis(300);
 /// How long to wait for a program's end, at first and at most.
 const TICKS: (Duration, Duration) = (Duration::from_micros(200), Duration::from_millis(20));
-
-/// h2audit as the command line or the environment names it, else the one beside this program, else the path's.
-pub fn program_named(named: Option<OsString>) -> Result<OsString, Failure> {
-    let named = named.or_else(|| env::var_os(VARIABLE)).filter(|name| !name.is_empty());
-    let found = named.or_else(|| beside_or_in_path(H2AUDIT).map(PathBuf::into_os_string));
-    found.ok_or_else(|| {
-        Failure::Io(format!("{H2AUDIT}: not found; name it with --h2audit, or by the variable {VARIABLE}"))
-    })
-}
 
 /// A program beside this one, or that of the path.
 pub fn beside_or_in_path(name: &str) -> Option<PathBuf> {
@@ -92,25 +80,5 @@ impl Running {
             let signal = status.signal().unwrap_or_default();
             Failure::Io(format!("{}: ended by signal {signal}", printable(&self.name)))
         })
-    }
-}
-
-/// An audit that runs, and its report.
-pub struct Audit {
-    pub report: BufReader<ChildStdout>,
-    pub running: Running,
-}
-
-impl Audit {
-    /// One run of the program.
-    pub fn start(program: &OsStr, options: &[String], capture: &Path) -> Result<Audit, Failure> {
-        Audit::of(Command::new(program).args(options).arg(capture))
-    }
-
-    /// A program whose report is read.
-    pub fn of(command: &mut Command) -> Result<Audit, Failure> {
-        let (running, output) = Running::start(command.stdout(Stdio::piped()))?;
-        let output = output.ok_or_else(|| Failure::Io(format!("{H2AUDIT}: its report cannot be read")))?;
-        Ok(Audit { report: BufReader::with_capacity(BUFFER, output), running })
     }
 }
