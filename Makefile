@@ -14,7 +14,7 @@ CARGO ?= cargo
 # Programs in Python, the folders of their package, and what runs tests: Debian's, whose libraries they need.
 PYTHON ?= /usr/bin/python3
 PYTHON_PROGRAMS = h2audit-fleet h2audit-page h2audit-plot
-PYTHON_PACKAGES = h2audit $(addprefix h2audit/,fleet page page/assets plot report why)
+PYTHON_PACKAGES = h2audit $(addprefix h2audit/,fleet page page/assets plot report)
 BESIDE = $(RUST_PROGRAMS) $(PYTHON_PROGRAMS) h2audit-split
 FIRST = examples/negative_window_tomcat.pcap examples/stream_overrun_go.pcap
 # The parts of "make check", the longest first.
@@ -62,7 +62,7 @@ install: $(PROGRAM) $(SPLIT) $(RUST_BUILT)/built
 	install -D -m 755 -t $(DESTDIR)$(PREFIX)/bin $(RUST_PROGRAMS:%=$(RUST_BUILT)/%) $(PYTHON_PROGRAMS:%=tools/%)
 	$(foreach folder,$(PYTHON_PACKAGES),install -D -m 644 -t $(share)/h2audit/$(folder) \
 		$(filter-out %/__pycache__,$(wildcard $(folder)/*.*)) &&) true
-	install -D -m 644 -t $(share)/h2audit VERSION
+	install -D -m 644 -t $(share)/h2audit VERSION companions/why/schema.json
 	install -D -m 644 -t $(share)/man/man1 tools/man/h2audit.1 $(BESIDE:%=tools/man/%.1)
 	install -D -m 644 tools/completions/h2audit.bash $(share)/bash-completion/completions/h2audit
 	$(foreach name,$(BESIDE),ln -sf h2audit $(share)/bash-completion/completions/$(name) &&) true

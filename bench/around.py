@@ -11,8 +11,9 @@ import subprocess
 import sys
 import tempfile
 
-from bench.generate import SHAPES, Capture
+from bench.generate import SHAPES
 from bench.measure import once
+from bench.wire import Capture
 from tools.tests.browser import Browser
 
 TOP = pathlib.Path(__file__).resolve().parents[1]

@@ -1,4 +1,4 @@
-"""Writes a capture for measuring: generate.py SHAPE MEGABYTES FILE.
+"""Writes a capture for measuring: python3 -m bench.generate SHAPE MEGABYTES FILE
 
 Shapes:
   bulk         one connection, one stream, a download of 16,384-byte DATA frames in full segments, with window updates
@@ -8,6 +8,17 @@ Shapes:
   calls        one connection, a thousand streams that take turns with messages of 1,000 bytes
   streams      one connection, streams of three frames each
   early        the same, after a grant that brings the connection's window above the largest
+Shapes of what peers say, with header blocks, several frames in a segment, and acknowledgements of TCP:
+  downloads    eight connections with one download each at a time, in DATA frames of 16,384 bytes, ample windows
+  reorder      the same, with segments of the server late, twice, and overlapping
+  mixed        one connection, up to some hundred streams at once, with small frames of any kind
+  many         two hundred connections at once, each with a few requests
+  grpc         one connection, a thousand streams without end, with messages of about 100 bytes both ways
+  stalls       four connections of sixteen downloads, whose windows reach 0 again and again
+  broken       eight connections at once, each with an error early in it, and much traffic after it
+  requests     one connection, up to a hundred short downloads at once
+  web          a browser's requests, up to 24 at once, with the field blocks that it sends
+  api          calls of gRPC, up to four at once, with the field blocks that it sends
 Shapes that a peer might make on purpose, each with as much of one thing as of the other:
   closed       streams that are reset, then acknowledgements that move the initial window
   strays       segments of pairs that were never seen to open, one for each pair
@@ -26,66 +37,16 @@ Shapes that a peer might make on purpose, each with as much of one thing as of t
   live_early   the same, after a grant that brings the connection's window above the largest
 The same words always give the same bytes.
 """
+
 import struct
 import sys
-from typing import BinaryIO
+from collections.abc import Callable
 
-Ends = tuple[int, int]  # of the client and of the server
+from bench.field_blocks import api, web
+from bench.peers import broken, downloads, grpc, many, mixed, reorder, requests, stalls
+from bench.wire import ACK, CLIENT, SERVER, SYN, Capture, Connection, frame, window_update
 
-CLIENT, SERVER = 0, 1
-PREFACE = b"PRI * HTTP/2.0\r\n\r\nSM\r\n\r\n"
-SYN, SYN_ACK, ACK = 0x02, 0x12, 0x10
-ADDRESSES = (0x0A000001, 0x0A000002)
-
-
-def frame(kind: int, flags: int, stream: int, payload: bytes = b"") -> bytes:
-    return struct.pack(">I", len(payload))[1:] + struct.pack(">BBI", kind, flags, stream) + payload
-
-
-def window_update(stream: int, increment: int) -> bytes:
-    return frame(8, 0, stream, struct.pack(">I", increment))
-
-
-class Capture:
-    """A capture that is written record by record, a microsecond apart."""
-
-    def __init__(self, file: BinaryIO) -> None:
-        self.file = file
-        self.size = 24
-        self.records = 0
-        file.write(struct.pack("<IHHIIII", 0xA1B2C3D4, 2, 4, 0, 0, 262144, 1))
-
-    def segment(self, ports: Ends, side: int, seq: int, flags: int, payload: bytes = b"") -> None:
-        total = 40 + len(payload)
-        ends = (ADDRESSES[side], ADDRESSES[1 - side])
-        ip = struct.pack(">BBHIBBHII", 0x45, 0, total, 0, 64, 6, 0, *ends)
-        tcp = struct.pack(">HHIIBBHHH", ports[side], ports[1 - side], seq % 2**32, 0, 0x50, flags, 0, 0, 0)
-        self.record(bytes(12) + b"\x08\x00" + ip + tcp + payload)
-
-    def record(self, packet: bytes) -> None:
-        self.records += 1
-        head = struct.pack("<IIII", self.records // 1000000, self.records % 1000000, len(packet), len(packet))
-        self.file.write(head + packet)
-        self.size += 16 + len(packet)
-
-
-class Connection:
-    """Two sides that send whole frames in order."""
-
-    def __init__(self, capture: Capture, port: int) -> None:
-        self.capture, self.ports, self.next = capture, (port, 80), [1001, 5001]
-        capture.segment(self.ports, CLIENT, 1000, SYN)
-        capture.segment(self.ports, SERVER, 5000, SYN_ACK)
-        self.send(CLIENT, PREFACE + frame(4, 0, 0))
-        self.send(SERVER, frame(4, 0, 0))
-        self.send(CLIENT, frame(4, 1, 0))
-        self.send(SERVER, frame(4, 1, 0))
-
-    def send(self, side: int, data: bytes, most: int = 1460) -> None:
-        for start in range(0, len(data), most):
-            piece = data[start : start + most]
-            self.capture.segment(self.ports, side, self.next[side], ACK, piece)
-            self.next[side] += len(piece)
+Shape = Callable[[Capture, int], None]
 
 
 def bulk(capture: Capture, size: int) -> None:
@@ -118,7 +79,7 @@ def connections(capture: Capture, size: int) -> None:
         port += 1
         if port == 65536:
             port = 1024
-            next_client()
+            capture.next_client()
 
 
 def chatty(capture: Capture, size: int) -> None:
@@ -181,7 +142,7 @@ def strays(capture: Capture, size: int) -> None:
         port += 1
         if port == 65536:
             port = 1
-            next_client()
+            capture.next_client()
 
 
 def empty(capture: Capture, size: int) -> None:
@@ -255,11 +216,10 @@ def promised(capture: Capture, size: int) -> None:
 
 
 def colliding(capture: Capture, size: int) -> None:
-    global ADDRESSES
     number = 0
     while capture.size < size:
         port = 1 + number % 65535
-        ADDRESSES = (0x0A000000 + number, 0x0B000000 + number)
+        capture.addresses = (0x0A000000 + number, 0x0B000000 + number)
         capture.segment((port, port), CLIENT, 1, ACK, b"a")
         number += 1
 
@@ -286,13 +246,8 @@ def many_moves(capture: Capture, size: int, one: Connection) -> None:
         one.send(CLIENT, frame(4, 1, 0))
 
 
-def next_client() -> None:
-    """The next client address, where the ports of one are used up."""
-    global ADDRESSES
-    ADDRESSES = (ADDRESSES[0] + 256, ADDRESSES[1])
-
-
 USUAL = (bulk, small, connections, chatty, calls, streams, early)
+TALKS: tuple[Shape, ...] = (downloads, reorder, mixed, many, grpc, stalls, broken, requests, web, api)
 HOSTILE = (
     closed,
     strays,
@@ -309,7 +264,7 @@ HOSTILE = (
     promised,
 )
 QUADRATIC = (live, live_early)
-SHAPES = {each.__name__: each for each in USUAL + HOSTILE + QUADRATIC}
+SHAPES: dict[str, Shape] = {each.__name__: each for each in (*USUAL, *TALKS, *HOSTILE, *QUADRATIC)}
 
 
 def main() -> None:

@@ -23,10 +23,10 @@ import tempfile
 import time
 from typing import NamedTuple, NoReturn
 
-from bench.generate import HOSTILE, QUADRATIC, SHAPES, USUAL
+from bench.generate import HOSTILE, QUADRATIC, SHAPES, TALKS, USUAL
 
-HERE = os.path.dirname(os.path.abspath(__file__))
-SIZES = [(USUAL, (10, 40, 160)), (HOSTILE, (12.5, 25, 50, 100)), (QUADRATIC, (0.125, 0.25, 0.5, 1))]
+TOP = os.path.dirname(os.path.dirname(os.path.abspath(__file__)))
+SIZES = [((*USUAL, *TALKS), (10, 40, 160)), (HOSTILE, (12.5, 25, 50, 100)), (QUADRATIC, (0.125, 0.25, 0.5, 1))]
 GENERATED = "bulk,stalls,many,grpc,streams,chatty"
 
 
@@ -48,7 +48,7 @@ class Programs(NamedTuple):
 
 
 def refuse(why: str) -> NoReturn:
-    print("measure.py: " + why, file=sys.stderr)
+    print(os.path.basename(sys.argv[0]) + ": " + why, file=sys.stderr)
     sys.exit(2)
 
 
@@ -138,7 +138,7 @@ def heading(programs: Programs) -> str:
 def generate(shape: str, size: float, path: str, generator: str | None) -> None:
     """Writes a capture."""
     if not generator:
-        subprocess.run([sys.executable, os.path.join(HERE, "generate.py"), shape, str(size), path], check=True)
+        subprocess.run([sys.executable, "-m", "bench.generate", shape, str(size), path], cwd=TOP, check=True)
         return
     with open(path, "wb") as file:
         if subprocess.run([generator, shape, "%g" % size, "1"], stdout=file).returncode:

@@ -10,8 +10,9 @@ import pathlib
 import subprocess
 import tempfile
 
-from bench.generate import SHAPES, Capture
+from bench.generate import SHAPES
 from bench.measure import Run, best
+from bench.wire import Capture
 from tests.parts import parts_of
 
 TOP = pathlib.Path(__file__).resolve().parents[1]

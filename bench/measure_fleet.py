@@ -14,7 +14,8 @@ import sys
 import tempfile
 import time
 
-from bench.generate import SHAPES, USUAL, Capture
+from bench.generate import SHAPES, USUAL
+from bench.wire import Capture
 
 Seconds = tuple[float, float]  # of a clock on the wall, of the processors
 FLEET = pathlib.Path(__file__).resolve().parents[1] / "tools" / "h2audit-fleet"

@@ -15,8 +15,8 @@ import time
 
 from bench.generate import SHAPES
 
-HERE = pathlib.Path(__file__).resolve().parent
-MERGE = HERE.parent / "companions" / "target" / "release" / "h2audit-merge"
+TOP = pathlib.Path(__file__).resolve().parents[1]
+MERGE = TOP / "companions" / "target" / "release" / "h2audit-merge"
 
 
 def timed(step: str, size: float, words: list[object], output: str | pathlib.Path) -> int:
@@ -53,7 +53,9 @@ def main() -> None:
     with tempfile.TemporaryDirectory() as made:
         folder = pathlib.Path(made)
         capture, parts = folder / "capture.pcap", folder / "parts"
-        subprocess.run([sys.executable, HERE / "generate.py", asked.shape, asked.megabytes, capture], check=True)
+        subprocess.run(
+            [sys.executable, "-m", "bench.generate", asked.shape, asked.megabytes, capture], cwd=TOP, check=True
+        )
         size = megabytes(capture) * asked.times
         timed("split", size, [asked.split, "--parts", asked.parts, "-o", parts] + [capture] * asked.times, os.devnull)
         start = time.monotonic()

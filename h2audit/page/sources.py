@@ -12,7 +12,7 @@ from h2audit.page.answer import attach
 from h2audit.page.model import Audit, read_audit
 from h2audit.report.command import IO_FAILED, WRONG_WORDS, Failed, opened
 from h2audit.report.interrupts import Interrupted, end_by, signals_raise
-from h2audit.why.making import Running, folder, program_named, running, without_name
+from h2audit.page.programs import Running, folder, program_named, running, without_name
 
 # No fault, a fault, and nothing that could be audited: then too the page says what there was.
 AUDITED = (0, 1, 6)

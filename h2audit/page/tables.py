@@ -10,7 +10,7 @@ from h2audit.page.summary import row_id
 from h2audit.page.words import breaches, flow_words, longest_stalls, verdict
 from h2audit.report.blame import duration
 from h2audit.report.notes import Note
-from h2audit.why.words import count
+from h2audit.report.words import count
 
 # So many rows of each table, times what the room of a page of 5 MB allows.
 MOST_FINDINGS, MOST_WINDOWS, MOST_SECTIONS, MOST_CONNECTIONS = 1500, 500, 100, 500

@@ -1,15 +1,14 @@
 """The answer at a glance: one sentence, what limits it, who broke which rule, and whom to ask."""
 
 from collections import defaultdict
-from collections.abc import Iterator
+from collections.abc import Iterable, Iterator
 from dataclasses import dataclass, field
 
 from h2audit.page.answer import Json
 from h2audit.page.model import Audit, Connection
 from h2audit.page.words import MOST_NAMED, breaches, doubts, peer, reason_of
 from h2audit.report.blame import OTHER_SIDE
-from h2audit.why.spans import disjoint
-from h2audit.why.words import count, time_of
+from h2audit.report.words import count, time_of
 
 # Which share of a direction's life stands for which kind of cause; of an application, for which why.
 SHARES = {
@@ -186,3 +185,17 @@ def intervals_of(request: Json) -> list[tuple[int, int]]:
         begin = cause["first"]["time"] if cause["first"] else opened
         return [(begin, begin + cause["nanos"])]
     return [(opened + begin, opened + begin + nanos) for begin, nanos, _ in spans]
+
+
+def disjoint(intervals: Iterable[tuple[int, int]]) -> list[tuple[int, int]]:
+    """The union of intervals, in order."""
+    union: list[tuple[int, int]] = []
+    for begin, end in sorted(intervals):
+        if end <= begin:
+            continue
+        if union and begin <= union[-1][1]:
+            if end > union[-1][1]:
+                union[-1] = union[-1][0], end
+        else:
+            union.append((begin, end))
+    return union

@@ -13,13 +13,14 @@ from itertools import islice
 from h2audit.page.answer import Json
 from h2audit.page.markup import Content, Markup, element, markup, row, table
 from h2audit.page.model import Audit
-from h2audit.why.spans import NAMES
-from h2audit.why.words import count, time_of
+from h2audit.report.words import count, time_of
 
 MOST_BYTES = 900_000
 # Spans of a direction at most, and then so many requests.
 SPANS = (512, 64, 16, 4)
 MOST_NAME, MOST_TEXT = 200, 500
+# What a direction of a request can be doing (docs/WHY.md, section 3), in the order of their colours.
+NAMES = ("waiting", "sending", "stream_stall", "connection_stall", "tcp", "idle", "unseen")
 KIND = {name: at for at, name in enumerate(NAMES)}
 HELD = ("stream_stall", "connection_stall", "tcp")
 MARGIN = 0.9

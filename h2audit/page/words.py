@@ -8,7 +8,7 @@ from h2audit.page.model import Audit, Connection
 from h2audit.report.blame import OTHER_SIDE, duration, section_of
 from h2audit.report.lines import Opening
 from h2audit.report.notes import Note
-from h2audit.why.words import REASONS, count, streams_named
+from h2audit.report.words import REASONS, count, streams_named
 
 MOST_STALLS = 10
 FORMS = {

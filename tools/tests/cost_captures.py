@@ -11,7 +11,6 @@ from typing import NamedTuple
 from tests.captures import ACK, BEGINNINGS, PREFACE, SYN, SYN_ACK, Capture, frame_of
 
 TOP = pathlib.Path(__file__).resolve().parents[2]
-GENERATE = TOP / "bench" / "generate.py"
 
 # An acknowledgement that answers nothing: it is told and ends nothing, so frames go through the rounds.
 UNMATCHED = frame_of(["ACK"])
@@ -231,7 +230,7 @@ def cases() -> list[Case]:
 def write(name: str, path: pathlib.Path) -> None:
     """Writes the capture of this name."""
     if name in GENERATED:
-        subprocess.run([sys.executable, GENERATE, name, str(GENERATED[name]), path], check=True)
+        subprocess.run([sys.executable, "-m", "bench.generate", name, str(GENERATED[name]), path], cwd=TOP, check=True)
         return
     make = next(each for each in OWN if each.__name__ == name)
     path.write_bytes(make().bytes)

@@ -16,7 +16,7 @@ from collections.abc import Callable
 from dataclasses import dataclass, field
 from typing import Any
 
-from bench import generate
+from bench import generate, wire
 from tests import captures as scripts
 from tests import reports_test
 from tests.programs import named
@@ -106,7 +106,7 @@ def generated(program: str, number: int) -> list[Sample]:
             shape, size = shapes[place % len(shapes)], 20000 + 3000 * place
             path = pathlib.Path(folder, "capture")
             with open(path, "wb") as file:
-                generate.SHAPES[shape.__name__](generate.Capture(file), size)
+                generate.SHAPES[shape.__name__](wire.Capture(file), size)
             ran = subprocess.run([program, "--workers", "1", path], capture_output=True, text=True)
             found.append(Sample(f"{shape.__name__}_{place}", path.read_bytes(), ran.returncode, ran.stderr, ran.stdout))
     return found

@@ -15,7 +15,7 @@ import ssl
 import subprocess
 import unittest
 
-from bench import generate
+from bench import wire
 from h2audit.fleet import large, tasks
 from tools.tests import fleet_parts_test as parts
 from tools.tests import pcapng_blocks, tls_talk
@@ -40,11 +40,11 @@ def over_tls(folder: pathlib.Path) -> bytes:
     capture = tls_talk.Capture()
     for port in range(40000, 40012):
         talk = tls_talk.Talk(capture, pair, port).shake_hands()
-        talk.say(tls_talk.CLIENT, generate.PREFACE + generate.frame(4, 0, 0) + generate.frame(1, 5, 1, b"\x82"))
-        talk.say(tls_talk.SERVER, generate.frame(4, 0, 0) + generate.frame(1, 4, 1, b"\x88"))
+        talk.say(tls_talk.CLIENT, wire.PREFACE + wire.frame(4, 0, 0) + wire.frame(1, 5, 1, b"\x82"))
+        talk.say(tls_talk.SERVER, wire.frame(4, 0, 0) + wire.frame(1, 4, 1, b"\x88"))
         for _ in range(port % 12):
-            talk.say(tls_talk.SERVER, generate.frame(0, 0, 1, bytes(16000)))
-            talk.say(tls_talk.CLIENT, generate.window_update(1, 9000))
+            talk.say(tls_talk.SERVER, wire.frame(0, 0, 1, bytes(16000)))
+            talk.say(tls_talk.CLIENT, wire.window_update(1, 9000))
         talk.end()
     capture.write(folder / "tls")
     return (folder / "tls").read_bytes()

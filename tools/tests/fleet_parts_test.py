@@ -13,7 +13,7 @@ import subprocess
 import unittest
 from unittest import mock
 
-from bench import generate
+from bench import generate, wire
 from h2audit.fleet import large as tasks_of_large
 from h2audit.fleet import tasks
 from tests import captures as scripts
@@ -58,7 +58,7 @@ class Beside(unittest.TestCase):
     def large(self) -> pathlib.Path:
         path = self.machine.captures / "large.pcap"
         with open(path, "wb") as file:
-            capture = generate.Capture(file)
+            capture = wire.Capture(file)
             generate.connections(capture, 1200000)
             generate.strays(capture, 1300000)
             capture.record(b"no segment at all")

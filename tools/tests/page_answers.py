@@ -8,7 +8,7 @@ from h2audit.page.answer import attach
 from h2audit.page.document import page
 from h2audit.page.library import library
 from h2audit.page.model import Audit, read_audit
-from h2audit.why.spans import NAMES
+from h2audit.page.waterfall import NAMES
 
 Json = dict[str, Any]
 

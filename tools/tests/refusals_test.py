@@ -19,7 +19,7 @@ import subprocess
 import tempfile
 import unittest
 
-from bench.generate import CLIENT, SERVER, Capture, Connection, frame, window_update
+from bench.wire import CLIENT, SERVER, Capture, Connection, frame, window_update
 from tests.programs import needed
 
 TOP = pathlib.Path(__file__).resolve().parents[2]

@@ -8,7 +8,7 @@ from collections.abc import Callable
 from tests.captures import PREFACE, SYN, SYN_ACK, Capture, frame, number
 from tools.tests.why_tools import TOP, Json, OnCaptures, ran
 
-SCHEMA = json.loads((TOP / "h2audit" / "why" / "schema.json").read_text())
+SCHEMA = json.loads((TOP / "companions" / "why" / "schema.json").read_text())
 MS = 1_000_000
 DELAY, AHEAD = 50 * MS, 7_200_000 * MS
 GET = b"\x82\x86\x84"

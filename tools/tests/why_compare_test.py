@@ -17,7 +17,7 @@ from tools.tests.why_hostile_test import block
 from tools.tests.why_peers import Peers, can_capture, captured, nghttpd, nginx, proxy_to
 from tools.tests.why_tools import TOP, Json, OnCaptures, has_programs, programs_of, ran
 
-SCHEMA = json.loads((TOP / "h2audit" / "why" / "schema.json").read_text())
+SCHEMA = json.loads((TOP / "companions" / "why" / "schema.json").read_text())
 ROUND_TRIP = 0.24
 EXAMPLES = TOP / "examples"
 

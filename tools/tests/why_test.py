@@ -18,7 +18,7 @@ from tools.tests.why_tools import TOP, OnCaptures, Refused, has_programs, progra
 
 EXAMPLES = sorted((TOP / "examples").glob("*.pcap"))
 TLS = sorted(path for path in (TOP / "tests" / "tls").iterdir() if path.suffix in (".pcap", ".pcapng"))
-SCHEMA = json.loads((TOP / "h2audit" / "why" / "schema.json").read_text())
+SCHEMA = json.loads((TOP / "companions" / "why" / "schema.json").read_text())
 RANDOM_CAPTURES = 300
 
 

@@ -74,7 +74,7 @@ impl Connection {
             initials: Default::default(),
             windows: Default::default(),
             settings: Default::default(),
-            table: Table::new(about.round_trip.nanos().unwrap_or(0), asking.numbers),
+            table: Table::new(about.round_trip.nanos().unwrap_or(0), asking.numbers, asking.live.clone()),
             blocks: [(); 2].map(|()| Blocks::new(asking.names.are_wanted)),
             signals: Default::default(),
             leaks: leaks_of(&findings.stalls),
@@ -113,6 +113,11 @@ impl Connection {
             }
         });
         taken
+    }
+
+    /// Packs streams that go on.
+    pub fn park(&mut self) {
+        self.walk.table.park();
     }
 
     /// Whether no record of it with payload comes behind this one.
@@ -246,8 +251,8 @@ fn ended(walk: Walk, cuts: CutFrames<'_>, said: &mut ConnectionSaid) -> (Packed,
     said.settings = announced.get(..told).unwrap_or_default().to_vec();
     said.announced = announced;
     let unshown = unshown.map(|one| {
-        let found = one.map_or(Vec::new(), |one| one.1);
-        Stretches::new(found.into_iter().map(|(begin, end)| (begin, end, ())).collect())
+        let found = one.map(|one| one.1).filter(|found| !found.is_empty())?;
+        Some(Box::new(Stretches::new(found.into_iter().map(|(begin, end)| (begin, end, ())).collect())))
     });
     let seen = Seen {
         windows: WindowStalls::by_window(&said.stalls),

@@ -38,6 +38,7 @@ mod stalls;
 mod stream;
 mod table;
 mod tcp;
+mod telling;
 mod unanswered;
 mod unshown;
 mod walk;

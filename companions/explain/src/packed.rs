@@ -122,12 +122,19 @@ impl Packer<'_> {
         });
         self.at(one.asked);
         self.option(one.asked_credit, Packer::signed);
-        self.number(u64::from(one.window.was_live));
-        self.signed(one.window.credit);
-        self.option(one.window.largest, Packer::signed);
+        self.window(&one.window);
         self.number(one.granted);
         self.option(one.unshown.as_deref(), |packer, unshown| packer.option(unshown.since, Packer::time));
         self.signed(one.unshown_nanos);
+    }
+
+    fn window(&mut self, window: &Window) {
+        self.bytes.push(u8::from(window.was_live) | u8::from(window.is_live) << 1);
+        if window.was_live {
+            self.signed(window.credit);
+            self.option(window.largest, Packer::signed);
+            self.number(u64::from(window.change));
+        }
     }
 
     fn life(&mut self, life: &Life) {
@@ -215,8 +222,7 @@ impl Unpacker<'_> {
         });
         let asked = self.at();
         let asked_credit = self.option(Unpacker::signed);
-        let (was_live, credit) = (self.flag(), self.signed());
-        let window = Window::ended(was_live, credit, self.option(Unpacker::signed));
+        let window = self.window();
         let granted = self.number();
         let unshown = self.option(|unpacker| Unshown::waiting(round_trip, unpacker.option(Unpacker::time)));
         Direction {
@@ -236,6 +242,16 @@ impl Unpacker<'_> {
             unshown_nanos: self.signed(),
             kept: None,
         }
+    }
+
+    fn window(&mut self) -> Window {
+        let bits = self.byte();
+        if bits & 1 == 0 {
+            return Window::default();
+        }
+        let credit = self.signed();
+        let largest = self.option(Unpacker::signed);
+        Window { is_live: bits & 2 != 0, was_live: true, credit, largest, change: self.small() }
     }
 
     fn life(&mut self) -> Life {
@@ -296,8 +312,10 @@ mod tests {
         ]);
         one.life.last = Share::Idle;
         one.idle = Some(Box::new(Idle { before: None, credit: Some(-9), after: one.first }));
-        one.window.open(&Initial::default());
-        one.window.end(&Initial::default());
+        let mut initial = Initial::default();
+        initial.change(7);
+        one.window.open(&initial);
+        one.window.content(&initial, 3);
         one.unshown = Some(Box::new(Unshown::waiting(40, Some(17))));
         let mut bytes = Vec::new();
         pack(&stream, &mut bytes);

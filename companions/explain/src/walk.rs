@@ -1,6 +1,8 @@
 //! The second walk over one connection: its frames, in the order of the report's numbers.
 
+use std::cell::Cell;
 use std::collections::HashMap;
+use std::rc::Rc;
 
 use programs::Failure;
 
@@ -34,8 +36,9 @@ pub struct Asking {
     pub has_spans: bool,
     pub has_frames: bool,
     pub interner: Interner,
-    /// How numbers of streams are hashed.
+    /// How numbers of streams are hashed; and how many streams are not packed.
     pub numbers: Numbers,
+    pub live: Rc<Cell<usize>>,
 }
 
 /// What the frames of a connection told so far.
@@ -121,7 +124,7 @@ impl Walk {
             findings.take(&here, |window| credit_of(window, table, initials, windows))?;
         }
         for leaks in self.leaks.iter_mut().flatten() {
-            leaks.after(self.number, self.table.live());
+            leaks.after(self.number, &self.table);
         }
         self.overflow = None;
         let head = &frame.cut.head;
@@ -292,7 +295,7 @@ impl Walk {
             return;
         }
         let Values { header_table, values } = Values::of(cut.payload);
-        self.unanswered.sent(side, at, &values, (self.table.live(), &self.initials[1 - side]));
+        self.unanswered.sent(side, at, &values, (&self.table, &self.initials[1 - side]));
         self.settings.sent(side, at, values);
         if let Some(size) = header_table.filter(|_| asking.names.are_wanted) {
             self.blocks[1 - side].allow_table(size);

@@ -58,13 +58,13 @@ pub struct Side {
 /// Why TCP held back what a side sends.
 #[derive(Clone, Copy, Debug, PartialEq, Eq)]
 pub enum Why {
-    /// The other side's receive window was 0: from its packet to its next one with a window above 0. The window of an RST
-    /// says nothing, nor that of an opening SYN.
+    /// The other side's receive window was 0: from its packet to its next one with a window above 0. The window of an
+    /// RST says nothing, nor that of an opening SYN.
     ZeroWindow,
     /// Bytes came that the side had sent before: since its segment with payload before that one.
     Resent,
-    /// Bytes were missing: from the first segment behind them to the one after which none is missing up to the last that
-    /// came.
+    /// Bytes were missing: from the first segment behind them to the one after which none is missing up to the last
+    /// that came.
     Hole,
 }
 

@@ -44,9 +44,6 @@ pub fn imported(asked: &Asked<'_>, sink: &mut Sink<'_>, mut courses: Option<&mut
     let (mut summary, missed) = read_through(asked, files, &mut shared, sink, courses.as_deref_mut(), true)?;
     if !missed.is_empty() {
         sink.begin_anew()?;
-        if let Some(courses) = courses.as_deref_mut() {
-            *courses = Courses::default();
-        }
         shared.sessions = Default::default();
         shared.keys.add_text(&missed);
         summary = read_through(asked, files, &mut shared, sink, courses, false)?.0;
@@ -89,6 +86,10 @@ fn read_through(
     courses: Option<&mut Courses>,
     is_first: bool,
 ) -> Result<(Summary, Vec<u8>), Failure> {
+    let courses = courses.map(|courses| {
+        *courses = Courses::default();
+        courses
+    });
     let mut importer = Importer::new(shared, sink, courses, Progress::new(asked.program));
     for path in files {
         let has_bytes_behind = importer.file(path).map_err(|problem| problem.failure(Some(path)))?;

@@ -1,15 +1,15 @@
 //! Turns captures as people have them into one that h2audit reads, and says which packet of the original made each
-//! record: h2audit-import, and what stands before the audit of h2audit-any.
+//! record: h2audit-import, and what stands before the audit of other programs.
 //!
 //! The way of a packet:
 //!
 //! ```text
 //! captures ─ importing ─ table, connections ─ tls ─ sink
-//! segments               clear or TLS                capture and map
+//! segments               clear or TLS                capture and listener
 //! ```
 //!
-//! [`imported`] does the work of [`Asked`], into a [`Sink`] over a [`Target`], which takes the bytes of the capture that is
-//! made, and a [`Listener`], which takes all else in the same process:
+//! [`imported`] does the work of [`Asked`], into a [`Sink`] over a [`Target`], which takes the bytes of the capture that
+//! is made, and a [`Listener`], which takes all else in the same process:
 //!
 //! - each [`Record`] as it is written, with its number, its packet and its connection, so that who reads what is made
 //!   needs no table of connections. [`Written`] has its bytes, and where its payload stands;

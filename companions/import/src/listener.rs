@@ -40,7 +40,7 @@ pub struct Record<'a> {
     pub number: u64,
     /// Of the packet that completed it.
     pub arrival: Arrival,
-    /// Whose it is by h2audit's rules: the last opening of its pair among the records up to it. None where there is none.
+    /// Whose it is by h2audit's rules: the last opening of its pair among the records up to it.
     pub sender: Option<Sender>,
     /// Whether it opens that connection. h2audit numbers connections in the order of these records.
     pub is_opening: bool,

@@ -88,8 +88,8 @@ impl Sent {
         place < self.reached || place >= END_OF_OFFSETS - 1
     }
 
-    /// Whether these bytes came with a packet just before that was no other one: with the same identification, or, where
-    /// packets have none, at nearly the same time.
+    /// Whether these bytes came with a packet just before that was no other one: with the same identification, or,
+    /// where packets have none, at nearly the same time.
     fn is_double(&self, arrival: Arrival, print: &Print) -> bool {
         let is_close = |nanos: i64| arrival.nanos.saturating_sub(nanos).saturating_abs() <= CLOSE;
         let mut recent = self.recent.iter();

@@ -238,6 +238,7 @@ fn courses_of_captures() {
         let mut courses = Courses::default();
         let with = common::import(&path, &keys, Some(&mut courses), bytes).ok().unwrap();
         let without = common::import(&path, &keys, None, bytes).ok().unwrap();
+        common::import(&path, &keys, Some(&mut courses), bytes).ok().unwrap(); // takes back what was noted
         assert_eq!((&with.0, &with.1), (&without.0, &without.1));
         let openings: Vec<u64> = with.2.outcomes.iter().map(|outcome| outcome.opening).collect();
         assert_eq!(courses.connections.iter().map(|course| course.syn.packet).collect::<Vec<_>>(), openings);

@@ -1,4 +1,5 @@
-//! Each record comes with what a reader of the made capture finds for it by h2audit's rules (docs/AUDIT_RULES.md, 2 and 3).
+//! Each record comes with what a reader of the made capture finds for it by h2audit's rules (docs/AUDIT_RULES.md, 2
+//! and 3).
 
 mod common;
 

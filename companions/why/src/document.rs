@@ -1,4 +1,4 @@
-//! The answer for machines: one document, or a line for each request. h2audit/why/schema.json says what stands in it.
+//! The answer for machines: one document, or a line for each request. companions/why/schema.json says what stands in it.
 
 use std::io::{self, Write};
 

@@ -1,4 +1,4 @@
-"""Runs the import and the audit in a folder of their owner alone, which goes with every end of the program."""
+"""Runs the programs that audit and explain captures, in a folder of its owner alone, which goes with every end."""
 
 import contextlib
 import os
@@ -21,14 +21,11 @@ IN_RUST = HERE.parent / "companions" / "target" / "release"
 BUILT = {
     "h2audit": HERE.parent / "crates" / "h2audit_cli" / "out" / "h2audit_cli",
     "h2audit-any": IN_RUST / "h2audit-any",
-    "h2audit-import": IN_RUST / "h2audit-import",
     "h2audit-why": IN_RUST / "h2audit-why",
 }
 MOST_SAID = 1 << 16
 # How long a program may take to remove its files.
 MOST_SECONDS = 10
-# What an import leaves in a folder, and the report of an audit of what it made.
-MADE, MAP, COURSE, REPORT = (f"imported.{kind}" for kind in ("pcap", "map", "course", "report"))
 VARIABLES = {name: name.upper().replace("-", "_") for name in BUILT}
 
 
@@ -52,7 +49,7 @@ def folder() -> Iterator[Path]:
     """A folder for what holds plaintext, that its owner alone may enter. No signal comes between it and its removal."""
     before = signal.pthread_sigmask(signal.SIG_BLOCK, SIGNALS)
     try:
-        with tempfile.TemporaryDirectory(prefix="h2audit-why-") as path:
+        with tempfile.TemporaryDirectory(prefix="h2audit-page-") as path:
             signal.pthread_sigmask(signal.SIG_SETMASK, before)
             yield Path(path)
     finally:

@@ -1,0 +1,39 @@
+"""How times and numbers are worded: durations, counts, lists of streams, reasons why a connection was not read."""
+
+from collections.abc import Sequence
+
+MOST_NAMED = 8
+# Reasons of the map and forms of the report, in words; {n} is "3 connections".
+REASONS = {
+    "no-key": "{n} of TLS without a key in the key logs (-k)",
+    "wrong-key": "{n} of TLS whose keys in the key logs are those of another run",
+    "no-handshake": "{n} of which one direction alone was captured",
+    "not-http2": "{n} that spoke no HTTP/2, or began by an upgrade",
+    "no-preface": "{n} whose client sent no whole preface of HTTP/2",
+    "handshake-unfinished": "{n} of TLS that ended before the handshake did",
+}
+
+
+def time_of(nanos: int) -> str:
+    """A duration as a person says it: four digits from a second on, three below."""
+    for unit, size in (("s", 10**9), ("ms", 10**6), ("µs", 10**3)):
+        if nanos >= size:
+            if nanos >= 100 * size:
+                return f"{(nanos + size // 2) // size:,} {unit}"
+            digits = 3 if unit == "s" and nanos < 10 * size else 2 if nanos < 10 * size else 1
+            whole, rest = divmod((nanos * 10**digits + size // 2) // size, 10**digits)
+            return f"{whole}.{rest:0{digits}}".rstrip("0").rstrip(".") + f" {unit}"
+    return f"{nanos} ns"
+
+
+def count(number: int, one: str, many: str = "") -> str:
+    return f"{number:,} {one if number == 1 else many or one + 's'}"
+
+
+def streams_named(streams: Sequence[int]) -> str:
+    """The streams by their numbers: "stream 3", "streams 1, 3, 5", or so many from one to another."""
+    if len(streams) == 1:
+        return f"stream {streams[0]}"
+    if len(streams) <= MOST_NAMED:
+        return "streams " + ", ".join(map(str, streams))
+    return f"{len(streams):,} streams, {streams[0]} to {streams[-1]}"
