@@ -25,7 +25,7 @@ use crate::table::Table;
 use crate::tcp::Tcp;
 use crate::unanswered::Unanswered;
 use crate::unshown::Unshown;
-use crate::walk::{note_content, Asking, Walk};
+use crate::walk::{Asking, Walk};
 use crate::windows::FIRST_CREDIT;
 
 /// What of a field block is wanted: enough to see that it is too long.
@@ -231,7 +231,7 @@ fn ended(walk: Walk, cuts: CutFrames<'_>, said: &mut ConnectionSaid) -> (Packed,
         if known.back.is_some() {
             finish_kept(stream, &about, &signals.refusing, &cuts);
         }
-        note_content(stream, &mut uses_window);
+        stream.note_content(&mut uses_window);
     });
     said.round_trip = about.round_trip;
     said.captured_at = about.captured_at;

@@ -1,4 +1,4 @@
-//! Streams that are over, each in some hundred bytes: numbers beside those of the stream's opening, seven bits a byte.
+//! Streams that are over, each in some eighty bytes: numbers, seven bits a byte; times and places beside others before.
 
 use crate::answer::{At, Nanos, Share, Span};
 use crate::life::Life;
@@ -10,19 +10,29 @@ use crate::windows::Window;
 struct Packer<'a> {
     bytes: &'a mut Vec<u8>,
     opened: At,
+    /// The last place that was written in full.
+    last: At,
 }
 
 /// Reads them; where there are no more, each is 0.
 struct Unpacker<'a> {
     bytes: &'a [u8],
     opened: At,
+    last: At,
 }
+
+const NOWHERE: At = At { packet: 0, time: 0, frame: 0 };
+/// How a place is told: none, as the last one before, as the stream's opening, or in full.
+const NONE: u8 = 0;
+const AS_LAST: u8 = 1;
+const AS_OPENED: u8 = 2;
+const IN_FULL: u8 = 3;
 
 /// Adds a stream to some bytes.
 pub fn pack(stream: &Stream, bytes: &mut Vec<u8>) {
-    let mut packer = Packer { bytes, opened: At { packet: 0, time: 0, frame: 0 } };
+    let mut packer = Packer { bytes, opened: NOWHERE, last: NOWHERE };
     packer.numbers(&[stream.number, stream.order, stream.promised_on]);
-    packer.at(stream.opened);
+    packer.at(Some(stream.opened));
     packer.opened = stream.opened;
     packer.option(stream.request, |packer, asked| {
         packer.numbers(&[u32::from(asked.is_empty), asked.method, asked.path, asked.authority]);
@@ -35,7 +45,7 @@ pub fn pack(stream: &Stream, bytes: &mut Vec<u8>) {
     packer.small(stream.answer.grpc_status);
     packer.option(stream.reset, |packer, reset| {
         packer.number(reset.side as u64);
-        packer.at(reset.at);
+        packer.at(Some(reset.at));
         packer.number(u64::from(reset.code));
     });
     stream.sides.iter().for_each(|side| packer.direction(side));
@@ -43,9 +53,9 @@ pub fn pack(stream: &Stream, bytes: &mut Vec<u8>) {
 
 /// The stream that begins here.
 pub fn unpack(bytes: &[u8], round_trip: Nanos) -> Stream {
-    let mut unpacker = Unpacker { bytes, opened: At { packet: 0, time: 0, frame: 0 } };
+    let mut unpacker = Unpacker { bytes, opened: NOWHERE, last: NOWHERE };
     let [number, order, promised_on] = [(); 3].map(|()| unpacker.small());
-    let opened = unpacker.at();
+    let opened = unpacker.at().unwrap_or(NOWHERE);
     unpacker.opened = opened;
     let request = unpacker.option(|unpacker| Asked {
         is_empty: unpacker.flag(),
@@ -61,7 +71,7 @@ pub fn unpack(bytes: &[u8], round_trip: Nanos) -> Stream {
     let answer = Answer { fields, grpc_status: unpacker.option(Unpacker::small) };
     let reset = unpacker.option(|unpacker| Reset {
         side: usize::from(unpacker.flag()),
-        at: unpacker.at(),
+        at: unpacker.at().unwrap_or(NOWHERE),
         code: unpacker.small(),
     });
     let sides = [(); 2].map(|()| unpacker.direction(round_trip));
@@ -101,26 +111,33 @@ impl Packer<'_> {
         self.signed(time.wrapping_sub(self.opened.time));
     }
 
-    fn at(&mut self, at: At) {
-        self.signed(at.packet.wrapping_sub(self.opened.packet) as i64);
-        self.time(at.time);
-        self.signed(i64::from(at.frame) - i64::from(self.opened.frame));
+    fn at(&mut self, at: Option<At>) {
+        match at {
+            None => self.bytes.push(NONE),
+            Some(at) if at == self.last => self.bytes.push(AS_LAST),
+            Some(at) if at == self.opened => self.bytes.push(AS_OPENED),
+            Some(at) => {
+                self.bytes.push(IN_FULL);
+                self.signed(at.packet.wrapping_sub(self.last.packet) as i64);
+                self.signed(at.time.wrapping_sub(self.last.time));
+                self.signed(i64::from(at.frame) - i64::from(self.last.frame));
+                self.last = at;
+            }
+        }
     }
 
     fn direction(&mut self, one: &Direction) {
         self.life(&one.life);
         self.number(one.content);
-        for at in [one.first, one.last, one.end] {
-            self.option(at, Packer::at);
-        }
+        [one.first, one.last, one.end].into_iter().for_each(|at| self.at(at));
         self.option(one.last_credit, Packer::signed);
         self.number(u64::from(one.is_reset));
         self.option(one.idle.as_deref(), |packer, idle| {
-            packer.option(idle.before, Packer::at);
+            packer.at(idle.before);
             packer.option(idle.credit, Packer::signed);
-            packer.option(idle.after, Packer::at);
+            packer.at(idle.after);
         });
-        self.at(one.asked);
+        self.at(Some(one.asked));
         self.option(one.asked_credit, Packer::signed);
         self.window(&one.window);
         self.number(one.granted);
@@ -203,24 +220,33 @@ impl Unpacker<'_> {
         self.signed().wrapping_add(self.opened.time)
     }
 
-    fn at(&mut self) -> At {
-        let packet = self.opened.packet.wrapping_add(self.signed() as u64);
-        let time = self.time();
-        At { packet, time, frame: (i64::from(self.opened.frame) + self.signed()) as u32 }
+    fn at(&mut self) -> Option<At> {
+        match self.byte() {
+            NONE => return None,
+            AS_LAST => {}
+            AS_OPENED => return Some(self.opened),
+            _ => {
+                let packet = self.last.packet.wrapping_add(self.signed() as u64);
+                let time = self.last.time.wrapping_add(self.signed());
+                let frame = (i64::from(self.last.frame).wrapping_add(self.signed())) as u32;
+                self.last = At { packet, time, frame };
+            }
+        }
+        Some(self.last)
     }
 
     fn direction(&mut self, round_trip: Nanos) -> Direction {
         let life = self.life();
         let content = self.number();
-        let [first, last, end] = [(); 3].map(|()| self.option(Unpacker::at));
+        let [first, last, end] = [(); 3].map(|()| self.at());
         let last_credit = self.option(Unpacker::signed);
         let is_reset = self.flag();
         let idle = self.option(|unpacker| {
-            let before = unpacker.option(Unpacker::at);
+            let before = unpacker.at();
             let credit = unpacker.option(Unpacker::signed);
-            Box::new(Idle { before, credit, after: unpacker.option(Unpacker::at) })
+            Box::new(Idle { before, credit, after: unpacker.at() })
         });
-        let asked = self.at();
+        let asked = self.at().unwrap_or(NOWHERE);
         let asked_credit = self.option(Unpacker::signed);
         let window = self.window();
         let granted = self.number();

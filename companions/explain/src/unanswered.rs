@@ -127,3 +127,43 @@ fn highest_credit(side: usize, table: &Table, initial: &Initial) -> Option<(i64,
     });
     best.map(|(credit, _, stream)| (credit, stream))
 }
+
+#[cfg(test)]
+mod tests {
+    use super::*;
+    use crate::table::Numbers;
+    use std::rc::Rc;
+
+    fn at(frame: u32) -> At {
+        At { packet: u64::from(frame) * 10, time: 0, frame }
+    }
+
+    fn stream(number: u32) -> Stream {
+        let mut stream = Stream::new(number, number, at(1), false);
+        stream.sides[1].window.open(&Initial::default());
+        stream
+    }
+
+    #[test]
+    fn settings_that_would_take_a_window_too_high() {
+        let mut table = Table::new(0, Numbers::new(), Rc::default());
+        for number in [1, 3] {
+            table.open(number, |_| stream(number));
+        }
+        let mut unanswered = Unanswered::new(vec![5, 6], [1, 0]);
+        let most = [None, Some(MOST_CREDIT as u32), None];
+        unanswered.sent(0, at(4), &[None, Some(1000), None], (&table, &Initial::default()));
+        unanswered.sent(0, at(5), &[None, Some(2000), None], (&table, &Initial::default()));
+        unanswered.sent(0, at(6), &most, (&table, &Initial::default()));
+        let front = "the client's SETTINGS in packet 60 set an initial window of 2,147,483,647, which would take the \
+                     server's credit on stream 1 from 65,535 to 2,147,548,182, above 2^31 - 1 (RFC 9113, 6.9.2); the \
+                     server never acknowledged them";
+        assert_eq!(unanswered.said(), [front]);
+        unanswered.reset(1, at(8), FLOW_CONTROL_ERROR, &stream(3));
+        let reset = format!("{front}, and answered by RST_STREAM FLOW_CONTROL_ERROR on stream 3 in packet 80");
+        assert_eq!(unanswered.said(), [reset]);
+        unanswered.goaway(0, at(9), 0);
+        unanswered.goaway(1, at(10), 3);
+        assert_eq!(unanswered.said(), [format!("{front}, and answered by GOAWAY FLOW_CONTROL_ERROR in packet 100")]);
+    }
+}

@@ -17,7 +17,7 @@ use crate::names::Interner;
 use crate::seen::{About, Key};
 use crate::settings::{Settings, Values};
 use crate::signals::Signals;
-use crate::stream::{Answer, Asked, Kept, Met, Reset, Stream};
+use crate::stream::{Asked, Kept, Met, Reset, Stream};
 use crate::table::{Numbers, Table};
 use crate::unanswered::Unanswered;
 use crate::unshown::Unshown;
@@ -156,7 +156,7 @@ impl Walk {
                 leaks.content(Some(stream), length);
             }
             met(stream, frame, about, initials, windows);
-            note_use(stream, uses_window);
+            stream.note_use(uses_window);
         });
         if let (None, Some(leaks)) = (touched, &mut leaks[side]) {
             leaks.content(None, length);
@@ -175,7 +175,7 @@ impl Walk {
             let Walk { table, initials, windows, about, uses_window, .. } = self;
             table.touch(number, |stream| {
                 met(stream, frame, about, initials, windows);
-                note_use(stream, uses_window);
+                stream.note_use(uses_window);
             });
         }
         let octets = body.and_then(|(begin, end)| cut.payload.get(begin..end.min(cut.payload.len())));
@@ -257,7 +257,7 @@ impl Walk {
                 stream.request = Some(asked_of(&fields, *names, interner));
             }
             if !is_promise && side == import::SERVER {
-                answer(&mut stream.answer, &fields);
+                stream.answer.take(answered_of(&fields));
             }
         });
     }
@@ -279,7 +279,7 @@ impl Walk {
             leaks.iter_mut().flatten().for_each(|leaks| leaks.reset(stream));
             signals.reset(stream, &reset);
             unanswered.reset(side, at, code, stream);
-            note_use(stream, uses_window);
+            stream.note_use(uses_window);
         });
     }
 
@@ -367,28 +367,6 @@ fn met(stream: &mut Stream, frame: Frame<'_>, about: &About, initials: &[Initial
     if cut.head.kind != kind::CONTINUATION && cut.head.has(flag::END_STREAM) {
         stream.sides[side].window.end(&initials[side]);
         stream.sides[side].finish_at(at);
-    }
-}
-
-fn note_use(stream: &Stream, uses: &mut [bool; 2]) {
-    if stream.is_over() {
-        note_content(stream, uses);
-    }
-}
-
-/// Whether a stream that is over had more content than its window held at once, so that its sender may have waited.
-pub fn note_content(stream: &Stream, uses: &mut [bool; 2]) {
-    for (side, uses) in stream.sides.iter().zip(uses) {
-        let window = side.window.largest.unwrap_or(0);
-        *uses |= window > 0 && i128::from(side.content) >= i128::from(window);
-    }
-}
-
-fn answer(answer: &mut Answer, fields: &hpack::Fields) {
-    let said = answered_of(fields);
-    match answer.fields {
-        Some(before) if !before.is_informational => answer.grpc_status = said.grpc_status,
-        _ => answer.fields = Some(said),
     }
 }
 
