@@ -6,6 +6,7 @@ use reports::{Finding, Side};
 
 use crate::frames::Frames;
 pub use crate::requests::Requests;
+pub use crate::rounds::{Place, RoundTrip, Source};
 
 /// Nanoseconds since 1970, or between two moments.
 pub type Nanos = i64;
@@ -17,31 +18,6 @@ pub struct At {
     pub packet: u64,
     pub time: Nanos,
     pub frame: u32,
-}
-
-/// By what the round trip is known.
-#[derive(Clone, Copy, Debug, PartialEq, Eq)]
-pub enum Source {
-    Handshake,
-    Http2,
-}
-
-/// Nanoseconds from the place of the capture to each side and back, by TCP's handshake or by HTTP/2's answers. Each pair
-/// is by sides.
-#[derive(Clone, Copy, Debug, Default, PartialEq, Eq)]
-pub struct RoundTrip {
-    pub source: Option<Source>,
-    pub to: Option<[Nanos; 2]>,
-    pub handshake: Option<[Nanos; 2]>,
-    pub http2: [Option<Nanos>; 2],
-}
-
-/// Where a connection was captured.
-#[derive(Clone, Copy, Debug, PartialEq, Eq)]
-pub enum Place {
-    AtClient,
-    AtServer,
-    Between,
 }
 
 /// How a stall ended.

@@ -148,11 +148,13 @@ impl Held<'_> {
             return None;
         }
         let (begin, end) = self.life(side);
-        let connection = &self.seen.unshown[side];
-        let (first, last) = connection.within(begin, end);
+        let of_connection = self.seen.unshown[side].as_ref().map_or(0, |times| {
+            let (first, last) = times.within(begin, end);
+            times.sum(first, last)
+        });
         let found = [
             (CauseKind::StreamWindow, self.stream.sides[side].unshown_nanos),
-            (CauseKind::ConnectionWindow, connection.sum(first, last)),
+            (CauseKind::ConnectionWindow, of_connection),
         ];
         let mut most: Option<Cause> = None;
         for (kind, nanos) in found.into_iter().filter(|one| is_held(one.1, self.request)) {

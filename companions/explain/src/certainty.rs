@@ -122,3 +122,82 @@ fn initial_window(settings: &Settings, side: usize) -> (Vec<At>, String) {
         }
     }
 }
+
+#[cfg(test)]
+mod tests {
+    use super::*;
+    use crate::learning::Learned;
+    use captures::Arrival;
+    use reports::{Kind, Side};
+
+    fn at(packet: u64) -> At {
+        At { packet, time: 0, frame: packet as u32 }
+    }
+
+    fn fault(kind: &str, stream: u64, value: i64) -> Finding {
+        Finding { frame: 9, record: 9, time: 0, side: Side::Server, kind: Kind::of(kind), stream, value }
+    }
+
+    fn known() -> Known {
+        Learned::new(1, at(1), 0).known()
+    }
+
+    fn settings() -> Settings {
+        let mut settings = Settings::default();
+        settings.sent(0, at(2), [None, Some(1000), None]);
+        settings.acknowledged(1, at(3));
+        settings.sent(0, at(4), [Some(1), Some(5000), Some(20_000)]);
+        settings
+    }
+
+    #[test]
+    fn the_first_doubt_counts() {
+        let mut known = known();
+        let overrun = fault("stream-overrun", 1, -10);
+        assert_eq!(certainty_of(&overrun, &known, &Settings::default()), (Certainty::Certain, String::new()));
+        let (certainty, why) = certainty_of(&overrun, &known, &settings());
+        assert_eq!(certainty, Certainty::Settings);
+        let gone = "it is gone if the SETTINGS in packet 4 count from there on: the server had not acknowledged them";
+        assert_eq!(why, gone);
+        known.back = Some((9, 70));
+        assert_eq!(certainty_of(&overrun, &known, &settings()).0, Certainty::Clock);
+        known.gaps[0] = Some(Arrival { packet: 5, nanos: 0 });
+        known.arrivals[0] = 9;
+        assert_eq!(certainty_of(&overrun, &known, &settings()).0, Certainty::Clock, "the gap is behind it");
+        known.arrivals[0] = 8;
+        assert_eq!(certainty_of(&overrun, &known, &settings()).0, Certainty::Gap);
+    }
+
+    #[test]
+    fn settings_on_which_a_fault_hangs() {
+        let certainty = |kind, value| certainty_of(&fault(kind, 1, value), &known(), &settings()).0;
+        assert_eq!(certainty("stream-overrun", -4001), Certainty::Certain);
+        assert_eq!(certainty("stream-overrun", -4000), Certainty::Settings);
+        assert_eq!(certainty("long-frame", 20_000), Certainty::Settings);
+        assert_eq!(certainty("too-long", 20_001), Certainty::Certain);
+        assert_eq!(certainty("push", 0), Certainty::Settings);
+        assert_eq!(certainty("after-end", 0), Certainty::Certain);
+    }
+
+    #[test]
+    fn packets_that_set_a_window() {
+        let overrun = fault("stream-overrun", 1, -1);
+        let mut grants = windows_of(std::slice::from_ref(&overrun));
+        let (places, text) = set_by(&overrun, &settings(), &grants);
+        assert_eq!(places, [at(2), at(3)]);
+        let initial = "initial window 1,000 by SETTINGS in packet 2, acknowledged in packet 3";
+        assert_eq!(text, format!("{initial}; nothing granted"));
+        for packet in 10..20 {
+            grants.entry((1, 1)).or_default().add(at(packet), 700);
+        }
+        let (places, text) = set_by(&overrun, &settings(), &grants);
+        assert_eq!(places.len(), 2 + MOST_GRANTS);
+        let granted = "7,000 granted in 10 WINDOW_UPDATE (the last in packets 12, 13, 14, 15, 16, 17, 18, 19)";
+        assert_eq!(text, format!("{initial}; {granted}"));
+        let other = set_by(&fault("push", 1, 0), &settings(), &grants);
+        assert_eq!(other, (Vec::new(), String::new()));
+        let connection = fault("connection-overrun", 0, -1);
+        let grants = windows_of(std::slice::from_ref(&connection));
+        assert_eq!(set_by(&connection, &settings(), &grants).1, "65,535 at first; nothing granted");
+    }
+}

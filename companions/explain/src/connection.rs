@@ -25,7 +25,7 @@ use crate::table::Table;
 use crate::tcp::Tcp;
 use crate::unanswered::Unanswered;
 use crate::unshown::Unshown;
-use crate::walk::{note_content, Asking, Walk};
+use crate::walk::{Asking, Walk};
 use crate::windows::FIRST_CREDIT;
 
 /// What of a field block is wanted: enough to see that it is too long.
@@ -74,7 +74,7 @@ impl Connection {
             initials: Default::default(),
             windows: Default::default(),
             settings: Default::default(),
-            table: Table::new(about.round_trip.nanos().unwrap_or(0), asking.numbers),
+            table: Table::new(about.round_trip.nanos().unwrap_or(0), asking.numbers, asking.live.clone()),
             blocks: [(); 2].map(|()| Blocks::new(asking.names.are_wanted)),
             signals: Default::default(),
             leaks: leaks_of(&findings.stalls),
@@ -113,6 +113,11 @@ impl Connection {
             }
         });
         taken
+    }
+
+    /// Packs streams that go on.
+    pub fn park(&mut self) {
+        self.walk.table.park();
     }
 
     /// Whether no record of it with payload comes behind this one.
@@ -226,7 +231,7 @@ fn ended(walk: Walk, cuts: CutFrames<'_>, said: &mut ConnectionSaid) -> (Packed,
         if known.back.is_some() {
             finish_kept(stream, &about, &signals.refusing, &cuts);
         }
-        note_content(stream, &mut uses_window);
+        stream.note_content(&mut uses_window);
     });
     said.round_trip = about.round_trip;
     said.captured_at = about.captured_at;
@@ -246,8 +251,8 @@ fn ended(walk: Walk, cuts: CutFrames<'_>, said: &mut ConnectionSaid) -> (Packed,
     said.settings = announced.get(..told).unwrap_or_default().to_vec();
     said.announced = announced;
     let unshown = unshown.map(|one| {
-        let found = one.map_or(Vec::new(), |one| one.1);
-        Stretches::new(found.into_iter().map(|(begin, end)| (begin, end, ())).collect())
+        let found = one.map(|one| one.1).filter(|found| !found.is_empty())?;
+        Some(Box::new(Stretches::new(found.into_iter().map(|(begin, end)| (begin, end, ())).collect())))
     });
     let seen = Seen {
         windows: WindowStalls::by_window(&said.stalls),

@@ -4,6 +4,7 @@ use std::collections::HashMap;
 
 use crate::answer::Leak;
 use crate::stream::Stream;
+use crate::table::Table;
 use crate::windows::FIRST_CREDIT;
 
 /// A stall that may be one: which, and the frames at which it begins and ends.
@@ -87,10 +88,10 @@ impl Leaks {
     }
 
     /// All that a frame does is done.
-    pub fn after<'a>(&mut self, frame: u32, live: impl Iterator<Item = &'a Stream>) {
+    pub fn after(&mut self, frame: u32, table: &Table) {
         if self.candidates.last().map_or(false, |one| one.begin == frame) {
             if let Some(candidate) = self.candidates.pop() {
-                self.begin(candidate, live);
+                self.begin(candidate, table);
             }
         }
         if self.going_on.as_ref().map_or(false, |one| one.candidate.end == Some(frame)) {
@@ -98,7 +99,7 @@ impl Leaks {
         }
     }
 
-    fn begin<'a>(&mut self, candidate: Candidate, live: impl Iterator<Item = &'a Stream>) {
+    fn begin(&mut self, candidate: Candidate, table: &Table) {
         let side = self.side;
         let mut one = GoingOn {
             candidate,
@@ -108,12 +109,14 @@ impl Leaks {
             unread: 0,
             live: HashMap::new(),
         };
-        for stream in live.filter(|stream| stream.reset.is_none() && stream.sides[side].content > 0) {
+        table.each_going_on(|stream| {
             let sent = &stream.sides[side];
-            let unread = if sent.end.is_some() { 0 } else { sent.content.saturating_sub(sent.granted) };
-            one.live.insert(stream.number, (sent.content, unread));
-            one.unread = one.unread.saturating_add(unread);
-        }
+            if stream.reset.is_none() && sent.content > 0 {
+                let unread = if sent.end.is_some() { 0 } else { sent.content.saturating_sub(sent.granted) };
+                one.live.insert(stream.number, (sent.content, unread));
+                one.unread = one.unread.saturating_add(unread);
+            }
+        });
         self.going_on = Some(one);
     }
 
@@ -151,12 +154,22 @@ mod tests {
     use super::*;
     use crate::answer::At;
     use crate::stream::Reset;
+    use crate::table::Numbers;
+    use std::rc::Rc;
 
     fn stream(number: u32, content: u64, granted: u64) -> Stream {
         let mut stream = Stream::new(number, number, At { packet: 0, time: 0, frame: number }, false);
         stream.sides[1].content = content;
         stream.sides[1].granted = granted;
         stream
+    }
+
+    fn table(streams: &[Stream]) -> Table {
+        let mut table = Table::new(0, Numbers::new(), Rc::default());
+        for stream in streams {
+            table.open(stream.number, |_| stream.clone());
+        }
+        table
     }
 
     fn leaks(end: Option<u32>) -> Leaks {
@@ -174,11 +187,11 @@ mod tests {
         one.content(Some(&stream(3, 30_000, 0)), 30_000);
         one.grant(1000);
         reset(&mut one, stream(3, 30_000, 0));
-        let live = [stream(1, 20_000, 0), stream(5, 15_000, 15_000)];
-        one.after(20, live.iter());
+        let live = table(&[stream(1, 20_000, 0), stream(5, 15_000, 15_000)]);
+        one.after(20, &live);
         reset(&mut one, stream(1, 25_000, 0));
         one.grant(500);
-        one.after(30, live.iter());
+        one.after(30, &live);
         let (stall, leak) = &one.found[0];
         assert_eq!((*stall, &leak.streams[..], leak.used, leak.granted), (7, &[1, 3][..], 50_000, 1000));
     }
@@ -187,7 +200,7 @@ mod tests {
     fn content_behind_the_begin_is_not_used() {
         let mut one = leaks(None);
         one.content(None, 1);
-        one.after(20, [stream(1, 0, 0)].iter());
+        one.after(20, &table(&[stream(1, 0, 0)]));
         reset(&mut one, stream(1, 65_535, 0));
         one.end();
         assert!(one.found.is_empty());
@@ -198,7 +211,7 @@ mod tests {
         let mut one = leaks(None);
         one.content(Some(&stream(3, 10_000, 0)), 10_000);
         reset(&mut one, stream(3, 10_000, 0));
-        one.after(20, [stream(1, 55_000, 0)].iter());
+        one.after(20, &table(&[stream(1, 55_000, 0)]));
         one.end();
         assert!(one.found.is_empty());
     }

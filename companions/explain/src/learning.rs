@@ -104,10 +104,10 @@ impl Learned {
     }
 
     /// One that begins anew, with what is known of it now, where it has to be read once more.
-    pub fn anew(&self) -> Option<Learned> {
+    pub fn anew(&self) -> Option<Box<Learned>> {
         let Learned { record, opened, last, back, initials, .. } = *self;
         let again = Learned::new(record, opened, initials[0].unwrap_or(0));
-        (self.is_early && initials[1].is_some()).then(|| Learned { last, back, initials, ..again })
+        (self.is_early && initials[1].is_some()).then(|| Box::new(Learned { last, back, initials, ..again }))
     }
 
     /// A record of a side came.
@@ -222,7 +222,7 @@ impl Answers {
 /// Listens to an import.
 pub struct Learning {
     /// By the import's numbers.
-    pub connections: Vec<Option<Learned>>,
+    pub connections: Vec<Option<Box<Learned>>>,
     /// Those numbers in the order of the records that open connections, which is h2audit's.
     pub order: Vec<usize>,
     pub files: Files,
@@ -247,7 +247,7 @@ impl Learning {
         if self.connections.len() <= connection {
             self.connections.resize_with(connection + 1, || None);
         }
-        self.connections[connection] = Some(Learned::new(record.number, at, record.segment.sequence));
+        self.connections[connection] = Some(Box::new(Learned::new(record.number, at, record.segment.sequence)));
         self.order.push(connection);
     }
 }

@@ -15,6 +15,8 @@ mod building;
 mod causes;
 mod certainty;
 mod connection;
+#[cfg(test)]
+mod conversations;
 mod course;
 mod cutter;
 mod doubts;
@@ -40,6 +42,7 @@ mod stalls;
 mod stream;
 mod table;
 mod tcp;
+mod telling;
 mod unanswered;
 mod unshown;
 mod walk;

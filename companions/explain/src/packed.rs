@@ -1,4 +1,4 @@
-//! Streams that are over, each in some hundred bytes: numbers beside those of the stream's opening, seven bits a byte.
+//! Streams that are over, each in some eighty bytes: numbers, seven bits a byte; times and places beside others before.
 
 use crate::answer::{At, Nanos, Share, Span};
 use crate::life::Life;
@@ -10,19 +10,29 @@ use crate::windows::Window;
 struct Packer<'a> {
     bytes: &'a mut Vec<u8>,
     opened: At,
+    /// The last place that was written in full.
+    last: At,
 }
 
 /// Reads them; where there are no more, each is 0.
 struct Unpacker<'a> {
     bytes: &'a [u8],
     opened: At,
+    last: At,
 }
+
+const NOWHERE: At = At { packet: 0, time: 0, frame: 0 };
+/// How a place is told: none, as the last one before, as the stream's opening, or in full.
+const NONE: u8 = 0;
+const AS_LAST: u8 = 1;
+const AS_OPENED: u8 = 2;
+const IN_FULL: u8 = 3;
 
 /// Adds a stream to some bytes.
 pub fn pack(stream: &Stream, bytes: &mut Vec<u8>) {
-    let mut packer = Packer { bytes, opened: At { packet: 0, time: 0, frame: 0 } };
+    let mut packer = Packer { bytes, opened: NOWHERE, last: NOWHERE };
     packer.numbers(&[stream.number, stream.order, stream.promised_on]);
-    packer.at(stream.opened);
+    packer.at(Some(stream.opened));
     packer.opened = stream.opened;
     packer.option(stream.request, |packer, asked| {
         packer.numbers(&[u32::from(asked.is_empty), asked.method, asked.path, asked.authority]);
@@ -35,7 +45,7 @@ pub fn pack(stream: &Stream, bytes: &mut Vec<u8>) {
     packer.small(stream.answer.grpc_status);
     packer.option(stream.reset, |packer, reset| {
         packer.number(reset.side as u64);
-        packer.at(reset.at);
+        packer.at(Some(reset.at));
         packer.number(u64::from(reset.code));
     });
     stream.sides.iter().for_each(|side| packer.direction(side));
@@ -43,9 +53,9 @@ pub fn pack(stream: &Stream, bytes: &mut Vec<u8>) {
 
 /// The stream that begins here.
 pub fn unpack(bytes: &[u8], round_trip: Nanos) -> Stream {
-    let mut unpacker = Unpacker { bytes, opened: At { packet: 0, time: 0, frame: 0 } };
+    let mut unpacker = Unpacker { bytes, opened: NOWHERE, last: NOWHERE };
     let [number, order, promised_on] = [(); 3].map(|()| unpacker.small());
-    let opened = unpacker.at();
+    let opened = unpacker.at().unwrap_or(NOWHERE);
     unpacker.opened = opened;
     let request = unpacker.option(|unpacker| Asked {
         is_empty: unpacker.flag(),
@@ -61,7 +71,7 @@ pub fn unpack(bytes: &[u8], round_trip: Nanos) -> Stream {
     let answer = Answer { fields, grpc_status: unpacker.option(Unpacker::small) };
     let reset = unpacker.option(|unpacker| Reset {
         side: usize::from(unpacker.flag()),
-        at: unpacker.at(),
+        at: unpacker.at().unwrap_or(NOWHERE),
         code: unpacker.small(),
     });
     let sides = [(); 2].map(|()| unpacker.direction(round_trip));
@@ -101,33 +111,47 @@ impl Packer<'_> {
         self.signed(time.wrapping_sub(self.opened.time));
     }
 
-    fn at(&mut self, at: At) {
-        self.signed(at.packet.wrapping_sub(self.opened.packet) as i64);
-        self.time(at.time);
-        self.signed(i64::from(at.frame) - i64::from(self.opened.frame));
+    fn at(&mut self, at: Option<At>) {
+        match at {
+            None => self.bytes.push(NONE),
+            Some(at) if at == self.last => self.bytes.push(AS_LAST),
+            Some(at) if at == self.opened => self.bytes.push(AS_OPENED),
+            Some(at) => {
+                self.bytes.push(IN_FULL);
+                self.signed(at.packet.wrapping_sub(self.last.packet) as i64);
+                self.signed(at.time.wrapping_sub(self.last.time));
+                self.signed(i64::from(at.frame) - i64::from(self.last.frame));
+                self.last = at;
+            }
+        }
     }
 
     fn direction(&mut self, one: &Direction) {
         self.life(&one.life);
         self.number(one.content);
-        for at in [one.first, one.last, one.end] {
-            self.option(at, Packer::at);
-        }
+        [one.first, one.last, one.end].into_iter().for_each(|at| self.at(at));
         self.option(one.last_credit, Packer::signed);
         self.number(u64::from(one.is_reset));
         self.option(one.idle.as_deref(), |packer, idle| {
-            packer.option(idle.before, Packer::at);
+            packer.at(idle.before);
             packer.option(idle.credit, Packer::signed);
-            packer.option(idle.after, Packer::at);
+            packer.at(idle.after);
         });
-        self.at(one.asked);
+        self.at(Some(one.asked));
         self.option(one.asked_credit, Packer::signed);
-        self.number(u64::from(one.window.was_live));
-        self.signed(one.window.credit);
-        self.option(one.window.largest, Packer::signed);
+        self.window(&one.window);
         self.number(one.granted);
         self.option(one.unshown.as_deref(), |packer, unshown| packer.option(unshown.since, Packer::time));
         self.signed(one.unshown_nanos);
+    }
+
+    fn window(&mut self, window: &Window) {
+        self.bytes.push(u8::from(window.was_live) | u8::from(window.is_live) << 1);
+        if window.was_live {
+            self.signed(window.credit);
+            self.option(window.largest, Packer::signed);
+            self.number(u64::from(window.change));
+        }
     }
 
     fn life(&mut self, life: &Life) {
@@ -196,27 +220,35 @@ impl Unpacker<'_> {
         self.signed().wrapping_add(self.opened.time)
     }
 
-    fn at(&mut self) -> At {
-        let packet = self.opened.packet.wrapping_add(self.signed() as u64);
-        let time = self.time();
-        At { packet, time, frame: (i64::from(self.opened.frame) + self.signed()) as u32 }
+    fn at(&mut self) -> Option<At> {
+        match self.byte() {
+            NONE => return None,
+            AS_LAST => {}
+            AS_OPENED => return Some(self.opened),
+            _ => {
+                let packet = self.last.packet.wrapping_add(self.signed() as u64);
+                let time = self.last.time.wrapping_add(self.signed());
+                let frame = (i64::from(self.last.frame).wrapping_add(self.signed())) as u32;
+                self.last = At { packet, time, frame };
+            }
+        }
+        Some(self.last)
     }
 
     fn direction(&mut self, round_trip: Nanos) -> Direction {
         let life = self.life();
         let content = self.number();
-        let [first, last, end] = [(); 3].map(|()| self.option(Unpacker::at));
+        let [first, last, end] = [(); 3].map(|()| self.at());
         let last_credit = self.option(Unpacker::signed);
         let is_reset = self.flag();
         let idle = self.option(|unpacker| {
-            let before = unpacker.option(Unpacker::at);
+            let before = unpacker.at();
             let credit = unpacker.option(Unpacker::signed);
-            Box::new(Idle { before, credit, after: unpacker.option(Unpacker::at) })
+            Box::new(Idle { before, credit, after: unpacker.at() })
         });
-        let asked = self.at();
+        let asked = self.at().unwrap_or(NOWHERE);
         let asked_credit = self.option(Unpacker::signed);
-        let (was_live, credit) = (self.flag(), self.signed());
-        let window = Window::ended(was_live, credit, self.option(Unpacker::signed));
+        let window = self.window();
         let granted = self.number();
         let unshown = self.option(|unpacker| Unshown::waiting(round_trip, unpacker.option(Unpacker::time)));
         Direction {
@@ -236,6 +268,16 @@ impl Unpacker<'_> {
             unshown_nanos: self.signed(),
             kept: None,
         }
+    }
+
+    fn window(&mut self) -> Window {
+        let bits = self.byte();
+        if bits & 1 == 0 {
+            return Window::default();
+        }
+        let credit = self.signed();
+        let largest = self.option(Unpacker::signed);
+        Window { is_live: bits & 2 != 0, was_live: true, credit, largest, change: self.small() }
     }
 
     fn life(&mut self) -> Life {
@@ -296,8 +338,10 @@ mod tests {
         ]);
         one.life.last = Share::Idle;
         one.idle = Some(Box::new(Idle { before: None, credit: Some(-9), after: one.first }));
-        one.window.open(&Initial::default());
-        one.window.end(&Initial::default());
+        let mut initial = Initial::default();
+        initial.change(7);
+        one.window.open(&initial);
+        one.window.content(&initial, 3);
         one.unshown = Some(Box::new(Unshown::waiting(40, Some(17))));
         let mut bytes = Vec::new();
         pack(&stream, &mut bytes);

@@ -1,6 +1,6 @@
 //! The round trip of a connection and the place where it was captured, by the times of answers (docs/WHY.md, 5).
 
-use crate::answer::{Nanos, Place, RoundTrip, Source};
+use crate::answer::Nanos;
 
 /// Below this both ends are too near to tell them apart.
 pub const NEAR: Nanos = 1_000_000;
@@ -9,6 +9,31 @@ const TIMES: Nanos = 4;
 const LEAST_PAUSE: Nanos = 1_000_000;
 /// A peer may take some milliseconds for its first answer; only from here on it tells of the way.
 const LEAST_ANSWER: Nanos = 10_000_000;
+
+/// By what the round trip is known.
+#[derive(Clone, Copy, Debug, PartialEq, Eq)]
+pub enum Source {
+    Handshake,
+    Http2,
+}
+
+/// Nanoseconds from the place of the capture to each side and back, by TCP's handshake or by HTTP/2's answers. Each pair
+/// is by sides.
+#[derive(Clone, Copy, Debug, Default, PartialEq, Eq)]
+pub struct RoundTrip {
+    pub source: Option<Source>,
+    pub to: Option<[Nanos; 2]>,
+    pub handshake: Option<[Nanos; 2]>,
+    pub http2: [Option<Nanos>; 2],
+}
+
+/// Where a connection was captured.
+#[derive(Clone, Copy, Debug, PartialEq, Eq)]
+pub enum Place {
+    AtClient,
+    AtServer,
+    Between,
+}
 
 /// TCP's handshake counts, unless HTTP/2's own answers take far longer: then something between ends TCP.
 pub fn round_trip_of(handshake: Option<[Nanos; 2]>, http2: [Option<Nanos>; 2]) -> RoundTrip {

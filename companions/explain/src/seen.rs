@@ -76,7 +76,7 @@ pub struct Seen {
     /// The most credit of the connection's windows.
     pub connection_windows: [i64; 2],
     /// Pauses that began with the connection's credit used up, where stalls may not show.
-    pub unshown: [Stretches<()>; 2],
+    pub unshown: [Option<Box<Stretches<()>>>; 2],
     /// By the side that sends: each acknowledgement of an initial window, and which of all that were announced it is.
     pub in_force: [Vec<(u32, u32)>; 2],
 }

@@ -81,3 +81,44 @@ impl Signals {
         said
     }
 }
+
+#[cfg(test)]
+mod tests {
+    use super::*;
+
+    fn at(frame: u32) -> At {
+        At { packet: u64::from(frame), time: 0, frame }
+    }
+
+    #[test]
+    fn what_peers_said() {
+        let mut signals = Signals::default();
+        for (frame, stream, code) in [(7, 3, 8), (8, 3, 2), (5, 1, 11)] {
+            let stream = Stream::new(stream, stream, at(1), false);
+            signals.reset(&stream, &Reset { side: 0, at: at(frame), code });
+        }
+        signals.goaway(1, at(6), (9, 0), b"");
+        signals.goaway(1, at(9), (5, 0), b"a\xff");
+        signals.goaway(0, at(10), (5, 3), b"");
+        assert_eq!(signals.refusing[1].map(|one| (one.last, one.at.frame)), Some((5, 9)));
+        assert_eq!(signals.error().and_then(|error| error.code), Some(3));
+        let said = signals.said();
+        let frames: Vec<_> = said.iter().map(|one| (one.at.frame, one.is_goaway, one.code)).collect();
+        assert_eq!(frames, [(5, false, 11), (6, true, 0), (8, false, 2), (9, true, 0), (10, true, 3)]);
+        assert_eq!((said[1].debug.as_deref(), said[3].debug.as_deref()), (None, Some("a\\xff")));
+    }
+
+    #[test]
+    fn of_many_resets_those_of_the_first_streams() {
+        let mut signals = Signals::default();
+        for number in (0..3 * MOST_SIGNALS as u32).rev() {
+            let stream = Stream::new(number, number, at(1), false);
+            signals.reset(&stream, &Reset { side: 0, at: at(number + 1), code: 2 });
+        }
+        let said = signals.said();
+        assert_eq!(
+            (said.len(), said.last().map(|one| one.stream)),
+            (2 * MOST_SIGNALS, Some(2 * MOST_SIGNALS as u32 - 1))
+        );
+    }
+}

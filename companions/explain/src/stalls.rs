@@ -81,3 +81,65 @@ pub fn may_be_leaks(stalls: &[StallSaid]) -> Vec<usize> {
     found.truncate(MOST_LEAKS);
     found
 }
+
+#[cfg(test)]
+mod tests {
+    use super::*;
+    use crate::tcp::at_of;
+    use captures::Arrival;
+    use import::{Course, Held, Why};
+
+    const MS: Nanos = 1_000_000;
+
+    fn tcp(held: Vec<Held>) -> Tcp {
+        let last = Arrival { packet: 9, nanos: 900 * MS };
+        let mut course = Course { syn: last, syn_ack: None, ack: None, sides: Default::default(), held };
+        Tcp::new(&mut course, at_of(last))
+    }
+
+    fn stall(begin: Nanos, end: Option<Nanos>) -> Stalled {
+        let at = |frame, time| StallAt { frame, record: 0, time, credit: 0 };
+        Stalled { side: 1, stream: 0, begin: at(1, begin), end: end.map(|end| at(2, end)) }
+    }
+
+    fn round_trip() -> RoundTrip {
+        RoundTrip { to: Some([20 * MS, 0]), ..RoundTrip::default() }
+    }
+
+    #[test]
+    fn a_stall_without_an_end() {
+        let said = stall_said(&stall(100 * MS, None), &tcp(Vec::new()), Nanos::MAX, &round_trip());
+        assert_eq!((said.why, said.until, said.nanos), (StallWhy::GrantedNothing, 900 * MS, 800 * MS));
+        let said = stall_said(&stall(100 * MS, None), &tcp(Vec::new()), 300 * MS, &round_trip());
+        assert_eq!(said.nanos, 200 * MS, "behind that nothing was seen");
+    }
+
+    #[test]
+    fn reasons() {
+        let why = |nanos, held| {
+            let said = stall_said(&stall(0, Some(nanos)), &tcp(held), Nanos::MAX, &round_trip());
+            (said.why, said.late)
+        };
+        assert_eq!(why(31 * MS, Vec::new()), (StallWhy::RoundTrip, 11 * MS));
+        assert_eq!(why(31 * MS + 1, Vec::new()).0, StallWhy::GrantedLate);
+        let resent = Held { begin: 10 * MS, end: 35 * MS, first: 5, last: None, bytes: 1, why: Why::Resent, side: 0 };
+        assert_eq!(why(40 * MS, vec![resent]).0, StallWhy::GrantLost);
+        let mut said = stall_said(&stall(0, Some(40 * MS)), &tcp(Vec::new()), Nanos::MAX, &round_trip());
+        for (frame, ended, why) in [
+            (kind::DATA, StallEnd::EndOfStream, StallWhy::NotNeeded),
+            (kind::RST_STREAM, StallEnd::Reset, StallWhy::GrantedNothing),
+            (kind::SETTINGS, StallEnd::Settings, StallWhy::GrantedLate),
+        ] {
+            end_by(&mut said, ended_by(frame), &tcp(Vec::new()), &round_trip());
+            assert_eq!((said.ended_by, said.why), (Some(ended), why));
+        }
+    }
+
+    #[test]
+    fn the_longest_are_looked_into() {
+        let stalls: Vec<StallSaid> = (0..20)
+            .map(|at| stall_said(&stall(0, Some((40 + at) * MS)), &tcp(Vec::new()), Nanos::MAX, &round_trip()))
+            .collect();
+        assert_eq!(may_be_leaks(&stalls), (4..20).rev().collect::<Vec<_>>());
+    }
+}

@@ -121,12 +121,37 @@ impl Stream {
         self.sides.iter().all(|side| side.end.is_some())
     }
 
+    /// Notes of which sides it had more content than its window held at once, so that they may have waited, if it is over.
+    pub fn note_use(&self, uses: &mut [bool; 2]) {
+        if self.is_over() {
+            self.note_content(uses);
+        }
+    }
+
+    /// The same of a stream that ends here.
+    pub fn note_content(&self, uses: &mut [bool; 2]) {
+        for (side, uses) in self.sides.iter().zip(uses) {
+            let window = side.window.largest.unwrap_or(0);
+            *uses |= window > 0 && i128::from(side.content) >= i128::from(window);
+        }
+    }
+
     /// Ends both directions, as far as they go on.
     pub fn reset(&mut self, reset: Reset) {
         self.reset = Some(reset);
         for side in self.sides.iter_mut().filter(|side| side.end.is_none()) {
             side.is_reset = true;
             side.finish_at(reset.at);
+        }
+    }
+}
+
+impl Answer {
+    /// Takes the next block of the server.
+    pub fn take(&mut self, said: Answered) {
+        match self.fields {
+            Some(before) if !before.is_informational => self.grpc_status = said.grpc_status,
+            _ => self.fields = Some(said),
         }
     }
 }

@@ -1,8 +1,11 @@
-//! The streams of a connection: those that go on, and those that are over, which are packed.
+//! The streams of a connection: those that go on, and those that are over, which are packed. Where very many go on, those
+//! of which nothing came for long are packed too.
 
+use std::cell::Cell;
 use std::collections::hash_map::RandomState;
-use std::collections::HashMap;
+use std::collections::{HashMap, HashSet};
 use std::hash::{BuildHasher, Hasher};
+use std::rc::Rc;
 
 use crate::answer::Nanos;
 use crate::requests::Packed;
@@ -11,6 +14,10 @@ use crate::stream::Stream;
 #[derive(Debug)]
 pub struct Table {
     live: HashMap<u32, Box<Stream>, Numbers>,
+    /// Those that go on, and are packed.
+    parked: HashSet<u32, Numbers>,
+    /// How many are not packed, of all connections.
+    count: Rc<Cell<usize>>,
     packed: Packed,
     orders: Orders,
 }
@@ -86,8 +93,14 @@ impl Orders {
 }
 
 impl Table {
-    pub fn new(round_trip: Nanos, numbers: Numbers) -> Table {
-        Table { live: HashMap::with_hasher(numbers), packed: Packed::new(round_trip), orders: Orders::default() }
+    pub fn new(round_trip: Nanos, numbers: Numbers, count: Rc<Cell<usize>>) -> Table {
+        Table {
+            live: HashMap::with_hasher(numbers),
+            parked: HashSet::with_hasher(numbers),
+            count,
+            packed: Packed::new(round_trip),
+            orders: Orders::default(),
+        }
     }
 
     /// Whether a stream of this number was opened.
@@ -98,6 +111,7 @@ impl Table {
     /// Opens a stream, by how many were opened before.
     pub fn open(&mut self, number: u32, make: impl FnOnce(u32) -> Stream) {
         let order = self.orders.add(number);
+        self.count.set(self.count.get() + 1);
         self.live.insert(number, Box::new(make(order)));
     }
 
@@ -108,8 +122,28 @@ impl Table {
         }
         let mut stream = self.packed.get(self.orders.of(number)? as usize)?;
         let changed = change(&mut stream);
-        self.packed.put(&stream);
+        if self.parked.remove(&number) {
+            self.count.set(self.count.get() + 1);
+            self.live.insert(number, Box::new(stream));
+        } else {
+            self.packed.put(&stream);
+        }
         Some(changed)
+    }
+
+    /// Packs all that can go on from what is packed.
+    pub fn park(&mut self) {
+        let Table { live, parked, count, packed, .. } = self;
+        live.retain(|number, stream| {
+            let can_be = stream.sides.iter().all(|side| side.unshown.is_none() && side.kept.is_none());
+            if can_be {
+                packed.put(stream);
+                parked.insert(*number);
+                count.set(count.get() - 1);
+            }
+            !can_be
+        });
+        live.shrink_to_fit();
     }
 
     /// Looks at a stream.
@@ -124,23 +158,31 @@ impl Table {
     pub fn settle(&mut self, number: u32) {
         if self.live.get(&number).map_or(false, |stream| stream.is_over()) {
             if let Some(stream) = self.live.remove(&number) {
+                self.count.set(self.count.get() - 1);
                 self.packed.put(&stream);
             }
         }
     }
 
-    /// Those that are not packed.
-    pub fn live(&self) -> impl Iterator<Item = &Stream> {
-        self.live.values().map(|stream| &**stream)
+    /// Those that go on, in no order.
+    pub fn each_going_on(&self, mut take: impl FnMut(&Stream)) {
+        self.live.values().for_each(|stream| take(stream));
+        let parked = self.parked.iter().filter_map(|number| self.orders.of(*number));
+        parked.filter_map(|order| self.packed.get(order as usize)).for_each(|stream| take(&stream));
     }
 
-    /// Ends each stream that is not packed, and packs it.
+    /// Ends each stream that goes on, and packs it.
     pub fn end(mut self, mut finish: impl FnMut(&mut Stream)) -> Packed {
-        let mut live: Vec<Box<Stream>> = self.live.drain().map(|one| one.1).collect();
-        live.sort_unstable_by_key(|stream| stream.order);
-        for mut stream in live {
-            finish(&mut stream);
-            self.packed.put(&stream);
+        self.count.set(self.count.get() - self.live.len());
+        let mut going_on: Vec<(u32, u32)> = self.live.values().map(|stream| (stream.order, stream.number)).collect();
+        going_on.extend(self.parked.iter().filter_map(|number| Some((self.orders.of(*number)?, *number))));
+        going_on.sort_unstable();
+        for (order, number) in going_on {
+            let live = self.live.remove(&number).map(|stream| *stream);
+            if let Some(mut stream) = live.or_else(|| self.packed.get(order as usize)) {
+                finish(&mut stream);
+                self.packed.put(&stream);
+            }
         }
         self.packed.end();
         self.packed
@@ -154,13 +196,17 @@ mod tests {
 
     const OPENED: At = At { packet: 1, time: 2, frame: 3 };
 
+    fn table() -> Table {
+        Table::new(0, Numbers::new(), Rc::default())
+    }
+
     fn open(table: &mut Table, number: u32) {
         table.open(number, |order| Stream::new(number, order, OPENED, false));
     }
 
     #[test]
     fn streams_are_found_when_they_are_over() {
-        let mut table = Table::new(0, Numbers::new());
+        let mut table = table();
         for number in [1, 2, 7, 5, 9] {
             open(&mut table, number);
         }
@@ -168,7 +214,7 @@ mod tests {
             table.touch(number, |stream| stream.sides.iter_mut().for_each(|side| side.finish_at(OPENED)));
             table.settle(number);
         }
-        assert_eq!(table.live().count(), 3);
+        assert_eq!((table.live.len(), table.count.get()), (3, 3));
         assert!(table.has(5) && table.has(2) && !table.has(3));
         table.touch(5, |stream| stream.sides[0].content = u64::MAX);
         assert_eq!(table.look(5, |stream| (stream.sides[0].content, stream.order)), Some((u64::MAX, 3)));
@@ -179,8 +225,29 @@ mod tests {
     }
 
     #[test]
+    fn streams_go_on_from_what_is_packed() {
+        let mut table = table();
+        for number in [1, 3, 5] {
+            open(&mut table, number);
+        }
+        table.touch(3, |stream| stream.sides[1].kept = Some(Default::default()));
+        table.park();
+        assert_eq!((table.live.len(), table.parked.len(), table.count.get()), (1, 2, 1));
+        let mut numbers = Vec::new();
+        table.each_going_on(|stream| numbers.push(stream.number));
+        numbers.sort_unstable();
+        assert_eq!(numbers, [1, 3, 5]);
+        table.touch(5, |stream| stream.sides[0].content = 7);
+        assert_eq!((table.live.len(), table.parked.len()), (2, 1));
+        let mut ended = Vec::new();
+        let packed = table.end(|stream| ended.push((stream.number, stream.sides[0].content)));
+        assert_eq!(ended, [(1, 0), (3, 0), (5, 7)]);
+        assert_eq!(packed.get(2).map(|stream| stream.sides[0].content), Some(7));
+    }
+
+    #[test]
     fn what_is_idle_goes() {
-        let mut table = Table::new(0, Numbers::new());
+        let mut table = table();
         open(&mut table, 1);
         table.touch(1, |stream| stream.sides.iter_mut().for_each(|side| side.finish_at(OPENED)));
         table.settle(1);

@@ -15,14 +15,21 @@ const MOST_LOOKED_AT: usize = 256;
 #[derive(Debug)]
 pub struct Tcp {
     /// Each FIN and RST, by time and packet.
-    closes: Vec<(At, How, usize)>,
+    closes: Box<[(At, How, usize)]>,
     /// The connection's last packet.
     pub last: At,
-    /// What was held back, by the side that sends it, in the order of begins; and the same as sums.
-    held: [Vec<Held>; 2],
-    sums: [Stretches<u8>; 2],
+    /// By the side that sends it.
+    held: [Option<Box<HeldBack>>; 2],
+}
+
+/// What TCP held back of one side.
+#[derive(Debug)]
+struct HeldBack {
+    /// In the order of begins; and the same as sums.
+    all: Vec<Held>,
+    sums: Stretches<u8>,
     /// What was sent again, or came late, in the order of ends.
-    resent: [Vec<Interval>; 2],
+    resent: Vec<Interval>,
 }
 
 /// What of it held a request, and from which packet to which.
@@ -64,17 +71,8 @@ impl Tcp {
         let last = last_of(course, last);
         let mut all = std::mem::take(&mut course.held);
         all.sort_by_key(|one| one.end);
-        let of = |side: usize| all.iter().filter(move |one| usize::from(one.side) == side);
-        let resent = [0, 1].map(|side| of(side).filter(|one| one.why != Why::ZeroWindow).map(interval).collect());
-        let held = [0, 1].map(|side| {
-            let mut held: Vec<Held> = of(side).copied().collect();
-            held.sort_by_key(|one| (one.begin, one.end, rank(one.why), one.first));
-            held
-        });
-        let sums = [0, 1].map(|side| {
-            Stretches::new(held[side].iter().map(|one| (one.begin, one.end.min(last.time), rank(one.why))).collect())
-        });
-        Tcp { closes, last, held, sums, resent }
+        let held = [0, 1].map(|side| HeldBack::of(all.iter().filter(|one| usize::from(one.side) == side), last.time));
+        Tcp { closes: closes.into(), last, held }
     }
 
     /// How the connection ended for what was still going on at a time: its first FIN or RST from then on.
@@ -87,13 +85,14 @@ impl Tcp {
 
     /// When TCP held back what a side sends.
     pub fn held_times(&self, side: usize) -> Vec<Interval> {
-        self.held[side].iter().map(interval).collect()
+        self.held[side].iter().flat_map(|held| &held.all).map(interval).collect()
     }
 
     /// Whether TCP sent something again for a side, and that took most of a stretch of time.
     pub fn lost(&self, side: usize, begin: Nanos, end: Nanos) -> bool {
-        let from = self.resent[side].partition_point(|one| one.1 < begin);
-        self.resent[side].iter().skip(from).take(MOST_LOST).any(|one| {
+        let resent = self.held[side].as_ref().map_or(&[][..], |held| &held.resent);
+        let from = resent.partition_point(|one| one.1 < begin);
+        resent.iter().skip(from).take(MOST_LOST).any(|one| {
             let both = i128::from(one.1.min(end)) - i128::from(one.0.max(begin));
             both * 2 > i128::from(end) - i128::from(begin)
         })
@@ -101,12 +100,12 @@ impl Tcp {
 
     /// What held back most within a stretch of time, where it explains half of what TCP held.
     pub fn held_by(&self, side: usize, (begin, end): Interval, nanos: Nanos) -> Option<HeldBy> {
-        let (first, last) = self.sums[side].within(begin, end);
-        if i128::from(self.sums[side].sum(first, last)) * 2 < i128::from(nanos) {
+        let HeldBack { all: held, sums, .. } = self.held[side].as_deref()?;
+        let (first, last) = sums.within(begin, end);
+        if i128::from(sums.sum(first, last)) * 2 < i128::from(nanos) {
             return None;
         }
-        let reason = self.sums[side].reason(first, last)?;
-        let held = &self.held[side];
+        let reason = sums.reason(first, last)?;
         let is_so = |one: &&Held| rank(one.why) == reason;
         let begins = held.get(first..last.min(first.saturating_add(MOST_LOOKED_AT))).unwrap_or_default();
         let begins = begins.iter().find(is_so).or_else(|| held.get(first))?;
@@ -115,6 +114,20 @@ impl Tcp {
         let at_end = ends.last.map(|packet| At { packet: packet.get(), time: ends.end, frame: 0 });
         let why = [Why::Hole, Why::Resent, Why::ZeroWindow][usize::from(reason)];
         Some(HeldBy { why, first: first_of(begins), last: at_end.unwrap_or(self.last) })
+    }
+}
+
+impl HeldBack {
+    /// Of a side's stretches in the order of ends, in a connection with this last packet.
+    fn of<'a>(held: impl Iterator<Item = &'a Held>, last: Nanos) -> Option<Box<HeldBack>> {
+        let mut all: Vec<Held> = held.copied().collect();
+        if all.is_empty() {
+            return None;
+        }
+        let resent = all.iter().filter(|one| one.why != Why::ZeroWindow).map(interval).collect();
+        all.sort_by_key(|one| (one.begin, one.end, rank(one.why), one.first));
+        let sums = Stretches::new(all.iter().map(|one| (one.begin, one.end.min(last), rank(one.why))).collect());
+        Some(Box::new(HeldBack { all, sums, resent }))
     }
 }
 

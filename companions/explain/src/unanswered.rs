@@ -1,12 +1,15 @@
 //! Settings that would take a window of the other side too high, had they been acknowledged: what the capture shows, and
 //! the report cannot say by its rules (docs/WHY.md, 7).
 
+use std::cmp::Reverse;
+
 use reports::grouped;
 
 use crate::answer::At;
 use crate::settings::INITIAL_WINDOW;
 use crate::side_of;
 use crate::stream::Stream;
+use crate::table::Table;
 use crate::windows::{Initial, FIRST_CREDIT, MOST_CREDIT};
 use crate::words::code_name;
 
@@ -42,13 +45,7 @@ impl Unanswered {
     }
 
     /// A side sent SETTINGS, while these streams go on.
-    pub fn sent<'a>(
-        &mut self,
-        side: usize,
-        at: At,
-        values: &[Option<u32>; 3],
-        (live, initial): (impl Iterator<Item = &'a Stream>, &Initial),
-    ) {
+    pub fn sent(&mut self, side: usize, at: At, values: &[Option<u32>; 3], (table, initial): (&Table, &Initial)) {
         let is_answered = self.sent[side] < self.acknowledged[side];
         self.sent[side] += 1;
         let value = match values[INITIAL_WINDOW] {
@@ -58,7 +55,7 @@ impl Unanswered {
         if is_answered {
             self.before[side] = i64::from(value);
         } else if self.frames.contains(&at.frame) {
-            if let Some((highest, stream)) = highest_credit(1 - side, live, initial) {
+            if let Some((highest, stream)) = highest_credit(1 - side, table, initial) {
                 let credit = highest + i64::from(value) - self.before[side];
                 if credit > MOST_CREDIT {
                     self.notes.push(Note { side, at, value, highest, credit, stream, goaway: None, reset: None });
@@ -120,9 +117,53 @@ impl Note {
 }
 
 /// The highest credit of a side's streams that go on, and the first stream that has it.
-fn highest_credit<'a>(side: usize, live: impl Iterator<Item = &'a Stream>, initial: &Initial) -> Option<(i64, u32)> {
-    let going_on = live.filter(|stream| stream.sides[side].end.is_none());
-    let credits = going_on.filter_map(|stream| stream.sides[side].window.value(initial).map(|credit| (credit, stream)));
-    let best = credits.max_by_key(|(credit, stream)| (*credit, std::cmp::Reverse(stream.order)));
-    best.map(|(credit, stream)| (credit, stream.number))
+fn highest_credit(side: usize, table: &Table, initial: &Initial) -> Option<(i64, u32)> {
+    let mut best: Option<(i64, Reverse<u32>, u32)> = None;
+    table.each_going_on(|stream| {
+        let one = &stream.sides[side];
+        if let Some(credit) = one.window.value(initial).filter(|_| one.end.is_none()) {
+            best = best.max(Some((credit, Reverse(stream.order), stream.number)));
+        }
+    });
+    best.map(|(credit, _, stream)| (credit, stream))
+}
+
+#[cfg(test)]
+mod tests {
+    use super::*;
+    use crate::table::Numbers;
+    use std::rc::Rc;
+
+    fn at(frame: u32) -> At {
+        At { packet: u64::from(frame) * 10, time: 0, frame }
+    }
+
+    fn stream(number: u32) -> Stream {
+        let mut stream = Stream::new(number, number, at(1), false);
+        stream.sides[1].window.open(&Initial::default());
+        stream
+    }
+
+    #[test]
+    fn settings_that_would_take_a_window_too_high() {
+        let mut table = Table::new(0, Numbers::new(), Rc::default());
+        for number in [1, 3] {
+            table.open(number, |_| stream(number));
+        }
+        let mut unanswered = Unanswered::new(vec![5, 6], [1, 0]);
+        let most = [None, Some(MOST_CREDIT as u32), None];
+        unanswered.sent(0, at(4), &[None, Some(1000), None], (&table, &Initial::default()));
+        unanswered.sent(0, at(5), &[None, Some(2000), None], (&table, &Initial::default()));
+        unanswered.sent(0, at(6), &most, (&table, &Initial::default()));
+        let front = "the client's SETTINGS in packet 60 set an initial window of 2,147,483,647, which would take the \
+                     server's credit on stream 1 from 65,535 to 2,147,548,182, above 2^31 - 1 (RFC 9113, 6.9.2); the \
+                     server never acknowledged them";
+        assert_eq!(unanswered.said(), [front]);
+        unanswered.reset(1, at(8), FLOW_CONTROL_ERROR, &stream(3));
+        let reset = format!("{front}, and answered by RST_STREAM FLOW_CONTROL_ERROR on stream 3 in packet 80");
+        assert_eq!(unanswered.said(), [reset]);
+        unanswered.goaway(0, at(9), 0);
+        unanswered.goaway(1, at(10), 3);
+        assert_eq!(unanswered.said(), [format!("{front}, and answered by GOAWAY FLOW_CONTROL_ERROR in packet 100")]);
+    }
 }

@@ -1,6 +1,8 @@
 //! The second walk over one connection: its frames, in the order of the report's numbers.
 
+use std::cell::Cell;
 use std::collections::HashMap;
+use std::rc::Rc;
 
 use programs::Failure;
 
@@ -15,7 +17,7 @@ use crate::names::Interner;
 use crate::seen::{About, Key};
 use crate::settings::{Settings, Values};
 use crate::signals::Signals;
-use crate::stream::{Answer, Asked, Kept, Met, Reset, Stream};
+use crate::stream::{Asked, Kept, Met, Reset, Stream};
 use crate::table::{Numbers, Table};
 use crate::unanswered::Unanswered;
 use crate::unshown::Unshown;
@@ -34,8 +36,9 @@ pub struct Asking {
     pub has_spans: bool,
     pub has_frames: bool,
     pub interner: Interner,
-    /// How numbers of streams are hashed.
+    /// How numbers of streams are hashed; and how many streams are not packed.
     pub numbers: Numbers,
+    pub live: Rc<Cell<usize>>,
 }
 
 /// What the frames of a connection told so far.
@@ -121,7 +124,7 @@ impl Walk {
             findings.take(&here, |window| credit_of(window, table, initials, windows))?;
         }
         for leaks in self.leaks.iter_mut().flatten() {
-            leaks.after(self.number, self.table.live());
+            leaks.after(self.number, &self.table);
         }
         self.overflow = None;
         let head = &frame.cut.head;
@@ -153,7 +156,7 @@ impl Walk {
                 leaks.content(Some(stream), length);
             }
             met(stream, frame, about, initials, windows);
-            note_use(stream, uses_window);
+            stream.note_use(uses_window);
         });
         if let (None, Some(leaks)) = (touched, &mut leaks[side]) {
             leaks.content(None, length);
@@ -172,7 +175,7 @@ impl Walk {
             let Walk { table, initials, windows, about, uses_window, .. } = self;
             table.touch(number, |stream| {
                 met(stream, frame, about, initials, windows);
-                note_use(stream, uses_window);
+                stream.note_use(uses_window);
             });
         }
         let octets = body.and_then(|(begin, end)| cut.payload.get(begin..end.min(cut.payload.len())));
@@ -253,7 +256,7 @@ impl Walk {
                 stream.request = Some(asked_of(&fields, *names, interner));
             }
             if !is_promise && side == import::SERVER {
-                answer(&mut stream.answer, &fields);
+                stream.answer.take(answered_of(&fields));
             }
         });
     }
@@ -275,7 +278,7 @@ impl Walk {
             leaks.iter_mut().flatten().for_each(|leaks| leaks.reset(stream));
             signals.reset(stream, &reset);
             unanswered.reset(side, at, code, stream);
-            note_use(stream, uses_window);
+            stream.note_use(uses_window);
         });
     }
 
@@ -292,7 +295,7 @@ impl Walk {
             return;
         }
         let Values { header_table, values } = Values::of(cut.payload);
-        self.unanswered.sent(side, at, &values, (self.table.live(), &self.initials[1 - side]));
+        self.unanswered.sent(side, at, &values, (&self.table, &self.initials[1 - side]));
         self.settings.sent(side, at, values);
         if let Some(size) = header_table.filter(|_| asking.names.are_wanted) {
             self.blocks[1 - side].allow_table(size);
@@ -363,28 +366,6 @@ fn met(stream: &mut Stream, frame: Frame<'_>, about: &About, initials: &[Initial
     if cut.head.kind != kind::CONTINUATION && cut.head.has(flag::END_STREAM) {
         stream.sides[side].window.end(&initials[side]);
         stream.sides[side].finish_at(at);
-    }
-}
-
-fn note_use(stream: &Stream, uses: &mut [bool; 2]) {
-    if stream.is_over() {
-        note_content(stream, uses);
-    }
-}
-
-/// Whether a stream that is over had more content than its window held at once, so that its sender may have waited.
-pub fn note_content(stream: &Stream, uses: &mut [bool; 2]) {
-    for (side, uses) in stream.sides.iter().zip(uses) {
-        let window = side.window.largest.unwrap_or(0);
-        *uses |= window > 0 && i128::from(side.content) >= i128::from(window);
-    }
-}
-
-fn answer(answer: &mut Answer, fields: &hpack::Fields) {
-    let said = answered_of(fields);
-    match answer.fields {
-        Some(before) if !before.is_informational => answer.grpc_status = said.grpc_status,
-        _ => answer.fields = Some(said),
     }
 }
 

@@ -40,24 +40,19 @@ impl Initial {
 /// The window of a stream for what one side sends.
 #[derive(Clone, Debug, Default, PartialEq, Eq)]
 pub struct Window {
-    is_live: bool,
+    pub is_live: bool,
     /// Whether it ever was.
     pub was_live: bool,
     /// Beside the initial window in force while it is live; then what it was at its end.
     pub credit: i64,
     /// The most credit from before the first content on, up to a change of the initial window.
     pub largest: Option<i64>,
-    change: u32,
+    pub change: u32,
 }
 
 impl Window {
     pub fn open(&mut self, initial: &Initial) {
         *self = Window { is_live: true, was_live: true, change: initial.changes, ..Window::default() };
-    }
-
-    /// A window that has ended.
-    pub fn ended(was_live: bool, credit: i64, largest: Option<i64>) -> Window {
-        Window { is_live: false, was_live, credit, largest, change: 0 }
     }
 
     /// Its credit, or the last that it had; none where it never was live.

@@ -1,0 +1,224 @@
+//! Says what became of each connection, and walks over the frames of those that were audited.
+
+use std::rc::Rc;
+
+use import::{Became, Courses};
+use programs::Failure;
+use reports::Form;
+
+use crate::answer::{Answer, At, ConnectionSaid, Ended, How, Outcome, Requests, RoundTrip};
+use crate::audit::{broken, Audit};
+use crate::blocks::Names;
+use crate::building::{Asked, Made};
+use crate::connection::Connection;
+use crate::learning::Known;
+use crate::made::{each_record, Record};
+use crate::names::Interner;
+use crate::requests::Packed;
+use crate::seen::Seen;
+use crate::table::Numbers;
+use crate::tcp::last_of;
+use crate::walk::Asking;
+
+/// So many streams that go on are not packed, of all connections together.
+const MOST_LIVE: usize = 4096;
+
+/// A connection whose frames are walked over, and where it stands among all that are told.
+struct Walked {
+    index: usize,
+    state: State,
+}
+
+enum State {
+    /// None of its records came.
+    Ahead(Box<Known>, Box<Audit>),
+    Begun(Box<Connection>),
+    Over,
+}
+
+/// All connections at once, in the order of records.
+struct Walk<'a> {
+    asking: Asking,
+    courses: &'a mut Courses,
+    /// By the import's numbers.
+    walked: Vec<Option<Walked>>,
+    answer: &'a mut Answer,
+    told: Vec<(usize, Packed, Seen)>,
+    /// More streams than these are not left unpacked; and the connection whose streams are packed next.
+    most_live: usize,
+    next: usize,
+}
+
+/// Says what became of each connection, and walks over those of HTTP/2.
+pub fn tell(asked: &Asked<'_>, made: &mut Made, audits: Vec<Audit>, answer: &mut Answer) -> Result<(), Failure> {
+    let mut walked: Vec<Option<Walked>> = Vec::new();
+    walked.resize_with(made.known.len(), || None);
+    let mut numbers = std::mem::take(&mut made.order).into_iter();
+    for (index, audit) in audits.into_iter().enumerate() {
+        // A report of some parts alone has not all connections.
+        let is_of_it =
+            |number: &usize| made.known[*number].as_ref().map_or(false, |known| known.record == audit.record);
+        let number = numbers.find(is_of_it).ok_or_else(|| broken("it has other connections"))?;
+        let (said, state) = said_at_first(made, audit, number)?;
+        answer.connections.push(said);
+        walked[number] = state.map(|state| Walked { index, state });
+    }
+    let asking = Asking {
+        names: Names { are_wanted: asked.has_names, has_query: asked.has_query },
+        has_spans: asked.has_spans,
+        has_frames: asked.has_frames,
+        interner: Interner::default(),
+        numbers: Numbers::new(),
+        live: Rc::default(),
+    };
+    let Made { capture, notes, courses, .. } = made;
+    let mut walk = Walk { asking, courses, walked, answer, told: Vec::new(), most_live: MOST_LIVE, next: 0 };
+    each_record(capture, notes, |record| walk.take(record))?;
+    walk.end()
+}
+
+impl Walk<'_> {
+    fn take(&mut self, record: &Record<'_>) -> Result<(), Failure> {
+        let walked = match self.walked.get_mut(record.connection) {
+            Some(Some(walked)) => walked,
+            _ => return Ok(()),
+        };
+        let connection = begun(&mut walked.state, &mut self.courses.connections[record.connection], &self.asking)?;
+        connection.take(&mut self.asking, record)?;
+        if connection.is_last(record.number) {
+            return self.end_one(record.connection);
+        }
+        if self.asking.live.get() > self.most_live {
+            self.park();
+        }
+        Ok(())
+    }
+
+    fn end_one(&mut self, number: usize) -> Result<(), Failure> {
+        let mut walked = match self.walked.get_mut(number).and_then(Option::take) {
+            Some(walked) => walked,
+            None => return Ok(()),
+        };
+        begun(&mut walked.state, &mut self.courses.connections[number], &self.asking)?;
+        if let State::Begun(connection) = walked.state {
+            let (packed, seen) = connection.end(&mut self.answer.connections[walked.index])?;
+            self.told.push((walked.index, packed, seen));
+        }
+        Ok(())
+    }
+
+    /// Packs streams that go on, of one connection after the other, until few enough are left.
+    fn park(&mut self) {
+        for _ in 0..self.walked.len() {
+            self.next = (self.next + 1) % self.walked.len();
+            if let Some(Walked { state: State::Begun(connection), .. }) = &mut self.walked[self.next] {
+                connection.park();
+            }
+            if self.asking.live.get() <= self.most_live / 2 {
+                return;
+            }
+        }
+        self.most_live = MOST_LIVE.max(2 * self.asking.live.get());
+    }
+
+    fn end(mut self) -> Result<(), Failure> {
+        (0..self.walked.len()).try_for_each(|number| self.end_one(number))?;
+        let texts = Rc::new(self.asking.interner.into_texts());
+        for (index, packed, seen) in self.told {
+            self.answer.connections[index].requests = Requests::of(packed, seen, texts.clone());
+        }
+        Ok(())
+    }
+}
+
+/// The connection, which begins with its first record.
+fn begun<'a>(
+    state: &'a mut State,
+    course: &mut import::Course,
+    asking: &Asking,
+) -> Result<&'a mut Connection, Failure> {
+    *state = match std::mem::replace(state, State::Over) {
+        State::Ahead(known, audit) => State::Begun(Box::new(Connection::new(*known, *audit, course, asking)?)),
+        begun => begun,
+    };
+    match state {
+        State::Begun(connection) => Ok(connection),
+        State::Ahead(..) | State::Over => Err(broken("it has other connections")),
+    }
+}
+
+/// What is said of a connection before its frames are; and what these are walked over with.
+fn said_at_first(made: &mut Made, audit: Audit, number: usize) -> Result<(ConnectionSaid, Option<State>), Failure> {
+    let other = || broken("it has other connections");
+    let known = made.known.get_mut(number).and_then(Option::take).ok_or_else(other)?;
+    let outcome = made.summary.outcomes.get(number).ok_or_else(other)?;
+    let course = made.courses.connections.get(number).ok_or_else(other)?;
+    if audit.record != known.record || known.opened.packet != outcome.opening {
+        return Err(other());
+    }
+    let (client, server) = made.addresses.endpoints(&outcome.ends);
+    let mut said = unsaid(audit.number, client, server, known.opened);
+    said.frames = audit.frames().unwrap_or(0);
+    said.until = last_of(course, known.last).time;
+    match &outcome.became {
+        Became::Refused(why) => {
+            said.opened.time = course.syn.nanos;
+            said.begin = course.syn.nanos;
+            said.outcome = Outcome::Refused;
+            said.reason = why.to_string();
+            said.frames = 0;
+            return Ok((said, None));
+        }
+        became => said.tls = became.words().strip_prefix("tls ").unwrap_or_default().to_string(),
+    }
+    said.gaps = audit.gaps.clone();
+    said.outcome = match &audit.form {
+        Form::Http2 { .. } => Outcome::Http2,
+        Form::NotHttp2 => Outcome::NotHttp2,
+        Form::NoPreface => Outcome::NoPreface,
+        Form::NoHandshake => Outcome::NoHandshake,
+        Form::Refused(_) => return Err(other()),
+    };
+    if !said.is_audited() {
+        return Ok((said, None));
+    }
+    if !known.is_http2 || said.frames != u64::from(known.frames) {
+        let (number, frames, here) = (said.number, said.frames, known.frames);
+        return Err(broken(&format!("connection {number} has {frames} frames by the report, and {here} here")));
+    }
+    Ok((said, Some(State::Ahead(known, Box::new(audit)))))
+}
+
+/// A connection of which nothing is said yet.
+pub fn unsaid(number: u64, client: String, server: String, opened: At) -> ConnectionSaid {
+    let ended = Ended { how: How::Capture, side: None, code: None, at: None };
+    ConnectionSaid {
+        number,
+        client,
+        server,
+        opened,
+        outcome: Outcome::Http2,
+        reason: String::new(),
+        tls: String::new(),
+        frames: 0,
+        begin: opened.time,
+        until: opened.time,
+        round_trip: RoundTrip::default(),
+        captured_at: None,
+        limits: Vec::new(),
+        settings: Vec::new(),
+        announced: Vec::new(),
+        faults: Vec::new(),
+        stalls: Vec::new(),
+        leaks: Vec::new(),
+        connection_windows: [0; 2],
+        requests: Requests::default(),
+        signals: Vec::new(),
+        ended,
+        closing: ended,
+        notes: Vec::new(),
+        stopped_at: None,
+        gaps: Vec::new(),
+        all_frames: None,
+    }
+}
