@@ -15,6 +15,8 @@ mod building;
 mod causes;
 mod certainty;
 mod connection;
+#[cfg(test)]
+mod conversations;
 mod course;
 mod cutter;
 mod doubts;

@@ -190,7 +190,7 @@ fn said_at_first(made: &mut Made, audit: Audit, number: usize) -> Result<(Connec
 }
 
 /// A connection of which nothing is said yet.
-fn unsaid(number: u64, client: String, server: String, opened: At) -> ConnectionSaid {
+pub fn unsaid(number: u64, client: String, server: String, opened: At) -> ConnectionSaid {
     let ended = Ended { how: How::Capture, side: None, code: None, at: None };
     ConnectionSaid {
         number,

@@ -181,10 +181,10 @@ impl Case<'_> {
             let (kind, message, told) = (quoted(first.reason.name()), quoted(&first.text), plain(&told.join("\n")));
             let _ = writeln!(text, "{INDENT}<failure type={kind} message={message}>{told}</failure>");
         } else if let Some(why) = &self.skipped {
-            let _ = write!(text, "{INDENT}<skipped message={}/>\n", quoted(why));
+            let _ = writeln!(text, "{INDENT}<skipped message={}/>", quoted(why));
         }
         if !self.said.is_empty() {
-            let _ = write!(text, "{INDENT}<system-out>{}</system-out>\n", plain(&self.said));
+            let _ = writeln!(text, "{INDENT}<system-out>{}</system-out>", plain(&self.said));
         }
         text += "    </testcase>\n";
         ascii(&text, to)
