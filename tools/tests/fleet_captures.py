@@ -55,9 +55,9 @@ class Sample:
 
 
 def beside(name: str) -> pathlib.Path:
-    """A program of the repository beside h2audit, by its name: in Python, or built."""
-    script = TOP / "tools" / name
-    return script if script.exists() else companion(name)
+    """A program of the repository beside h2audit, by its name: built, or in Python."""
+    built = companion(name)
+    return built if built.exists() else TOP / "tools" / name
 
 
 def summary(samples: list[Sample]) -> str:

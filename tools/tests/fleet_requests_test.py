@@ -18,7 +18,7 @@ from tools.tests import cost_captures, random_captures, request_captures
 from tools.tests.fleet_captures import PROGRAM, TOP, Machine, beside, by_hand
 from tools.tests.fleet_parts_test import SPLIT
 from tools.tests.fleet_parts_test import STAND_IN as SPLIT_STAND_IN
-from tools.tests.why_tools import BUILT, LONGEST_NAME, Json, said_of
+from tools.tests.why_tools import BUILT, LONGEST_NAME, Json, Refused, said_of
 
 CAPTURES, RANDOM = 300, 190
 SIDES = ("client", "server")
@@ -330,13 +330,11 @@ class Tables(unittest.TestCase):
 
 def answers(captures: list[pathlib.Path], words: list[str]) -> Iterator[tuple[pathlib.Path, Json]]:
     """What --json says of each capture that is not refused."""
-    from h2audit.report.command import Failed
-
     keys = [word for key in KEYS for word in ("-k", str(key))]
     for path in captures:
         try:
             yield path, said_of(*words, *keys, str(path))
-        except Failed:
+        except Refused:
             continue
 
 
@@ -351,7 +349,7 @@ def secrets_of(said: Iterable[Json]) -> set[bytes]:
 
 
 def name_programs() -> None:
-    """For h2audit-why in this process."""
+    """For h2audit-why, which this process runs."""
     os.environ["H2AUDIT"] = str(PROGRAM)
     os.environ.setdefault("H2AUDIT_IMPORT", str(BUILT["H2AUDIT_IMPORT"]))
 

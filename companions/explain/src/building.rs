@@ -79,9 +79,8 @@ fn answer_by_audit(asked: &Asked<'_>, mut made: Made, copy: Option<&mut File>) -
 }
 
 fn answer_by(asked: &Asked<'_>, mut made: Made, audits: Vec<Audit>) -> Result<Answer, Failure> {
-    let mut answer = Answer::default();
-    answer.files = std::mem::take(&mut made.files);
-    answer.packets = made.summary.counts.records;
+    let (files, packets) = (std::mem::take(&mut made.files), made.summary.counts.records);
+    let mut answer = Answer { files, packets, ..Answer::default() };
     tell(asked, &mut made, audits, &mut answer)?;
     answer.not_audited = not_audited(&answer, &made.summary);
     answer.warnings = doubts_of(&answer, &made.summary, &made.courses);

@@ -26,6 +26,8 @@ mod intervals;
 mod leaks;
 mod learning;
 mod life;
+#[cfg(test)]
+mod life_by_nanosecond;
 mod listening;
 mod made;
 mod names;

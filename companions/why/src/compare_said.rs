@@ -1,6 +1,7 @@
 //! What two captures of the same work show side by side, as text and for machines.
 
 use std::cmp::{Ordering, Reverse};
+use std::fmt::Write as _;
 use std::io::{self, Write};
 
 use reports::grouped;
@@ -103,17 +104,17 @@ fn words_of(pair: &Pair<'_>) -> String {
         (None, None) => return String::new(),
     };
     let mut said = format!("stalled {} -> {}", share(before), share(after));
-    said += &format!(", life {} -> {}", time_of(before.nanos), time_of(after.nanos));
+    let _ = write!(said, ", life {} -> {}", time_of(before.nanos), time_of(after.nanos));
     if before.tcp != 0 || after.tcp != 0 {
-        said += &format!(", TCP {} -> {}", percent(before.tcp, before.nanos), percent(after.tcp, after.nanos));
+        let _ = write!(said, ", TCP {} -> {}", percent(before.tcp, before.nanos), percent(after.tcp, after.nanos));
     }
     if before.is_hung || after.is_hung {
         let end_of = |one: &One<'_>| if one.is_hung { "hung" } else { "ended" };
-        said += &format!(", {} -> {}", end_of(before), end_of(after));
+        let _ = write!(said, ", {} -> {}", end_of(before), end_of(after));
     }
     if before.status != after.status {
         let status = |one: &One<'_>| one.status.filter(|status| *status > 0).map_or("-".into(), |one| one.to_string());
-        said += &format!(", status {} -> {}", status(before), status(after));
+        let _ = write!(said, ", status {} -> {}", status(before), status(after));
     }
     match after.request().filter(|_| after.is_held) {
         Some(request) => format!("{said}; after: {}", after.connection.phrases.of(&request)),

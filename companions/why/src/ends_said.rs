@@ -2,6 +2,7 @@
 
 use std::cmp::Reverse;
 use std::collections::HashMap;
+use std::fmt::Write as _;
 use std::io::{self, Write};
 use std::rc::Rc;
 
@@ -87,7 +88,7 @@ fn head_of(both: &Both<'_>) -> String {
         client.number, server.number, client.client, client.server
     );
     if (&client.client, &client.server) != (&server.client, &server.server) {
-        text += &format!(" (at the server {} -> {})", server.client, server.server);
+        let _ = write!(text, " (at the server {} -> {})", server.client, server.server);
     }
     let way = if both.ahead >= 0 { "ahead" } else { "behind" };
     let (round_trip, within) = (time_of(both.round_trip), time_of(both.round_trip / 2));
@@ -102,7 +103,7 @@ fn stall_words(both: &Both<'_>, one: &StallOfBoth<'_>, name: Option<&str>) -> St
         stream => format!("stream {stream}"),
     };
     if let Some(name) = name.filter(|name| !name.is_empty()) {
-        place += &format!(" {}", escaped(name));
+        let _ = write!(place, " {}", escaped(name));
     }
     let lasts = time_of(stall.nanos) + if stall.end.is_none() { " without an end" } else { "" };
     let shows = if one.shows_there { "shows at both ends".to_string() } else { format!("shows at the {sender} alone") };
@@ -111,7 +112,7 @@ fn stall_words(both: &Both<'_>, one: &StallOfBoth<'_>, name: Option<&str>) -> St
     let mut text = format!("{place}: the {sender} stalled for {lasts}, {packets}; {shows}. On its way: {on_way}. ");
     if let Some(parts) = one.parts {
         let [out, answer, back] = [parts.out, parts.answer, parts.back].map(time_of);
-        text += &format!("Way out {out}, answer {answer}, way back {back}. ");
+        let _ = write!(text, "Way out {out}, answer {answer}, way back {back}. ");
     }
     let ask = one.ask().map_or(String::new(), |side| format!(". Ask the {side}"));
     format!("{text}{}: {}{ask}", one.verdict.name(), one.text)

@@ -2,6 +2,7 @@
 //! request, and one for the connection itself. Of two ends each capture has its suites.
 
 use std::collections::HashMap;
+use std::fmt::Write as _;
 use std::io::{self, Write};
 
 use explain::answer::Nanos;
@@ -178,12 +179,12 @@ impl Case<'_> {
             let told: Vec<String> =
                 self.failures.iter().map(|one| format!("{}: {}", one.reason.name(), one.text)).collect();
             let (kind, message, told) = (quoted(first.reason.name()), quoted(&first.text), plain(&told.join("\n")));
-            text += &format!("{INDENT}<failure type={kind} message={message}>{told}</failure>\n");
+            let _ = writeln!(text, "{INDENT}<failure type={kind} message={message}>{told}</failure>");
         } else if let Some(why) = &self.skipped {
-            text += &format!("{INDENT}<skipped message={}/>\n", quoted(why));
+            let _ = writeln!(text, "{INDENT}<skipped message={}/>", quoted(why));
         }
         if !self.said.is_empty() {
-            text += &format!("{INDENT}<system-out>{}</system-out>\n", plain(&self.said));
+            let _ = writeln!(text, "{INDENT}<system-out>{}</system-out>", plain(&self.said));
         }
         text += "    </testcase>\n";
         ascii(&text, to)

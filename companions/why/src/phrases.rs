@@ -183,12 +183,12 @@ impl<'a> Phrases<'a> {
         let (needed, sending) = (self.needed(request), direction.shares[Share::Sending as usize]);
         let content = i128::from(direction.content);
         if needed > window {
-            text += &format!("; {} would do", grouped(needed));
+            let _ = write!(text, "; {} would do", grouped(needed));
             if sending > 0 {
-                text += &format!(" for {}", rate_of(content, sending));
+                let _ = write!(text, " for {}", rate_of(content, sending));
             }
         } else if content > i128::from(window) {
-            text += &format!("; {} would hold all of it", grouped(content));
+            let _ = write!(text, "; {} would hold all of it", grouped(content));
         }
         text
     }

@@ -1,6 +1,7 @@
 //! The answer as text: a warning first, then the connections with the most trouble, and in each the worst request.
 
 use std::collections::{HashMap, HashSet};
+use std::fmt::Write as _;
 use std::io::{self, Write};
 
 use explain::answer::{At, ConnectionSaid, FaultSaid, How, Nanos, Place, Request, Signal, Source, StallSaid};
@@ -95,7 +96,7 @@ fn head(said: &ConnectionSaid) -> String {
     let mut text = format!("connection {}  {} -> {}", said.number, said.client, said.server);
     if let RoundTrip { to: Some([client, server]), source, .. } = said.round_trip {
         let by = if source == Some(Source::Http2) { " by SETTINGS and PING" } else { "" };
-        text += &format!("   round trip {}{by}", time_of(client + server));
+        let _ = write!(text, "   round trip {}{by}", time_of(client + server));
     }
     match said.captured_at {
         None => text,
@@ -109,7 +110,7 @@ fn fault(one: &FaultSaid, page: &mut Page<'_>) -> io::Result<()> {
     let sentence = sentence_of(&one.finding, "");
     let mut text = format!("  FAULT: {sentence}; {}, frame {}", page.packet(Some(one.at)), one.at.frame);
     if !one.set_text.is_empty() {
-        text += &format!("; its window: {}", one.set_text);
+        let _ = write!(text, "; its window: {}", one.set_text);
     }
     text += &if one.doubt.is_empty() { ". Certain".to_string() } else { format!(". Doubtful: {}", one.doubt) };
     page.folded(&text, "    ", Colour::Red)
@@ -167,7 +168,7 @@ fn cause(request: &Request, text: &str, told: &mut Told) -> String {
 fn line_of(request: &Request, width: usize, cause: &str, page: &Page<'_>) -> String {
     let mut status = request.status.map_or("-".to_string(), |status| status.to_string());
     if let Some(code) = request.grpc_status.filter(|code| *code > 0) {
-        status += &format!(" grpc {}", grpc_name(code));
+        let _ = write!(status, " grpc {}", grpc_name(code));
     }
     let (name, stream) = (name_of(request), format!("stream {}", request.stream));
     let lasts = time_of(request.nanos());
@@ -175,18 +176,18 @@ fn line_of(request: &Request, width: usize, cause: &str, page: &Page<'_>) -> Str
     let ended = &request.ended;
     match (ended.how, ended.side) {
         (How::RstStream, Some(side)) => {
-            text += &format!("; {side}'s RST_STREAM {}", code_name(ended.code.unwrap_or(0)));
+            let _ = write!(text, "; {side}'s RST_STREAM {}", code_name(ended.code.unwrap_or(0)));
         }
         (How::EndStream | How::RstStream, _) => {}
         _ if request.is_hung => {}
         (how, Some(side)) if how != How::Capture => {
             let code = ended.code.map_or(String::new(), |code| format!(" {}", code_name(code)));
-            text += &format!("; not ended: the {side}'s {}{code}", how_name(how));
+            let _ = write!(text, "; not ended: the {side}'s {}{code}", how_name(how));
         }
         _ => text += "; not ended: the capture ends",
     }
     if request.cause.first.is_some() {
-        text += &format!("   {}", page.packets(request.cause.first, request.cause.last));
+        let _ = write!(text, "   {}", page.packets(request.cause.first, request.cause.last));
     }
     text
 }
