@@ -110,7 +110,10 @@ impl Talk {
         let front =
             "capture records 9 segments 9 snapped 0 not-ipv4 0 fragments 0 not-tcp 0 refused 0\nconnection 1 client \
                      10.0.0.1:1 server 10.0.0.2:2 record 1";
-        let text = format!("{front} http2 frames {frames}\n{}\n", report.join("\n"));
+        let text = format!(
+            "{front} http2 frames {frames}\n{}",
+            report.iter().map(|line| format!("{line}\n")).collect::<String>()
+        );
         let read = read_audits(text.as_bytes(), |error| Failure::Io(error.to_string()));
         read.ok().and_then(|mut audits| audits.pop()).expect("a report")
     }
@@ -270,10 +273,12 @@ fn nothing_is_said_beside_another_report() {
 #[test]
 fn behind_the_end_of_the_audit() {
     let stop = ["frame 4 record 7 time 30000000 server wrong-size stream 1 value 1", "audit stopped at frame 4"];
-    let said = stalled().told(&stop).expect("an answer");
+    let mut talk = stalled();
+    talk.records[2].1 = 29 * MS;
+    let said = talk.told(&stop).expect("an answer");
     assert_eq!(said.stopped_at.map(|at| at.frame), Some(4));
     let one = said.requests.get(0).expect("a request");
-    assert_eq!(shares(&one, SERVER), [("waiting", 10), ("unseen", 70)]);
+    assert_eq!(shares(&one, SERVER), [("waiting", 1), ("unseen", 70)]);
     assert_eq!(one.cause.kind, CauseKind::Unseen);
 }
 
