@@ -4,8 +4,8 @@ use std::collections::{HashMap, HashSet};
 use std::fmt::Write as _;
 use std::io::{self, Write};
 
-use explain::answer::{At, ConnectionSaid, FaultSaid, How, Nanos, Place, Request, Signal, Source, StallSaid};
 use explain::answer::{is_pushed, CauseKind, RoundTrip};
+use explain::answer::{At, ConnectionSaid, FaultSaid, How, Nanos, Place, Request, Signal, Source, StallSaid};
 use reports::{grouped, sentence_of, Side};
 
 use crate::document::signal_word;
