@@ -186,7 +186,6 @@ UNREADABLE = [
     ("a : Type 0\na = 1 ≡ 2 ≡ 3", 2, "without parentheses"),
     ("a : ℕ\na = pos.unknown", 2, ""),
     ("a : ℕ\na = pos.", 2, ". is not expected"),
-    ("a : ℕ\na = 1\nmodule _ where\n  b : ℕ\n  b = n", 3, "a name is missing before module"),
     ("data Colour : Type 0 where\n  Red : Colour", 1, "a name is missing before data"),
     ("a : Type 0\na = 1 ≢ 2", 2, "≢ has no meaning"),
     ("use Rattle.std.specs.Prelude.{merge}\na : ℕ\na = merge", 3, "no meaning"),

@@ -246,7 +246,7 @@ class Names(OnMachine):
         self.assertEqual(self.machine.ask("SELECT name, requests FROM stalls_by_name"),
                          [("GET /secret-name", 100_000)])  # fmt: skip
         self.machine.database.unlink()
-        self.instead("ulimit -v 100000")
+        self.instead("ulimit -v 30000")
         self.assertEqual(self.run_fleet("--retries", "0"), 3)
         rows = self.machine.ask(f"SELECT {ASKED} FROM captures")
         ((outcome, audited, reason, tries, requests),) = rows

@@ -41,7 +41,7 @@ def samples() -> Iterator[tuple[str, bytes]]:
     for sample in {sample.digest: sample for sample in by_hand()}.values():
         yield f"{sample.name}.hand.pcap", sample.capture
     for name in ("stalls", "larger_windows"):
-        yield f"{name}.pcap", bytes(getattr(cost_captures, name)().bytes)
+        yield f"{name}.pcap", bytes(getattr(cost_captures, name)(4).bytes)
     chance = random.Random(61)
     for number in range(RANDOM):
         octets = request_captures.capture(chance) if number % 3 else random_captures.capture(chance)

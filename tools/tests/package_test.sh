@@ -41,9 +41,10 @@ installed() {
     printf "./$1/share/bash-completion/completions/h2audit%s\n" '' "${beside[@]}"
 }
 
-# By the repository, and not by the Makefile: each module and asset.
+# By the repository, and not by the Makefile: each module and asset, and the schema of h2audit-why's JSON.
 modules() {
     find h2audit VERSION -name __pycache__ -prune -o -type f -printf "./$1/share/h2audit/%p\n"
+    echo "./$1/share/h2audit/schema.json"
 }
 
 # The completions for fish, and the man pages, with what ends their names: words FOLDER and ENDING.

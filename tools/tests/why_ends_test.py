@@ -108,7 +108,7 @@ class Generated(BothEnds):
         for capture, name in zip(captures, ("client.pcap", "server.pcap")):
             capture.rename(self.folder / name)
         (self.folder / "keys.log").write_text("# no secrets\n")
-        surroundings = {**os.environ, "PATH": f"{TOP / 'tools'}:{os.environ['PATH']}"}
+        surroundings = {**os.environ, "PATH": f"{TOP / 'companions/target/release'}:{os.environ['PATH']}"}
         run = subprocess.run(["bash", "-c", line], cwd=self.folder, env=surroundings, capture_output=True, text=True)
         self.assertEqual(run.returncode, 0, run.stderr)
         self.assertIn("stream 1: the server stalled", run.stdout)
