@@ -48,7 +48,7 @@ control() {
     (cd "$stage" && find usr -type f -print0 | LC_ALL=C sort -z | xargs -0 md5sum > DEBIAN/md5sums)
 }
 
-programs=("$stage"/usr/bin/h2audit{,-any,-comment,-import,-merge,-split})
+programs=("$stage"/usr/bin/h2audit{,-any,-comment,-import,-merge,-split,-why})
 strip --strip-unneeded --remove-section=.comment --remove-section=.note "${programs[@]}"
 documents
 control
