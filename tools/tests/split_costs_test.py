@@ -13,8 +13,8 @@ from tests.programs import needed
 from tools.tests import cost_captures
 from tools.tests.counting import Counter, Counts
 
-# What the program keeps to read, and for each part to write; and no more than this beside it.
-KEPT, KEPT_OF_PART, BESIDE, BESIDE_PART = 256 << 10, 36 << 10, 8 << 10, 192
+# What the program keeps to read, and for each part to write; and no more than this beside it, of each part its paths.
+KEPT, KEPT_OF_PART, BESIDE, BESIDE_PART = 256 << 10, 36 << 10, 8 << 10, 320
 # SECURITY.md: the most, whatever the size.
 MOST_MEMORY, MOST_PARTS = 20_000_000, 500
 # How many bytes of a part's capture, and of its record numbers, a write has at least, if it is not the last one: what
