@@ -4,6 +4,7 @@ use std::rc::Rc;
 
 use reports::{Finding, Side};
 
+pub use crate::files::Files;
 use crate::frames::Frames;
 pub use crate::requests::Requests;
 pub use crate::rounds::{Place, RoundTrip, Source};
@@ -363,27 +364,6 @@ pub struct NotAudited {
     pub reason: String,
     pub count: u64,
     pub text: String,
-}
-
-/// The file of each packet: how many packets came before each file.
-#[derive(Clone, Debug, Default)]
-pub struct Files {
-    pub names: Vec<String>,
-    pub starts: Vec<u64>,
-}
-
-impl Files {
-    /// The number of the file that has a packet, from 1, and the packet's number in it.
-    pub fn place(&self, packet: u64) -> (usize, u64) {
-        match self.starts.partition_point(|start| *start < packet) {
-            0 => (0, packet),
-            file => (file, packet - self.starts[file - 1]),
-        }
-    }
-
-    pub fn name(&self, file: usize) -> &str {
-        file.checked_sub(1).and_then(|index| self.names.get(index)).map_or("", String::as_str)
-    }
 }
 
 #[derive(Clone, Debug, Default)]

@@ -102,7 +102,8 @@ impl Talk {
         });
         taken?;
         let (packed, seen) = connection.end(&mut said)?;
-        said.requests = Requests::of(packed, seen, Rc::new(asking.interner.into_texts()));
+        said.requests = Requests::of(packed, seen);
+        said.requests.with_texts(&Rc::new(asking.interner.into_texts()));
         Ok(said)
     }
 

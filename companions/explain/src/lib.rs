@@ -20,6 +20,7 @@ mod conversations;
 mod course;
 mod cutter;
 mod doubts;
+mod files;
 mod findings;
 pub mod frames;
 mod intervals;

@@ -16,12 +16,17 @@ pub struct Requests {
     /// Those that are told from nothing else.
     all: Vec<Request>,
     packed: Option<Rc<(Packed, Seen)>>,
-    texts: Rc<Texts>,
+    texts: Option<Rc<Texts>>,
 }
 
 impl Requests {
-    pub fn of(packed: Packed, seen: Seen, texts: Rc<Texts>) -> Requests {
-        Requests { all: Vec::new(), packed: Some(Rc::new((packed, seen))), texts }
+    pub fn of(packed: Packed, seen: Seen) -> Requests {
+        Requests { all: Vec::new(), packed: Some(Rc::new((packed, seen))), texts: None }
+    }
+
+    /// All texts are known.
+    pub fn with_texts(&mut self, texts: &Rc<Texts>) {
+        self.texts = Some(texts.clone());
     }
 
     pub fn push(&mut self, request: Request) {
@@ -38,7 +43,7 @@ impl Requests {
 
     pub fn get(&self, index: usize) -> Option<Request> {
         match &self.packed {
-            Some(packed) => packed.0.get(index).map(|stream| told(stream, &packed.1, &self.texts)),
+            Some(packed) => packed.0.get(index).map(|stream| told(stream, &packed.1, self.texts.as_deref())),
             None => self.all.get(index).cloned(),
         }
     }
@@ -122,7 +127,7 @@ impl Packed {
 }
 
 /// The request that a stream is.
-fn told(mut stream: Stream, seen: &Seen, texts: &Texts) -> Request {
+fn told(mut stream: Stream, seen: &Seen, texts: Option<&Texts>) -> Request {
     let ends = [0, 1].map(|side| seen.end_of(&stream, side));
     let time = |end: &Ended| end.at.map_or(0, |at| at.time);
     let ended = if time(&ends[1]) > time(&ends[0]) { ends[1] } else { ends[0] };
@@ -153,9 +158,9 @@ fn told(mut stream: Stream, seen: &Seen, texts: &Texts) -> Request {
     request
 }
 
-fn names(asked: Option<Asked>, texts: &Texts) -> [Option<Rc<str>>; 3] {
+fn names(asked: Option<Asked>, texts: Option<&Texts>) -> [Option<Rc<str>>; 3] {
     let asked = asked.unwrap_or_default();
-    [asked.method, asked.path, asked.authority].map(|number| texts.get(number).cloned())
+    [asked.method, asked.path, asked.authority].map(|number| texts?.get(number).cloned())
 }
 
 fn direction(stream: &mut Stream, side: usize, seen: &Seen, ended: &Ended) -> Direction {

@@ -14,8 +14,6 @@ use crate::connection::Connection;
 use crate::learning::Known;
 use crate::made::{each_record, Record};
 use crate::names::Interner;
-use crate::requests::Packed;
-use crate::seen::Seen;
 use crate::table::Numbers;
 use crate::tcp::last_of;
 use crate::walk::Asking;
@@ -43,7 +41,6 @@ struct Walk<'a> {
     /// By the import's numbers.
     walked: Vec<Option<Walked>>,
     answer: &'a mut Answer,
-    told: Vec<(usize, Packed, Seen)>,
     /// More streams than these are not left unpacked; and the connection whose streams are packed next.
     most_live: usize,
     next: usize,
@@ -53,6 +50,7 @@ struct Walk<'a> {
 pub fn tell(asked: &Asked<'_>, made: &mut Made, audits: Vec<Audit>, answer: &mut Answer) -> Result<(), Failure> {
     let mut walked: Vec<Option<Walked>> = Vec::new();
     walked.resize_with(made.known.len(), || None);
+    answer.connections.reserve_exact(audits.len());
     let mut numbers = std::mem::take(&mut made.order).into_iter();
     for (index, audit) in audits.into_iter().enumerate() {
         // A report of some parts alone has not all connections.
@@ -72,7 +70,7 @@ pub fn tell(asked: &Asked<'_>, made: &mut Made, audits: Vec<Audit>, answer: &mut
         live: Rc::default(),
     };
     let Made { capture, notes, courses, .. } = made;
-    let mut walk = Walk { asking, courses, walked, answer, told: Vec::new(), most_live: MOST_LIVE, next: 0 };
+    let mut walk = Walk { asking, courses, walked, answer, most_live: MOST_LIVE, next: 0 };
     each_record(capture, notes, |record| walk.take(record))?;
     walk.end()
 }
@@ -102,7 +100,7 @@ impl Walk<'_> {
         begun(&mut walked.state, &mut self.courses.connections[number], &self.asking)?;
         if let State::Begun(connection) = walked.state {
             let (packed, seen) = connection.end(&mut self.answer.connections[walked.index])?;
-            self.told.push((walked.index, packed, seen));
+            self.answer.connections[walked.index].requests = Requests::of(packed, seen);
         }
         Ok(())
     }
@@ -124,9 +122,7 @@ impl Walk<'_> {
     fn end(mut self) -> Result<(), Failure> {
         (0..self.walked.len()).try_for_each(|number| self.end_one(number))?;
         let texts = Rc::new(self.asking.interner.into_texts());
-        for (index, packed, seen) in self.told {
-            self.answer.connections[index].requests = Requests::of(packed, seen, texts.clone());
-        }
+        self.answer.connections.iter_mut().for_each(|one| one.requests.with_texts(&texts));
         Ok(())
     }
 }
