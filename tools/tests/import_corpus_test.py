@@ -223,7 +223,7 @@ class Files(unittest.TestCase):
         self.assertEqual((piped.status, piped.said), (2, "h2audit-import: --sort takes files alone, and - is none\n"))
 
     def test_reorder(self) -> None:
-        """Packets that are late in the file are put in order of time, under their own numbers, and the warning says how."""
+        """Packets that are late in the file are put in order of time, under their own numbers; the warning says how."""
         packets, link = tools.read_pcap(LATE.read_bytes())
         late = tools.imported(LATE)
         said = "h2audit-import: times go back at packet 13: are the files in order? --reorder\n"

@@ -70,7 +70,7 @@ def main(words: list[str]) -> int:
             sample = source.choice(SAMPLES)
             path.write_bytes(damaged(source, sample.read_bytes()))
             try:
-                options = source.choice(([], ["--reorder"]))
+                options = ["--reorder"] * source.randrange(2)
                 found = answered(path, sample.with_suffix(".keys"), options)
                 if found is not None:
                     check(found)
