@@ -163,14 +163,14 @@ def stops_reading(server: Server, pause: float) -> Script:
 
 
 def is_stopped(stage: Stage) -> float:
-    """curl is stopped by a signal while it downloads."""
+    """curl is stopped by a signal while it downloads; its own limit stops its reading too, for a part of the rest."""
     with stage.serving(why_peers.nginx) as port:
         words = ("curl", "-s", "-o", "/dev/null", "--http2-prior-knowledge", "--limit-rate", "16M", stage.url("huge"))
         with process(*words) as curl:
             why_peers.grown(stage.capture, 2_000_000)
             curl.send_signal(signal.SIGSTOP)
             began = time.monotonic()
-            time.sleep(2)
+            time.sleep(3)
             curl.send_signal(signal.SIGCONT)
             held = time.monotonic() - began
             curl.wait(why_peers.PATIENCE)
@@ -206,8 +206,8 @@ class Lost:
 
 
 def loses_content(stage: Stage) -> float:
-    """All that the server sends for half a second is lost."""
-    lost = stage.loses = Lost(SERVER_END, 1000, 0.5)
+    """All that the server sends for a second is lost."""
+    lost = stage.loses = Lost(SERVER_END, 1000, 1)
     with stage.serving(why_peers.nghttpd) as port, stage.raw(port, WIDE) as client:
         client.grant(0, size=1 << 24)
         client.get(1, "/large")

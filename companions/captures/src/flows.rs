@@ -91,8 +91,8 @@ impl Flow {
 
     /// The first packet that brought bytes behind a hole which is still there.
     pub fn behind_hole(&self) -> Option<Arrival> {
-        let first = self.held.as_ref().and_then(|held| held.pieces.iter().min_by_key(|piece| piece.0.turn));
-        self.lost.or(first.map(|piece| piece.0.arrival))
+        let first = || self.held.as_ref()?.pieces.iter().min_by_key(|piece| piece.0.turn);
+        self.lost.or_else(|| Some(first()?.0.arrival))
     }
 
     /// The bytes that are in order now.

@@ -2,7 +2,7 @@
 
 mod common;
 
-use std::fs::{self, File};
+use std::fs::File;
 use std::path::{Path, PathBuf};
 
 use captures::{pcap, Arrival, Item, Reader, Source};
@@ -71,7 +71,7 @@ fn imported(paths: &[&Path], keys: &Path, number: impl Fn(u64) -> u64) -> (Impor
     assert_eq!(summary.back.map(|back| back.packets), None);
     let openings: Vec<_> = summary.outcomes.iter().map(|one| (number(one.opening), one.became.words())).collect();
     let unopened: Vec<_> = summary.unopened.iter().map(|one| (number(one.first.packet), one.segments)).collect();
-    let held: Vec<_> = courses.connections.iter().map(|one| one.held.iter().map(|held| held.begin)).flatten().collect();
+    let held: Vec<_> = courses.connections.iter().flat_map(|one| one.held.iter().map(|held| held.begin)).collect();
     ((made, arrivals, format!("{openings:?} {unopened:?} {held:?}")), summary.reordered.unwrap())
 }
 
@@ -117,5 +117,4 @@ fn many_packets() {
     write(&path, many[0].link, &many);
     let (_, done) = imported(&[&path], Path::new("none"), |number| number);
     assert_eq!(done, Reordered { packets: 30_000, nanos: 8_500, left: 0 });
-    assert_eq!(fs::metadata(&path).unwrap().len() > 1 << 24, true);
 }
