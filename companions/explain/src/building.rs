@@ -49,6 +49,8 @@ pub struct Made {
     /// Those numbers in the order of the report.
     pub order: Vec<usize>,
     pub files: Files,
+    /// Files that end within a packet, and the number of that packet in each.
+    pub cuts: Vec<(usize, u64)>,
     pub addresses: import::Addresses,
 }
 
@@ -82,7 +84,8 @@ fn answer_by_audit(asked: &Asked<'_>, mut made: Made, copy: Option<&mut File>) -
 
 fn answer_by(asked: &Asked<'_>, mut made: Made, audits: Vec<Audit>) -> Result<Answer, Failure> {
     let files = std::mem::take(&mut made.files);
-    let mut answer = Answer { files, packets: made.summary.counts.records, ..Answer::default() };
+    let cuts = std::mem::take(&mut made.cuts);
+    let mut answer = Answer { files, packets: made.summary.counts.records, cuts, ..Answer::default() };
     tell(asked, &mut made, audits, &mut answer)?;
     answer.not_audited = not_audited(&answer, &made.summary);
     answer.warnings = doubts_of(&answer, &made.summary, &made.courses);
@@ -98,10 +101,10 @@ fn make(asked: &Asked<'_>, keeping: Option<Keeping>) -> Result<(Made, Option<Kee
         import::Asked { program: asked.program, files: asked.files, key_logs: asked.key_logs, can_repeat: true };
     let summary = import::imported(&import, &mut sink, Some(&mut courses))?;
     drop(sink);
-    let Learning { connections, order, files, addresses, mut notes, .. } = listening.learning;
+    let Learning { connections, order, files, addresses, mut notes, cuts, .. } = listening.learning;
     let learned = learned_anew(connections, &mut capture, &mut notes)?;
     let known = learned.into_iter().map(|one| one.map(|one| Box::new(one.known()))).collect();
-    Ok((Made { capture, notes, summary, courses, known, order, files, addresses }, listening.keeping))
+    Ok((Made { capture, notes, summary, courses, known, order, files, cuts, addresses }, listening.keeping))
 }
 
 /// Reads connections once more whose server sent bytes before its initial sequence number was known.

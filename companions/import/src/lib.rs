@@ -45,11 +45,11 @@ mod words;
 
 pub use addresses::{escaped, Addresses};
 pub use command::sorted;
-pub use course::{Course, Courses, Held, Side, Why, NEVER};
+pub use course::{Course, Courses, Held, Side, Uncaptured, Why, NEVER};
 pub use importing::{imported, times_go_back, Asked};
 pub use listener::{Files, Listener, Record, Sender, Written};
 pub use map_file::MapFile;
-pub use others::{Kind, Other};
+pub use others::{is_tunnel, Kind, Other};
 pub use outcomes::{Back, Became, End, Older, Outcome, Read, SideRead, Summary, Unopened};
 pub use preamble::Preamble;
 pub use sink::{Problem, Sink, Target};

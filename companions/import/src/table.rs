@@ -5,7 +5,7 @@
 
 use std::collections::{HashMap, VecDeque};
 
-use captures::{flags, swapped, Arrival, Ends, Segment};
+use captures::{flags, swapped, Arrival, Ends, Segment, END_OF_OFFSETS};
 use tls::{Random, Shared, CLIENT, SERVER};
 
 use crate::connections::Connection;
@@ -39,6 +39,35 @@ struct Stray {
     first: Arrival,
     ends: Ends,
     segments: u64,
+    /// Whether the other one of both sent some of them.
+    has_both: bool,
+    has_answer: bool,
+    /// What the first acknowledged, and whether a later one acknowledged more.
+    acknowledged: Option<u32>,
+    acknowledges_more: bool,
+}
+
+impl Stray {
+    fn new(first: Arrival, ends: Ends) -> Stray {
+        let (has_both, has_answer, acknowledges_more) = (false, false, false);
+        Stray { first, ends, segments: 0, has_both, has_answer, acknowledged: None, acknowledges_more }
+    }
+
+    fn take(&mut self, segment: &Segment<'_>) {
+        let both = flags::SYN | flags::ACK;
+        self.segments += 1;
+        self.has_both |= segment.ends != self.ends;
+        self.has_answer |= segment.flags & both == both;
+        if segment.flags & flags::ACK != 0 {
+            let more = segment.acknowledgement.wrapping_sub(*self.acknowledged.get_or_insert(segment.acknowledgement));
+            self.acknowledges_more |= more > 0 && more < END_OF_OFFSETS;
+        }
+    }
+
+    fn unopened(self) -> Unopened {
+        let Stray { first, ends, segments, .. } = self;
+        Unopened { first, ends, segments, is_one_way: !self.has_both && (self.has_answer || self.acknowledges_more) }
+    }
 }
 
 /// Where a segment belongs, and whether it opens the connection.
@@ -209,8 +238,7 @@ impl Table {
 
     /// Counts a segment of no connection, and writes its headers, for h2audit to name it.
     fn stray(&mut self, sink: &mut Sink<'_>, arrival: Arrival, segment: &Segment<'_>, pair: Ends) {
-        let stray = self.strays.entry(pair).or_insert(Stray { first: arrival, ends: segment.ends, segments: 0 });
-        stray.segments += 1;
+        self.strays.entry(pair).or_insert_with(|| Stray::new(arrival, segment.ends)).take(segment);
         sink.emit(arrival, None, Written::headers(segment, &mut self.room));
     }
 
@@ -284,8 +312,7 @@ impl Table {
         for outcome in &mut self.outcomes {
             outcome.fragments = self.fragments.get(&outcome.opening).copied().unwrap_or(0);
         }
-        let named = |stray: Stray| Unopened { first: stray.first, ends: stray.ends, segments: stray.segments };
-        let mut unopened: Vec<_> = self.strays.into_values().map(named).collect();
+        let mut unopened: Vec<_> = self.strays.into_values().map(Stray::unopened).collect();
         unopened.sort_by_key(|pair| pair.first.packet);
         (self.outcomes, unopened)
     }
