@@ -1,5 +1,5 @@
-"""Tests that all forms in which h2audit-why answers say the same of each request: text, JSON, lines of JSON, rows, JUnit
-and a comparison with itself, over all captures of the repository.
+"""Tests that all forms in which h2audit-why answers say the same of each request, over all captures of the repository:
+text, JSON, lines of JSON, rows, JUnit, and a comparison with itself.
 
     python3 -m tools.tests.why_forms_test [H2AUDIT] [TEST..]
 """
@@ -14,7 +14,7 @@ from collections.abc import Iterator
 from typing import Any
 
 from h2audit.report.words import time_of
-from tools.tests.why_test import words_for
+from tools.tests.why_test import SCHEMA, words_for
 from tools.tests.why_tools import TOP, Json, OnCaptures, has_programs, programs_of, ran
 
 FOLDERS = ("examples", "tests/tls", "tests/corpus", "tests/answer")
@@ -49,6 +49,9 @@ class Forms(OnCaptures):
     """The document of JSON is compared with each other form."""
 
     def test_all(self) -> None:
+        import jsonschema  # type: ignore[import]
+
+        validator = jsonschema.Draft202012Validator(SCHEMA)
         self.assertGreater(len(CAPTURES), 50)
         requests = 0
         for capture in CAPTURES:
@@ -60,6 +63,7 @@ class Forms(OnCaptures):
                 found: Json = json.loads(run.stdout)
                 said = dict(of_document(found))
                 requests += len(said)
+                validator.validate(found)
                 self.lines(said, words)
                 self.rows(said, words)
                 self.text(found, words)

@@ -1,5 +1,5 @@
-"""Tests that what h2audit-why says is true of captures whose answer is known: the first line beside what follows it, hung
-requests, what the capture has and lacks, and who is named.
+"""Tests that what h2audit-why says is true of captures whose answer is known: the first line beside what follows it,
+hung requests, what the capture has and lacks, and who is named.
 
     python3 -m tools.tests.why_said_test [H2AUDIT] [TEST..]
 """
@@ -85,7 +85,9 @@ class FirstLine(Said):
             faults = [fault for one in found["connections"] for fault in one["faults"]]
             errors = [one for connection in found["connections"] for one in connection["signals"] if one["code"]]
             text = found["summary"]["text"]
-            self.assertEqual("No rule was broken" in text, bool(found["summary"]["audited"]) and not faults + errors, path)
+            self.assertEqual(
+                "No rule was broken" in text, bool(found["summary"]["audited"]) and not faults + errors, path
+            )
             certain = sum(fault["certainty"] == "certain" for fault in faults)
             self.assertEqual(found["summary"]["doubtful"], len(faults) - certain)
             self.assertEqual("Doubtful: " in text, certain < len(faults), path)
@@ -102,20 +104,31 @@ class FirstLine(Said):
         self.assertEqual(said_of(path)["summary"]["verdict"], "doubtful-faults")
 
     def test_settings(self) -> None:
-        """SETTINGS that were acknowledged, and answered by FLOW_CONTROL_ERROR on a stream that had ended by the rules."""
-        for has_error in (True, False):
+        """SETTINGS that were acknowledged, and answered by FLOW_CONTROL_ERROR on a stream that it ended."""
+        grant, most = frame(8, 0, 1, struct.pack(">I", 1000)), settings((4, MOST))
+        for octets, code in ((grant + most, FLOW_CONTROL_ERROR), (most + grant, FLOW_CONTROL_ERROR), (grant + most, 8)):
             capture = self.opened()
-            capture.send("C", frame(8, 0, 1, struct.pack(">I", 1000)) + settings((4, MOST)))
-            reset = frame(3, 0, 1, struct.pack(">I", FLOW_CONTROL_ERROR if has_error else 8))
-            capture.send("S", reset + frame(4, 1, 0))
+            capture.send("C", octets)
+            capture.send("S", frame(3, 0, 1, struct.pack(">I", code)) + frame(4, 1, 0))
             found, text = self.said(capture)
             self.assertEqual(found["summary"]["faults"], 0)
             notes = found["connections"][0]["notes"]
-            self.assertEqual(len(notes), has_error, notes)
-            if has_error:
-                self.assertRegex(notes[0], "from 66,535 to 2,147,484,647, above .*; the server acknowledged them in packet 7, "
-                                 "and answered by RST_STREAM FLOW_CONTROL_ERROR on stream 1 in packet 7$")  # fmt: skip
+            self.assertEqual(len(notes), code == FLOW_CONTROL_ERROR, notes)
+            for note in notes:
+                answer = "in packet 7, and answered by RST_STREAM FLOW_CONTROL_ERROR on stream 1 in packet 7"
+                acknowledged = f"the server acknowledged them {answer}"
+                self.assertRegex(note, f"from 66,535 to 2,147,484,647, above .*; {acknowledged}$")
                 self.assertIn("A rule may have been broken: the server answered FLOW_CONTROL_ERROR.", text)
+
+    def test_settings_by_the_report(self) -> None:
+        """Where the report has a finding of them, that is enough."""
+        capture = self.opened()
+        capture.send("C", frame(8, 0, 1, struct.pack(">I", 1000)) + settings((4, MOST)))
+        capture.send("S", frame(4, 1, 0) + frame(3, 0, 1, struct.pack(">I", FLOW_CONTROL_ERROR)))
+        found, text = self.said(capture)
+        self.assertEqual([fault["kind"] for fault in found["connections"][0]["faults"]], ["setting-overflow"])
+        self.assertEqual(found["connections"][0]["notes"], [])
+        self.assertIn("The client broke RFC 9113, 6.9.2 (setting-overflow).", text)
 
 
 class Hung(Said):
@@ -124,7 +137,9 @@ class Hung(Said):
     def stalled(self, *ends: bytes, granted: bool = True) -> tuple[Json, str]:
         """A stall of 10 steps that ends, one that does not, and what ends the connection from 20 steps later on."""
         capture = self.opened()
-        capture.send("S", frame(1, 4, 1, b"\x88") + b"".join(4 * [frame(0, 0, 1, bytes(16_383))]) + frame(0, 0, 1, bytes(3)))
+        capture.send(
+            "S", frame(1, 4, 1, b"\x88") + b"".join(4 * [frame(0, 0, 1, bytes(16_383))]) + frame(0, 0, 1, bytes(3))
+        )
         for _ in range(9):
             capture.send("C", frame(6, 0, 0, bytes(8)))
         if granted:
@@ -144,8 +159,8 @@ class Hung(Said):
         self.assertEqual((request["hung"], request["hung_nanos"]), (True, 20 * STEP * 1000))
         self.assertEqual((request["ended"]["how"], request["ended"]["code"]), ("GOAWAY", 1))
         self.assertEqual((request["cause"]["why"], request["cause"]["nanos"]), ("granted-nothing", 30 * STEP * 1000))
-        self.assertIn("HUNG for 20 ms, up to the server's GOAWAY (packet 37): the client granted nothing; it was stalled "
-                      "for 10 ms before", text)  # fmt: skip
+        said = "HUNG for 20 ms, up to the server's GOAWAY (packet 37): the client granted nothing; "
+        self.assertIn(said + "it was stalled for 10 ms before", text)
         begin = request["cause"]["first"]
         self.assertEqual(request["cause"]["last"]["time"] - begin["time"], request["hung_nanos"])
 
@@ -165,6 +180,25 @@ class Hung(Said):
         self.assertIn("HUNG for 20 ms, up to the frame at which the audit stopped (packet 37): ", text)
         found, _ = self.stalled(frame(6, 0, 0, bytes(7)), frame(0, 0, 1, bytes(5)))
         self.assertFalse(found["connections"][0]["requests"][0]["hung"], "it went on")
+
+    def test_opened_later(self) -> None:
+        """A request that was opened in the midst of the connection's stall did not hang before."""
+        later = frame(1, 4, 3, b"\x88")
+        capture = self.opened()
+        capture.send("C", frame(8, 0, 1, struct.pack(">I", 9)))
+        capture.send(
+            "S", frame(1, 4, 1, b"\x88") + b"".join(4 * [frame(0, 0, 1, bytes(16_383))]) + frame(0, 0, 1, bytes(3))
+        )
+        capture.send("C", frame(6, 0, 0, bytes(8)))
+        capture.send("C", frame(1, 5, 3, GET))
+        capture.send("S", later)
+        for _ in range(20):
+            capture.send("C", frame(6, 0, 0, bytes(8)))
+        requests = self.said(capture)[0]["connections"][0]["requests"]
+        told = [(one["hung"], one["hung_nanos"], one["cause"]["kind"]) for one in requests]
+        self.assertEqual(
+            told, [(True, 23 * STEP * 1000, "connection-window"), (True, 21 * STEP * 1000, "connection-window")]
+        )
 
     def test_not(self) -> None:
         """One that was reset, or whose end may be among missing bytes, does not count as hung."""
@@ -227,6 +261,7 @@ class Captured(Said):
 
     def test_tunnels(self) -> None:
         """Packets in a tunnel are named, and arp only where nothing was audited."""
+
         def others(kind: int, number: int) -> bytes:
             octets = bytes(12) + struct.pack(">H", kind) + bytes(40)
             return number * (struct.pack("<IIII", 0, 1, len(octets), len(octets)) + octets)
@@ -251,7 +286,9 @@ class Captured(Said):
         payload = len(kept[dropped]) - 16 - 66
         texts = [one["text"] for one in found["warnings"] if one["kind"] == "dropped"]
         self.assertEqual(len(texts), 1, found["warnings"])
-        self.assertTrue(texts[0].startswith(f"{payload:,} bytes of 1 connection were acknowledged and never captured: 1 "))
+        self.assertTrue(
+            texts[0].startswith(f"{payload:,} bytes of 1 connection were acknowledged and never captured: 1 ")
+        )
         self.assertEqual(sum(found["connections"][0]["uncaptured"].values()), payload)
         text = ran(self.folder / "capture.pcap").stdout.decode()
         self.assertNotIn("not ended", text)
@@ -266,8 +303,8 @@ class Named(Said):
     def test_holder(self) -> None:
         path = ANSWER / "one_stream_holds_connection.pcap"
         text = ran(path).stdout.decode()
-        self.assertIn("stream 1 holds all 65,535 bytes of the connection's window; streams 3, 5 waited; the connection's "
-                      "window was used up for 913 ms in all", text)  # fmt: skip
+        said = "stream 1 holds all 65,535 bytes of the connection's window; streams 3, 5 waited; "
+        self.assertIn(said + "the connection's window was used up for 913 ms in all", text)
         stalls = said_of(path)["connections"][0]["stalls"]
         holders = [one["holder"] for one in stalls if one["holder"]]
         self.assertIn({"stream": 1, "bytes": 65_535, "of": 65_535}, holders)

@@ -101,6 +101,14 @@ fn make(asked: &Asked<'_>, keeping: Option<Keeping>) -> Result<(Made, Option<Kee
         import::Asked { program: asked.program, files: asked.files, key_logs: asked.key_logs, can_repeat: true };
     let summary = import::imported(&import, &mut sink, Some(&mut courses))?;
     drop(sink);
+    if summary.counts.fragments + summary.counts.refused > 0 {
+        // What was passed over may have the bytes that seem not to be captured.
+        courses
+            .connections
+            .iter_mut()
+            .flat_map(|one| &mut one.sides)
+            .for_each(|side| side.uncaptured = Default::default());
+    }
     let Learning { connections, order, files, addresses, mut notes, cuts, .. } = listening.learning;
     let learned = learned_anew(connections, &mut capture, &mut notes)?;
     let known = learned.into_iter().map(|one| one.map(|one| Box::new(one.known()))).collect();

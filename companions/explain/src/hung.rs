@@ -29,7 +29,7 @@ impl Held<'_> {
         };
         let setting = self.seen.setting(side, last.begin.frame);
         let cause = Cause { why: CauseWhy::Stalls(why), first: Some(last.begin), last: Some(end), setting, ..*cause };
-        Some((cause, until - last.begin.time))
+        Some((cause, until - last.begin.time.max(life.0)))
     }
 
     /// Whether a side sent more on the stream behind a moment, as where the audit stopped.

@@ -26,6 +26,8 @@ pub struct Unanswered {
     /// The last initial window of each side that is acknowledged sooner or later.
     before: [i64; 2],
     looks: u32,
+    /// The last initial window that each side sent: behind how many SETTINGS, where, and its value.
+    last: [Option<(u32, At, u32)>; 2],
     /// How many SETTINGS of each side have been acknowledged so far.
     answered: [u32; 2],
     notes: Vec<Note>,
@@ -49,8 +51,16 @@ struct Note {
 
 impl Unanswered {
     pub fn new(frames: Vec<u32>, acknowledged: [u32; 2]) -> Unanswered {
-        let before = [FIRST_CREDIT; 2];
-        Unanswered { frames, acknowledged, sent: [0; 2], before, looks: 0, answered: [0; 2], notes: Vec::new() }
+        Unanswered {
+            frames,
+            acknowledged,
+            sent: [0; 2],
+            before: [FIRST_CREDIT; 2],
+            looks: 0,
+            last: [None; 2],
+            answered: [0; 2],
+            notes: Vec::new(),
+        }
     }
 
     /// A side sent SETTINGS, while these streams go on.
@@ -61,6 +71,7 @@ impl Unanswered {
             Some(value) => value,
             None => return,
         };
+        self.last[side] = Some((index, at, value));
         let before = if index < self.acknowledged[side] {
             let is_higher = i64::from(value) > std::mem::replace(&mut self.before[side], i64::from(value));
             self.looks += u32::from(is_higher);
@@ -81,6 +92,9 @@ impl Unanswered {
     /// A side acknowledges the oldest SETTINGS of the other one that wait.
     pub fn acknowledged(&mut self, side: usize, at: At) {
         let index = self.answered[1 - side];
+        if index == self.sent[1 - side] {
+            return;
+        }
         self.answered[1 - side] += 1;
         for note in self.waiting(side).filter(|note| note.index == index) {
             note.acknowledged = Some(at);
@@ -97,13 +111,31 @@ impl Unanswered {
         }
     }
 
-    pub fn reset(&mut self, side: usize, at: At, code: u32, stream: &Stream) {
+    /// A side reset a stream, while this initial window is in force for it.
+    pub fn reset(&mut self, side: usize, at: At, code: u32, (stream, initial): (&Stream, &Initial)) {
         if code != FLOW_CONTROL_ERROR {
             return;
         }
+        self.granted_since(side, stream, initial);
         for note in self.waiting(side) {
             if note.reset.map_or(true, |before| stream.order < before.0) {
                 note.reset = Some((stream.order, stream.number, at));
+            }
+        }
+    }
+
+    /// The other side's last SETTINGS, not acknowledged yet, may have been sent before grants that make the credit too high.
+    fn granted_since(&mut self, side: usize, stream: &Stream, initial: &Initial) {
+        let announcing = 1 - side;
+        let waiting = self.last[announcing].filter(|one| one.0 >= self.answered[announcing]);
+        let highest = stream.sides[side].window.value(initial);
+        if let (Some((index, at, value)), Some(highest)) = (waiting, highest) {
+            let credit = highest + i64::from(value) - initial.value;
+            let is_known = self.notes.iter().any(|note| (note.side, note.index) == (announcing, index));
+            if credit > MOST_CREDIT && !is_known && self.notes.len() < MOST_LOOKS as usize {
+                let (side, stream) = (announcing, stream.number);
+                let (acknowledged, goaway, reset) = (None, None, None);
+                self.notes.push(Note { side, index, at, acknowledged, value, highest, credit, stream, goaway, reset });
             }
         }
     }
@@ -194,7 +226,7 @@ mod tests {
                      server's credit on stream 1 from 65,535 to 2,147,548,182, above 2^31 - 1 (RFC 9113, 6.9.2); the \
                      server never acknowledged them";
         assert_eq!(unanswered.said(false), [front]);
-        unanswered.reset(1, at(8), FLOW_CONTROL_ERROR, &stream(3));
+        unanswered.reset(1, at(8), FLOW_CONTROL_ERROR, (&stream(3), &Initial::default()));
         let reset = format!("{front}, and answered by RST_STREAM FLOW_CONTROL_ERROR on stream 3 in packet 80");
         assert_eq!(unanswered.said(false), [reset]);
         unanswered.goaway(0, at(9), 0);
@@ -218,7 +250,7 @@ mod tests {
         unanswered.acknowledged(1, at(7));
         unanswered.goaway(1, at(7), 0);
         assert!(unanswered.said(false).is_empty(), "no error");
-        unanswered.reset(1, at(8), FLOW_CONTROL_ERROR, &stream(1));
+        unanswered.reset(1, at(8), FLOW_CONTROL_ERROR, (&stream(1), &Initial::default()));
         let said = "the client's SETTINGS in packet 50 set an initial window of 2,147,482,648, which would take the server's \
                     credit on stream 1 from 66,535 to 2,147,483,648, above 2^31 - 1 (RFC 9113, 6.9.2); the server \
                     acknowledged them in packet 70, and answered by RST_STREAM FLOW_CONTROL_ERROR on stream 1 in packet 80";

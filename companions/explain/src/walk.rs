@@ -281,7 +281,7 @@ impl Walk {
             leaks.iter_mut().flatten().for_each(|leaks| leaks.reset(stream));
             signals.reset(stream, &reset);
             bursts.reset(side, at, code);
-            unanswered.reset(side, at, code, stream);
+            unanswered.reset(side, at, code, (stream, &initials[side]));
             stream.note_use(uses_window);
         });
     }
