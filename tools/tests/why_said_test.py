@@ -12,6 +12,7 @@ import unittest
 
 from tests.captures import CLIENT, PREFACE, SERVER, SYN, SYN_ACK, Capture, frame
 from tools.tests.why_ci_test import slower
+from tools.tests.why_test import SCHEMA
 from tools.tests.why_tools import TOP, Json, OnCaptures, has_programs, programs_of, ran, said_of
 
 ANSWER = TOP / "tests" / "answer"
@@ -53,7 +54,15 @@ class Said(OnCaptures):
 
     def said(self, capture: Capture, step: int = STEP) -> tuple[Json, str]:
         path = self.path(slower(capture.bytes, step))
-        return said_of(path), ran(path).stdout.decode()
+        return self.document(path), ran(path).stdout.decode()
+
+    def document(self, path: pathlib.Path) -> Json:
+        """What --json says, which the schema holds."""
+        import jsonschema  # type: ignore[import]
+
+        found = said_of(path)
+        jsonschema.Draft202012Validator(SCHEMA).validate(found)
+        return found
 
     def first_line(self, text: str) -> str:
         return [line for line in text.splitlines() if not line.startswith("warning: ")][0]
@@ -282,7 +291,7 @@ class Captured(Said):
         kept = records(octets)
         by_length = sorted(range(len(kept)), key=lambda at: -len(kept[at]))
         dropped = by_length[1]
-        found = said_of(self.path(octets[:24] + b"".join(kept[:dropped] + kept[dropped + 1 :])))
+        found = self.document(self.path(octets[:24] + b"".join(kept[:dropped] + kept[dropped + 1 :])))
         payload = len(kept[dropped]) - 16 - 66
         texts = [one["text"] for one in found["warnings"] if one["kind"] == "dropped"]
         self.assertEqual(len(texts), 1, found["warnings"])
