@@ -96,13 +96,14 @@ _h2audit_any() {
 _h2audit_why() {
     local word=${COMP_WORDS[COMP_CWORD]} before=${COMP_WORDS[COMP_CWORD - 1]}
     local options='--key-log -k --sort --reorder --all --query --no-requests --json --json-lines --rows --color --width'
-    options+=' --h2audit --report --last-packets --audit --workers --fail-on --fail-stall --require-http2 --junit --quiet'
-    options+=' --compare --ends --help -h --version -V'
+    options+=' --h2audit --report --last-packets --audit --workers --fail-on --fail-stall --fail-life --require-http2'
+    options+=' --junit --quiet --compare --ends --help -h --version -V'
     [[ $word == = ]] && word=
     [[ $before == = ]] && before=${COMP_WORDS[COMP_CWORD - 2]}
     case $before in
-    --fail-on) _h2audit_offer -W 'fault certain-fault stall hung tcp error gap not-audited' -- "$word" ;;
+    --fail-on) _h2audit_offer -W 'fault certain-fault stall hung tcp error unanswered status gap cut not-audited' -- "$word" ;;
     --fail-stall) _h2audit_offer -W '10ms 100ms 1s' -- "$word" ;;
+    --fail-life) _h2audit_offer -W '1s 2s 10s' -- "$word" ;;
     --color) _h2audit_offer -W 'auto always never' -- "$word" ;;
     --rows | --report | --last-packets | --audit) _h2audit_offer -f -- "$word" ;;
     --width) _h2audit_offer -W '80 100 120 160' -- "$word" ;;

@@ -51,6 +51,8 @@ pub struct Made {
     /// Those numbers in the order of the report.
     pub order: Vec<usize>,
     pub files: Files,
+    /// Files that end within a packet, and the number of that packet in each.
+    pub cuts: Vec<(usize, u64)>,
     pub addresses: import::Addresses,
 }
 
@@ -84,7 +86,8 @@ fn answer_by_audit(asked: &Asked<'_>, mut made: Made, copy: Option<&mut File>) -
 
 fn answer_by(asked: &Asked<'_>, mut made: Made, audits: Vec<Audit>) -> Result<Answer, Failure> {
     let files = std::mem::take(&mut made.files);
-    let mut answer = Answer { files, packets: made.summary.counts.records, ..Answer::default() };
+    let cuts = std::mem::take(&mut made.cuts);
+    let mut answer = Answer { files, packets: made.summary.counts.records, cuts, ..Answer::default() };
     tell(asked, &mut made, audits, &mut answer)?;
     answer.not_audited = not_audited(&answer, &made.summary);
     answer.warnings = doubts_of(&answer, &made.summary, &made.courses);
@@ -100,10 +103,18 @@ fn make(asked: &Asked<'_>, keeping: Option<Keeping>) -> Result<(Made, Option<Kee
     let import = import::Asked { program, files, key_logs, is_reordered, can_repeat: true };
     let summary = import::imported(&import, &mut sink, Some(&mut courses))?;
     drop(sink);
-    let Learning { connections, order, files, addresses, mut notes, .. } = listening.learning;
+    if summary.counts.fragments + summary.counts.refused > 0 {
+        // What was passed over may have the bytes that seem not to be captured.
+        courses
+            .connections
+            .iter_mut()
+            .flat_map(|one| &mut one.sides)
+            .for_each(|side| side.uncaptured = Default::default());
+    }
+    let Learning { connections, order, files, addresses, mut notes, cuts, .. } = listening.learning;
     let learned = learned_anew(connections, &mut capture, &mut notes)?;
     let known = learned.into_iter().map(|one| one.map(|one| Box::new(one.known()))).collect();
-    Ok((Made { capture, notes, summary, courses, known, order, files, addresses }, listening.keeping))
+    Ok((Made { capture, notes, summary, courses, known, order, files, cuts, addresses }, listening.keeping))
 }
 
 /// Reads connections once more whose server sent bytes before its initial sequence number was known.

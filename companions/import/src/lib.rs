@@ -46,11 +46,11 @@ mod words;
 
 pub use addresses::{escaped, Addresses};
 pub use command::sorted;
-pub use course::{Course, Courses, Held, Side, Why, NEVER};
+pub use course::{Course, Courses, Held, Side, Uncaptured, Why, NEVER};
 pub use importing::{imported, Asked};
 pub use listener::{Files, Listener, Record, Sender, Written};
 pub use map_file::MapFile;
-pub use others::{Kind, Other};
+pub use others::{is_tunnel, Kind, Other};
 pub use outcomes::{
     help_for, times_go_back, Back, Became, End, Older, Outcome, Read, Reordered, SideRead, Summary, Unopened,
 };

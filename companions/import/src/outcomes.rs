@@ -102,6 +102,9 @@ pub struct Unopened {
     pub first: Arrival,
     pub ends: Ends,
     pub segments: u64,
+    /// Whether one of both sends all of these, though they show that the other one sent something: they have a SYN ACK,
+    /// or acknowledge more and more.
+    pub is_one_way: bool,
 }
 
 /// A packet whose time lies so far before that of the packet before it.

@@ -5,7 +5,7 @@
 
 use std::collections::{HashMap, VecDeque};
 
-use captures::{flags, swapped, Arrival, Ends, Segment};
+use captures::{flags, swapped, Arrival, Ends, Segment, END_OF_OFFSETS};
 use tls::{Random, Shared, CLIENT, SERVER};
 
 use crate::connections::Connection;
@@ -35,6 +35,41 @@ enum State {
     Over { passes: bool, sequence: Option<u32> },
 }
 
+struct Stray {
+    first: Arrival,
+    ends: Ends,
+    segments: u64,
+    /// Whether the other one of both sent some of them.
+    has_both: bool,
+    has_answer: bool,
+    /// What the first acknowledged, and whether a later one acknowledged more.
+    acknowledged: Option<u32>,
+    acknowledges_more: bool,
+}
+
+impl Stray {
+    fn new(first: Arrival, ends: Ends) -> Stray {
+        let (has_both, has_answer, acknowledges_more) = (false, false, false);
+        Stray { first, ends, segments: 0, has_both, has_answer, acknowledged: None, acknowledges_more }
+    }
+
+    fn take(&mut self, segment: &Segment<'_>) {
+        let both = flags::SYN | flags::ACK;
+        self.segments += 1;
+        self.has_both |= segment.ends != self.ends;
+        self.has_answer |= segment.flags & both == both;
+        if segment.flags & flags::ACK != 0 {
+            let more = segment.acknowledgement.wrapping_sub(*self.acknowledged.get_or_insert(segment.acknowledgement));
+            self.acknowledges_more |= more > 0 && more < END_OF_OFFSETS;
+        }
+    }
+
+    fn unopened(self) -> Unopened {
+        let Stray { first, ends, segments, .. } = self;
+        Unopened { first, ends, segments, is_one_way: !self.has_both && (self.has_answer || self.acknowledges_more) }
+    }
+}
+
 /// Where a segment belongs, and whether it opens the connection.
 pub struct Taken {
     pub sender: Sender,
@@ -47,7 +82,7 @@ pub struct Table {
     places: HashMap<Ends, Place>,
     /// Where the pairs stand that no opening was seen of, which come in the order of their first segments.
     strays: HashMap<Ends, usize>,
-    unopened: Vec<Unopened>,
+    unopened: Vec<Stray>,
     slots: Vec<Option<Box<Connection>>>,
     free: Vec<usize>,
     /// By the numbers of connections.
@@ -208,9 +243,9 @@ impl Table {
     fn stray(&mut self, sink: &mut Sink<'_>, arrival: Arrival, segment: &Segment<'_>, pair: Ends) {
         let place = *self.strays.entry(pair).or_insert(self.unopened.len());
         if place == self.unopened.len() {
-            self.unopened.push(Unopened { first: arrival, ends: segment.ends, segments: 0 });
+            self.unopened.push(Stray::new(arrival, segment.ends));
         }
-        self.unopened[place].segments += 1;
+        self.unopened[place].take(segment);
         sink.emit(arrival, None, Written::headers(segment, &mut self.room));
     }
 
@@ -278,6 +313,7 @@ impl Table {
         for (number, outcome) in &mut self.outcomes {
             outcome.fragments = self.fragments.get(number).copied().unwrap_or(0);
         }
-        (self.outcomes.into_iter().map(|(_, outcome)| outcome).collect(), self.unopened)
+        let unopened = self.unopened.into_iter().map(Stray::unopened).collect();
+        (self.outcomes.into_iter().map(|(_, outcome)| outcome).collect(), unopened)
     }
 }

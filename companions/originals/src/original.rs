@@ -14,8 +14,6 @@ use tempfile::SpooledTempFile;
 const MOST_SAID: usize = 1 << 20;
 /// Flows that end so end as any other does: what was lost shows as a gap, what is cut as a tail.
 const PLAIN_ENDS: [&str; 3] = ["whole", "cut", "lost"];
-/// What is passed over and is no tunnel: other uses of a network, and what is named by number alone.
-const NO_TUNNELS: [&str; 9] = ["arp", "lldp", "llc", "icmp", "icmpv6", "udp", "sctp", "quic", "-"];
 
 /// What became of a connection.
 pub enum Became {
@@ -129,7 +127,7 @@ impl Original {
 
     /// Whether anything could be read, where it is nothing, and what was passed over that may hold more.
     pub fn passed_over_words(&self, is_nothing_read: bool) -> Option<String> {
-        let others = self.others.iter().filter(|one| is_nothing_read || !NO_TUNNELS.contains(&one.name.as_str()));
+        let others = self.others.iter().filter(|one| is_nothing_read || import::is_tunnel(&one.name));
         let named: Vec<String> = others.map(named).collect();
         match (is_nothing_read, named.is_empty()) {
             (true, true) => Some("no connection could be read".to_string()),

@@ -14,6 +14,7 @@ mod junit;
 mod page;
 mod phrases;
 mod rows;
+mod rules;
 mod summing;
 mod text;
 mod wording;

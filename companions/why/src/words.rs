@@ -102,6 +102,7 @@ struct Taken {
     audit: Option<PathBuf>,
     reasons: Vec<Reason>,
     stall: Option<Nanos>,
+    life: Option<Nanos>,
     needs_http2: bool,
     junit: Option<PathBuf>,
     is_quiet: bool,
@@ -136,7 +137,8 @@ pub fn words_of(words: Vec<OsString>) -> Result<Words, Failure> {
             Long("width") => taken.width = Some(width_of(parser.value().map_err(wrong)?)?),
             Long("h2audit") => taken.program = Some(parser.value().map_err(wrong)?),
             Long("fail-on") => taken.reasons.extend(reasons_of(parser.value().map_err(wrong)?)?),
-            Long("fail-stall") => taken.stall = Some(duration_of(parser.value().map_err(wrong)?)?),
+            Long("fail-stall") => taken.stall = Some(duration_of("--fail-stall", parser.value().map_err(wrong)?)?),
+            Long("fail-life") => taken.life = Some(duration_of("--fail-life", parser.value().map_err(wrong)?)?),
             Long("require-http2") => taken.needs_http2 = true,
             Long("junit") => taken.junit = Some(PathBuf::from(parser.value().map_err(wrong)?)),
             Long("quiet") => taken.is_quiet = true,
@@ -164,7 +166,8 @@ impl Taken {
 
     /// Whether something of CI is asked for.
     fn has_gates(&self) -> bool {
-        !self.reasons.is_empty() || self.stall.is_some() || self.needs_http2 || self.junit.is_some() || self.is_quiet
+        let has_times = self.stall.is_some() || self.life.is_some();
+        !self.reasons.is_empty() || has_times || self.needs_http2 || self.junit.is_some() || self.is_quiet
     }
 
     fn asked(self) -> Result<Asked, Failure> {
@@ -192,7 +195,7 @@ impl Taken {
             report: self.report,
             last_packets: self.last_packets,
             audit: self.audit,
-            gates: Gates { reasons, stall: self.stall, needs_http2: self.needs_http2 },
+            gates: Gates { reasons, stall: self.stall, life: self.life, needs_http2: self.needs_http2 },
             has_gates,
             junit: self.junit,
             is_quiet: self.is_quiet,
@@ -220,6 +223,9 @@ impl Taken {
         }
         if self.compare.is_some() && self.has_no_requests {
             return refuse("--compare matches requests by their names: not with --no-requests".to_string());
+        }
+        if self.has_no_requests && self.reasons.contains(&Reason::Status) {
+            return refuse("--fail-on status reads the fields of answers: not with --no-requests".to_string());
         }
         if form == Some("--rows") && self.has_gates() {
             return refuse("--rows has no reasons to fail, and no JUnit file".to_string());
@@ -284,10 +290,10 @@ fn reason_of(word: &str) -> Result<Reason, Failure> {
 }
 
 /// Nanoseconds of a time with its unit.
-fn duration_of(word: OsString) -> Result<Nanos, Failure> {
+fn duration_of(option: &str, word: OsString) -> Result<Nanos, Failure> {
     let word = printable(word);
     nanos_of(&word)
-        .ok_or_else(|| Failure::Usage(format!("argument --fail-stall: '{word}' is no time, as 100ms, 1.5s or 250us")))
+        .ok_or_else(|| Failure::Usage(format!("argument {option}: '{word}' is no time, as 100ms, 1.5s or 250us")))
 }
 
 fn nanos_of(word: &str) -> Option<Nanos> {
@@ -353,6 +359,7 @@ mod tests {
         assert_eq!(found.gates.reasons, [Reason::Fault, Reason::Hung, Reason::Gap]);
         assert_eq!((&found.form, found.has_gates), (&Asks::Document, true));
         assert_eq!(found.captures, Captures::One(vec!["a".into(), "b".into()]));
+        assert_eq!(asked(&["a", "--fail-life", "2s"])?.gates.life, Some(2_000_000_000));
         let found = asked(&["--ends", "a", "-", "--rows"]);
         assert_eq!(found.err().as_deref(), Some("argument --rows: expected one argument"));
         assert_eq!(asked(&["--ends", "a", "-"])?.captures, Captures::Ends(["a".into(), "-".into()]));
@@ -376,6 +383,10 @@ mod tests {
         assert!(refused(&["--color", "x"]).ends_with("(choose from 'auto', 'always', 'never')"));
         assert!(refused(&["--fail-on", "fault,x"]).starts_with("argument --fail-on: 'x' is no reason: fault, "));
         assert!(refused(&["--fail-stall", "5"]).contains("'5' is no time, as 100ms"));
+        assert!(refused(&["--fail-life", "5"]).starts_with("argument --fail-life: '5' is no time"));
+        assert!(
+            refused(&["--no-requests", "--fail-on", "hung,status"]).starts_with("--fail-on status reads the fields")
+        );
         assert_eq!(refused(&["--report", "a"]), "--report goes with --rows");
         assert_eq!(refused(&["--rows", "a", "--last-packets", "b"]), "--last-packets goes with --report");
         assert_eq!(refused(&["--json", "--audit", "a"]), "--audit goes with --rows");
