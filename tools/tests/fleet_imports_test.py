@@ -139,7 +139,7 @@ class Forms(Imported):
         runs = (self.machine.folder / "runs").read_text().splitlines()
         audits = [run for run in runs if run.startswith("--workers ")]
         self.assertEqual([run for run in audits if "/part-" not in run], [])
-        self.assertGreaterEqual(len(audits), 4 * 3)
+        self.assertEqual(len(audits), 3 * 3)
 
     def test_keys(self) -> None:
         """TLS with its keys, which make each capture one that is imported: also one that h2audit would read."""

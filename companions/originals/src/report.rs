@@ -162,17 +162,17 @@ impl<W: Write> Back<'_, W> {
             (form, _) => form.words(),
         };
         let number = opening.number;
-        let mut lines = format!("connection {number} client {client} server {server} record {packet} {form}\n");
-        match connection.map_or(0, |connection| connection.fragments) {
-            0 => {}
-            count => lines += &format!("fragments {count}\n"),
-        }
+        let fragments = connection.map_or(0, |connection| connection.fragments);
         let last = connection.and_then(|connection| connection.last);
-        self.put(lines.as_bytes())?;
+        let line = format!("connection {number} client {client} server {server} record {packet} {form}\n");
+        self.put(line.as_bytes())?;
         if let Some(rows) = &mut self.rows {
             rows.last_packet(last);
         }
-        Ok(())
+        match fragments {
+            0 => Ok(()),
+            count => self.put(format!("fragments {count}\n").as_bytes()),
+        }
     }
 
     /// A flow. To its tail belong the bytes of a TLS record that the capture cuts, and it says why plaintext ended.
