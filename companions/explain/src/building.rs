@@ -5,8 +5,8 @@ use std::fs::File;
 use std::path::Path;
 
 use import::{Courses, Sink, Summary};
-use originals::{Keeping, LastPackets};
-use programs::{program_named, temporary_failure, Failure, Output, PrivateFile};
+use originals::Keeping;
+use programs::{program_named, temporary_failure, Failure, PrivateFile};
 
 use crate::answer::{Answer, Files};
 use crate::audit::{broken, Audit};
@@ -14,7 +14,7 @@ use crate::doubts::{doubts_of, not_audited};
 use crate::learning::{Known, Learned, Learning};
 use crate::listening::Listening;
 use crate::made::{each_record, Notes};
-use crate::reported::{audited, of_original, read_report, Reported};
+use crate::reported::{audited, of_original, read_report, ReportTo, Reported};
 use crate::telling::tell;
 
 /// What is asked.
@@ -65,14 +65,21 @@ pub fn answer_of(asked: &Asked<'_>) -> Result<Answer, Failure> {
     }
 }
 
-/// The same; and writes the report of the original, as h2audit-any does.
-pub fn answer_with_report(asked: &Asked<'_>, output: &mut Output) -> Result<(Answer, Reported), Failure> {
+/// The same; and writes the report of the original.
+pub fn answer_with_report(asked: &Asked<'_>, to: ReportTo<'_>) -> Result<(Answer, Reported), Failure> {
     let (made, keeping) = make(asked, Some(Keeping::default()))?;
-    let last_packets = LastPackets::of(&made.summary, &made.courses);
-    let mut report = tempfile::tempfile().map_err(|error| temporary_failure(&error))?;
-    let answer = answer_by_audit(asked, made, Some(&mut report))?;
+    let (answer, report) = match asked.report {
+        Some(path) => {
+            let report = File::open(path).map_err(|error| Failure::of_file(path, &error))?;
+            (answer_by(asked, made, read_report(path)?)?, report)
+        }
+        None => {
+            let mut report = tempfile::tempfile().map_err(|error| temporary_failure(&error))?;
+            (answer_by_audit(asked, made, Some(&mut report))?, report)
+        }
+    };
     let mut original = keeping.unwrap_or_default().original;
-    Ok((answer, of_original(report, &mut original, &last_packets, output)?))
+    Ok((answer, of_original(report, &mut original, to)?))
 }
 
 fn answer_by_audit(asked: &Asked<'_>, mut made: Made, copy: Option<&mut File>) -> Result<Answer, Failure> {

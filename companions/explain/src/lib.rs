@@ -56,8 +56,7 @@ pub mod words;
 
 pub use building::{answer_of, answer_with_report, Asked};
 pub use import::{CLIENT, SERVER};
-pub use originals::write_last_packets;
-pub use reported::Reported;
+pub use reported::{ReportTo, Reported};
 
 /// The side of this number.
 pub(crate) fn side_of(number: usize) -> Side {

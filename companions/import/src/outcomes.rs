@@ -93,6 +93,8 @@ pub struct Outcome {
     pub preamble: Option<Preamble>,
     /// IP fragments that were passed over, and belong to it.
     pub fragments: u64,
+    /// Its last packet, of either side.
+    pub last: Arrival,
 }
 
 /// A pair of endpoints with segments before any opening of theirs.

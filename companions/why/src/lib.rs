@@ -9,7 +9,6 @@ pub mod ends;
 mod ends_said;
 mod ends_stalls;
 mod gates;
-mod json;
 mod junit;
 mod page;
 mod phrases;
@@ -31,6 +30,7 @@ use std::io::{self, Write};
 use compare::Compared;
 use ends::Joined;
 use page::Page;
+use reports::json;
 
 /// A form in which an answer is written.
 #[derive(Clone, Copy, Debug)]
