@@ -95,8 +95,8 @@ _h2audit_any() {
 
 _h2audit_why() {
     local word=${COMP_WORDS[COMP_CWORD]} before=${COMP_WORDS[COMP_CWORD - 1]}
-    local options='--key-log -k --sort --all --query --no-requests --json --json-lines --rows --color --width --h2audit'
-    options+=' --report --last-packets --audit --workers --fail-on --fail-stall --require-http2 --junit --quiet'
+    local options='--key-log -k --sort --all --query --no-requests --json --json-lines --charts --rows --windows'
+    options+=' --color --width --h2audit --report --last-packets --audit --workers --fail-on --fail-stall --require-http2 --junit --quiet'
     options+=' --compare --ends --help -h --version -V'
     [[ $word == = ]] && word=
     [[ $before == = ]] && before=${COMP_WORDS[COMP_CWORD - 2]}
@@ -104,7 +104,7 @@ _h2audit_why() {
     --fail-on) _h2audit_offer -W 'fault certain-fault stall hung tcp error gap not-audited' -- "$word" ;;
     --fail-stall) _h2audit_offer -W '10ms 100ms 1s' -- "$word" ;;
     --color) _h2audit_offer -W 'auto always never' -- "$word" ;;
-    --rows | --report | --last-packets | --audit) _h2audit_offer -f -- "$word" ;;
+    --rows | --windows | --report | --last-packets | --audit) _h2audit_offer -f -- "$word" ;;
     --width) _h2audit_offer -W '80 100 120 160' -- "$word" ;;
     --workers) _h2audit_offer -W '1 2 4 8 16 32 64' -- "$word" ;;
     *)

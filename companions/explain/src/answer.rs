@@ -2,8 +2,9 @@
 
 use std::rc::Rc;
 
-use reports::{Finding, Side};
+use reports::{Capture, Finding, Flow, Side};
 
+pub use crate::charts::{Charted, ChartsSaid, Others};
 pub use crate::files::Files;
 use crate::frames::Frames;
 pub use crate::requests::Requests;
@@ -340,6 +341,9 @@ pub struct ConnectionSaid {
     pub stopped_at: Option<At>,
     /// The offset from which on bytes of a side are missing.
     pub gaps: Vec<(Side, u64)>,
+    pub flows: Vec<Flow>,
+    /// Where charts are asked for.
+    pub charts: ChartsSaid,
     /// Where both ends of connections are asked about.
     pub all_frames: Option<Frames>,
 }
@@ -370,6 +374,7 @@ pub struct NotAudited {
 pub struct Answer {
     pub files: Files,
     pub packets: u64,
+    pub counts: Capture,
     pub warnings: Vec<Warning>,
     pub not_audited: Vec<NotAudited>,
     pub connections: Vec<ConnectionSaid>,

@@ -36,6 +36,8 @@ pub struct Asked<'a> {
     pub has_spans: bool,
     /// Whether all frames are, as where both ends of connections are asked about.
     pub has_frames: bool,
+    /// Whether the credits of windows are, as charts show them.
+    pub has_charts: bool,
 }
 
 /// What was made, and what is known of it.
@@ -82,7 +84,8 @@ fn answer_by_audit(asked: &Asked<'_>, mut made: Made, copy: Option<&mut File>) -
 
 fn answer_by(asked: &Asked<'_>, mut made: Made, audits: Vec<Audit>) -> Result<Answer, Failure> {
     let files = std::mem::take(&mut made.files);
-    let mut answer = Answer { files, packets: made.summary.counts.records, ..Answer::default() };
+    let counts = made.summary.counts;
+    let mut answer = Answer { files, packets: counts.records, counts, ..Answer::default() };
     tell(asked, &mut made, audits, &mut answer)?;
     answer.not_audited = not_audited(&answer, &made.summary);
     answer.warnings = doubts_of(&answer, &made.summary, &made.courses);

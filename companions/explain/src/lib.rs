@@ -14,6 +14,7 @@ mod blocks;
 mod building;
 mod causes;
 mod certainty;
+mod charts;
 mod connection;
 #[cfg(test)]
 mod conversations;
@@ -23,7 +24,7 @@ mod doubts;
 mod files;
 mod findings;
 pub mod frames;
-mod intervals;
+pub mod intervals;
 mod leaks;
 mod learning;
 mod life;
@@ -33,10 +34,12 @@ mod listening;
 mod made;
 mod names;
 mod packed;
+mod report_charts;
 mod reported;
 mod requests;
 mod rounds;
 mod seen;
+pub mod series;
 mod settings;
 mod signals;
 mod stalls;
@@ -53,6 +56,7 @@ pub mod words;
 pub use building::{answer_of, answer_with_report, Asked};
 pub use import::{CLIENT, SERVER};
 pub use originals::write_last_packets;
+pub use report_charts::{read_charts, ReportSaid, Reported as ReportedConnection};
 pub use reported::Reported;
 
 /// The side of this number.
