@@ -286,9 +286,11 @@ impl Chart {
     fn follow(&mut self, initials: &Series, room: &Room) {
         if let (Some(beside), Some(last)) = (self.beside, self.series.last) {
             if initials.count > self.changes {
+                let count = self.series.count + initials.count - self.changes;
                 for point in initials.behind(last.frame) {
                     self.series.push(Point { credit: beside.saturating_add(point.credit), ..point }, room);
                 }
+                self.series.count = count; // also of those that are thinned
             }
         }
         self.changes = initials.count;
