@@ -95,8 +95,9 @@ _h2audit_any() {
 
 _h2audit_why() {
     local word=${COMP_WORDS[COMP_CWORD]} before=${COMP_WORDS[COMP_CWORD - 1]}
-    local options='--key-log -k --sort --reorder --all --query --no-requests --json --json-lines --rows --color --width'
-    options+=' --h2audit --report --audit --workers --fail-on --fail-stall --fail-life --require-http2 --junit --quiet'
+    local options='--key-log -k --sort --reorder --all --query --no-requests --json --json-lines --charts --rows --windows'
+    options+=' --color --width --h2audit --report --audit --workers --fail-on --fail-stall --fail-life --require-http2'
+    options+=' --junit --quiet'
     options+=' --compare --ends --help -h --version -V'
     [[ $word == = ]] && word=
     [[ $before == = ]] && before=${COMP_WORDS[COMP_CWORD - 2]}
@@ -105,7 +106,7 @@ _h2audit_why() {
     --fail-stall) _h2audit_offer -W '10ms 100ms 1s' -- "$word" ;;
     --fail-life) _h2audit_offer -W '1s 2s 10s' -- "$word" ;;
     --color) _h2audit_offer -W 'auto always never' -- "$word" ;;
-    --rows | --report | --audit) _h2audit_offer -f -- "$word" ;;
+    --rows | --windows | --report | --audit) _h2audit_offer -f -- "$word" ;;
     --width) _h2audit_offer -W '80 100 120 160' -- "$word" ;;
     --workers) _h2audit_offer -W '1 2 4 8 16 32 64' -- "$word" ;;
     *)

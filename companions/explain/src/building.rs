@@ -38,6 +38,8 @@ pub struct Asked<'a> {
     pub has_spans: bool,
     /// Whether all frames are, as where both ends of connections are asked about.
     pub has_frames: bool,
+    /// Whether the credits of windows are, as charts show them.
+    pub has_charts: bool,
 }
 
 /// What was made, and what is known of it.
@@ -93,8 +95,8 @@ fn answer_by_audit(asked: &Asked<'_>, mut made: Made, copy: Option<&mut File>) -
 
 fn answer_by(asked: &Asked<'_>, mut made: Made, audits: Vec<Audit>) -> Result<Answer, Failure> {
     let files = std::mem::take(&mut made.files);
-    let cuts = std::mem::take(&mut made.cuts);
-    let mut answer = Answer { files, packets: made.summary.counts.records, cuts, ..Answer::default() };
+    let (cuts, counts) = (std::mem::take(&mut made.cuts), made.summary.counts);
+    let mut answer = Answer { files, packets: counts.records, counts, cuts, ..Answer::default() };
     tell(asked, &mut made, audits, &mut answer)?;
     answer.not_audited = not_audited(&answer, &made.summary);
     answer.warnings = doubts_of(&answer, &made.summary, &made.courses);

@@ -261,9 +261,9 @@ fn opening(text: &str) -> Option<Opening> {
     line.literal("connection ")?;
     let number = line.number()?;
     line.literal(" client ")?;
-    let client = line.word()?.to_string();
+    let client = line.endpoint()?.to_string();
     line.literal(" server ")?;
-    let server = line.word()?.to_string();
+    let server = line.endpoint()?.to_string();
     line.literal(" record ")?;
     let record = line.number()?;
     line.literal(" ")?;
@@ -349,9 +349,9 @@ fn passed_over(text: &str) -> Option<Line> {
 fn unopened(text: &str) -> Option<Line> {
     let mut line = Cursor::new(text);
     line.literal("unopened ")?;
-    let sender = line.word()?.to_string();
+    let sender = line.endpoint()?.to_string();
     line.literal(" ")?;
-    let receiver = line.word()?.to_string();
+    let receiver = line.endpoint()?.to_string();
     line.literal(" segments ")?;
     let segments = line.number()?;
     line.end()?;

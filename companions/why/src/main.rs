@@ -6,12 +6,13 @@ mod terminal;
 mod words;
 
 use std::ffi::OsString;
+use std::fs::File;
 use std::io;
 use std::path::Path;
 
 use explain::answer::Answer;
 use explain::{ReportTo, Reported};
-use programs::{end_cleanly, print, printable, run, say, Failure, Outcome, Output};
+use programs::{end_cleanly, print, printable, run, say, Failure, Outcome, Output, BUFFER};
 use why::compare::Compared;
 use why::ends::{Apart, Joined};
 use why::{Form, Judged, Look, Whole};
@@ -42,13 +43,27 @@ fn why(words: Vec<OsString>) -> Outcome {
 fn of_one(asked: &Asked, files: &[OsString]) -> Outcome {
     let form = match &asked.form {
         Asks::Rows(file) => return rows(asked, files, file),
+        Asks::Windows(report) => return windows(report),
         Asks::Document => Form::Document,
+        Asks::Charts => Form::Charts,
         Asks::Lines => Form::Lines,
         Asks::Text => Form::Text(look_of(asked)),
     };
     let answer = answered(asked, files)?;
     let whole = Whole::new(&answer);
     ended(asked, &[&whole], vec![judged(asked, &whole)], |to| why::write(&whole, form, to))
+}
+
+/// The charts of a report that is there.
+fn windows(report: &Path) -> Outcome {
+    let said = match report == Path::new("-") {
+        true => explain::read_charts(io::stdin().lock())?,
+        false => {
+            let file = File::open(report).map_err(|error| Failure::of_file(report, &error))?;
+            explain::read_charts(io::BufReader::with_capacity(BUFFER, file))?
+        }
+    };
+    written(Path::new("-"), |to| why::write_report(&said, to)).map(|()| DONE)
 }
 
 /// Writes the rows of the report of the original, and of what it means. The status is that of h2audit-any.
@@ -130,8 +145,9 @@ fn explained<'a>(asked: &'a Asked, files: &'a [OsString]) -> explain::Asked<'a> 
         report: asked.audit.as_deref(),
         has_names: asked.has_names,
         has_query: asked.has_query,
-        has_spans: matches!(asked.form, Asks::Document | Asks::Lines),
+        has_spans: matches!(asked.form, Asks::Document | Asks::Charts | Asks::Lines),
         has_frames: matches!(asked.captures, Captures::Ends(_)),
+        has_charts: asked.form == Asks::Charts,
     }
 }
 

@@ -39,8 +39,11 @@ pub enum Colours {
 pub enum Asks {
     Text,
     Document,
+    Charts,
     Lines,
     Rows(PathBuf),
+    /// The charts of a report.
+    Windows(PathBuf),
 }
 
 /// The captures of which is said something.
@@ -120,6 +123,11 @@ pub fn words_of(words: Vec<OsString>) -> Result<Words, Failure> {
             Long("no-requests") => taken.has_no_requests = true,
             Long("json") => taken.form("--json", Asks::Document)?,
             Long("json-lines") => taken.form("--json-lines", Asks::Lines)?,
+            Long("charts") => taken.form("--charts", Asks::Charts)?,
+            Long("windows") => {
+                let report = PathBuf::from(parser.value().map_err(wrong)?);
+                taken.form("--windows", Asks::Windows(report))?;
+            }
             Long("rows") => {
                 let file = PathBuf::from(parser.value().map_err(wrong)?);
                 taken.form("--rows", Asks::Rows(file))?;
@@ -213,6 +221,7 @@ impl Taken {
             match form {
                 Some("--json-lines") => return refuse(format!("{option} has no lines of JSON: --json")),
                 Some("--rows") => return refuse(format!("{option} has no rows: --json")),
+                Some("--charts") => return refuse(format!("{option} has no charts: --json")),
                 _ => {}
             }
         }
@@ -221,6 +230,9 @@ impl Taken {
         }
         if self.has_no_requests && self.reasons.contains(&Reason::Status) {
             return refuse("--fail-on status reads the fields of answers: not with --no-requests".to_string());
+        }
+        if form == Some("--windows") && !(self.files.is_empty() && of_two.is_none() && !self.has_gates()) {
+            return refuse("--windows reads a report, and nothing else".to_string());
         }
         if form == Some("--rows") && self.has_gates() {
             return refuse("--rows has no reasons to fail, and no JUnit file".to_string());
