@@ -35,7 +35,8 @@
 //! - [`worked_examples`] compute bodies, headers and order on small inputs, by proof: each type's payload at the
 //!   lengths where its answer changes, padding, settings at the ends of their ranges.
 //! - The prover refuses: a value out of range left out, an order by first bytes, exchanged tails, batches merged by
-//!   records alone, a batch numbered from one too high, a list that keeps the last batch alone.
+//!   records alone, a batch numbered from one too high, a list that keeps the last batch alone, one tail told
+//!   for both.
 //! - Whole reports test that `cut_by` succeeds where there is memory, on connections of each of the four kinds;
 //!   `threads_test.py` tests how many threads batches start.
 #![tactic(auto)]
