@@ -1,6 +1,8 @@
 pub mod Belongings
 pub mod FlowLemmas
 pub mod Fronts
+pub mod Growth
+pub mod GrowthLaws
 pub mod IntervalLemmas
 pub mod Lists
 pub mod Numbered

@@ -16,7 +16,7 @@
 //! - A flow is orderly, as frame reading requires: shorter than 2^31, its arrivals rising in offset and record, times
 //!   below 2^63. It is no longer than the payloads of its side.
 //! - [`laws`]: a source has one flow; each payload byte has the offset that the RFC's arithmetic gives it; all flows
-//!   together fit in the capture.
+//!   together fit in the capture; one segment more adds to a flow and changes nothing that is there.
 //! - Segments that come in order are appended as they come. Others become disjoint intervals: each half is made
 //!   disjoint, then the later half fills the gaps of the earlier, in n log n steps for any order. Pairs of endpoints
 //!   are looked up by a hash (`TableHash` of `input_output`), and the contract of [`connections`] holds for every key
