@@ -1,7 +1,6 @@
 -- Frames that a later record completes follow all others in capture order.
 use Rattle.std.proofs.Common.{◌≡◌, ℕ, ◌+◌, ◌<◌, Bool, true, false, List, [], ◌∷◌, ◌++◌, length, refl, ap, sym, ◌∙◌}
 use Rattle.std.proofs.Common.{arith, length-append}
-use Rattle.std.proofs.lemmas.Bool.{lt-ltb}
 use Rattle.std.proofs.lemmas.List.{append_assoc}
 use Rattle.std.proofs.lemmas.List.Elements.{All-cons, All-head, All-nil, All-tail}
 use Rattle.std.specs.Prelude.{All, if◌then◌else◌}
@@ -20,7 +19,8 @@ earlier-not x y lt = grind (arith, nat_tests)
 put-front : (x : SideFrame) (xs more : List SideFrame) → All (λ (y : SideFrame). x.frame.rec < y.frame.rec) more
     → put_by comes_after x (xs ++ more) ≡ put_by comes_after x xs ++ more
 put-front x [] [] h = refl
-put-front x [] (y ∷ more) h = rw (earlier-not x y (All-head (λ (z : SideFrame). x.frame.rec < z.frame.rec) y more h)) refl
+put-front x [] (y ∷ more) h =
+    rw (earlier-not x y (All-head (λ (z : SideFrame). x.frame.rec < z.frame.rec) y more h)) refl
 put-front x (z ∷ xs) more h = by (comes_after x z) (put-front x xs more h)
   where
     by : (b : Bool) → put_by comes_after x (xs ++ more) ≡ put_by comes_after x xs ++ more

@@ -4,12 +4,15 @@ pub mod Fronts
 pub mod Growth
 pub mod GrowthLaws
 pub mod IntervalLemmas
+pub mod LaidFlow
 pub mod Lists
 pub mod Numbered
 pub mod Pairs
 pub mod PieceLemmas
 pub mod RunLemmas
 pub mod Past
+pub mod SideFlowLemmas
+pub mod SideFlowSteps
 pub mod Sides
 pub mod Steps
 pub mod UniqueFlow
