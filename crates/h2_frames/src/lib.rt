@@ -10,7 +10,8 @@
 //!   `specs/Body.antt` what its payload says, `specs/CaptureOrder.antt` the order, and `specs/Cut.antt` puts them
 //!   together.
 //! - No other answer meets the contract for the same flows (`only` in `specs/code/Cutting.antt`). [`laws`] say so
-//!   without the code: one list of bytes has one spelling, two flows have one cut.
+//!   without the code: one list of bytes has one spelling, two flows have one cut, and frames that are told record by
+//!   record, as each completes them, are told in capture order.
 //! - With several threads it reads long flows in batches, with one frame by frame.
 //! - [`begin`] decides the same, and returns a [`FrameWalk`], an iterator over the frames, in place of a list:
 //!   [`FrameWalk::take_next`] takes the next frame. Its contract holds for whichever flows the walk began with
