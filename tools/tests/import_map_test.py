@@ -77,7 +77,9 @@ class Back(unittest.TestCase):
             self.assertEqual(run(tools.ANY, "--map", self.map, given=text)[::2], no_report, text[:80])
         for words in ((example,), ("-k", example), ("--parts", "2"), ("--frames",), ("--h2audit", PROGRAM)):
             found = run(tools.ANY, "--map", self.map, *words, given=report)
-            self.assertEqual(found, (2, b"", "h2audit-any: --map takes a report on standard input, and nothing else\n"))
+            self.assertEqual(
+                found, (2, b"", "h2audit-any: --map takes a report on standard input, and no option but --rows\n")
+            )
         report = self.imported(example, example)
         said = f"h2audit-any: {self.map}: a map of several files, whose packets it does not number through\n"
         self.assertEqual(run(tools.ANY, "--map", self.map, given=report), (4, b"", said))
