@@ -1,5 +1,5 @@
 -- The number of parts in clap's matches: it is there, in its range, and is read.
-use Rattle.std.proofs.Common.{ℕ, zero, suc, ◌≡◌, ◌∙◌, ◌<◌, ◌≤◌, ap, sym, subst, refl, Bool, true, false, List, []}
+use Rattle.std.proofs.Common.{ℕ, zero, suc, ◌≡◌, ◌∙◌, ◌<◌, ◌≤◌, ap, sym, subst, refl, true, false, List, []}
 use Rattle.std.proofs.Common.{◌∷◌, length, Option, Some, None, Result, inl, inr, arith, codes}
 use Rattle.std.specs.Prelude.{pos, IfSome, IsSome}
 use Rattle.std.specs.List.{list_all, slice_index_or}
@@ -9,7 +9,7 @@ use Rattle.std.specs.declared.num.ParseIntError.{ParseIntError}
 use Rattle.std.proofs.lemmas.List.{get_or-map, length-map}
 use Rattle.clap.specs.Words.{AddsArg, AddsInTurn, App, ReadsOne, Rule, Text, app_of, found_of, one_text, rule_of}
 use Rattle.clap.specs.Words.{with_rule, without_minus}
-use Rattle.clap.specs.Built.{IsAuto, IsParsedFrom, IsPlain}
+use Rattle.clap.specs.Built.{IsParsedFrom, IsPlain}
 use Rattle.clap.specs.Facts.{args_of, least_values}
 use Rattle.clap.specs.Simple.{IsSimple, is_ready, is_ready_leaf}
 use Rattle.clap.specs.Walk.{is_free_arg}

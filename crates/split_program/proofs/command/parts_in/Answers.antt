@@ -1,4 +1,4 @@
-use Rattle.std.proofs.Common.{arith, ◌∙◌}
+use Rattle.std.proofs.Common.{◌∙◌}
 use Rattle.std.proofs.Math.Nat.{max-eq_left}
 use Rattle.clap.specs.Words.{found_of}
 use Rattle.split_program.proofs.Numbers.{parts_read}
