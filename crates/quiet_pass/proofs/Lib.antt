@@ -5,4 +5,5 @@ mod ConnectionLemmas
 mod StreamLemmas
 mod PassLemmas
 mod SaidLemmas
+mod SettingsLemmas
 mod FoundLemmas
