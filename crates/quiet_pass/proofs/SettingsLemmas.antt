@@ -11,7 +11,8 @@ use Rattle.audit_terms.specs.Pass.{PassState, item_of, opens_stream, step_of, st
 use Rattle.audit_terms.specs.code.runs.Orderly.{IsInRange}
 use Rattle.quiet_pass.proofs.PassLemmas.{last-if, none-taken}
 use Rattle.quiet_pass.proofs.SaidLemmas.{none-of, one-of, spoken-front, spoken-next, unopened-zero}
-use Rattle.quiet_pass.proofs.StreamLemmas.{meets-own, quiet-said}
+use Rattle.quiet_pass.proofs.ChangeLemmas.{quiet-said}
+use Rattle.quiet_pass.proofs.StreamLemmas.{meets-own}
 use Rattle.quiet_pass.specs.code.Connection.{as_item}
 use Rattle.quiet_pass.specs.code.QuietPass.{IsBroughtInto, StandsFor}
 use Rattle.quiet_pass.specs.code.SaidFrames.{HaveOwn, IsBroughtSaying, IsConnectionKept, IsConnectionSaid, IsSaidStep}

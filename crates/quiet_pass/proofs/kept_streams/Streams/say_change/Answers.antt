@@ -1,5 +1,5 @@
 use Rattle.stream_credit.proofs.Words.{◌<◌, ◌^◌, OnTrue_at, OnTrue_from, IfOk-weaker, arith, refl}
-use Rattle.quiet_pass.proofs.StreamLemmas.{change-said}
+use Rattle.quiet_pass.proofs.ChangeLemmas.{change-said}
 use Rattle.quiet_pass.proofs.kept_streams.Streams.say_change.Goals as goal
 
 pub returns : goal.returns
