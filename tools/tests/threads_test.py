@@ -27,9 +27,9 @@ def pings(frames: int, first: str = "C PING") -> bytes:
     return capture_of(f"opened\n{first}\n" + "C PING\n" * (frames - 5))
 
 
-def connections(count: int, last: bytes = b"", settings: bytes = SETTINGS, opening: bytes = b"") -> bytes:
-    """So many connections of six records and four frames each, in 480 bytes, by the server's settings, with what the
-    client sends behind its acknowledgement, and the server last.
+def connections(count: int, last: bytes = b"", settings: bytes = SETTINGS, answer: bytes = SETTINGS_ACK) -> bytes:
+    """So many connections of six records and four frames each, in 480 bytes: what the client answers to the server's
+    settings, and what the server sends last.
     """
     capture = Capture()
     for port in range(1000, 1000 + count):
@@ -37,12 +37,7 @@ def connections(count: int, last: bytes = b"", settings: bytes = SETTINGS, openi
         capture.ends = {"C": (client, SERVER), "S": (SERVER, client)}
         capture.syn("C", 1000, SYN)
         capture.syn("S", 5000, SYN_ACK)
-        for side, payload in (
-            ("C", PREFACE + SETTINGS),
-            ("S", settings),
-            ("C", SETTINGS_ACK + opening),
-            ("S", SETTINGS_ACK + last),
-        ):
+        for side, payload in (("C", PREFACE + SETTINGS), ("S", settings), ("C", answer), ("S", SETTINGS_ACK + last)):
             capture.send(side, payload)
     return bytes(capture.bytes)
 
@@ -64,7 +59,7 @@ TWO_LOUD_STREAMS = capture_of("opened\nC HEADERS 1\nC HEADERS 3\nS WINDOW_UPDATE
 UNMATCHED, AT_ONCE = SETTINGS_ACK, "C ACK"
 # A grant of nothing, which is a connection error, and is told as its frame is met.
 NOTHING_GRANTED = frame_of(["WINDOW_UPDATE", "0", "0"])
-# SETTINGS by which each stream begins without credit, and the opening of one, at which its stall is told.
+# SETTINGS by which streams have no credit, and the opening of one. Its stall begins there, or at the acknowledgement.
 NO_WINDOW, OPENING = frame_of(["SETTINGS", "4", "0"]), frame_of(["HEADERS", "1"])
 SHORT, LONG, LONGER = pings(3904, AT_ONCE), pings(4096, AT_ONCE), pings(20004, AT_ONCE)
 
@@ -147,8 +142,13 @@ ROWS: list[tuple[str, bytes, Ways]] = [
     ("--workers 2", connections(2, NOTHING_GRANTED), {"flows of two": 2, "told as met, so there is no round": 0}),
     (
         "--workers 2",
-        connections(2, opening=OPENING, settings=NO_WINDOW),
-        {"flows of two": 2, "stalls are told as met, so there is no round": 0},
+        connections(2, settings=NO_WINDOW, answer=SETTINGS_ACK + OPENING),
+        {"flows of two": 2, "stalls of openings are told as met, so there is no round": 0},
+    ),
+    (
+        "--workers 2",
+        connections(2, settings=NO_WINDOW, answer=OPENING + SETTINGS_ACK),
+        {"flows of two": 2, "stalls of acknowledgements are told as met, so there is no round": 0},
     ),
     (
         "--workers 2 --block 4",

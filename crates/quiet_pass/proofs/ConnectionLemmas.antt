@@ -10,8 +10,8 @@ use Rattle.stream_credit.proofs.Words.{Client, Server, Side, Sides, Frame, Chang
 use Rattle.stream_credit.proofs.Words.{and-false, int_lt, nat_tests, subst, ◌&&◌}
 use Rattle.stream_credit.proofs.QuietSteps.{both, said-quiet, unsaid}
 use Rattle.quiet_pass.specs.declared.kept_connection.KeptConnection.{KeptConnection}
-use Rattle.quiet_pass.specs.code.Connection.{AreCreditsAfter, IsConnectionAfter, IsCountedCredit, IsCreditAfter, IsLoneCredit}
-use Rattle.quiet_pass.specs.code.Connection.{IsOpenedAfter, IsPromisedAfter, LeavesCredit}
+use Rattle.quiet_pass.specs.code.Connection.{AreCreditsAfter, IsConnectionAfter, IsCountedCredit, IsCreditAfter}
+use Rattle.quiet_pass.specs.code.Connection.{IsLoneCredit, IsOpenedAfter, IsPromisedAfter, LeavesCredit}
 
 pub connection-met : (frame : Frame) (opens : Bool) (change : Option Change) (old : KeptConnection)
     (opened promised push : ℕ) (credit : Sides ℤ) (limit : Sides ℕ)

@@ -8,10 +8,10 @@ use Rattle.audit_terms.proofs.ShownFindings.{shown-append}
 use Rattle.audit_terms.proofs.UptoStop.{upto_stop-shown}
 use Rattle.audit_terms.specs.Finding.{stops}
 use Rattle.audit_terms.specs.Frame.{meets}
-use Rattle.audit_terms.specs.Pass.{full_from, pass, pass_start, said, streams_of}
+use Rattle.audit_terms.specs.Pass.{PassState, full_from, next, pass, pass_start, said, streams_of}
 use Rattle.audit_terms.specs.Place.{place_number}
 use Rattle.audit_terms.specs.code.runs.Orderly.{IsInRange, IsOrderly, IsOrderlyFrom}
-use Rattle.audit_terms.specs.code.runs.States.{state_after}
+use Rattle.audit_terms.specs.code.runs.States.{state_after, state_from}
 use Rattle.quiet_pass.proofs.PassLemmas.{full-append, full-more, named-all, state-more}
 use Rattle.quiet_pass.specs.code.FoundConnections.{IsNamedAlike}
 use Rattle.quiet_pass.specs.code.FoundPass.{AreBelow, AreFramesKept, HasSaid, HaveAllMet, IsFoundAfter, IsFrameKept}
@@ -22,8 +22,9 @@ use Rattle.quiet_pass.specs.declared.found_passes.FoundPass.{FoundPass}
 use Rattle.stream_credit.proofs.QuietSteps.{none-shown}
 use Rattle.stream_credit.proofs.Words.{◌≡◌, ℕ, ◌+◌, ◌<◌, ◌==◌, Bool, true, false, List, [], ◌∷◌, ◌++◌, Some, Option}
 use Rattle.stream_credit.proofs.Words.{refl, sym, ap, ◌∙◌, arith, append-nil, append_assoc, eq-eqb, is_some}
-use Rattle.stream_credit.proofs.Words.{AllByRecursion, Finding, Frame, IfOk-weaker, OnTrue_at, OnTrue_from, length, shown}
-use Rattle.stream_credit.proofs.Words.{nat_tests, ne_eqb, subst, upto_stop}
+use Rattle.stream_credit.proofs.Words.{AllByRecursion, Finding, Frame, IfOk-weaker, OnTrue_at, OnTrue_from, shown}
+use Rattle.stream_credit.proofs.Words.{length}
+use Rattle.stream_credit.proofs.Words.{cases_Bool, idle_stream, inl, inr, nat_tests, ne_eqb, or_parts, subst, upto_stop}
 use Rattle.std.specs.Bool.{OnTrue}
 use Rattle.std.specs.Prelude.{IfOk, Result}
 
@@ -50,6 +51,18 @@ each-upto P (x ∷ found) h = grind (arith, each-upto P found h.1, h.0)
 
 -- ---- the streams that frames name
 
+-- a stream that no frame met is as at the start
+idle-next : (s : ℕ) (state : PassState) (frame : Frame) → state.streams s ≡ idle_stream → meets s frame ≡ false
+    → (next state frame).streams s ≡ idle_stream
+idle-next s state frame idle unmet = rw (unmet, idle) refl
+
+idle-after : (s : ℕ) (state : PassState) (frames : List Frame) → state.streams s ≡ idle_stream
+    → list_any (meets s) frames ≡ false → (state_from state frames).streams s ≡ idle_stream
+idle-after s state [] idle unmet = idle
+idle-after s state (frame ∷ frames) idle unmet =
+    let parts = or_parts (meets s frame) (list_any (meets s) frames) unmet in
+    idle-after s (next state frame) frames (idle-next s state frame idle parts.0) parts.1
+
 have-front : {front : List Frame} (rest : List Frame) {streams : List ℕ} → HaveAllMet (front ++ rest) streams
     → HaveAllMet front streams
 have-front {front} rest name = record {
@@ -59,15 +72,25 @@ have-front {front} rest name = record {
 }
 
 have-own : (frames : List Frame) {frame : Frame} {streams : List ℕ} → HaveAllMet (frames ++ frame ∷ []) streams
-    → HaveOwn frame streams
-have-own frames {frame} name = record {
+    → HaveOwn (state_after frames) frame streams
+have-own frames {frame} {streams} name = record {
   named = name.named;
   once = name.once;
   own = λ some. name.all frame.stream some (any-back (meets frame.stream) frames (frame ∷ []) (meets-last frame));
+  live = λ stream some none. elim (cases_Bool (list_any (meets stream) frames)) [
+    | inl met ↦
+        absurd (differ (list_any (λ (other : ℕ). other == stream) streams)
+        (name.all stream some (any-front (meets stream) frames (frame ∷ []) met)) none)
+    | inr unmet ↦ idle-after stream pass_start frames refl unmet
+  ];
 }
   where
     meets-last : (frame : Frame) → list_any (meets frame.stream) (frame ∷ []) ≡ true
     meets-last frame = rw (eq-eqb frame.stream frame.stream refl) refl
+
+    differ : (b : Bool) → b ≡ true → b ≡ false → ⊥
+    differ true p q = cc
+    differ false p q = cc
 
 distinct-pairs : (streams : List ℕ) → EachPair (λ stream other. stream ≢ other) streams
     → IsDistinct ◌==◌ streams

@@ -1,6 +1,7 @@
 -- What a row holds, after a change of the initial windows in force too.
 use Rattle.stream_credit.proofs.Words.{◌≡◌, ℕ, ℤ, false, Some, refl, sym, ap, ◌∙◌, arith, nat_tests, same_Some}
-use Rattle.stream_credit.proofs.Words.{Sides, Stream, credit_after_change, has_ended, option_map, stream_of, subst, true}
+use Rattle.stream_credit.proofs.Words.{Sides, Stream, credit_after_change, has_ended, option_map, stream_of}
+use Rattle.stream_credit.proofs.Words.{subst, true}
 use Rattle.stream_credit.specs.code.Standings.{AreMovedBy}
 use Rattle.stream_credit.specs.declared.stream_standings.Standings.{Standings}
 use Rattle.quiet_pass.specs.code.HeldStreams.{held, is_low, low_stream, low_window, IsCreditMoved, IsEntryMoved}

@@ -3,6 +3,8 @@ mod StreamFrames
 mod RowLists
 mod ConnectionLemmas
 mod StreamLemmas
+mod ChangeLemmas
 mod PassLemmas
 mod SaidLemmas
+mod SettingsLemmas
 mod FoundLemmas

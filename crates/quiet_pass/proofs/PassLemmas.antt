@@ -123,7 +123,8 @@ pub flat-quiet : (rule : ℕ → List Finding) (streams : List ℕ)
 flat-quiet rule [] named h = tt
 flat-quiet rule (s ∷ streams) named h = both _ _ (h s named.0) (flat-quiet rule streams named.1 h)
 
-none-taken : (frame : Frame) (settings : Option Settings) → is_none (change_taking frame settings) ≡ is_none settings
+pub none-taken : (frame : Frame) (settings : Option Settings)
+    → is_none (change_taking frame settings) ≡ is_none settings
 none-taken frame None = refl
 none-taken frame (Some settings) = refl
 

@@ -187,10 +187,10 @@ past-last low (one ∷ two ∷ rows) row stream e below h =
 
 -- ---- all rows moved
 
-module _ (before after : Sides ℕ) where
+module _ (but : ℕ) (before after : Sides ℕ) where
   pub moved-each : (old new : List Row) → length new ≡ length old
-      → ((at : ℕ) (d : Row) → at < length old → IsRowMoved before after (get_or old at d) (get_or new at d))
-      → AreMoved before after old new
+      → ((at : ℕ) (d : Row) → at < length old → IsRowMoved but before after (get_or old at d) (get_or new at d))
+      → AreMoved but before after old new
   moved-each [] [] e each = tt
   moved-each [] (_ ∷ _) e each = absurd (omega arith)
   moved-each (_ ∷ _) [] e each = absurd (omega arith)

@@ -52,7 +52,7 @@ alike front one other e =
 -- ---- of all streams one alone shows something
 
 module _ (rule : ℕ → List Finding) (s : ℕ) (others : (o : ℕ) → 0 < o → o ≢ s → shown false (rule o) ≡ []) where
-  none-of : (streams : List ℕ) → AreNamed streams → AllByRecursion (λ other. (s == other) ≡ false) streams
+  pub none-of : (streams : List ℕ) → AreNamed streams → AllByRecursion (λ other. (s == other) ≡ false) streams
       → shown false (flat_map rule streams) ≡ []
   none-of [] named none = refl
   none-of (o ∷ streams) named none =
@@ -60,7 +60,7 @@ module _ (rule : ℕ → List Finding) (s : ℕ) (others : (o : ℕ) → 0 < o �
       ∙ ap (λ l. l ++ shown false (flat_map rule streams)) (others o named.0 (λ e. eqb-false s o none.0 (sym e)))
       ∙ none-of streams named.1 none.1
 
-  one-of : (streams : List ℕ) → AreNamed streams → IsDistinct ◌==◌ streams
+  pub one-of : (streams : List ℕ) → AreNamed streams → IsDistinct ◌==◌ streams
       → list_any (λ other. other == s) streams ≡ true → shown false (flat_map rule streams) ≡ shown false (rule s)
   unfolding IsDistinct
   one-of [] named once there = cc
@@ -85,7 +85,7 @@ opens-own : (frame : Frame) (state : PassState)
 opens-own frame state =
     let met : meets frame.stream frame ≡ true = rw (eq-eqb frame.stream frame.stream refl) refl in rw met refl
 
-unopened-zero : (frame : Frame) (state : PassState) → frame.stream ≡ 0 → opens_stream state frame ≡ false
+pub unopened-zero : (frame : Frame) (state : PassState) → frame.stream ≡ 0 → opens_stream state frame ≡ false
 unopened-zero frame state zero = opens-own frame state ∙ unopened frame (state.streams frame.stream) zero
 
 -- ---- a frame that brings nothing and promises nothing
@@ -174,7 +174,7 @@ module _ (frame : Frame) (old : QuietPass) (state : PassState) (stands : StandsF
         meets-own state.in_force.initial frame false old.streams old.streams state.streams stands.streams unpromised s
         ∙ ne_eqb frame.stream s (λ e. differ (sym e))
 
-    shown-on-stream : (streams : List ℕ) → HaveOwn frame streams
+    shown-on-stream : (streams : List ℕ) → HaveOwn state frame streams
         → shown false (streams_said streams state frame)
         ≡ shown false (stream_said frame.stream state.in_force.initial (state.streams frame.stream) (frame_step frame))
     shown-on-stream streams name =
@@ -242,47 +242,56 @@ pub never : {A : Type 0} (stops : Bool) → stops ≡ true → stops ≡ false �
 never true p q = cc
 never false p q = cc
 
-spoken-front : (frame : Frame) (old : QuietPass) (state : PassState) (opens : Bool) {start before : List Finding}
-    {connection : ConnectionState} → IsConnectionSaid old frame opens start before connection → start ≡ []
-    → StandsFor old state → as_item frame opens None ≡ item_of state frame
+own-last : (machine : QuietPass) (state : PassState) → StandsFor machine state → (d : Side)
+    → side_of d machine.last ≡ last_of (side_of d state.previous)
+own-last machine state stands Client = stands.client
+own-last machine state stands Server = stands.server
+
+pub spoken-front : (frame : Frame) (old : QuietPass) (state : PassState) (opens : Bool) (change : Option Change)
+    {start before : List Finding} {connection : ConnectionState}
+    → IsConnectionSaid old frame opens change start before connection → start ≡ []
+    → StandsFor old state → as_item frame opens change ≡ item_of state frame
     → before ≡ local_said (side_of frame.side state.previous) frame
     ++ connection_said state.connection (item_of state frame)
-spoken-front frame old state opens spoken empty stands item =
-    spoken.said state stands
-    ∙ ap (λ l. (l ++ local_said (side_of frame.side state.previous) frame)
-    ++ connection_said state.connection (as_item frame opens None)) empty
-    ∙ ap (λ (item : Item). local_said (side_of frame.side state.previous) frame
-    ++ connection_said state.connection item) item
+spoken-front frame old state opens change {start} spoken empty stands item =
+    let local = local_said (side_of frame.side state.previous) frame in
+    spoken.said (side_of frame.side state.previous) (own-last old state stands frame.side)
+    ∙ ap (λ (now : ConnectionState). (start ++ local) ++ connection_said now (as_item frame opens change))
+    stands.connection
+    ∙ ap (λ l. (l ++ local) ++ connection_said state.connection (as_item frame opens change)) empty
+    ∙ ap (λ (item : Item). local ++ connection_said state.connection item) item
+
+pub spoken-next : (frame : Frame) (old : QuietPass) (state : PassState) (opens : Bool) (change : Option Change)
+    {start before : List Finding} {connection : ConnectionState}
+    → IsConnectionSaid old frame opens change start before connection
+    → StandsFor old state → as_item frame opens change ≡ item_of state frame
+    → connection ≡ connection_after state.connection (item_of state frame)
+spoken-next frame old state opens change spoken stands item =
+    spoken.next
+    ∙ ap (λ (now : ConnectionState). connection_after now (as_item frame opens change)) stands.connection
+    ∙ ap (connection_after state.connection) item
 
 -- what a frame shows by itself and of the connection, as the machine keeps them
-pub spoken-alone : {machine : QuietPass} {frame : Frame} {opens : Bool} {before mid after : List Finding}
-    {last : LastFrame} {now connection : ConnectionState} → last ≡ side_of frame.side machine.last
+pub spoken-alone : {machine : QuietPass} {frame : Frame} {opens : Bool} {change : Option Change}
+    {before mid after : List Finding} {last : LastFrame} {now connection : ConnectionState}
+    → last ≡ side_of frame.side machine.last
     → ((previous : Option Frame) → last ≡ last_of previous → mid ≡ before ++ local_said previous frame)
-    → now ≡ connection_of machine.connection → after ≡ mid ++ connection_said now (as_item frame opens None)
-    → connection ≡ connection_after now (as_item frame opens None)
-    → IsConnectionSaid machine frame opens before after connection
-spoken-alone {machine} {frame} {opens} {before} {mid} last-is local now-is is next-is = record {
-  said = λ state stands.
-      let previous = side_of frame.side state.previous in
+    → now ≡ connection_of machine.connection → after ≡ mid ++ connection_said now (as_item frame opens change)
+    → connection ≡ connection_after now (as_item frame opens change)
+    → IsConnectionSaid machine frame opens change before after connection
+spoken-alone {machine} {frame} {opens} {change} {before} {mid} last-is local now-is is next-is = record {
+  said = λ previous e.
       is
-      ∙ ap (λ (now : ConnectionState). mid ++ connection_said now (as_item frame opens None))
-      (now-is ∙ stands.connection)
-      ∙ ap (λ l. l ++ connection_said state.connection (as_item frame opens None))
-      (local previous (last-is ∙ own-last machine state stands frame.side));
-  next = λ state stands.
-      next-is
-      ∙ ap (λ (now : ConnectionState). connection_after now (as_item frame opens None)) (now-is ∙ stands.connection);
+      ∙ ap (λ (now : ConnectionState). mid ++ connection_said now (as_item frame opens change)) now-is
+      ∙ ap (λ l. l ++ connection_said (connection_of machine.connection) (as_item frame opens change))
+      (local previous (last-is ∙ e));
+  next = next-is ∙ ap (λ (now : ConnectionState). connection_after now (as_item frame opens change)) now-is;
 }
-  where
-    own-last : (machine : QuietPass) (state : PassState) → StandsFor machine state → (d : Side)
-        → side_of d machine.last ≡ last_of (side_of d state.previous)
-    own-last machine state stands Client = stands.client
-    own-last machine state stands Server = stands.server
 
 -- of a frame on stream 0
 pub said-on-connection : {frame : Frame} {old new : QuietPass} {connection : ConnectionState}
     {start before found : List Finding} → MovesOneStream frame → frame.stream ≡ 0
-    → IsConnectionSaid old frame false start before connection → start ≡ []
+    → IsConnectionSaid old frame false None start before connection → start ≡ []
     → found ≡ shown false (in_order before)
     → (list_any stops found ≡ false → IsConnectionKept frame connection old new × (new.streams ≡ old.streams))
     → (state : PassState) → StandsFor old state → IsSaidStep state frame found new
@@ -292,7 +301,7 @@ said-on-connection {frame} {old} {new} {connection} {start} {before} {found} mov
     let item = item-is frame old state stands moves.plain moves.unpromised false opens in
     let front : before ≡ (local_said (side_of frame.side state.previous) frame
     ++ connection_said state.connection (item_of state frame)) ++ [] =
-    spoken-front frame old state false spoken empty stands item ∙ sym (append-nil _) in
+    spoken-front frame old state false None spoken empty stands item ∙ sym (append-nil _) in
     let all : found ≡ shown false (in_order ((local_said (side_of frame.side state.previous) frame
     ++ connection_said state.connection (item_of state frame)) ++ [])) =
     rw is (ap (λ l. shown false (in_order l)) front) in record {
@@ -301,7 +310,7 @@ said-on-connection {frame} {old} {new} {connection} {start} {before} {found} mov
       goes_on = λ on.
           let keeps = kept on in
           next-stands frame old state stands moves.plain moves.unpromised new keeps.0
-          (spoken.next state stands ∙ ap (connection_after state.connection) item)
+          (spoken-next frame old state false None spoken stands item)
           (rw keeps.1 (streams-past frame old state stands moves.plain moves.unpromised zero));
       numbered = rw all
           (numbered frame old state stands moves.plain moves.unpromised moves.range [] (at-nil frame.number));
@@ -313,7 +322,7 @@ pub said-on-stream : {frame : Frame} {old new : QuietPass} {opens : Bool} {conne
     → 0 < frame.stream
     → ((streams : ℕ → Stream) → AreStreams streams old.streams → streams frame.stream ≡ own)
     → opens ≡ is_opening frame.stream own.life frame
-    → IsConnectionSaid old frame opens start before connection → start ≡ []
+    → IsConnectionSaid old frame opens None start before connection → start ≡ []
     → found ≡ shown false (in_order (before
     ++ stream_said frame.stream old.initial own (frame_step frame)))
     → entry ≡ stream_after frame.stream old.initial own (frame_step frame)
@@ -332,7 +341,7 @@ said-on-stream {frame} {old} {new} {opens} {connection} {start} {before} {found}
     let all : found ≡ shown false (in_order (front ++ one)) =
     is ∙ ap (λ l. shown false (in_order (l
     ++ stream_said frame.stream old.initial own (frame_step frame))))
-    (spoken-front frame old state opens spoken empty stands item)
+    (spoken-front frame old state opens None spoken empty stands item)
     ∙ ap (λ initial. shown false (in_order (front
     ++ stream_said frame.stream initial own (frame_step frame)))) stands.initial
     ∙ ap (λ (one : Stream). shown false (in_order (front
@@ -342,7 +351,7 @@ said-on-stream {frame} {old} {new} {opens} {connection} {start} {before} {found}
       goes_on = λ on.
           let keeps = kept on in
           next-stands frame old state stands moves.plain moves.unpromised new keeps.rest
-          (spoken.next state stands ∙ ap (connection_after state.connection) item)
+          (spoken-next frame old state opens None spoken stands item)
           (put-streams frame old state stands moves.plain moves.unpromised some entry
           (entered
           ∙ ap (λ initial. stream_after frame.stream initial own (frame_step frame)) stands.initial

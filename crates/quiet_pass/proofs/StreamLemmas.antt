@@ -6,7 +6,8 @@ use Rattle.stream_credit.proofs.Words.{credit_after_change}
 use Rattle.stream_credit.proofs.Words.{int_lt, option_map, and-false, cases_Bool, same_Some, StreamLife, initial_after}
 use Rattle.stream_credit.proofs.Words.{[], Option, or-false, cases_eq}
 use Rattle.stream_credit.proofs.Words.{eq-eqb, IsQuietMove, and-true}
-use Rattle.std.proofs.Common.{◌%◌, ap₂}
+use Rattle.std.proofs.Common.{◌%◌, ◌≢◌, ap₂}
+use Rattle.stream_credit.proofs.Words.{eqb-true}
 use Rattle.audit_terms.specs.Frame.{is_server_promise, promised_in, meets}
 use Rattle.stream_credit.proofs.QuietSteps.{change_alone, quiet-changes, stream-quiet, stream-moved}
 use Rattle.quiet_pass.specs.declared.opened_rows.Row.{Row}
@@ -17,7 +18,7 @@ use Rattle.quiet_pass.specs.code.HeldStreams.{held, IsEntryMoved}
 
 -- ---- a stream that the frame does not meet
 
-step-moved : (s : ℕ) (initial after : Sides ℕ) (frame : Frame) (change : Option Change) (entry next : Stream)
+pub step-moved : (s : ℕ) (initial after : Sides ℕ) (frame : Frame) (change : Option Change) (entry next : Stream)
     → IsEntryMoved initial after entry next → after ≡ initial_after change initial → meets s frame ≡ false
     → IsStep s initial (as_step frame change s) entry next
 step-moved s initial after frame change entry next m is unmet =
@@ -167,31 +168,32 @@ module _ (initial : Sides ℕ) (frame : Frame) (old new : Streams) (streams : �
 
 -- ---- rows that a change moves
 
-entries-moved : (before after : Sides ℕ) (old new : List Row) (stream : ℕ) → AreMoved before after old new
+pub entries-moved : (but : ℕ) (before after : Sides ℕ) (old new : List Row) (stream : ℕ) → stream ≢ but
+    → AreMoved but before after old new
     → IsEntryMoved before after (entry_in old stream) (entry_in new stream)
-entries-moved before after [] [] stream m =
+entries-moved but before after [] [] stream differ m =
     record { life = refl; client = refl; server = refl; client_quiet = λ credit e. cc; server_quiet = λ credit e. cc }
-entries-moved before after (one ∷ old) (two ∷ new) stream m =
+entries-moved but before after (one ∷ old) (two ∷ new) stream differ m =
     let row = m.0 in
     rw row.same (elim (cases_Bool (one.stream == stream)) [
-      | inl e ↦ rw e row.moved
-      | inr e ↦ rw e (entries-moved before after old new stream m.1)
+      | inl e ↦ rw e (row.moved (λ own. differ (sym (eqb-true one.stream stream e) ∙ own)))
+      | inr e ↦ rw e (entries-moved but before after old new stream differ m.1)
     ])
-entries-moved before after _ _ stream m = absurd m
+entries-moved but before after _ _ stream differ m = absurd m
 
-rising-moved : (before after : Sides ℕ) (low : ℕ) (old new : List Row) → AreMoved before after old new
+pub rising-moved : (but : ℕ) (before after : Sides ℕ) (low : ℕ) (old new : List Row) → AreMoved but before after old new
     → AreRisingFrom low old → AreRisingFrom low new
-rising-moved before after low [] [] m h = tt
-rising-moved before after low (one ∷ old) (two ∷ new) m h =
-    rw m.0.same (h.0, rising-moved before after one.stream old new m.1 h.1)
-rising-moved before after low _ _ m h = absurd m
+rising-moved but before after low [] [] m h = tt
+rising-moved but before after low (one ∷ old) (two ∷ new) m h =
+    rw m.0.same (h.0, rising-moved but before after one.stream old new m.1 h.1)
+rising-moved but before after low _ _ m h = absurd m
 
-unmoved-rows : (initial : Sides ℕ) (rows : List Row) → AreMoved initial initial rows rows
+unmoved-rows : (initial : Sides ℕ) (rows : List Row) → AreMoved 0 initial initial rows rows
 unmoved-rows initial [] = tt
 unmoved-rows initial (row ∷ rows) =
-    (record { same = refl; moved = unmoved-entry initial (held row.standings) }, unmoved-rows initial rows)
+    (record { same = refl; moved = λ _. unmoved-entry initial (held row.standings) }, unmoved-rows initial rows)
 
-pub unmoved : (initial : Sides ℕ) (streams : Streams) → AreAllMoved initial initial streams streams
+pub unmoved : (initial : Sides ℕ) (streams : Streams) → AreAllMoved 0 initial initial streams streams
 unmoved initial streams = grind (arith, unmoved-rows initial)
 
 pub same-sides : (a b : Sides ℕ) → a.client ≡ b.client → a.server ≡ b.server → a ≡ b
@@ -201,7 +203,7 @@ same-sides a b c s =
 -- ---- all streams, at a frame on stream 0
 
 pub all-moved : (initial after : Sides ℕ) (frame : Frame) (change : Option Change) (old new : Streams)
-    (streams : ℕ → Stream) → AreAllMoved initial after old new → after ≡ initial_after change initial
+    (streams : ℕ → Stream) → AreAllMoved 0 initial after old new → after ≡ initial_after change initial
     → frame.stream ≡ 0 → is_server_promise frame ≡ false → AreStreams streams old
     → AreMet initial frame change streams new
 all-moved initial after frame change old new streams m is zero unpromised h =
@@ -210,8 +212,10 @@ all-moved initial after frame change old new streams m is zero unpromised h =
     ∙ ne_eqb frame.stream s (λ e. absurd (omega (arith, zero, above, e))) in
     all-met initial frame change streams new
     (λ s q. rw (h.odd s q) (step-moved s initial after frame change _ _
-    (entries-moved initial after old.opened.items new.opened.items s m.opened) is (unmet s (omega (arith, q)))))
+    (entries-moved 0 initial after old.opened.items new.opened.items s (λ e. absurd (omega (arith, q, e))) m.opened) is
+    (unmet s (omega (arith, q)))))
     (λ s q above. rw (h.even s q above) (step-moved s initial after frame change _ _
-    (entries-moved initial after old.promised.items new.promised.items s m.promised) is (unmet s above)))
-    (rising-moved initial after 0 old.opened.items new.opened.items m.opened h.opened)
-    (rising-moved initial after 0 old.promised.items new.promised.items m.promised h.promised)
+    (entries-moved 0 initial after old.promised.items new.promised.items s (λ e. absurd (omega (arith, above, e)))
+    m.promised) is (unmet s above)))
+    (rising-moved 0 initial after 0 old.opened.items new.opened.items m.opened h.opened)
+    (rising-moved 0 initial after 0 old.promised.items new.promised.items m.promised h.promised)

@@ -6,7 +6,7 @@ ghost use Rattle.audit_terms.specs.declared.frames.Frame.{Frame as FrameTerm};
 ghost use Rattle.audit_terms.specs.code.runs.Orderly.{IsInRange, IsOrderly};
 ghost use Rattle.quiet_pass.specs.code.FoundPass.{HasSaid, IsAdded, IsFoundAfter};
 
-use crate::passes::QuietPass;
+use crate::passes::{QuietPass, is_of_settings};
 use crate::said_frames::has_stop;
 use audit_terms::{Finding, Frame};
 use std::alloc::{AllocError, Global};
@@ -44,6 +44,9 @@ impl FoundPass {
     {
         if self.has_stopped {
             return Ok(true);
+        }
+        if is_of_settings(frame) {
+            return self.say(alloc, frame);
         }
         let is_quiet = self.pass.step(frame)?;
         if is_quiet {

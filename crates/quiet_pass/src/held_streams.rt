@@ -1,5 +1,5 @@
-//! What a row holds of a stream: all of it, in 12 bytes. Mostly each live window has credit, and `Standings` says how the
-//! stream stands. Where a window has none left, the number of the opening frame is marked, and such credits stand
+//! What a row holds of a stream: all of it, in 12 bytes. Mostly each live window has credit, and `Standings` says how
+//! the stream stands. Where a window has none left, the number of the opening frame is marked, and such credits stand
 //! where `Standings` has no meaning. So one comparison tells whether a row may be met quietly.
 
 ghost use Rattle.std.specs.Prelude.{◌≡◌, ◌^◌, ◌≤ℤ◌, pos, true, false, Option};

@@ -1,4 +1,5 @@
-//! The connection between two frames. A frame is met quietly where the window that it moves has credit before and after.
+//! The connection between two frames. A frame is met quietly if the window that it moves has credit before it and
+//! after it.
 
 ghost use Rattle.std.specs.Prelude.{◌≡◌, ◌^◌, false, Option};
 ghost use Rattle.std.specs.Bool.{OnTrue, OnFalse};

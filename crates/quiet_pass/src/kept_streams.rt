@@ -1,6 +1,6 @@
 //! All streams of a connection.
 
-ghost use Rattle.std.specs.Prelude.{◌≡◌, ℕ, ◌<◌, ◌^◌, true, false, [], IfNone, IfOk};
+ghost use Rattle.std.specs.Prelude.{◌≡◌, ℕ, ◌<◌, ◌≤◌, ◌-◌, ◌^◌, true, false, [], IfNone, IfOk};
 ghost use Rattle.std.specs.Bool.{OnTrue};
 ghost use Rattle.std.specs.Option.{ForSome};
 ghost use Rattle.audit_terms.specs.declared.sides.Sides.{Sides as SidesTerm};
@@ -9,9 +9,11 @@ ghost use Rattle.audit_terms.specs.code.Room.{WindowHasRoom};
 ghost use Rattle.audit_terms.specs.Frame.{is_server_promise};
 ghost use Rattle.quiet_pass.specs.code.Rows.{AreRising, IsMetOn};
 ghost use Rattle.quiet_pass.specs.code.Streams.{AreStreams, AreMetOn, AreAllMoved, ArePut};
+ghost use Rattle.quiet_pass.specs.code.Streams.{IsChangeSaid};
 
-use crate::opened_rows::{Row, entry_of, meet, move_all, open, put};
-use audit_terms::{Frame, Sides, Stream, row_of};
+use crate::opened_rows::{Row, entry_of, first_shown, meet, move_all, open, put};
+use audit_terms::{Change, Finding, Frame, Sides, Step, Stream, initial_after, row_of};
+use fault_rules::say_stream;
 use std::alloc::{AllocError, Global};
 
 /// The rows of the streams that were opened.
@@ -43,8 +45,8 @@ impl Streams {
     ) -> Result<Option<bool>, AllocError>
         requires streamed { 0 < frame.now.stream }
         requires unpromised { is_server_promise frame.now ≡ false }
-        ensures quiet { IfOk result (λ met. ForSome met (λ opens. (streams : ℕ → StreamTerm) → AreStreams streams self.old
-            → AreMetOn initial.now frame.now opens streams self.new)) }
+        ensures quiet { IfOk result (λ met. ForSome met (λ opens. (streams : ℕ → StreamTerm)
+            → AreStreams streams self.old → AreMetOn initial.now frame.now opens streams self.new)) }
         ensures left { IfOk result (λ met. IfNone met (self.new ≡ self.old)) }
     {
         if frame.stream % 2 == 1 {
@@ -96,11 +98,54 @@ impl Streams {
         open(&mut self.promised, frame.body.promised(), initial, frame)
     }
 
-    /// Meets a change of the initial windows in force, and returns false if that may show something (6.9.2).
-    pub(crate) fn move_windows(&mut self, before: &Sides<u32>, after: &Sides<u32>) -> bool
-        ensures { OnTrue result (AreAllMoved before.now after.now self.old self.new) }
+    /// The first stream of which a change of the initial windows in force may show something.
+    pub(crate) fn first_shown(&self, before: &Sides<u32>, after: &Sides<u32>) -> Option<u32> {
+        if let Some(stream) = first_shown(self.opened.as_slice(), before, after) {
+            return Some(stream);
+        }
+        first_shown(self.promised.as_slice(), before, after)
+    }
+
+    /// Meets a change of the initial windows in force, but for one stream, and returns false if that may show something
+    /// (6.9.2).
+    pub(crate) fn move_windows(&mut self, but: u32, before: &Sides<u32>, after: &Sides<u32>) -> bool
+        ensures { OnTrue result (AreAllMoved but before.now after.now self.old self.new) }
     {
-        move_all(&mut self.opened, before, after) && move_all(&mut self.promised, before, after)
+        move_all(&mut self.opened, but, before, after)
+            && move_all(&mut self.promised, but, before, after)
+    }
+
+    /// Meets such a change, which a frame on stream 0 brings, and adds what it shows of one stream; returns false if it
+    /// may show something of others, or no row can say the stream.
+    pub(crate) fn say_change(
+        &mut self,
+        found: &mut Vec<Finding>,
+        stream: u32,
+        initial: &Sides<u32>,
+        frame: &Frame,
+        change: &Option<Change>,
+    ) -> Result<bool, AllocError>
+        requires zero { frame.now.stream ≡ 0 }
+        requires unpromised { is_server_promise frame.now ≡ false }
+        requires numbered { frame.now.number ≤ 2 ^ 28 - 2 }
+        ensures { IfOk result (λ done. OnTrue done (IsChangeSaid initial.now frame.now change.now self.old self.new
+            found.old.items found.new.items)) }
+    {
+        if stream == 0 || (1 << 31) <= stream {
+            return Ok(false);
+        }
+        let mut entry = self.entry_of(stream);
+        let after = initial_after(change, initial);
+        if !self.move_windows(stream, initial, &after) {
+            return Ok(false);
+        }
+        let step = Step {
+            number: frame.number,
+            frame: None,
+            change: *change,
+        };
+        say_stream(found, &mut entry, stream, initial, &step)?;
+        self.put(stream, &entry)
     }
 }
 

@@ -7,9 +7,11 @@
 //!   the frames so far, and it stands for the state after them (`IsQuietAfter`). By [`laws::quiet_frames_show_nothing`]
 //!   the pass over these frames then shows nothing. As soon as something may be shown, it gives up.
 //! - Then `found_connection` takes the frame's stream and the connection as they stand, has `fault_rules` say what the
-//!   frame shows, and puts both back, whatever credit is left, and whether or not the stream is opened. Past a connection
-//!   error nothing more is met, only counted. It gives up too, and all frames have to be audited, at SETTINGS and
-//!   promises that show something, and past the number of frames that a caller allows.
+//!   frame shows, and puts both back, whatever credit is left, and whether or not the stream is opened. So it does with
+//!   SETTINGS and acknowledgements, and a change of the initial windows that shows something of one stream. Past a
+//!   connection error nothing more is met, only counted. It gives up too, and all frames have to be audited, at a
+//!   change that shows something of several streams, SETTINGS on a stream, acknowledgements of nothing, promises that
+//!   show something, and past the number of frames that a caller allows.
 //! - It keeps of each side's last frame whether a field block goes on after it, and of which stream.
 //! - It keeps SETTINGS until the end (`settings_pair::Pending`): connections have few. A change that moves an initial
 //!   window updates all streams (RFC 9113, 6.9.2); after 64 of these it gives up, so that frames cost a bounded time
@@ -42,6 +44,7 @@ mod passes;
 mod quiet_connections;
 mod quiet_frames;
 mod said_frames;
+mod said_settings;
 
 pub use found_connections::{FoundConnection, found_connection};
 pub use passes::QuietPass;

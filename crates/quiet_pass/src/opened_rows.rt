@@ -72,10 +72,14 @@ impl Row {
         opened == 0 && client == 0 && server == 0
     }
 
-    /// The row after a change of the initial windows in force, if that shows nothing (RFC 9113, 6.9.2).
-    fn after_change(&self, before: &Sides<u32>, after: &Sides<u32>) -> Option<Row>
-        ensures { ForSome result (IsRowMoved before.now after.now self.now) }
+    /// The row after a change of the initial windows in force, if that shows nothing (RFC 9113, 6.9.2); the row of one
+    /// stream stays as it is.
+    fn after_change(&self, but: u32, before: &Sides<u32>, after: &Sides<u32>) -> Option<Row>
+        ensures { ForSome result (IsRowMoved but before.now after.now self.now) }
     {
+        if self.stream == but {
+            return Some(*self);
+        }
         Some(Row {
             standings: held_after_change(&self.standings, before, after)?,
             ..*self
@@ -205,12 +209,27 @@ pub(crate) fn open(
     }
 }
 
-/// Meets a change of the initial windows in force, and returns false if that may show something.
-pub(crate) fn move_all(rows: &mut Vec<Row>, before: &Sides<u32>, after: &Sides<u32>) -> bool
-    ensures { OnTrue result (AreMoved before.now after.now rows.old.items rows.new.items) }
+/// The first stream of which a change of the initial windows in force may show something.
+pub(crate) fn first_shown(rows: &[Row], before: &Sides<u32>, after: &Sides<u32>) -> Option<u32> {
+    for row in rows {
+        if row.after_change(0, before, after).is_none() {
+            return Some(row.stream);
+        }
+    }
+    None
+}
+
+/// Meets a change of the initial windows in force, but for one stream, and returns false if that may show something.
+pub(crate) fn move_all(
+    rows: &mut Vec<Row>,
+    but: u32,
+    before: &Sides<u32>,
+    after: &Sides<u32>,
+) -> bool
+    ensures { OnTrue result (AreMoved but before.now after.now rows.old.items rows.new.items) }
 {
     for at in 0..rows.len() {
-        let Some(next) = rows[at].after_change(before, after) else {
+        let Some(next) = rows[at].after_change(but, before, after) else {
             return false;
         };
         rows[at] = next;

@@ -27,13 +27,13 @@ pub struct QuietPass {
     /// What is kept of the last frame of each side.
     pub(crate) last: Sides<LastFrame>,
     /// The SETTINGS sent.
-    pending: Pending,
+    pub(crate) pending: Pending,
     /// The initial windows in force, in bytes.
     pub(crate) initial: Sides<u32>,
     pub(crate) connection: KeptConnection,
     pub(crate) streams: Streams,
     /// How many more changes may move windows.
-    moves_left: u32,
+    pub(crate) moves_left: u32,
     /// Did it give up at a frame that a part of it had met? Then it stands for nothing.
     pub(crate) is_lost: bool,
 }
@@ -183,14 +183,14 @@ impl QuietPass {
 
     /// Brings the initial windows of a change into force, and returns false if that may show something (RFC 9113,
     /// 6.9.2).
-    fn bring(&mut self, change: &Option<Change>) -> bool
+    pub(crate) fn bring(&mut self, change: &Option<Change>) -> bool
         ensures { OnTrue result (IsBroughtInto change.now self.old self.new) }
     {
         let after = initial_after(change, &self.initial);
         if after.client == self.initial.client && after.server == self.initial.server {
             return true;
         }
-        if self.moves_left == 0 || !self.streams.move_windows(&self.initial, &after) {
+        if self.moves_left == 0 || !self.streams.move_windows(0, &self.initial, &after) {
             return false;
         }
         self.moves_left -= 1;
@@ -207,7 +207,7 @@ pub(crate) fn is_of_settings(frame: &Frame) -> bool
 }
 
 /// Is it an acknowledgement that takes no SETTINGS (RFC 9113, 6.5.3)?
-fn is_unmatched(frame: &Frame, change: &Option<Change>) -> bool
+pub(crate) fn is_unmatched(frame: &Frame, change: &Option<Change>) -> bool
     ensures { result ≡ (is_ack frame.now.body && is_none change.now) }
 {
     frame.body.is_ack() && change.is_none()

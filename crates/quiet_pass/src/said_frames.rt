@@ -16,7 +16,9 @@ ghost use Rattle.quiet_pass.specs.code.SaidFrames.{MovesOneStream};
 
 use crate::kept_connection::KeptConnection;
 use crate::passes::{QuietPass, is_of_settings, keep_last};
-use audit_terms::{ConnectionState, Finding, Frame, Item, Step, Stream, keep_shown, put_in_order};
+use audit_terms::{
+    Change, ConnectionState, Finding, Frame, Item, Step, Stream, keep_shown, put_in_order,
+};
 use fault_rules::{say_connection, say_local_after, say_stream};
 use std::alloc::{AllocError, Global};
 
@@ -33,8 +35,11 @@ impl QuietPass {
             → IsSaidStep state frame.now found.items self.new)) }
         ensures kept { IfOk result (λ said. ForSome said (λ _. self.old.is_lost ≡ false)) }
     {
-        if self.is_lost || is_of_settings(frame) || frame.is_server_promise() {
+        if self.is_lost || frame.is_server_promise() {
             return Ok(None);
+        }
+        if is_of_settings(frame) {
+            return self.say_settings(alloc, frame);
         }
         if frame.stream == 0 {
             self.say_on_connection(alloc, frame)
@@ -55,7 +60,7 @@ impl QuietPass {
             → IsSaidStep state frame.now found.items self.new)) }
     {
         let mut found = Vec::new(alloc);
-        let connection = self.say_alone(&mut found, frame, false)?;
+        let connection = self.say_alone(&mut found, frame, false, &None)?;
         if shows_stop(&mut found)? {
             return Ok(Some(found));
         }
@@ -81,7 +86,7 @@ impl QuietPass {
         let mut found = Vec::new(alloc);
         let mut entry = self.streams.entry_of(frame.stream);
         let opens = entry.life.is_opening(frame.stream, frame);
-        let connection = self.say_alone(&mut found, frame, opens)?;
+        let connection = self.say_alone(&mut found, frame, opens, &None)?;
         self.say_entry(&mut found, &mut entry, frame)?;
         if shows_stop(&mut found)? {
             return Ok(Some(found));
@@ -93,21 +98,22 @@ impl QuietPass {
     }
 
     /// Adds what a frame shows by itself and of the connection, and gives the connection after it.
-    fn say_alone(
+    pub(crate) fn say_alone(
         &self,
         found: &mut Vec<Finding>,
         frame: &Frame,
         opens: bool,
+        change: &Option<Change>,
     ) -> Result<ConnectionState, AllocError>
         requires { IsInRange frame.now }
-        ensures { IfOk result (IsConnectionSaid self.now frame.now opens found.old.items found.new.items) }
+        ensures { IfOk result (IsConnectionSaid self.now frame.now opens change.now found.old.items found.new.items) }
     {
         say_local_after(found, self.last.of(frame.side), frame)?;
         let mut connection = self.connection.state();
         let item = Item {
             frame: *frame,
             opens,
-            change: None,
+            change: *change,
         };
         say_connection(found, &mut connection, &item)?;
         Ok(connection)
@@ -159,7 +165,7 @@ impl QuietPass {
 }
 
 /// Puts what a frame shows in order, without credits, and returns whether the audit stops at it.
-fn shows_stop(found: &mut Vec<Finding>) -> Result<bool, AllocError>
+pub(crate) fn shows_stop(found: &mut Vec<Finding>) -> Result<bool, AllocError>
     ensures shown { OnOk result (found.new.items ≡ shown false (in_order found.old.items)) }
     ensures stops { IfOk result (λ ends. ends ≡ list_any stops found.new.items) }
 {

@@ -39,7 +39,7 @@ pub record BringsNothing (frame : Frame) : Type 0 where
 -- the initial windows of a change are in force, and all rows are moved: nothing of that is shown
 pub record IsBroughtInto (change : Option Change) (old new : QuietPass) : Type 0 where
   pub initial : new.initial ≡ initial_after change old.initial
-  pub moved : AreAllMoved old.initial new.initial old.streams new.streams
+  pub moved : AreAllMoved 0 old.initial new.initial old.streams new.streams
   pub connection : new.connection ≡ old.connection
   pub last : new.last ≡ old.last
   pub pending : new.pending ≡ old.pending

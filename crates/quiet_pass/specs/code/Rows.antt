@@ -60,13 +60,14 @@ pub record IsPut (stream : ℕ) (entry : Stream) (old new : List Row) : Type 0 w
   pub others : (other : ℕ) → other ≢ stream → entry_in new other ≡ entry_in old other
   pub rising : AreRising new
 
--- a row after the initial windows in force go from some to others: nothing of that is shown
-pub record IsRowMoved (before after : Sides ℕ) (old new : Row) : Type 0 where
+-- a row after the initial windows in force go from some to others, unless it is of one stream: nothing is shown of it
+pub record IsRowMoved (but : ℕ) (before after : Sides ℕ) (old new : Row) : Type 0 where
   pub same : new.stream ≡ old.stream
-  pub moved : IsEntryMoved before after (held old.standings) (held new.standings)
+  pub moved : old.stream ≢ but → IsEntryMoved before after (held old.standings) (held new.standings)
 
 -- each row after that
-abbrev pub AreMoved : (before after : Sides ℕ) → (old new : List Row) → Type 0
-AreMoved before after [] [] = Unit {0}
-AreMoved before after (row ∷ rows) (next ∷ nexts) = IsRowMoved before after row next × AreMoved before after rows nexts
-AreMoved before after _ _ = ⊥
+abbrev pub AreMoved : (but : ℕ) → (before after : Sides ℕ) → (old new : List Row) → Type 0
+AreMoved but before after [] [] = Unit {0}
+AreMoved but before after (row ∷ rows) (next ∷ nexts) =
+    IsRowMoved but before after row next × AreMoved but before after rows nexts
+AreMoved but before after _ _ = ⊥

@@ -1,6 +1,6 @@
 -- A frame of which something is shown, and the machine after it.
 use Rattle.std.specs.List.{AllByRecursion, IsDistinct, list_any}
-use Rattle.std.specs.Prelude.{◌≡◌, ℕ, ◌<◌, ◌==◌, Bool, true, false, if◌then◌else◌, List, ◌++◌, None, Some}
+use Rattle.std.specs.Prelude.{◌≡◌, ℕ, ◌<◌, ◌==◌, Bool, true, false, if◌then◌else◌, List, ◌++◌, Option, Some}
 use Rattle.audit_terms.specs.Connection.{connection_after, connection_said}
 use Rattle.audit_terms.specs.Finding.{shown, stops}
 use Rattle.audit_terms.specs.Frame.{is_server_promise}
@@ -9,26 +9,28 @@ use Rattle.audit_terms.specs.Pass.{PassState, next, said}
 use Rattle.audit_terms.specs.Place.{place_number}
 use Rattle.audit_terms.specs.Side.{is_side}
 use Rattle.audit_terms.specs.Sides.{side_of}
+use Rattle.audit_terms.specs.Stream.{idle_stream}
 use Rattle.audit_terms.specs.code.LastFrame.{last_of}
 use Rattle.audit_terms.specs.code.runs.Orderly.{IsInRange}
+use Rattle.audit_terms.specs.code.runs.Streams.{initial_after}
 use Rattle.audit_terms.specs.declared.connection_state.ConnectionState.{ConnectionState}
 use Rattle.audit_terms.specs.declared.findings.Finding.{Finding}
 use Rattle.audit_terms.specs.declared.frames.Frame.{Frame}
+use Rattle.audit_terms.specs.declared.items.Change.{Change}
 use Rattle.audit_terms.specs.declared.sides.Side.TheVariants.{Client, Server}
 use Rattle.audit_terms.specs.declared.stream_state.Stream.{Stream}
 use Rattle.quiet_pass.specs.code.Connection.{as_item, connection_of}
 use Rattle.quiet_pass.specs.code.QuietPass.{AreNamed, BringsNothing, StandsFor}
-use Rattle.quiet_pass.specs.code.Streams.{ArePut}
+use Rattle.quiet_pass.specs.code.Streams.{ArePut, IsChangeSaid}
 use Rattle.quiet_pass.specs.declared.passes.QuietPass.{QuietPass}
 
--- what a frame shows by itself and of the connection, and the connection after it
-pub record IsConnectionSaid (machine : QuietPass) (frame : Frame) (opens : Bool) (before after : List Finding)
-    (connection : ConnectionState) : Type 0 where
-  pub said : (state : PassState) → StandsFor machine state → after ≡ (before
-      ++ local_said (side_of frame.side state.previous) frame)
-      ++ connection_said state.connection (as_item frame opens None)
-  pub next : (state : PassState) → StandsFor machine state
-      → connection ≡ connection_after state.connection (as_item frame opens None)
+-- what a frame that brings a change, or none, shows by itself and of the connection, and the connection after it
+pub record IsConnectionSaid (machine : QuietPass) (frame : Frame) (opens : Bool) (change : Option Change)
+    (before after : List Finding) (connection : ConnectionState) : Type 0 where
+  pub said : (previous : Option Frame) → side_of frame.side machine.last ≡ last_of previous → after ≡ (before
+      ++ local_said previous frame)
+      ++ connection_said (connection_of machine.connection) (as_item frame opens change)
+  pub next : connection ≡ connection_after (connection_of machine.connection) (as_item frame opens change)
 
 -- the frame has neither settings nor a promise of the server, so that it moves the connection and its own stream alone
 pub record MovesOneStream (frame : Frame) : Type 0 where
@@ -50,15 +52,26 @@ pub record IsKeptAfter (frame : Frame) (connection : ConnectionState) (entry : S
   pub rest : IsConnectionKept frame connection old new
   pub streams : ArePut frame.stream entry old.streams new.streams
 
--- streams other than 0, each once, and among them that of the frame
-pub record HaveOwn (frame : Frame) (streams : List ℕ) : Type 0 where
+-- the initial windows of a change are in force, and what that shows of one stream was added
+pub record IsBroughtSaying (frame : Frame) (change : Option Change) (old new : QuietPass) (before after : List Finding)
+    : Type 0 where
+  pub initial : new.initial ≡ initial_after change old.initial
+  pub streams : IsChangeSaid old.initial frame change old.streams new.streams before after
+  pub connection : new.connection ≡ old.connection
+  pub last : new.last ≡ old.last
+  pub pending : new.pending ≡ old.pending
+
+-- streams other than 0, each once, and among them that of the frame, and each that is not as at the start
+pub record HaveOwn (state : PassState) (frame : Frame) (streams : List ℕ) : Type 0 where
   pub named : AreNamed streams
   pub once : IsDistinct ◌==◌ streams
   pub own : 0 < frame.stream → list_any (λ other. other == frame.stream) streams ≡ true
+  pub live : (stream : ℕ) → 0 < stream → list_any (λ other. other == stream) streams ≡ false
+      → state.streams stream ≡ idle_stream
 
 -- this is what a frame shows where credits are not shown, and unless the audit stops there, the machine stands for the
 -- state after it
 pub record IsSaidStep (state : PassState) (frame : Frame) (found : List Finding) (machine : QuietPass) : Type 0 where
-  pub shown : (streams : List ℕ) → HaveOwn frame streams → shown false (said streams state frame) ≡ found
+  pub shown : (streams : List ℕ) → HaveOwn state frame streams → shown false (said streams state frame) ≡ found
   pub goes_on : list_any stops found ≡ false → StandsFor machine (next state frame)
   pub numbered : AllByRecursion (λ (finding : Finding). place_number finding.place ≡ frame.number) found

@@ -1,10 +1,12 @@
 -- All streams, as they are kept in rows. No public clause cites this.
-use Rattle.std.specs.Prelude.{◌≡◌, ℕ, ◌%◌, ◌<◌, Bool, if◌then◌else◌, Option, Some, None}
+use Rattle.std.specs.Prelude.{◌≡◌, ◌≢◌, ℕ, ◌%◌, ◌<◌, ◌^◌, Bool, false, if◌then◌else◌, List, ◌++◌, Option, Some, None}
 use Rattle.audit_terms.specs.declared.sides.Sides.{Sides}
+use Rattle.audit_terms.specs.declared.findings.Finding.{Finding}
 use Rattle.audit_terms.specs.declared.frames.Frame.{Frame}
 use Rattle.audit_terms.specs.declared.items.Change.{Change}
 use Rattle.audit_terms.specs.declared.items.Step.{Step}
 use Rattle.audit_terms.specs.declared.stream_state.Stream.{Stream}
+use Rattle.audit_terms.specs.Finding.{shown}
 use Rattle.audit_terms.specs.Frame.{meets}
 use Rattle.audit_terms.specs.Life.{is_opening}
 use Rattle.audit_terms.specs.Stream.{stream_said, stream_after}
@@ -46,10 +48,24 @@ pub record AreMetOn (initial : Sides ℕ) (frame : Frame) (opens : Bool) (stream
   pub opening : is_opening frame.stream (streams frame.stream).life frame ≡ opens
   pub met : AreMet initial frame None streams kept
 
--- all rows after the initial windows in force go from some to others
-pub record AreAllMoved (before after : Sides ℕ) (old new : Streams) : Type 0 where
-  pub opened : AreMoved before after old.opened.items new.opened.items
-  pub promised : AreMoved before after old.promised.items new.promised.items
+-- all rows but those of one stream after the initial windows in force go from some to others
+pub record AreAllMoved (but : ℕ) (before after : Sides ℕ) (old new : Streams) : Type 0 where
+  pub opened : AreMoved but before after old.opened.items new.opened.items
+  pub promised : AreMoved but before after old.promised.items new.promised.items
+
+-- the streams after a frame that meets none of them and brings a change, or none: of one alone something may be shown,
+-- and that was added
+pub record IsChangeSaid (initial : Sides ℕ) (frame : Frame) (change : Option Change) (old new : Streams)
+    (before after : List Finding) : Type 0 where
+  pub stream : ℕ
+  pub some : 0 < stream
+  pub small : stream < 2 ^ 31
+  pub said : (streams : ℕ → Stream) → AreStreams streams old → shown false after ≡ shown false before
+      ++ shown false (stream_said stream initial (streams stream) (as_step frame change stream))
+  pub others : (streams : ℕ → Stream) → AreStreams streams old → (other : ℕ) → 0 < other → other ≢ stream
+      → AreQuiet (stream_said other initial (streams other) (as_step frame change other))
+  pub met : (streams : ℕ → Stream) → AreStreams streams old
+      → AreStreams (λ other. stream_after other initial (streams other) (as_step frame change other)) new
 
 -- this is a stream now, and no other stream changes
 pub record ArePut (stream : ℕ) (entry : Stream) (old new : Streams) : Type 0 where
