@@ -21,8 +21,9 @@ def audit_of(asked: Namespace) -> Audit:
         if is_text(file):
             if len(asked.files) > 1:
                 raise Failed(WRONG_WORDS, f"{first} is a report, and stands alone, without {asked.files[1]}")
-            if asked.key_log or asked.no_requests or asked.sort:
-                raise Failed(WRONG_WORDS, f"{first} is a report, and -k, --sort and --no-requests are for captures")
+            if asked.key_log or asked.no_requests or asked.sort or asked.reorder:
+                words = "-k, --sort, --reorder and --no-requests"
+                raise Failed(WRONG_WORDS, f"{first} is a report, and {words} are for captures")
             return read_audit(file)
         if first == "-":
             return of_captures(asked, file)
@@ -40,6 +41,6 @@ def is_text(file: BinaryIO) -> bool:
 
 def of_captures(asked: Namespace, standard_input: BinaryIO | None) -> Audit:
     words = [word for log in asked.key_log for word in ("-k", log)]
-    words += ["--sort"] * asked.sort + ["--no-requests"] * asked.no_requests
+    words += ["--sort"] * asked.sort + ["--reorder"] * asked.reorder + ["--no-requests"] * asked.no_requests
     words += ["--charts", "--h2audit", program_named("h2audit"), "--", *asked.files]
     return audit_of_document(document_of(words, standard_input, AUDITED))

@@ -18,6 +18,7 @@ from tools.tests import import_tools as tools
 CORPUS = tools.TOP / "tests" / "corpus"
 RAW = 101
 EXAMPLE = tools.EXAMPLES / "stream_overrun_go.pcap"
+LATE = tools.TOP / "tests" / "answer" / "packets_late_in_file.pcap"
 SYN, ACK, PUSH = 2, 16, 24
 PREFACE = b"PRI * HTTP/2.0\r\n\r\nSM\r\n\r\n" + bytes.fromhex("000000040000000000")
 V2_LINE = b"\r\n\r\n\0\r\nQUIT\n" + b"\x21\x11\x00\x0c" + bytes(12)
@@ -213,13 +214,52 @@ class Files(unittest.TestCase):
         wrong = tools.imported(*reversed(paths))
         at = len(packets) - 9 + 1
         self.assertEqual(
-            wrong.said, f"h2audit-import: times go back at packet {at}: are the files in order? reordercap\n"
+            wrong.said, f"h2audit-import: times go back at packet {at}: are the files in order? --reorder\n"
         )
         nanos = packets[-1].nanos - packets[0].nanos
         self.assertEqual(tools.lines_of(wrong, "back"), [f"back file 2 packet 1 packets 1 nanos {nanos}"])
         self.assertEqual(tools.imported("--sort", *reversed(paths)), right)
         piped = tools.imported("--sort", "-", paths[0], input=b"")
         self.assertEqual((piped.status, piped.said), (2, "h2audit-import: --sort takes files alone, and - is none\n"))
+
+    def test_reorder(self) -> None:
+        """Packets that are late in the file are put in order of time, under their own numbers; the warning says how."""
+        packets, link = tools.read_pcap(LATE.read_bytes())
+        late = tools.imported(LATE)
+        said = "h2audit-import: times go back at packet 13: are the files in order? --reorder\n"
+        self.assertEqual((late.said, tools.lines_of(late, "reordered")), (said, []))
+        order = sorted(range(len(packets)), key=lambda at: packets[at].nanos)
+        path = self.folder / "sorted.pcap"
+        path.write_bytes(tools.pcap_of([packets[at] for at in order], link))
+        wanted, found = tools.imported(path), tools.imported("--reorder", LATE)
+        self.assertEqual((found.bytes, found.said), (wanted.bytes, ""))
+        numbers = {record: order[packet - 1] + 1 for record, (_, packet) in tools.packet_of_each_record(wanted).items()}
+        of_records = {record: packet for record, (_, packet) in tools.packet_of_each_record(found).items()}
+        self.assertEqual(of_records, numbers)
+        newest = [max(one.nanos for one in packets[: at + 1]) for at in range(len(packets))]
+        ways = [newest[at] - packets[at].nanos for at in range(len(packets)) if packets[at].nanos < newest[at]]
+        self.assertEqual(
+            tools.lines_of(found, "reordered"), [f"reordered packets {len(ways)} nanos {max(ways)} left 0"]
+        )
+
+    def test_too_late(self) -> None:
+        """What is more than a second late is left where it is, and that is said with how many."""
+        packets, link = tools.read_pcap(EXAMPLE.read_bytes())
+        packets = [one._replace(nanos=10**9 + at * 500_000_000) for at, one in enumerate(packets)]
+        packets.insert(6, packets.pop(3))
+        packets[8:10] = reversed(packets[8:10])
+        path = self.folder / "late.pcap"
+        path.write_bytes(tools.pcap_of(packets, link))
+        made = tools.imported("--reorder", path)
+        self.assertEqual(
+            made.said, "h2audit-import: times go back at packet 7: 1 packet too late for --reorder: reordercap\n"
+        )
+        told = tools.lines_of(made, "reordered") + tools.lines_of(made, "back")
+        self.assertEqual(
+            told, ["reordered packets 1 nanos 500000000 left 1", "back file 1 packet 7 packets 1 nanos 1500000000"]
+        )
+        numbers = [packet for _, packet in tools.packet_of_each_record(made).values()]
+        self.assertEqual(numbers, [1, 2, 3, 4, 5, 6, 7, 8, 10, 9, *range(11, len(packets) + 1)])
 
     def test_names(self) -> None:
         """What a terminal would act on is escaped in messages, and in the map as ever."""
@@ -238,44 +278,6 @@ class Files(unittest.TestCase):
                     ["sh", "-c", words], capture_output=True, text=True, env={"IMPORT": str(tools.IMPORT)}
                 )
                 self.assertEqual(run.stderr, f"h2audit-import: standard output: {why}\n4\n", words)
-
-
-class Course(unittest.TestCase):
-    """The course of TCP, on packets that are made for it."""
-
-    def course_of(self, datagrams: list[bytes]) -> list[str]:
-        with tempfile.TemporaryDirectory(prefix="h2audit-test-") as folder:
-            path = pathlib.Path(folder, "course")
-            tools.imported("--course", path, input=captured(datagrams))
-            self.assertEqual(path.stat().st_mode & 0o777, 0o600)
-            return path.read_text().splitlines()
-
-    def test_lines(self) -> None:
-        datagrams = opening() + [
-            segment(0, 101, flags=ACK), segment(0, 101, PREFACE), segment(0, 101, PREFACE),
-            segment(0, 101 + 40, b"later"), segment(0, 101 + len(PREFACE), b"1234567"),
-            segment(0, 101 + 35, b"12345" + b"later!"),
-            segment(1, 901, flags=ACK)[:34] + b"\0\0" + segment(1, 901, flags=ACK)[36:], segment(1, 901, b"answer"),
-            segment(1, 907, flags=1 | ACK), segment(0, 147, flags=4),
-        ]  # fmt: skip
-        place = [f"file 1 packet {at + 1} time {10**9 + at}" for at in range(len(datagrams))]
-        self.assertEqual(self.course_of(datagrams), [
-            "h2audit-course 1", "file 1 -", "connection 1 client 10.0.0.1:40000 server 10.0.0.2:443",
-            f"syn 1 {place[0]}", f"syn-ack 1 {place[1]}", f"ack 1 {place[2]}",
-            f"hole 1 client from {place[5]} to {place[6]}",
-            f"resent 1 client {place[7]} bytes 10 after {10**9 + 6}",
-            f"window-zero 1 server from {place[8]} to {place[9]}",
-            f"fin 1 server {place[10]}", f"rst 1 client {place[11]}",
-            f"last 1 client {place[11]}", "sums 1 client segments 5 bytes 46 resent 10 doubled 1",
-            f"last 1 server {place[10]}", "sums 1 server segments 1 bytes 6 resent 0 doubled 0",
-        ])  # fmt: skip
-
-    def test_changes_nothing(self) -> None:
-        """The capture and the map are the same with a course and without."""
-        with tempfile.TemporaryDirectory(prefix="h2audit-test-") as folder:
-            for name in ("mixed", "loss-and-reordering", "two-interfaces"):
-                words = [*tools.key_log_of(name), tools.capture_named(name)]
-                self.assertEqual(tools.imported("--course", f"{folder}/course", *words), tools.imported(*words))
 
 
 if __name__ == "__main__":

@@ -102,7 +102,7 @@ try 'cipher suites, resumption, PSK, early data' import_tls_test "${audits[@]}"
 try 'what h2audit-any says of an original' any_test "${audits[@]}"
 try_built 'reports of earlier imports' import_map_test "$built"
 try 'mutated captures and key logs' import_mutations_test
-try 'imports: what was once read wrongly, preambles, the course of TCP' import_corpus_test
+try 'imports: what was once read wrongly, preambles' import_corpus_test
 try 'imports: memory and work' import_limits_test
 try 'many captures: tables' fleet_test "${audits[@]}" Tables
 try 'many captures: lost workers, memory, time' fleet_test \
@@ -127,6 +127,8 @@ try_built 'many captures: requests of large captures' fleet_answers_test "$built
 try_split 'splitter: full parts and disks, names' splitter_test "$split"
 try 'install and package' tools/tests/package_test.sh "$program" "$split"
 try_built 'the answer in words: captures' why_test "$built"
+try_built 'the answer in words: one answer in all forms' why_forms_test "$built"
+try_built 'the answer in words: what is true of captures' why_said_test "$built"
 try_built 'the answer in words: charts' why_charts_test "$built"
 try_built 'the answer in words: hostile captures' why_hostile_test "$built"
 try_built 'the answer in words: jobs of CI' why_ci_test "$built"
@@ -137,9 +139,9 @@ try_built 'the answer in words: two clocks, two ends as JUnit' why_two_ends_test
 try_built 'the answer in words: words' why_words_test "$built"
 try_built 'the answer in words: damaged captures' why_mutations_test "$built"
 try_built 'the answer in words: both ends of a wire' why_place_test "$built"
-try_built 'the answer in words: windows of real peers' why_causes_test "$built" Windows
-try_built 'the answer in words: real clients' why_causes_test "$built" Clients
-try_built 'the answer in words: real applications' why_causes_test "$built" Applications
+try_built 'the answer in words: real peers' why_causes_test "$built"
+try_built 'the answer in words: causes that were set' why_set_causes_test "$built"
+try_built 'the answer in words: causes that are set anew' why_set_causes_test "$built" --make
 try_built 'refused growths, threads, reads and writes' refusals_test "$built"
 try_built 'threads that are started' threads_test "$built"
 try_built 'random bytes, and reads of any length' calls_test "$built"

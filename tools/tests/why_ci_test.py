@@ -20,40 +20,49 @@ from tools.tests.why_tools import TOP, WHY, Json, OnCaptures, Refused, has_progr
 SCHEMA = pathlib.Path(__file__).with_name("junit.xsd")
 EXAMPLES = sorted((TOP / "examples").glob("*.pcap"))
 TLS = sorted((TOP / "tests" / "tls").glob("*.pcap"))
-REASONS = ("fault", "certain-fault", "stall", "hung", "tcp", "error", "gap", "not-audited")
+REASONS = (
+    "fault", "certain-fault", "stall", "hung", "tcp", "error", "unanswered", "status", "gap", "cut", "not-audited",
+)  # fmt: skip
 # The reasons that hold in each example: found by hand, from the descriptions in examples/README.md.
 BROKEN = {"fault", "certain-fault"}
 BY_HAND = {
-    "connection_overflow_nginx": BROKEN | {"error", "not-audited", "stall"},
+    "connection_overflow_nginx": BROKEN | {"error", "hung", "not-audited", "stall"},
     "leaked_connection_credit_nginx": {"stall"},
     "lost_segment": {"gap", "not-audited"},
-    "negative_window": set[str](),
+    "negative_window": {"unanswered"},
     "negative_window_tomcat": {"stall"},
     "paused_stream_node": {"stall"},
     "round_trip_client_side": {"stall"},
     "round_trip_server_side": {"stall"},
-    "stream_overrun_go": BROKEN | {"error"},
+    "stream_overrun_go": BROKEN | {"error", "unanswered"},
     "stream_stalls_nghttpd": set[str](),
     "tiny_window_lighttpd": set[str](),
-    "use_after_reset": BROKEN | {"not-audited"},
-    "zero_increment_nginx": BROKEN | {"error", "not-audited", "stall"},
+    "use_after_reset": BROKEN | {"not-audited", "unanswered"},
+    "zero_increment_nginx": BROKEN | {"error", "hung", "not-audited", "stall"},
 }
 SECOND = 1_000_000
 # The place of TCP's window in a record, behind its time.
 WINDOW = 8 + 14 + 20 + 14
 FIELDS = "HEX 000003 01 05 00000001 828684"
+# Status 200, 500, 100, and trailers with a grpc-status of 14 and of 0.
+ANSWERED = "S HEX 000001 01 05 00000001 88\n"
+FAILED = "S HEX 000001 01 05 00000001 8e\n"
+INFORMED = "S HEX 000005 01 04 00000001 4803313030\n"
+GRPC = "S HEX 000001 01 04 00000001 88\nS HEX {length} 01 05 00000001 00 0b 677270632d737461747573 {status}\n"
 # By the reason that holds in it alone; each record is a tenth of a second after the one before.
 ALONE = {
     "hung": f"opened\nC {FIELDS}\nS HEADERS 1\n" + 4 * "S DATA 1 16383\n" + "S DATA 1 3\nS PING\nC PING\n",
     "tcp": f"opened\nC {FIELDS}\nS HEADERS 1\nS AT 5128 DATA 1 100\nS AT 5028 HEX 00005b 00 00 00000001 {91 * '00'}\n"
            "S AT 5237 DATA 1 0 END_STREAM\n",
-    "error": f"opened\nC {FIELDS}\nS HEX 000004 03 00 00000001 00000002\n",
+    "error": f"opened\nC {FIELDS}\n{ANSWERED}S HEX 000008 07 00 00000000 00000001 00000002\n",
+    "unanswered": f"opened\nC {FIELDS}\n{INFORMED}S PING\nC PING\n",
+    "status": f"opened\nC {FIELDS}\n{FAILED}",
     "gap": f"opened\nC {FIELDS}\nS HEADERS 1\nS AT 9000 PING\n",
     "not-audited": "opened\nC PING\nSEGMENT 1 2 3 4 5 16 PING\n",
 }  # fmt: skip
 
 # No row of tests/reports has TCP that holds back a request, nor an error's code.
-ALONE_ONLY = ("tcp", "error")
+ALONE_ONLY = ("tcp", "error", "status")
 
 
 def slower(octets: bytes, step: int = SECOND // 10) -> bytes:
@@ -84,10 +93,21 @@ def expected(found: Json) -> set[str]:
         "hung": any(request["hung"] for request in requests),
         "tcp": "tcp" in kinds,
         "error": any(signal["code"] for one in audited for signal in one["signals"]),
+        "unanswered": any(is_unanswered(request) for request in requests),
+        "status": any((one["status"] or 0) >= 500 or one["grpc_status"] for one in requests),
+        "cut": any(warning["kind"] == "cut" for warning in found["warnings"]),
         "gap": any(one["gaps"] for one in audited),
         "not-audited": not audited or bool(found["not_audited"]) or "the audit stopped" in str(stops(audited)),
     }
     return {reason for reason, is_so in holds.items() if is_so}
+
+
+def is_unanswered(request: Json) -> bool:
+    """Whether the server sent nothing on it, as far as that was captured, or an informational status alone."""
+    answer, ended = request["server"], request["ended"]
+    is_refused = request["stream"] % 2 == 0 and (ended["how"], ended["side"]) == ("RST_STREAM", "client")
+    is_informational = answer["content"] == 0 and (request["status"] or 200) < 200
+    return (answer["first"] is None or is_informational) and not request["end_unseen"] and not is_refused
 
 
 def stops(audited: list[Json]) -> list[str]:
@@ -132,6 +152,35 @@ class Reasons(Jobs):
                 others = {"stall"} if reason == "hung" else set()
                 self.assertEqual(held(self.capture(slower(capture_of(script)))), {reason} | others)
 
+    def test_answers(self) -> None:
+        """What is no answer, what is a failure of the server, and what was not captured whole."""
+        failed = GRPC.format(length="000010", status="02 3134")
+        for script, reasons in (
+            (ANSWERED, set[str]()),
+            ("", {"unanswered"}),
+            (INFORMED + FAILED, {"status"}),
+            (failed, {"status"}),
+            (GRPC.format(length="00000f", status="01 30"), set[str]()),
+            ("S DATA 1 5 END_STREAM\n", set[str]()),
+            ("S AT 9000 PING\n", {"gap"}),
+        ):
+            capture = self.capture(slower(capture_of(f"opened\nC {FIELDS}\n{script}")))
+            self.assertEqual(held(capture) - {"not-audited"}, reasons, script)
+        run = ran("--quiet", "--fail-on", "status", self.capture(slower(capture_of(f"opened\nC {FIELDS}\n{failed}"))))
+        self.assertIn("grpc-status 14 UNAVAILABLE", run.stderr.decode())
+
+    def test_cut(self) -> None:
+        """A file that ends within a packet is named, and a clean answer is then one of a part."""
+        octets = slower(capture_of(f"opened\nC {FIELDS}\n{ANSWERED}C PING\n"))
+        path = self.capture(octets)
+        self.assertEqual((held(path), said_of(path)["summary"]["verdict"]), (set(), "clean"))
+        path = self.capture(octets[:-1])
+        self.assertEqual(held(path), {"cut"})
+        (warning,) = said_of(path)["warnings"]
+        packets = said_of(path)["summary"]["packets"]
+        self.assertEqual(warning["text"], f"{path} ends within packet {packets + 1}: what followed is not in it")
+        self.assertIn("No rule was broken in what was audited.", ran(path).stdout.decode())
+
     def test_rows(self) -> None:
         """The captures of tests/reports, slowed so that stalls count, and those of TLS without their keys."""
         times: Counter[str] = Counter()
@@ -164,6 +213,9 @@ class Statuses(Jobs):
             (stalled, ["--fail-on", "hung,tcp,gap,not-audited,error,certain-fault"], 0, 0),
             (stalled, ["--fail-stall", "2.3s"], 1, 1),
             (stalled, ["--fail-stall", "2301ms"], 0, 0),
+            (stalled, ["--fail-life", "2301ms"], 0, 0),
+            (stalled, ["--fail-life", "2.3s"], 1, 1),
+            (stalled, ["--fail-life", "1us", "--fail-on", "unanswered,status,cut"], 1, 1),
             (stalled, ["--require-http2"], 0, 0),
         ]
         for path, words, status, lines in cases:

@@ -2,6 +2,7 @@
 
 use std::rc::Rc;
 
+pub use import::Uncaptured;
 use reports::{Capture, Finding, Flow, Side};
 
 pub use crate::charts::{Charted, ChartsSaid, Others};
@@ -70,6 +71,18 @@ pub struct Leak {
     pub used: u64,
     /// On the connection, beyond what it began with.
     pub granted: u64,
+}
+
+/// The stream that held most of a connection's window as a stall of it began.
+#[derive(Clone, Copy, Debug, PartialEq, Eq)]
+pub struct Holder {
+    /// The frame at which the stall began.
+    pub begin: u32,
+    pub side: usize,
+    pub stream: u32,
+    /// Content of it that was not granted again, and how much the window holds.
+    pub bytes: u64,
+    pub of: u64,
 }
 
 /// What each instant of a direction's life was, without overlap and without a rest.
@@ -195,7 +208,7 @@ pub struct Cause {
     pub window: i64,
     /// The lesser of the stream's and the connection's credit as the side began to send nothing.
     pub credit: Option<i64>,
-    /// The SETTINGS whose initial window was in force as it began: an index into [`ConnectionSaid::announced`].
+    /// The SETTINGS whose initial window was in force as it began: an index into [`ConnectionSaid::settings`].
     pub setting: Option<u32>,
     pub is_proved: bool,
 }
@@ -219,6 +232,10 @@ pub struct Request {
     pub sides: [Direction; 2],
     pub cause: Cause,
     pub is_hung: bool,
+    /// From the begin of its last stall on, where it hung.
+    pub hung_nanos: Nanos,
+    /// Whether what ended it may have been among bytes that were not captured.
+    pub is_end_unseen: bool,
 }
 
 /// Whether the server opened a stream, by a promise: those of the client are odd (RFC 9113, 5.1.1).
@@ -259,6 +276,12 @@ pub struct FaultSaid {
     /// The packets that set the window that it is about.
     pub set_by: Vec<At>,
     pub set_text: String,
+}
+
+impl FaultSaid {
+    pub fn is_doubtful(&self) -> bool {
+        self.certainty != Certainty::Certain
+    }
 }
 
 /// What a peer said at the end: GOAWAY, or a reset of a stream with an error.
@@ -312,7 +335,7 @@ pub struct ConnectionSaid {
     pub server: String,
     pub opened: At,
     pub outcome: Outcome,
-    /// Why it was refused.
+    /// Why it was not audited, where that is known more closely.
     pub reason: String,
     /// Version and suite of TLS, and more, as the map of an import says it.
     pub tls: String,
@@ -322,13 +345,13 @@ pub struct ConnectionSaid {
     pub round_trip: RoundTrip,
     pub captured_at: Option<Place>,
     pub limits: Vec<String>,
-    /// Those that are told; and all, for [`Cause::setting`].
+    /// Those of the first SETTINGS.
     pub settings: Vec<SettingSaid>,
-    pub announced: Vec<SettingSaid>,
     pub faults: Vec<FaultSaid>,
     /// In the order in which they began.
     pub stalls: Vec<StallSaid>,
     pub leaks: Vec<Leak>,
+    pub holders: Vec<Holder>,
     /// The most credit of the connection's windows from before the first content on, by the side that sends.
     pub connection_windows: [i64; 2],
     /// In the order of their openings.
@@ -341,6 +364,8 @@ pub struct ConnectionSaid {
     pub stopped_at: Option<At>,
     /// The offset from which on bytes of a side are missing.
     pub gaps: Vec<(Side, u64)>,
+    /// Bytes of each side that the other one acknowledged, and that were not captured.
+    pub uncaptured: [Uncaptured; 2],
     pub flows: Vec<Flow>,
     /// Where charts are asked for.
     pub charts: ChartsSaid,
@@ -378,6 +403,8 @@ pub struct Answer {
     pub warnings: Vec<Warning>,
     pub not_audited: Vec<NotAudited>,
     pub connections: Vec<ConnectionSaid>,
+    /// Files that end within a packet, and the number of that packet in each.
+    pub cuts: Vec<(usize, u64)>,
 }
 
 impl Answer {

@@ -5,8 +5,8 @@ use std::fs::File;
 use std::path::Path;
 
 use import::{Courses, Sink, Summary};
-use originals::{Keeping, LastPackets};
-use programs::{program_named, temporary_failure, Failure, Output, PrivateFile};
+use originals::Keeping;
+use programs::{program_named, temporary_failure, Failure, PrivateFile};
 
 use crate::answer::{Answer, Files};
 use crate::audit::{broken, Audit};
@@ -14,7 +14,7 @@ use crate::doubts::{doubts_of, not_audited};
 use crate::learning::{Known, Learned, Learning};
 use crate::listening::Listening;
 use crate::made::{each_record, Notes};
-use crate::reported::{audited, of_original, read_report, Reported};
+use crate::reported::{audited, of_original, read_report, ReportTo, Reported};
 use crate::telling::tell;
 
 /// What is asked.
@@ -24,6 +24,8 @@ pub struct Asked<'a> {
     /// In the order in which they are read; standard input where there is none.
     pub files: &'a [OsString],
     pub key_logs: &'a [OsString],
+    /// Whether packets are put in order of time.
+    pub is_reordered: bool,
     /// The program that audits, where it is named, and its options.
     pub h2audit: Option<OsString>,
     pub options: &'a [String],
@@ -51,6 +53,8 @@ pub struct Made {
     /// Those numbers in the order of the report.
     pub order: Vec<usize>,
     pub files: Files,
+    /// Files that end within a packet, and the number of that packet in each.
+    pub cuts: Vec<(usize, u64)>,
     pub addresses: import::Addresses,
 }
 
@@ -63,14 +67,21 @@ pub fn answer_of(asked: &Asked<'_>) -> Result<Answer, Failure> {
     }
 }
 
-/// The same; and writes the report of the original, as h2audit-any does.
-pub fn answer_with_report(asked: &Asked<'_>, output: &mut Output) -> Result<(Answer, Reported), Failure> {
+/// The same; and writes the report of the original.
+pub fn answer_with_report(asked: &Asked<'_>, to: ReportTo<'_>) -> Result<(Answer, Reported), Failure> {
     let (made, keeping) = make(asked, Some(Keeping::default()))?;
-    let last_packets = LastPackets::of(&made.summary, &made.courses);
-    let mut report = tempfile::tempfile().map_err(|error| temporary_failure(&error))?;
-    let answer = answer_by_audit(asked, made, Some(&mut report))?;
+    let (answer, report) = match asked.report {
+        Some(path) => {
+            let report = File::open(path).map_err(|error| Failure::of_file(path, &error))?;
+            (answer_by(asked, made, read_report(path)?)?, report)
+        }
+        None => {
+            let mut report = tempfile::tempfile().map_err(|error| temporary_failure(&error))?;
+            (answer_by_audit(asked, made, Some(&mut report))?, report)
+        }
+    };
     let mut original = keeping.unwrap_or_default().original;
-    Ok((answer, of_original(report, &mut original, &last_packets, output)?))
+    Ok((answer, of_original(report, &mut original, to)?))
 }
 
 fn answer_by_audit(asked: &Asked<'_>, mut made: Made, copy: Option<&mut File>) -> Result<Answer, Failure> {
@@ -84,8 +95,8 @@ fn answer_by_audit(asked: &Asked<'_>, mut made: Made, copy: Option<&mut File>) -
 
 fn answer_by(asked: &Asked<'_>, mut made: Made, audits: Vec<Audit>) -> Result<Answer, Failure> {
     let files = std::mem::take(&mut made.files);
-    let counts = made.summary.counts;
-    let mut answer = Answer { files, packets: counts.records, counts, ..Answer::default() };
+    let (cuts, counts) = (std::mem::take(&mut made.cuts), made.summary.counts);
+    let mut answer = Answer { files, packets: counts.records, counts, cuts, ..Answer::default() };
     tell(asked, &mut made, audits, &mut answer)?;
     answer.not_audited = not_audited(&answer, &made.summary);
     answer.warnings = doubts_of(&answer, &made.summary, &made.courses);
@@ -97,14 +108,22 @@ fn make(asked: &Asked<'_>, keeping: Option<Keeping>) -> Result<(Made, Option<Kee
     let mut listening = Listening { learning: Learning::new()?, keeping };
     let mut courses = Courses::default();
     let mut sink = Sink::new(&mut capture, &mut listening)?;
-    let import =
-        import::Asked { program: asked.program, files: asked.files, key_logs: asked.key_logs, can_repeat: true };
+    let Asked { program, files, key_logs, is_reordered, .. } = *asked;
+    let import = import::Asked { program, files, key_logs, is_reordered, can_repeat: true };
     let summary = import::imported(&import, &mut sink, Some(&mut courses))?;
     drop(sink);
-    let Learning { connections, order, files, addresses, mut notes, .. } = listening.learning;
+    if summary.counts.fragments + summary.counts.refused > 0 {
+        // What was passed over may have the bytes that seem not to be captured.
+        courses
+            .connections
+            .iter_mut()
+            .flat_map(|one| &mut one.sides)
+            .for_each(|side| side.uncaptured = Default::default());
+    }
+    let Learning { connections, order, files, addresses, mut notes, cuts, .. } = listening.learning;
     let learned = learned_anew(connections, &mut capture, &mut notes)?;
     let known = learned.into_iter().map(|one| one.map(|one| Box::new(one.known()))).collect();
-    Ok((Made { capture, notes, summary, courses, known, order, files, addresses }, listening.keeping))
+    Ok((Made { capture, notes, summary, courses, known, order, files, cuts, addresses }, listening.keeping))
 }
 
 /// Reads connections once more whose server sent bytes before its initial sequence number was known.

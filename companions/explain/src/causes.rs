@@ -3,7 +3,7 @@
 
 use import::Why;
 
-use crate::answer::{Cause, CauseKind, CauseWhy, How, Nanos, Place, Request, Share, StallWhy};
+use crate::answer::{Cause, CauseKind, CauseWhy, Nanos, Place, Request, Share, StallWhy};
 use crate::seen::Seen;
 use crate::side_of;
 use crate::stream::{Direction, Stream};
@@ -209,24 +209,5 @@ impl Held<'_> {
             credit: idle.credit,
             ..self.application(side, CauseWhy::Between, end - begin)
         })
-    }
-
-    /// Whether a window that held it back had no more grant, up to the end of the request.
-    pub fn is_hung(&self, cause: &Cause) -> bool {
-        let stream = match cause.kind {
-            CauseKind::StreamWindow => self.request.stream,
-            CauseKind::ConnectionWindow => 0,
-            _ => return false,
-        };
-        let side = cause.side as usize;
-        let last = self.seen.windows.get(&(side, stream)).and_then(|window| window.stalls.last());
-        match (last, self.request.sides[side].end) {
-            (Some(last), Some(end))
-                if self.request.ended.how != How::EndStream && self.seen.about.unseen >= end.time =>
-            {
-                last.end.is_none() && last.until <= end.time
-            }
-            _ => false,
-        }
     }
 }

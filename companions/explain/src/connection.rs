@@ -18,7 +18,7 @@ use crate::learning::Known;
 use crate::made::Record;
 use crate::requests::Packed;
 use crate::rounds::round_trip_of;
-use crate::seen::{end_of, in_force, About, Refusal, Seen, WindowStalls};
+use crate::seen::{end_of, About, Goaways, Seen, WindowStalls};
 use crate::side_of;
 use crate::stalls::may_be_leaks;
 use crate::stream::Stream;
@@ -82,6 +82,7 @@ impl Connection {
             leaks: leaks_of(&findings.stalls),
             findings,
             unanswered: Unanswered::new(known.unanswered.clone(), known.acknowledged),
+            bursts: Default::default(),
             unshown,
             uses_window: [false; 2],
             overflow: None,
@@ -155,7 +156,7 @@ impl Connection {
             if let Some((number, times)) = cutter.cut_frame() {
                 let Walk { table, about, signals, .. } = &mut self.walk;
                 table.touch(number, |stream| {
-                    let end = end_of(stream, side, &signals.refusing, &about.tcp);
+                    let end = end_of(stream, side, (&signals.refusing, signals.error()), &about.tcp);
                     let until = end.at.map_or(stream.opened.time, |at| at.time);
                     let holding = about.holding(side, number);
                     let one = &mut stream.sides[side];
@@ -180,8 +181,9 @@ fn stop_of(audit: &Audit) -> Result<Option<Nanos>, Failure> {
 }
 
 fn about(known: &Known, audit: &Audit, course: &mut import::Course, stop: Option<Nanos>) -> About {
-    let gaps = known.gaps.iter().flatten().map(|gap| gap.nanos);
-    let unseen = gaps.chain(stop).min().unwrap_or(Nanos::MAX);
+    let lost = known.gaps.iter().flatten().map(|gap| gap.nanos).min().unwrap_or(Nanos::MAX);
+    let unseen = lost.min(stop.unwrap_or(Nanos::MAX));
+    let is_uncaptured = course.sides.iter().any(|side| side.uncaptured.bytes > 0);
     let round_trip = round_trip_of(handshake_of(course), known.quickest);
     let tcp = Tcp::new(course, known.last);
     let pause = round_trip.pause();
@@ -195,6 +197,8 @@ fn about(known: &Known, audit: &Audit, course: &mut import::Course, stop: Option
         captured_at: round_trip.place(),
         round_trip,
         unseen,
+        lost,
+        is_uncaptured,
         courses,
         stalls: About::stalls_of(&audit.stalls, unseen),
         tcp,
@@ -228,11 +232,11 @@ type CutFrames<'a> = [Option<(u32, &'a [Nanos])>; 2];
 
 fn ended(walk: Walk, cuts: CutFrames<'_>, said: &mut ConnectionSaid) -> (Packed, Seen) {
     let Walk { about, known, table, initials, windows, settings, blocks, signals, findings, leaks, .. } = walk;
-    let Walk { unanswered, unshown, mut uses_window, stop, charts, .. } = walk;
+    let Walk { unanswered, bursts, unshown, mut uses_window, stop, charts, .. } = walk;
     let packed = table.end(|stream| {
         stream.sides.iter_mut().zip(&initials).for_each(|(one, initial)| one.window.look(initial));
         if known.back.is_some() {
-            finish_kept(stream, &about, &signals.refusing, &cuts);
+            finish_kept(stream, &about, (&signals.refusing, signals.error()), &cuts);
         }
         stream.note_content(&mut uses_window);
     });
@@ -241,19 +245,20 @@ fn ended(walk: Walk, cuts: CutFrames<'_>, said: &mut ConnectionSaid) -> (Packed,
     said.until = about.tcp.last.time.max(said.begin);
     said.charts = charts.map(|charts| charts.end((said.begin, said.until), said.frames)).unwrap_or_default();
     said.limits = limits_of(&about.round_trip, about.captured_at, uses_window);
-    said.notes = unanswered.said();
+    let has_overflow = findings.said.iter().any(|fault| fault.finding.kind.name() == "setting-overflow");
+    said.notes.extend(unanswered.said(has_overflow));
+    said.notes.extend(bursts.said());
     said.notes.extend(blocks.iter().zip(["requests", "answers"]).filter_map(|(blocks, whose)| blocks.unknown(whose)));
     said.stopped_at = stop;
     said.closing = about.tcp.closing(about.opened.time);
     said.ended = signals.error().unwrap_or(said.closing);
     said.connection_windows = windows.map(|window| window.largest.unwrap_or(0).max(FIRST_CREDIT));
     said.faults = findings.said;
-    let refusing = signals.refusing;
+    let (refusing, error) = (signals.refusing, signals.error());
     said.signals = signals.said();
     stalls_and_leaks(said, findings.stalls, leaks);
-    let (announced, told) = settings.said();
-    said.settings = announced.get(..told).unwrap_or_default().to_vec();
-    said.announced = announced;
+    let (told, changes) = settings.said();
+    said.settings = told;
     let unshown = unshown.map(|one| {
         let found = one.map(|one| one.1).filter(|found| !found.is_empty())?;
         Some(Box::new(Stretches::new(found.into_iter().map(|(begin, end)| (begin, end, ())).collect())))
@@ -261,15 +266,17 @@ fn ended(walk: Walk, cuts: CutFrames<'_>, said: &mut ConnectionSaid) -> (Packed,
     let seen = Seen {
         windows: WindowStalls::by_window(&said.stalls),
         refusing,
+        error,
         connection_windows: said.connection_windows,
         unshown,
-        in_force: in_force(&said.announced),
+        changes,
         about,
     };
     (packed, seen)
 }
 
 fn stalls_and_leaks(said: &mut ConnectionSaid, mut stalls: Vec<StallSaid>, leaks: [Option<Box<Leaks>>; 2]) {
+    said.holders = leaks.iter().flatten().flat_map(|leaks| leaks.holders.iter().copied()).collect();
     for (stall, leak) in leaks.into_iter().flatten().flat_map(|leaks| leaks.found) {
         if let Some(stall) = stalls.get_mut(stall) {
             stall.why = StallWhy::CancelledStreams;
@@ -282,9 +289,9 @@ fn stalls_and_leaks(said: &mut ConnectionSaid, mut stalls: Vec<StallSaid>, leaks
 }
 
 /// Divides the life of a stream whose times go back.
-fn finish_kept(stream: &mut Stream, about: &About, refusing: &[Option<Refusal>; 2], cuts: &CutFrames<'_>) {
+fn finish_kept(stream: &mut Stream, about: &About, goaways: Goaways<'_>, cuts: &CutFrames<'_>) {
     for (side, cut) in cuts.iter().enumerate() {
-        let end = end_of(stream, side, refusing, &about.tcp);
+        let end = end_of(stream, side, goaways, &about.tcp);
         let until = end.at.map_or(stream.opened.time, |at| at.time);
         let (opened, holding) = (stream.opened.time, about.holding(side, stream.number));
         let cut = cut.filter(|cut| cut.0 == stream.number).map(|cut| cut.1);

@@ -206,19 +206,26 @@ fn what_cannot_be_read_opens_no_stream() {
 
 #[test]
 fn promises_and_refusals() {
+    promised_and_refused(0, How::Fin);
+    promised_and_refused(2, How::GoAway);
+}
+
+/// A GOAWAY with this code, and what ends a stream that is not above its last one.
+fn promised_and_refused(code: u8, end: How) {
     let mut talk = Talk::new();
     talk.say(CLIENT, 20, &[headers(1, flag::END_STREAM, GET), headers(3, 0, GET)]);
     let promise = [&[0, 0, 0, 2][..], GET].concat();
     talk.say(SERVER, 30, &[frame(kind::PUSH_PROMISE, flag::END_HEADERS, 1, &promise)]);
-    talk.say(SERVER, 40, &[headers(2, flag::END_STREAM, OK), frame(kind::GOAWAY, 0, 0, &[0, 0, 0, 1, 0, 0, 0, 2])]);
+    talk.say(SERVER, 40, &[headers(2, flag::END_STREAM, OK), frame(kind::GOAWAY, 0, 0, &[0, 0, 0, 1, 0, 0, 0, code])]);
     let said = talk.told(&[]).expect("an answer");
     let requests: Vec<Request> = said.requests.iter().collect();
     let pushed = &requests[2];
     assert_eq!((pushed.stream, pushed.promised_on, pushed.name.as_deref()), (2, 1, Some("GET /a")));
     assert_eq!((pushed.sides[CLIENT].nanos, pushed.sides[SERVER].nanos), (0, 10 * MS));
     let ends: Vec<How> = requests.iter().map(|request| request.ended.how).collect();
-    assert_eq!(ends, [How::Fin, How::GoAway, How::EndStream]);
-    assert_eq!((said.ended.how, said.ended.code, said.closing.how), (How::GoAway, Some(2), How::Fin));
+    assert_eq!(ends, [end, How::GoAway, How::EndStream]);
+    let error = Some(u32::from(code)).filter(|code| *code > 0);
+    assert_eq!((said.ended.how, said.ended.code, said.closing.how), (end, error, How::Fin));
 }
 
 const STALL: [&str; 2] = [

@@ -3,14 +3,17 @@
 
 use std::collections::BTreeMap;
 
-use import::{Courses, Older, Summary};
+use import::{help_for, Courses, Older, Summary, Uncaptured};
 use reports::grouped;
 
-use crate::answer::{Answer, Files, NotAudited, Outcome, Place, RoundTrip, Warning};
+use crate::answer::{Answer, Files, NotAudited, Place, RoundTrip, Warning};
+use crate::passed::passed_over;
 use crate::rounds::NEAR;
 use crate::side_of;
 use crate::tcp::at_of;
 use crate::words::{count, reason_words, time_of};
+
+const ONE_DIRECTION: &str = "one-direction";
 
 /// What the capture holds beside what was audited, by reasons.
 pub fn not_audited(answer: &Answer, summary: &Summary) -> Vec<NotAudited> {
@@ -21,18 +24,16 @@ pub fn not_audited(answer: &Answer, summary: &Summary) -> Vec<NotAudited> {
     }
     let mut said: Vec<NotAudited> = Vec::new();
     let mut say = |reason: &str, count: u64, text: String| said.push(NotAudited { reason: reason.into(), count, text });
+    let one_way = summary.unopened.iter().filter(|pair| pair.is_one_way).count() as u64;
+    if one_way > 0 {
+        *reasons.entry(ONE_DIRECTION).or_default() += one_way;
+    }
     reasons.iter().for_each(|(why, number)| say(why, *number, reason_words(why, *number)));
-    let unopened = summary.unopened.len() as u64;
+    let unopened = summary.unopened.len() as u64 - one_way;
     if unopened > 0 {
         say("unopened", unopened, count(unopened, "connection") + " that began before the capture");
     }
-    let counts = &summary.counts;
-    let passed = [
-        ("not-ipv4", counts.not_ipv4, "neither IPv4 nor IPv6"),
-        ("fragments", counts.fragments, "IP fragments"),
-        ("refused", counts.refused, "with damaged or cut headers"),
-    ];
-    for (name, number, words) in passed.into_iter().filter(|one| one.1 > 0) {
+    for (name, number, words) in passed_over(summary, answer.audited().next().is_none()) {
         say(name, number, format!("{} {words}", count(number, "packet")));
     }
     said
@@ -51,8 +52,10 @@ pub fn doubts_of(answer: &Answer, summary: &Summary, courses: &Courses) -> Vec<W
             format!("nothing was audited: {packets}, and no HTTP/2 connection that could be read from its beginning");
         said.push(warning("nothing-audited", text));
     }
+    said.extend(cut(answer));
     said.extend(doubled(courses));
-    said.extend(one_direction(answer));
+    said.extend(one_direction(answer, summary));
+    said.extend(dropped(answer));
     for one in &answer.connections {
         for (side, offset) in &one.gaps {
             let offset = grouped(*offset);
@@ -76,8 +79,9 @@ fn clocks(files: &Files, summary: &Summary) -> Vec<Warning> {
         Some(back) => back,
         None => return said,
     };
+    let left = summary.reordered.map(|reordered| reordered.left);
     for one in &back.first {
-        let one = clock(files, one, back.packets);
+        let one = clock(files, one, back.packets, left);
         if !said.iter().any(|before| before.kind == one.kind) {
             said.push(one);
         }
@@ -85,7 +89,7 @@ fn clocks(files: &Files, summary: &Summary) -> Vec<Warning> {
     said
 }
 
-fn clock(files: &Files, one: &Older, packets: u64) -> Warning {
+fn clock(files: &Files, one: &Older, packets: u64, left: Option<u64>) -> Warning {
     let nanos = time_of(i64::try_from(one.nanos).unwrap_or(i64::MAX));
     let (file, packet) = files.place(one.arrival.packet);
     let at = Some(at_of(one.arrival));
@@ -101,22 +105,52 @@ fn clock(files: &Files, one: &Older, packets: u64) -> Warning {
         0 | 1 => String::new(),
         _ => format!(", and in {} other places", grouped(packets - 1)),
     };
+    let help = match left {
+        Some(left) => format!("{} too late for --reorder: reordercap", count(left, "packet")),
+        None => help_for(one.nanos).to_string(),
+    };
     let text = format!(
-        "times go back at packet {packet} by {nanos}{many}: what is said of order and of durations may be wrong (reordercap)"
+        "times go back at packet {packet} by {nanos}{many}: what is said of order and of durations may be wrong ({help})"
     );
     Warning { at, ..warning("times-go-back", text) }
 }
 
-fn one_direction(answer: &Answer) -> Option<Warning> {
-    let is_one = |one: &&crate::answer::ConnectionSaid| {
-        one.outcome == Outcome::NoHandshake || one.reason == Outcome::NoHandshake.name()
+/// Files that end within a packet, as where their writer still wrote or was ended.
+fn cut(answer: &Answer) -> impl Iterator<Item = Warning> + '_ {
+    answer.cuts.iter().map(|(file, packet)| {
+        let name = answer.files.name(*file);
+        let text = format!("{name} ends within packet {packet}: what followed is not in it");
+        warning("cut", text)
+    })
+}
+
+fn one_direction(answer: &Answer, summary: &Summary) -> Option<Warning> {
+    let some: Vec<_> = answer.connections.iter().filter(|one| one.reason == ONE_DIRECTION).collect();
+    let unopened: Vec<_> = summary.unopened.iter().filter(|pair| pair.is_one_way).collect();
+    let connections = match some.len() + unopened.len() {
+        0 => return None,
+        number => count(number as u64, "connection"),
     };
-    let some: Vec<_> = answer.connections.iter().filter(is_one).collect();
-    let first = some.first()?;
-    let connections = count(some.len() as u64, "connection");
     let text =
         format!("one direction alone was captured of {connections}: capture on one of the two hosts, or on both paths");
-    Some(Warning { connection: Some(first.number), at: Some(first.opened), ..warning("one-direction", text) })
+    let at = some.first().map(|one| one.opened).or_else(|| unopened.first().map(|pair| at_of(pair.first)));
+    Some(Warning { connection: some.first().map(|one| one.number), at, ..warning("one-direction", text) })
+}
+
+/// Packets that were dropped while they were captured: their receiver had them.
+fn dropped(answer: &Answer) -> Option<Warning> {
+    let of_sides = |sides: &[Uncaptured; 2]| sides[0].bytes + sides[1].bytes;
+    let some: Vec<_> = answer.connections.iter().filter(|one| of_sides(&one.uncaptured) > 0).collect();
+    let first = some.first()?;
+    let sum =
+        |number: fn(&Uncaptured) -> u64| grouped(some.iter().flat_map(|one| &one.uncaptured).map(number).sum::<u64>());
+    let (bytes, packets, connections) =
+        (sum(|one| one.bytes), sum(|one| one.packets), count(some.len() as u64, "connection"));
+    let text = format!(
+        "{bytes} bytes of {connections} were acknowledged and never captured: {packets} packets or more were dropped while \
+         they were captured (tcpdump -B)"
+    );
+    Some(Warning { connection: Some(first.number), at: Some(first.opened), ..warning("dropped", text) })
 }
 
 /// Connections of which most segments came twice, as where a bridge and its port are both captured.

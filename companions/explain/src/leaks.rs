@@ -1,8 +1,8 @@
-//! Whether cancelled streams used a connection's credit that was never given back (docs/WHY.md, 4).
+//! Who used a connection's credit that was not given back: cancelled streams, or one that goes on (docs/WHY.md, 4).
 
 use std::collections::HashMap;
 
-use crate::answer::Leak;
+use crate::answer::{Holder, Leak};
 use crate::stream::Stream;
 use crate::table::Table;
 use crate::windows::FIRST_CREDIT;
@@ -29,6 +29,7 @@ pub struct Leaks {
     first_granted: Option<u64>,
     going_on: Option<GoingOn>,
     pub found: Vec<(usize, Leak)>,
+    pub holders: Vec<Holder>,
 }
 
 /// A stall that has begun: what cancelled streams used, and what the others did.
@@ -101,6 +102,8 @@ impl Leaks {
 
     fn begin(&mut self, candidate: Candidate, table: &Table) {
         let side = self.side;
+        let capacity = self.capacity();
+        let mut most = Unread::default();
         let mut one = GoingOn {
             candidate,
             streams: self.cancelled.clone(),
@@ -115,9 +118,19 @@ impl Leaks {
                 let unread = if sent.end.is_some() { 0 } else { sent.content.saturating_sub(sent.granted) };
                 one.live.insert(stream.number, (sent.content, unread));
                 one.unread = one.unread.saturating_add(unread);
+                most.add(stream.number, unread);
             }
         });
+        // What is more than the window holds was granted on the connection, and not on the streams.
+        let is_holder = one.unread <= capacity && 2 * most.bytes >= capacity && capacity > 0;
+        let Unread { stream, bytes } = most;
+        self.holders.extend(is_holder.then(|| Holder { begin: candidate.begin, side, stream, bytes, of: capacity }));
         self.going_on = Some(one);
+    }
+
+    /// What the window held as the first content came.
+    fn capacity(&self) -> u64 {
+        FIRST_CREDIT as u64 + self.first_granted.unwrap_or(self.granted)
     }
 
     /// The stall ends, or the connection does.
@@ -127,7 +140,7 @@ impl Leaks {
             None => return,
         };
         let before = self.first_granted.unwrap_or(self.granted);
-        let capacity = i128::from(FIRST_CREDIT) + i128::from(before);
+        let capacity = i128::from(self.capacity());
         let held = i128::from(one.used).min(capacity - i128::from(one.unread));
         // Cancelled streams hold half of the connection's window, at least.
         if one.used > 0 && 2 * held >= capacity {
@@ -140,6 +153,21 @@ impl Leaks {
                 granted: one.granted.saturating_sub(before),
             };
             self.found.push((one.candidate.stall, leak));
+        }
+    }
+}
+
+/// The stream with most content that was not granted again on it, the first of several.
+#[derive(Default)]
+struct Unread {
+    stream: u32,
+    bytes: u64,
+}
+
+impl Unread {
+    fn add(&mut self, stream: u32, bytes: u64) {
+        if (bytes, std::cmp::Reverse(stream)) > (self.bytes, std::cmp::Reverse(self.stream)) {
+            *self = Unread { stream, bytes };
         }
     }
 }
@@ -194,6 +222,23 @@ mod tests {
         one.after(30, &live);
         let (stall, leak) = &one.found[0];
         assert_eq!((*stall, &leak.streams[..], leak.used, leak.granted), (7, &[1, 3][..], 50_000, 1000));
+    }
+
+    #[test]
+    fn the_stream_that_holds_half() {
+        let holder = |streams: &[Stream]| {
+            let mut one = leaks(None);
+            one.content(None, 1);
+            one.after(20, &table(streams));
+            one.holders.first().map(|found| (found.begin, found.stream, found.bytes, found.of))
+        };
+        assert_eq!(holder(&[stream(1, 40_000, 7_232), stream(3, 20_000, 0)]), Some((20, 1, 32_768, 65_535)));
+        assert_eq!(holder(&[stream(1, 40_000, 7_233), stream(3, 20_000, 0)]), None, "less than half");
+        assert_eq!(holder(&[stream(1, 60_000, 0), stream(3, 5_536, 0)]), None, "more than the window holds");
+        assert_eq!(holder(&[stream(1, 60_000, 0), stream(3, 5_535, 0)]), Some((20, 1, 60_000, 65_535)));
+        let mut cancelled = stream(1, 60_000, 0);
+        cancelled.reset(Reset { side: 0, at: At { packet: 0, time: 0, frame: 15 }, code: 8 });
+        assert_eq!(holder(&[cancelled, stream(3, 0, 0)]), None);
     }
 
     #[test]

@@ -13,6 +13,7 @@ use crate::answer::{At, Files, Nanos};
 use crate::cutter::{flag, kind, Cut, Cutter, Head};
 use crate::made::Notes;
 use crate::names::text_of;
+use crate::spoken::Spoken;
 
 /// So many PINGs without an answer are remembered.
 const MOST_PINGS: usize = 1 << 16;
@@ -43,6 +44,8 @@ pub struct Known {
     /// How many SETTINGS of each side were acknowledged, and the frames of the first that were not.
     pub acknowledged: [u32; 2],
     pub unanswered: Vec<u32>,
+    /// What each side says first, and the packet of it.
+    pub spoken: [(Spoken, u64); 2],
 }
 
 /// What is learned of a connection.
@@ -65,6 +68,7 @@ struct Side {
     flow: Flow,
     cutter: Cutter,
     arrival: u64,
+    spoken: (Spoken, u64),
 }
 
 /// Answers to SETTINGS and PING.
@@ -88,7 +92,12 @@ fn wants(head: &Head) -> usize {
 
 impl Learned {
     pub fn new(record: u64, opened: At, sequence: u32) -> Learned {
-        let side = |is_client| Side { flow: Flow::default(), cutter: Cutter::new(is_client, wants), arrival: 0 };
+        let side = |is_client| Side {
+            flow: Flow::default(),
+            cutter: Cutter::new(is_client, wants),
+            arrival: 0,
+            spoken: Default::default(),
+        };
         Learned {
             record,
             opened,
@@ -145,6 +154,9 @@ impl Learned {
             return;
         }
         one.arrival = number;
+        if one.spoken.0 == Spoken::Nothing {
+            one.spoken = (Spoken::by(&data), at.packet);
+        }
         one.cutter.take(&data, at.time, |cut| {
             *frames += 1;
             answers.take(side, *frames, cut, at.time);
@@ -168,6 +180,7 @@ impl Learned {
             quickest: self.answers.quickest,
             acknowledged: self.answers.acknowledged,
             unanswered: self.answers.unanswered(),
+            spoken: [0, 1].map(|side| self.sides[side].spoken),
         }
     }
 }
@@ -228,6 +241,8 @@ pub struct Learning {
     pub files: Files,
     pub addresses: Addresses,
     pub notes: Notes,
+    /// The files that end within a packet, each with the number of that one in it.
+    pub cuts: Vec<(usize, u64)>,
     failure: Option<Failure>,
 }
 
@@ -239,6 +254,7 @@ impl Learning {
             files: Files::default(),
             addresses: Addresses::default(),
             notes: Notes::new()?,
+            cuts: Vec::new(),
             failure: None,
         })
     }
@@ -280,7 +296,12 @@ impl Listener for Learning {
         }
     }
 
-    fn passed(&mut self, _packet: u64, _why: &str) {}
+    fn passed(&mut self, packet: u64, why: &str) {
+        if why == "cut" {
+            let before = self.files.starts.last().copied().unwrap_or(0);
+            self.cuts.push((self.files.names.len(), packet - before));
+        }
+    }
 
     fn finish(&mut self, _summary: &Summary) {}
 
@@ -289,6 +310,7 @@ impl Listener for Learning {
         self.order.clear();
         self.files = Files::default();
         self.addresses = Addresses::default();
+        self.cuts.clear();
         self.notes.begin_anew().map_err(|error| temporary_failure(&error))
     }
 

@@ -12,6 +12,7 @@ pub mod answer;
 mod audit;
 mod blocks;
 mod building;
+mod bursts;
 mod causes;
 mod certainty;
 mod charts;
@@ -24,6 +25,7 @@ mod doubts;
 mod files;
 mod findings;
 pub mod frames;
+mod hung;
 pub mod intervals;
 mod leaks;
 mod learning;
@@ -34,6 +36,7 @@ mod listening;
 mod made;
 mod names;
 mod packed;
+mod passed;
 mod report_charts;
 mod reported;
 mod requests;
@@ -42,6 +45,7 @@ mod seen;
 pub mod series;
 mod settings;
 mod signals;
+mod spoken;
 mod stalls;
 mod stream;
 mod table;
@@ -55,9 +59,8 @@ pub mod words;
 
 pub use building::{answer_of, answer_with_report, Asked};
 pub use import::{CLIENT, SERVER};
-pub use originals::write_last_packets;
 pub use report_charts::{read_charts, ReportSaid, Reported as ReportedConnection};
-pub use reported::Reported;
+pub use reported::{ReportTo, Reported};
 
 /// The side of this number.
 pub(crate) fn side_of(number: usize) -> Side {

@@ -150,11 +150,14 @@ fn told(mut stream: Stream, seen: &Seen, texts: Option<&Texts>) -> Request {
         sides,
         cause: no_cause(),
         is_hung: false,
+        hung_nanos: 0,
+        is_end_unseen: seen.is_end_unseen(&ended, until),
     };
     let held = Held { seen, stream: &stream, request: &request };
     let cause = held.cause();
-    let is_hung = held.is_hung(&cause);
-    (request.cause, request.is_hung) = (cause, is_hung);
+    let hung = held.hung(&cause);
+    request.is_hung = hung.is_some();
+    (request.cause, request.hung_nanos) = hung.unwrap_or((cause, 0));
     request
 }
 

@@ -3,10 +3,11 @@
 
 use std::collections::HashMap;
 
-use crate::answer::{is_pushed, At, Ended, How, Nanos, Place, RoundTrip, SettingSaid, StallSaid, StallWhy};
+use crate::answer::{is_pushed, At, Ended, How, Nanos, Place, RoundTrip, StallSaid, StallWhy};
 use crate::course::Course;
 use crate::intervals::{disjoint, Interval, Stretches};
 use crate::life::Holding;
+use crate::settings::Changes;
 use crate::side_of;
 use crate::stream::{Direction, Stream};
 use crate::tcp::Tcp;
@@ -21,8 +22,11 @@ pub struct About {
     pub tcp: Tcp,
     pub round_trip: RoundTrip,
     pub captured_at: Option<Place>,
-    /// The time from which something of it was not seen, or not judged.
+    /// The time from which something of it was not seen, or not judged; and from which bytes are missing.
     pub unseen: Nanos,
+    pub lost: Nanos,
+    /// Whether a side acknowledged bytes of the other one that were not captured.
+    pub is_uncaptured: bool,
     pub courses: [Course; 2],
     /// How many stalls each stream's window has, and when they were.
     pub stalls: HashMap<Key, (u32, Vec<Interval>)>,
@@ -71,14 +75,15 @@ pub struct WindowStalls {
 pub struct Seen {
     pub about: About,
     pub windows: HashMap<Key, WindowStalls>,
-    /// Of each side the GOAWAY with the lowest last stream.
+    /// Of each side the GOAWAY with the lowest last stream; and the first one with an error.
     pub refusing: [Option<Refusal>; 2],
+    pub error: Option<Ended>,
     /// The most credit of the connection's windows.
     pub connection_windows: [i64; 2],
     /// Pauses that began with the connection's credit used up, where stalls may not show.
     pub unshown: [Option<Box<Stretches<()>>>; 2],
-    /// By the side that sends: each acknowledgement of an initial window, and which of all that were announced it is.
-    pub in_force: [Vec<(u32, u32)>; 2],
+    /// By the side that sends: when its initial window changed.
+    pub changes: [Changes; 2],
 }
 
 /// Reasons in the order of their names, of which the first counts where several took as long.
@@ -122,38 +127,37 @@ fn rank(why: StallWhy) -> u8 {
 impl Seen {
     /// How a direction ended: by its END_STREAM, a reset of either side, or with the connection.
     pub fn end_of(&self, stream: &Stream, side: usize) -> Ended {
-        end_of(stream, side, &self.refusing, &self.about.tcp)
+        end_of(stream, side, (&self.refusing, self.error), &self.about.tcp)
+    }
+
+    /// Whether the frame that ended a stream may not have been seen.
+    pub fn is_end_unseen(&self, ended: &Ended, until: Nanos) -> bool {
+        let is_shown = matches!(ended.how, How::EndStream | How::RstStream);
+        !is_shown && (self.about.is_uncaptured || self.about.lost <= until)
     }
 
     /// Which SETTINGS made the initial window of a side what it was at a frame.
     pub fn setting(&self, side: usize, frame: u32) -> Option<u32> {
-        let acknowledged = self.in_force[side].partition_point(|one| one.0 <= frame);
-        acknowledged.checked_sub(1).and_then(|at| self.in_force[side].get(at)).map(|one| one.1)
+        let changed = self.changes[side].partition_point(|one| one.0 <= frame);
+        changed.checked_sub(1).and_then(|at| self.changes[side].get(at)).and_then(|one| one.1)
     }
 }
 
-/// The acknowledgements of what the other side announced, by the side that sends.
-pub fn in_force(announced: &[SettingSaid]) -> [Vec<(u32, u32)>; 2] {
-    let mut found = [Vec::new(), Vec::new()];
-    for (at, one) in announced.iter().enumerate() {
-        let acknowledged = one.acknowledged.map(|answer| (answer.frame, at as u32));
-        found[1 - one.side as usize].extend(acknowledged);
-    }
-    found
-}
+/// What ends streams of a connection: refusals of a side, and a GOAWAY with an error.
+pub type Goaways<'a> = (&'a [Option<Refusal>; 2], Option<Ended>);
 
-pub fn end_of(stream: &Stream, side: usize, refusing: &[Option<Refusal>; 2], tcp: &Tcp) -> Ended {
+pub fn end_of(stream: &Stream, side: usize, goaways: Goaways<'_>, tcp: &Tcp) -> Ended {
     let one: &Direction = &stream.sides[side];
     match (one.end, stream.reset) {
         (Some(at), Some(reset)) if one.is_reset => {
             Ended { how: How::RstStream, side: Some(side_of(reset.side)), code: Some(reset.code), at: Some(at) }
         }
         (Some(at), _) => Ended { how: How::EndStream, side: Some(side_of(side)), code: None, at: Some(at) },
-        (None, _) => with_connection(stream, one.last, refusing, tcp),
+        (None, _) => with_connection(stream, one.last, goaways, tcp),
     }
 }
 
-fn with_connection(stream: &Stream, last: Option<At>, refusing: &[Option<Refusal>; 2], tcp: &Tcp) -> Ended {
+fn with_connection(stream: &Stream, last: Option<At>, (refusing, error): Goaways<'_>, tcp: &Tcp) -> Ended {
     let closing = tcp.closing(last.map_or(stream.opened.time, |last| last.time));
     // A GOAWAY says that streams which the other side opened above its last one are not taken up.
     let refuser = usize::from(!is_pushed(stream.number));
@@ -162,8 +166,16 @@ fn with_connection(stream: &Stream, last: Option<At>, refusing: &[Option<Refusal
             let (side, code) = (Some(side_of(one.side)), Some(one.code));
             Ended { how: How::GoAway, side, code, at: latest(Some(one.at), last) }
         }
-        None => Ended { at: latest(closing.at, last), ..closing },
+        // Who sends one with an error closes the connection (RFC 9113, 5.4.1).
+        None => match error.filter(|error| time_of(error) <= time_of(&closing)) {
+            Some(error) => Ended { at: latest(error.at, last), ..error },
+            None => Ended { at: latest(closing.at, last), ..closing },
+        },
     }
+}
+
+fn time_of(ended: &Ended) -> Nanos {
+    ended.at.map_or(Nanos::MAX, |at| at.time)
 }
 
 fn latest(one: Option<At>, other: Option<At>) -> Option<At> {

@@ -15,6 +15,7 @@ use crate::connection::Connection;
 use crate::learning::Known;
 use crate::made::{each_record, Record};
 use crate::names::Interner;
+use crate::spoken::{note_of, reason_of};
 use crate::table::Numbers;
 use crate::tcp::last_of;
 use crate::walk::Asking;
@@ -158,13 +159,17 @@ fn said_at_first(made: &mut Made, audit: Audit, number: usize) -> Result<(Connec
     let (client, server) = made.addresses.endpoints(&outcome.ends);
     let mut said = unsaid(audit.number, client, server, known.opened);
     said.frames = audit.frames().unwrap_or(0);
+    said.uncaptured = [0, 1].map(|side| course.sides[side].uncaptured);
+    let spoken = known.spoken.map(|one| one.0);
     said.until = last_of(course, known.last).time;
     match &outcome.became {
         Became::Refused(why) => {
             said.opened.time = course.syn.nanos;
             said.begin = course.syn.nanos;
             said.outcome = Outcome::Refused;
-            said.reason = why.to_string();
+            let no_handshake = Some(Outcome::NoHandshake).filter(|outcome| why.to_string() == outcome.name());
+            let shown = no_handshake.and_then(|outcome| reason_of(outcome, course, spoken));
+            said.reason = shown.map_or_else(|| why.to_string(), str::to_string);
             said.frames = 0;
             return Ok((said, None));
         }
@@ -182,9 +187,11 @@ fn said_at_first(made: &mut Made, audit: Audit, number: usize) -> Result<(Connec
         Form::NoHandshake => Outcome::NoHandshake,
         Form::Refused(_) => return Err(other()),
     };
+    said.reason = reason_of(said.outcome, course, spoken).unwrap_or_default().to_string();
     if !said.is_audited() {
         return Ok((said, None));
     }
+    said.notes.extend(note_of(known.spoken[import::SERVER]));
     if !known.is_http2 || said.frames != u64::from(known.frames) {
         let (number, frames, here) = (said.number, said.frames, known.frames);
         return Err(broken(&format!("connection {number} has {frames} frames by the report, and {here} here")));
@@ -210,10 +217,10 @@ pub fn unsaid(number: u64, client: String, server: String, opened: At) -> Connec
         captured_at: None,
         limits: Vec::new(),
         settings: Vec::new(),
-        announced: Vec::new(),
         faults: Vec::new(),
         stalls: Vec::new(),
         leaks: Vec::new(),
+        holders: Vec::new(),
         connection_windows: [0; 2],
         requests: Requests::default(),
         signals: Vec::new(),
@@ -222,6 +229,7 @@ pub fn unsaid(number: u64, client: String, server: String, opened: At) -> Connec
         notes: Vec::new(),
         stopped_at: None,
         gaps: Vec::new(),
+        uncaptured: Default::default(),
         flows: Vec::new(),
         charts: ChartsSaid::default(),
         all_frames: None,

@@ -8,6 +8,7 @@ use programs::Failure;
 
 use crate::answer::{is_pushed, At, Nanos, Place};
 use crate::blocks::{answered_of, asked_of, Blocks, Decoded, Names};
+use crate::bursts::Bursts;
 use crate::charts::{Charts, Choice, Left};
 use crate::cutter::{flag, kind, Cut};
 use crate::findings::{Findings, Here};
@@ -61,6 +62,7 @@ pub struct Walk {
     pub findings: Findings,
     pub leaks: [Option<Box<Leaks>>; 2],
     pub unanswered: Unanswered,
+    pub bursts: Bursts,
     /// Where stalls of a side may not show: the connection's credit as it is known there, and pauses without it.
     pub unshown: [Option<(Unshown, Vec<Interval>)>; 2],
     /// Whether a side sent more on a stream than its window held at once.
@@ -277,7 +279,7 @@ impl Walk {
             Some(code) if cut.head.length == 4 => code,
             _ => return,
         };
-        let Walk { table, initials, leaks, signals, unanswered, uses_window, .. } = self;
+        let Walk { table, initials, leaks, signals, unanswered, bursts, uses_window, .. } = self;
         table.touch(cut.head.stream, |stream| {
             if stream.reset.is_some() {
                 return;
@@ -287,7 +289,8 @@ impl Walk {
             stream.reset(reset);
             leaks.iter_mut().flatten().for_each(|leaks| leaks.reset(stream));
             signals.reset(stream, &reset);
-            unanswered.reset(side, at, code, stream);
+            bursts.reset(side, at, code);
+            unanswered.reset(side, at, code, (stream, &initials[side]));
             stream.note_use(uses_window);
         });
     }
@@ -296,6 +299,9 @@ impl Walk {
         let Frame { side, cut, at, is_judged, .. } = frame;
         if cut.head.has(flag::ACK) {
             let initial = if cut.head.length == 0 { self.settings.acknowledged(side, at) } else { None };
+            if cut.head.length == 0 {
+                self.unanswered.acknowledged(side, at);
+            }
             if let Some(initial) = initial.filter(|_| is_judged) {
                 self.initials[side].change(i64::from(initial));
             }

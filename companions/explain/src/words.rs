@@ -21,14 +21,35 @@ const CODES: [&str; 14] = [
     "HTTP_1_1_REQUIRED",
 ];
 const UNITS: [(&str, Nanos); 3] = [("s", 1_000_000_000), ("ms", 1_000_000), ("µs", 1_000)];
-/// Reasons of an import and forms of the report, in words behind "3 connections".
-const REASONS: [(&str, &str); 6] = [
+/// Why connections were not audited, in words behind "3 connections".
+const REASONS: [(&str, &str); 11] = [
     ("no-key", " of TLS without a key in the key logs (-k)"),
     ("wrong-key", " of TLS whose keys in the key logs are those of another run"),
-    ("no-handshake", " of which one direction alone was captured"),
+    ("one-direction", " of which one direction alone was captured"),
+    ("no-syn-ack", " whose SYN ACK was not captured"),
+    ("no-answer", " whose SYN had no answer"),
+    ("refused-port", " that the server refused: an RST answered the SYN"),
+    ("silent", " on which neither side said anything"),
     ("not-http2", " that spoke no HTTP/2, or began by an upgrade"),
+    ("h2c-upgrade", " that began by HTTP/1.1 and asked for an upgrade to HTTP/2"),
     ("no-preface", " whose client sent no whole preface of HTTP/2"),
     ("handshake-unfinished", " of TLS that ended before the handshake did"),
+];
+/// Protocols that are told by the first bytes.
+const PROTOCOLS: [(&str, &str); 13] = [
+    ("http/0.9", "HTML without a status line"),
+    ("http/1.0", "HTTP/1.0"),
+    ("http/1.1", "HTTP/1.1"),
+    ("tls", "TLS"),
+    ("ssh", "SSH"),
+    ("amqp", "AMQP"),
+    ("postgresql", "PostgreSQL"),
+    ("mysql", "MySQL"),
+    ("mqtt", "MQTT"),
+    ("redis", "Redis"),
+    ("imap", "IMAP"),
+    ("pop3", "POP3"),
+    ("smtp-or-ftp", "SMTP or FTP"),
 ];
 
 /// The name of an error code of HTTP/2 (RFC 9113, 7).
@@ -73,10 +94,16 @@ pub fn count(number: u64, one: &str) -> String {
 pub fn reason_words(why: &str, number: u64) -> String {
     let connections = count(number, "connection");
     let first = why.split(' ').next().unwrap_or_default();
-    match REASONS.iter().find(|reason| reason.0 == first) {
-        Some((_, words)) => connections + words,
-        None => format!("{connections} of TLS that could not be read ({why})"),
+    match (REASONS.iter().find(|reason| reason.0 == first), protocol(first)) {
+        (Some((_, words)), _) => connections + words,
+        (None, Some(protocol)) => format!("{connections} that spoke {protocol}"),
+        (None, None) => format!("{connections} of TLS that could not be read ({why})"),
     }
+}
+
+/// What a protocol is called that is no HTTP/2.
+pub fn protocol(name: &str) -> Option<&'static str> {
+    PROTOCOLS.iter().find(|one| one.0 == name).map(|one| one.1)
 }
 
 #[cfg(test)]
@@ -105,6 +132,7 @@ mod tests {
     #[test]
     fn reasons() {
         assert_eq!(reason_words("not-http2", 1), "1 connection that spoke no HTTP/2, or began by an upgrade");
+        assert_eq!(reason_words("http/1.1", 2), "2 connections that spoke HTTP/1.1");
         assert_eq!(reason_words("gap 12", 2), "2 connections of TLS that could not be read (gap 12)");
         assert_eq!((code_name(3), code_name(14)), ("FLOW_CONTROL_ERROR".to_string(), "error 0xe".to_string()));
     }

@@ -47,7 +47,7 @@ enum Verdict {
 
 /// An opening with all segments that belong to it.
 pub struct Connection {
-    pub opening: u64,
+    opening: u64,
     numbers: Numbers,
     mode: Mode,
     preamble: Option<Preamble>,
@@ -252,7 +252,7 @@ impl Connection {
     }
 
     fn go_on_tls(&mut self, shared: &mut Shared, sink: &mut Sink<'_>, held: Vec<Arrived>) {
-        self.mode = Mode::Tls(Box::new(tls::Connection::new(self.opening, shared)));
+        self.mode = Mode::Tls(Box::new(tls::Connection::new(self.number() as u64, shared)));
         for one in held {
             let segment = one.segment.segment();
             if segment.flags & flags::SYN != 0 {
@@ -376,6 +376,9 @@ impl Connection {
             _ => Became::Clear,
         };
         let preamble = self.preamble.filter(|_| !matches!(became, Became::Refused(_)));
-        Outcome { opening: self.opening, ends: self.numbers.ends[CLIENT], became, preamble, fragments: 0 }
+        let (opening, ends) = (self.opening, self.numbers.ends[CLIENT]);
+        // Fragments, and packets behind this one, are the table's to tell.
+        let last = Arrival { packet: opening, nanos: 0 };
+        Outcome { opening, ends, became, preamble, fragments: 0, last }
     }
 }

@@ -53,6 +53,18 @@ pub struct Side {
     /// New bytes, and bytes that were sent again.
     pub bytes: u64,
     pub resent: u64,
+    pub uncaptured: Uncaptured,
+    /// Whether a segment of it acknowledges, behind a handshake.
+    pub acknowledges: bool,
+}
+
+/// Bytes of a side that the other one acknowledged, and that no packet of the capture has. Of a side with a packet that
+/// was not captured whole none are counted.
+#[derive(Clone, Copy, Debug, Default, PartialEq, Eq)]
+pub struct Uncaptured {
+    pub bytes: u64,
+    /// In so many packets at least, none being larger than those that were captured.
+    pub packets: u64,
 }
 
 /// Why TCP held back what a side sends.

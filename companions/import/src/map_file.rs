@@ -9,7 +9,7 @@ use programs::{Failure, Output};
 use crate::addresses::{escaped_path, Addresses};
 use crate::listener::{Files, Listener, Record};
 use crate::others::Kind;
-use crate::outcomes::{Became, Outcome, Read, SideRead, Summary};
+use crate::outcomes::{Became, Outcome, Read, Reordered, SideRead, Summary};
 
 const FIRST_LINE: &str = "h2audit-map 1";
 
@@ -29,11 +29,6 @@ impl<'a> MapFile<'a> {
             MapFile { out, files: Files::default(), addresses: Addresses::default(), failure: None, line: Vec::new() };
         map.line(format_args!("{FIRST_LINE}"));
         map
-    }
-
-    /// The files, and what addresses stand for.
-    pub fn names(&self) -> (&Files, &Addresses) {
-        (&self.files, &self.addresses)
     }
 
     fn line(&mut self, text: std::fmt::Arguments<'_>) {
@@ -63,6 +58,8 @@ impl<'a> MapFile<'a> {
         if outcome.fragments > 0 {
             self.line(format_args!("fragments {}", outcome.fragments));
         }
+        let (file, packet) = self.files.place(outcome.last.packet);
+        self.line(format_args!("last file {file} packet {packet} time {}", outcome.last.nanos));
     }
 
     fn sides(&mut self, read: &Read) {
@@ -115,6 +112,9 @@ impl Listener for MapFile<'_> {
 
     fn finish(&mut self, summary: &Summary) {
         self.line(format_args!("{}", summary.counts.line().trim_end()));
+        if let Some(Reordered { packets, nanos, left }) = summary.reordered {
+            self.line(format_args!("reordered packets {packets} nanos {nanos} left {left}"));
+        }
         if let Some(back) = &summary.back {
             let (file, packet) = self.files.place(back.packet());
             let (packets, nanos) = (back.packets, back.nanos);

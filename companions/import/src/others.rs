@@ -5,6 +5,8 @@ use std::collections::HashMap;
 use captures::PassedOver;
 
 const MOST_NAMED: usize = 8;
+/// What is no tunnel: other uses of a network, and what is named by number alone.
+const NO_TUNNELS: [&str; 9] = ["arp", "lldp", "llc", "icmp", "icmpv6", "udp", "sctp", "quic", "-"];
 const UDP: u8 = 17;
 
 #[derive(Clone, Copy, Debug, PartialEq, Eq, Hash, PartialOrd, Ord)]
@@ -58,6 +60,11 @@ impl Kind {
             _ => "-",
         }
     }
+}
+
+/// Whether packets of this name may hold HTTP/2 that is not read.
+pub fn is_tunnel(name: &str) -> bool {
+    !NO_TUNNELS.contains(&name)
 }
 
 /// Counts them by kind.

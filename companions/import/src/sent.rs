@@ -5,6 +5,8 @@ use std::collections::{BTreeMap, VecDeque};
 
 use captures::{flags, offset_of, Arrival, Segment, END_OF_OFFSETS};
 
+use crate::course::Uncaptured;
+
 /// A packet that was captured twice stands so close to its double.
 const MOST_BETWEEN: usize = 32;
 const CLOSE: i64 = 1_000_000;
@@ -29,6 +31,11 @@ pub struct Sent {
     holes: BTreeMap<u32, u32>,
     /// The last packets, each with its time.
     recent: VecDeque<(i64, Print)>,
+    /// The offset up to which the other side acknowledged, and the longest payload.
+    acknowledged: u32,
+    longest: u32,
+    has_fin: bool,
+    is_snapped: bool,
 }
 
 /// What tells one packet from another.
@@ -53,6 +60,32 @@ impl Sent {
         !self.holes.is_empty()
     }
 
+    /// The other side acknowledges.
+    pub fn acknowledge(&mut self, number: u32) {
+        let offset = self.initial.map_or(u32::MAX, |initial| offset_of(initial, number, 0));
+        if offset < END_OF_OFFSETS {
+            self.acknowledged = self.acknowledged.max(offset);
+        }
+    }
+
+    /// What the other side has, though it was not captured.
+    pub fn uncaptured(&self) -> Uncaptured {
+        let mut found = Uncaptured::default();
+        if self.is_snapped {
+            return found;
+        }
+        // A FIN has a number of its own, also where it was not captured.
+        let is_fin = self.has_fin || self.acknowledged == self.reached.saturating_add(1);
+        let behind = (self.reached, self.acknowledged.saturating_sub(u32::from(is_fin)));
+        let holes = self.holes.iter().map(|(begin, end)| (*begin, (*end).min(self.acknowledged)));
+        for (begin, end) in holes.chain([behind]).filter(|(begin, end)| begin < end) {
+            let (length, longest) = (u64::from(end - begin), u64::from(self.longest.max(1)));
+            found.bytes += length;
+            found.packets += (length + longest - 1) / longest;
+        }
+        found
+    }
+
     /// The time of the last segment with payload.
     pub fn last(&self) -> Option<i64> {
         self.recent.back().map(|(nanos, _)| *nanos)
@@ -62,11 +95,14 @@ impl Sent {
         if segment.flags & flags::SYN != 0 {
             self.initial.get_or_insert(segment.sequence);
         }
+        self.has_fin |= segment.flags & flags::FIN != 0;
+        self.is_snapped |= segment.is_snapped;
         let payload = segment.payload();
         let initial = match self.initial.filter(|_| !payload.is_empty()) {
             Some(initial) => initial,
             None => return Fresh::None,
         };
+        self.longest = self.longest.max(payload.len() as u32);
         let print = Print::of(segment, payload);
         let is_double = self.may_be_double(initial, segment) && self.is_double(arrival, &print);
         self.note(arrival, print);
@@ -139,5 +175,29 @@ mod tests {
         }
         assert_eq!(sent.cover(39, 61), 11);
         assert!(sent.holes.is_empty());
+    }
+
+    #[test]
+    fn what_the_other_side_has() {
+        let mut sent = Sent { initial: Some(u32::MAX), longest: 10, ..Sent::default() };
+        let uncaptured = |sent: &Sent| (sent.uncaptured().bytes, sent.uncaptured().packets);
+        for (begin, end) in [(0, 10), (35, 45), (60, 70)] {
+            sent.cover(begin, end);
+        }
+        sent.acknowledge(10);
+        assert_eq!(uncaptured(&sent), (0, 0));
+        sent.acknowledge(50);
+        assert_eq!(uncaptured(&sent), (30, 4), "25 before 35, and 5 of what is missing behind 45");
+        sent.acknowledge(45);
+        assert_eq!(uncaptured(&sent), (30, 4));
+        sent.acknowledge(71);
+        assert_eq!(uncaptured(&sent), (40, 5), "the last number is that of a FIN");
+        sent.acknowledge(75);
+        assert_eq!(uncaptured(&sent), (45, 6));
+        sent.has_fin = true;
+        assert_eq!(uncaptured(&sent), (44, 6));
+        sent.acknowledge(1 << 31);
+        assert_eq!(uncaptured(&sent), (44, 6), "no side sends so much at once");
+        assert_eq!(uncaptured(&Sent { is_snapped: true, ..sent }), (0, 0));
     }
 }

@@ -42,6 +42,10 @@ impl Tracked {
             known.rst.get_or_insert(arrival);
         }
         self.count(course, side, arrival, segment);
+        if has(flags::ACK) && !has(flags::RST) {
+            course.sides[side].acknowledges |= !has(flags::SYN);
+            self.sides[1 - side].sent.acknowledge(segment.acknowledgement);
+        }
         self.window(course, side, arrival, segment);
     }
 
@@ -88,6 +92,7 @@ impl Tracked {
     pub fn finish(self, course: &mut Course) {
         for (side, state) in self.sides.into_iter().enumerate() {
             course.sides[side].lost = state.holed;
+            course.sides[side].uncaptured = state.sent.uncaptured();
             course.held.extend(state.closed.map(|from| held(Why::ZeroWindow, 1 - side, from, None)));
         }
         course.held.shrink_to_fit();

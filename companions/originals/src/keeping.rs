@@ -35,7 +35,7 @@ impl Listener for Keeping {
 
     fn finish(&mut self, summary: &Summary) {
         self.original.capture = summary.counts;
-        self.original.back = summary.back.as_ref().map(import::Back::packet);
+        self.original.back = summary.times_go_back();
         let others = summary.others.iter();
         self.original.others = others.map(|one| Other { name: one.kind.name().into(), packets: one.packets }).collect();
         for outcome in &summary.outcomes {
@@ -44,7 +44,8 @@ impl Listener for Keeping {
                 Outcome::Refused(why) => Became::Refused(why.to_string()),
                 Outcome::Read(read) => Became::Read([side_of(&read.client), side_of(&read.server)]),
             };
-            self.original.add_connection(outcome.opening, Connection { became, fragments: outcome.fragments });
+            let (fragments, last) = (outcome.fragments, Some(outcome.last.nanos));
+            self.original.add_connection(outcome.opening, Connection { became, fragments, last });
         }
     }
 

@@ -4,7 +4,7 @@
 //! into a temporary file where it is long.
 
 use std::collections::HashMap;
-use std::io::{self, Seek, SeekFrom, Write};
+use std::io::{self, Write};
 use std::net::SocketAddrV4;
 
 use reports::{grouped, Capture, Side};
@@ -14,8 +14,6 @@ use tempfile::SpooledTempFile;
 const MOST_SAID: usize = 1 << 20;
 /// Flows that end so end as any other does: what was lost shows as a gap, what is cut as a tail.
 const PLAIN_ENDS: [&str; 3] = ["whole", "cut", "lost"];
-/// What is passed over and is no tunnel: other uses of a network, and what is named by number alone.
-const NO_TUNNELS: [&str; 9] = ["arp", "lldp", "llc", "icmp", "icmpv6", "udp", "sctp", "quic", "-"];
 
 /// What became of a connection.
 pub enum Became {
@@ -42,10 +40,13 @@ impl SideRead {
     }
 }
 
-/// A connection, and how many IP fragments of its packets were passed over.
+/// A connection.
 pub struct Connection {
     pub became: Became,
+    /// How many IP fragments of its packets were passed over.
     pub fragments: u64,
+    /// The time of its last packet, which an older map does not tell.
+    pub last: Option<i64>,
 }
 
 /// Packets that hold no TCP segment, by what they are.
@@ -62,8 +63,8 @@ pub struct Original {
     pub capture: Capture,
     /// By the packets of their openings.
     connections: HashMap<u64, Connection>,
-    /// The first packet whose time lies before that of the packet before it.
-    pub back: Option<u64>,
+    /// What is to be said of times that go back.
+    pub back: Option<String>,
     pub others: Vec<Other>,
 }
 
@@ -129,7 +130,7 @@ impl Original {
 
     /// Whether anything could be read, where it is nothing, and what was passed over that may hold more.
     pub fn passed_over_words(&self, is_nothing_read: bool) -> Option<String> {
-        let others = self.others.iter().filter(|one| is_nothing_read || !NO_TUNNELS.contains(&one.name.as_str()));
+        let others = self.others.iter().filter(|one| is_nothing_read || import::is_tunnel(&one.name));
         let named: Vec<String> = others.map(named).collect();
         match (is_nothing_read, named.is_empty()) {
             (true, true) => Some("no connection could be read".to_string()),
@@ -140,9 +141,8 @@ impl Original {
     }
 
     /// The lines about packets that were passed over.
-    pub fn passed_over(&mut self) -> io::Result<&mut SpooledTempFile> {
-        self.passed_over.seek(SeekFrom::Start(0))?;
-        Ok(&mut self.passed_over)
+    pub fn passed_over(&mut self) -> &mut SpooledTempFile {
+        &mut self.passed_over
     }
 }
 

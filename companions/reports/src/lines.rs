@@ -1,5 +1,6 @@
 //! What the lines of a report say, as docs/REPORT_FORMAT.md has them.
 
+use std::borrow::Cow;
 use std::ops::Range;
 
 use crate::cursor::Cursor;
@@ -25,6 +26,19 @@ pub enum Form {
     NoPreface,
     NoHandshake,
     Refused(String),
+}
+
+impl Form {
+    /// As a report says it, without the number of frames.
+    pub fn words(&self) -> Cow<'static, str> {
+        match self {
+            Form::Http2 { .. } => "http2".into(),
+            Form::NotHttp2 => "not-http2".into(),
+            Form::NoPreface => "no-preface".into(),
+            Form::NoHandshake => "no-handshake".into(),
+            Form::Refused(reason) => format!("refused {reason}").into(),
+        }
+    }
 }
 
 /// The line that begins a connection.

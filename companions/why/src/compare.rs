@@ -11,6 +11,8 @@ use crate::summing::{is_held, Connection, Whole};
 /// A request is better or worse where its stalls changed by 1 ms and by 1 % of the longer life, at least.
 const LEAST: u128 = 1_000_000;
 const SHARE: u128 = 100;
+/// A life is longer by 1 ms and a tenth of the shorter one, at least.
+const LIFE_SHARE: u128 = 10;
 
 /// The method and the path of a request.
 type Key = (Option<Rc<str>>, Option<Rc<str>>);
@@ -102,6 +104,28 @@ impl<'a> Pair<'a> {
             return std::cmp::Ordering::Equal;
         }
         after.stalled.cmp(&before.stalled)
+    }
+
+    /// Less where the life became shorter, greater where it became longer.
+    pub fn life_change(&self) -> std::cmp::Ordering {
+        let (before, after) = match self.both() {
+            Some(both) => (both.0.nanos, both.1.nanos),
+            None => return std::cmp::Ordering::Equal,
+        };
+        let more = u128::from(after.abs_diff(before));
+        let shorter = u128::try_from(before.min(after)).unwrap_or(0);
+        if more < LEAST || more * LIFE_SHARE < shorter {
+            return std::cmp::Ordering::Equal;
+        }
+        after.cmp(&before)
+    }
+
+    /// By how much the life became longer, where it did.
+    pub fn growth(&self) -> Nanos {
+        match self.life_change() {
+            std::cmp::Ordering::Greater => self.both().map_or(0, |(before, after)| after.nanos - before.nanos),
+            _ => 0,
+        }
     }
 
     pub fn trouble(&self) -> Nanos {

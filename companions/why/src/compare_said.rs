@@ -45,15 +45,16 @@ pub fn files_of(whole: &Whole<'_>) -> String {
     names.join(", ")
 }
 
-/// Those that were stalled longest come first.
+/// Those come first that were stalled longest, or live longer by so much.
 fn pairs(both: &Compared<'_>, page: &mut Page<'_>) -> io::Result<()> {
     let mut ordered: Vec<&Pair<'_>> = both.pairs.iter().collect();
-    ordered.sort_by_key(|pair| Reverse(pair.trouble()));
+    ordered.sort_by_key(|pair| Reverse(pair.trouble().max(pair.growth())));
     let most = if page.look.is_all { ordered.len() } else { ordered.len().min(MOST_SHOWN) };
     let shown = &ordered[..most];
     let width = shown.iter().map(|pair| letters(&name_of(pair))).max().unwrap_or(0).min(MOST_COLUMNS);
     for pair in shown {
-        let colour = if pair.change() == Ordering::Greater { Colour::Red } else { Colour::Plain };
+        let is_worse = [pair.change(), pair.life_change()].contains(&Ordering::Greater);
+        let colour = if is_worse { Colour::Red } else { Colour::Plain };
         page.folded(&format!("  {:width$}  {}", name_of(pair), words_of(pair)), "      ", colour)?;
     }
     match ordered.len() - most {
@@ -71,9 +72,12 @@ fn sentence_of(both: &Compared<'_>) -> String {
         let [before, after] = both.unnamed.map(|number| grouped(number as u64));
         said.push(format!("Without a name, so not matched: {before} before, {after} after."));
     }
+    let longer = number(|pair| pair.life_change() == Ordering::Greater);
+    let shorter = number(|pair| pair.life_change() == Ordering::Less);
+    let lives = format!("{} lived longer, {} shorter.", grouped(longer), grouped(shorter));
     let [before, after] = both.stalled();
     if before == 0 && after == 0 {
-        said.push("None of those in both was stalled.".to_string());
+        said.push(format!("None of those in both was stalled. {lives}"));
         return said.join(" ");
     }
     let how = match after.cmp(&before) {
@@ -84,7 +88,7 @@ fn sentence_of(both: &Compared<'_>) -> String {
     said.push(format!("Those in both were stalled for {} -> {}{how}.", time_of(before), time_of(after)));
     let less = number(|pair| pair.change() == Ordering::Less);
     let more = number(|pair| pair.change() == Ordering::Greater);
-    said.push(format!("{} stalled less, {} more.", grouped(less), grouped(more)));
+    said.push(format!("{} stalled less, {} more; {lives}", grouped(less), grouped(more)));
     said.join(" ")
 }
 
@@ -175,15 +179,20 @@ fn pair(json: &mut Json<'_>, one: &Pair<'_>, of: &Compared<'_>) {
         json.name("path").some(one.path.as_deref(), Json::text);
         json.name("turn").number(one.turn);
         json.name("of").number(one.of);
-        let change = match one.change() {
-            Ordering::Less => "less",
-            Ordering::Equal => "same",
-            Ordering::Greater => "more",
-        };
-        json.name("change").some_word(one.both().map(|_| change));
+        let both = one.both();
+        json.name("change").some_word(both.map(|_| word_of(one.change(), ["less", "same", "more"])));
+        json.name("life_change").some_word(both.map(|_| word_of(one.life_change(), ["shorter", "same", "longer"])));
         half(json.name("before"), one.before.as_ref(), of.before);
         half(json.name("after"), one.after.as_ref(), of.after);
     });
+}
+
+fn word_of(change: Ordering, [less, same, more]: [&'static str; 3]) -> &'static str {
+    match change {
+        Ordering::Less => less,
+        Ordering::Equal => same,
+        Ordering::Greater => more,
+    }
 }
 
 /// A request of one of both captures.

@@ -3,17 +3,18 @@
 use std::io::{self, Write};
 
 use explain::answer::{
-    Answer, At, Cause, CauseKind, CauseWhy, Certainty, ConnectionSaid, Direction, Ended, FaultSaid, Files, Nanos,
-    Place, Request, RoundTrip, Share, Signal, Source, Span, StallEnd, StallSaid, StallWhy,
+    Answer, At, Cause, CauseKind, CauseWhy, Certainty, ConnectionSaid, Direction, Ended, FaultSaid, Files, Holder,
+    Nanos, Place, Request, RoundTrip, Share, Signal, Source, Span, StallEnd, StallSaid, StallWhy,
 };
 use reports::{section_of, sentence_of, Side};
 
 use crate::asked::Shown;
 use crate::charts;
+use crate::gates::is_unanswered;
 use crate::json::Json;
 use crate::phrases::{how_name, Phrases};
 use crate::summing::{Connection, Summary, Whole};
-use crate::wording::{code_name, grpc_name};
+use crate::wording::{code_name, grpc_name, SIDES};
 
 const VERSION: u32 = 1;
 
@@ -86,6 +87,7 @@ pub fn summary(json: &mut Json<'_>, answer: &Answer, one: &Summary) {
         json.name("audited").number(one.audited);
         json.name("requests").number(one.tally.requests);
         json.name("faults").number(one.faults);
+        json.name("doubtful").number(one.doubtful);
         json.name("held_back").number(one.tally.held);
         json.name("held_by_tcp").number(one.tally.tcp);
         json.name("hung").number(one.tally.hung);
@@ -119,7 +121,7 @@ fn connection(json: &mut Json<'_>, one: &Connection<'_>, shown: Option<&[usize]>
     json.close(b']');
     json.name("stalls").open(b'[');
     for found in &said.stalls {
-        stall(json, found, files);
+        stall(json, found, said, files);
         json.give()?;
     }
     json.close(b']');
@@ -140,6 +142,11 @@ fn connection(json: &mut Json<'_>, one: &Connection<'_>, shown: Option<&[usize]>
             json.name("side").word(side.name());
             json.name("offset").number(*offset);
         });
+    });
+    json.name("uncaptured").object(|json| {
+        for (side, one) in SIDES.iter().zip(&said.uncaptured) {
+            json.name(side.name()).number(one.bytes);
+        }
     });
     json.name("notes").list(&said.notes, |json, note| json.text(note));
     if shown.is_some() {
@@ -207,7 +214,8 @@ pub fn fault(json: &mut Json<'_>, said: &FaultSaid, files: &Files) {
     json.name("text").text(&sentence_of(finding, ""));
 }
 
-fn stall(json: &mut Json<'_>, said: &StallSaid, files: &Files) {
+fn stall(json: &mut Json<'_>, said: &StallSaid, of: &ConnectionSaid, files: &Files) {
+    let is_its = |one: &&Holder| (one.begin, one.side) == (said.begin.frame, said.side as usize) && said.stream == 0;
     json.object(|json| {
         json.name("side").word(said.side.name());
         json.name("stream").number(said.stream);
@@ -218,6 +226,13 @@ fn stall(json: &mut Json<'_>, said: &StallSaid, files: &Files) {
         json.name("why").word(stall_name(said.why));
         json.name("ask").word(said.side.other().name());
         json.name("late_nanos").number(said.late);
+        json.name("holder").some(of.holders.iter().find(is_its), |json, one| {
+            json.object(|json| {
+                json.name("stream").number(one.stream);
+                json.name("bytes").number(one.bytes);
+                json.name("of").number(one.of);
+            });
+        });
     });
 }
 
@@ -261,6 +276,9 @@ fn request(json: &mut Json<'_>, one: &Request, phrases: &Phrases<'_>, files: &Fi
     direction(json.name("client"), &one.sides[0], one.opened.time, files);
     direction(json.name("server"), &one.sides[1], one.opened.time, files);
     json.name("hung").truth(one.is_hung);
+    json.name("hung_nanos").some_number(Some(one.hung_nanos).filter(|_| one.is_hung));
+    json.name("unanswered").truth(is_unanswered(one));
+    json.name("end_unseen").truth(one.is_end_unseen);
     cause(json.name("cause"), one, phrases, files);
     json.name("needed_window").some_number(phrases.needed_window(one));
 }

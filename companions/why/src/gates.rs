@@ -1,11 +1,11 @@
 //! What fails a run in CI: the reasons that a command line may name, and what holds of each in an answer.
 
-use explain::answer::{At, CauseKind, ConnectionSaid, Files, Nanos, Request, Share};
-use reports::{grouped, sentence_of};
+use explain::answer::{is_pushed, At, CauseKind, ConnectionSaid, Files, How, Nanos, Request, Share};
+use reports::{grouped, sentence_of, Side};
 
 use crate::document::signal_word;
 use crate::summing::{is_held, Connection, Whole};
-use crate::wording::{code_name, escaped, time_of};
+use crate::wording::{code_name, escaped, grpc_name, time_of};
 
 /// Why a run fails.
 #[derive(Clone, Copy, Debug, PartialEq, Eq)]
@@ -16,24 +16,32 @@ pub enum Reason {
     Hung,
     Tcp,
     Error,
+    Unanswered,
+    Status,
     Gap,
+    Cut,
     NotAudited,
     /// Windows held a request back for as long as an option of its own says.
     LongStall,
+    /// A request lived for as long as an option of its own says.
+    LongLife,
     /// Nothing was audited, and an option of its own asks for more.
     NoHttp2,
 }
 
 impl Reason {
     /// Those that `--fail-on` takes.
-    pub const NAMED: [Reason; 8] = [
+    pub const NAMED: [Reason; 11] = [
         Reason::Fault,
         Reason::CertainFault,
         Reason::Stall,
         Reason::Hung,
         Reason::Tcp,
         Reason::Error,
+        Reason::Unanswered,
+        Reason::Status,
         Reason::Gap,
+        Reason::Cut,
         Reason::NotAudited,
     ];
 
@@ -45,19 +53,30 @@ impl Reason {
             Reason::Hung => "hung",
             Reason::Tcp => "tcp",
             Reason::Error => "error",
+            Reason::Unanswered => "unanswered",
+            Reason::Status => "status",
             Reason::Gap => "gap",
+            Reason::Cut => "cut",
             Reason::NotAudited => "not-audited",
             Reason::LongStall => "fail-stall",
+            Reason::LongLife => "fail-life",
             Reason::NoHttp2 => "require-http2",
         }
     }
 }
+
+const OF_REQUESTS: [Reason; 7] =
+    [Reason::Hung, Reason::Stall, Reason::Tcp, Reason::Unanswered, Reason::Status, Reason::LongStall, Reason::LongLife];
+/// From here on a status is no informational one, and a failure of the server (RFC 9110, 15).
+const FIRST_FINAL: u32 = 200;
+const SERVER_ERROR: u32 = 500;
 
 /// What the command line wants to fail on.
 #[derive(Clone, Debug, Default)]
 pub struct Gates {
     pub reasons: Vec<Reason>,
     pub stall: Option<Nanos>,
+    pub life: Option<Nanos>,
     pub needs_http2: bool,
 }
 
@@ -76,13 +95,14 @@ impl Gates {
     fn is_wanted(&self, reason: Reason) -> bool {
         match reason {
             Reason::LongStall => self.stall.is_some(),
+            Reason::LongLife => self.life.is_some(),
             Reason::NoHttp2 => self.needs_http2,
             named => self.reasons.contains(&named),
         }
     }
 
     fn wants_requests(&self) -> bool {
-        [Reason::Hung, Reason::Stall, Reason::Tcp, Reason::LongStall].into_iter().any(|one| self.is_wanted(one))
+        OF_REQUESTS.into_iter().any(|one| self.is_wanted(one))
     }
 }
 
@@ -123,6 +143,10 @@ impl Finding<'_> {
             self.add(Reason::NoHttp2, (0, None), nothing);
             self.add(Reason::NotAudited, (0, None), nothing);
         }
+        for (file, packet) in &whole.answer.cuts {
+            let name = escaped(self.files.name(*file)).into_owned();
+            self.add(Reason::Cut, (0, None), || format!("{name} ends within packet {packet}"));
+        }
         let connections = &whole.answer.connections;
         for said in &whole.answer.not_audited {
             // Of connections it is told with them.
@@ -161,6 +185,25 @@ impl Finding<'_> {
         }
     }
 
+    /// Whether it was answered, by which status, and in what time.
+    fn of_answer(&mut self, place: Place, request: &Request) {
+        let name = || name_of(request);
+        if is_unanswered(request) {
+            self.add(Reason::Unanswered, place, || format!("{}: no answer", name()));
+        }
+        if let Some(status) = request.status.filter(|status| *status >= SERVER_ERROR) {
+            self.add(Reason::Status, place, || format!("{}: status {status}", name()));
+        }
+        if let Some(code) = request.grpc_status.filter(|code| *code > 0) {
+            self.add(Reason::Status, place, || format!("{}: grpc-status {code} {}", name(), grpc_name(code)));
+        }
+        let nanos = request.nanos();
+        if let Some(longest) = self.gates.life.filter(|longest| nanos >= *longest) {
+            let (life, longest) = (time_of(nanos), time_of(longest));
+            self.add(Reason::LongLife, place, || format!("{}: lived for {life}: {longest} fail", name()));
+        }
+    }
+
     fn of_request(&mut self, one: &Connection<'_>, request: &Request) {
         let place = (one.said.number, Some(request.stream));
         let text = || format!("{}: {}", name_of(request), one.phrases.of(request));
@@ -173,6 +216,7 @@ impl Finding<'_> {
         if request.cause.kind == CauseKind::Tcp {
             self.add(Reason::Tcp, place, text);
         }
+        self.of_answer(place, request);
         let nanos = stalled(request);
         if let Some(longest) = self.gates.stall.filter(|longest| nanos > 0 && nanos >= *longest) {
             let (name, longest) = (name_of(request), time_of(longest));
@@ -180,6 +224,15 @@ impl Finding<'_> {
             self.add(Reason::LongStall, place, text);
         }
     }
+}
+
+/// Whether the server sent no answer to a request, or informational ones alone, as far as its end was captured. A
+/// promise that the client gave back has none.
+pub fn is_unanswered(request: &Request) -> bool {
+    let (answer, ended) = (&request.sides[Side::Server as usize], &request.ended);
+    let is_informational = answer.content == 0 && request.status.map_or(false, |status| status < FIRST_FINAL);
+    let is_refused = is_pushed(request.stream) && ended.how == How::RstStream && ended.side == Some(Side::Client);
+    (answer.first.is_none() || is_informational) && !request.is_end_unseen && !is_refused
 }
 
 /// Why a connection was not audited.

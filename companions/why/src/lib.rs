@@ -11,11 +11,11 @@ pub mod ends;
 mod ends_said;
 mod ends_stalls;
 mod gates;
-mod json;
 mod junit;
 mod page;
 mod phrases;
 mod rows;
+mod rules;
 mod summing;
 mod text;
 mod wording;
@@ -34,6 +34,7 @@ use asked::Shown;
 use compare::Compared;
 use ends::Joined;
 use page::Page;
+use reports::json;
 
 /// A form in which an answer is written.
 #[derive(Clone, Copy, Debug)]

@@ -11,7 +11,7 @@ use std::io;
 use std::path::Path;
 
 use explain::answer::Answer;
-use explain::Reported;
+use explain::{ReportTo, Reported};
 use programs::{end_cleanly, print, printable, run, say, Failure, Outcome, Output, BUFFER};
 use why::compare::Compared;
 use why::ends::{Apart, Joined};
@@ -66,35 +66,23 @@ fn windows(report: &Path) -> Outcome {
     written(Path::new("-"), |to| why::write_report(&said, to)).map(|()| DONE)
 }
 
-/// Writes rows. Where the report of the original is written too, the status is that of h2audit-any.
+/// Writes the rows of the report of the original, and of what it means. The status is that of h2audit-any.
 fn rows(asked: &Asked, files: &[OsString], file: &Path) -> Outcome {
-    let report = match &asked.report {
-        Some(report) => report,
-        None => {
-            let answer = answered(asked, files)?;
-            return write_rows(&answer, file).map(|()| DONE);
-        }
-    };
-    let mut output = Output::begin(report)?;
     let files = in_order(asked, files)?;
-    let (answer, reported) = explain::answer_with_report(&explained(asked, &files), &mut output)?;
-    write_rows(&answer, file)?;
-    output.finish()?;
-    if let Some(file) = &asked.last_packets {
-        explain::write_last_packets(&reported.last_packets, file)?;
-    }
-    reported.back.iter().for_each(|packet| say(NAME, &import::times_go_back(*packet)));
-    reported.words.iter().for_each(|words| say(NAME, words));
+    let mut rows = Output::begin(file)?;
+    let mut report = asked.report.as_deref().map(Output::begin).transpose()?;
+    let to = ReportTo { rows: &mut rows, text: report.as_mut() };
+    let (answer, reported) = explain::answer_with_report(&explained(asked, &files), to)?;
+    let written = why::write(&Whole::new(&answer), Form::Rows, &mut rows);
+    written.map_err(|error| rows.failure(&error))?;
+    rows.finish()?;
+    report.map_or(Ok(()), Output::finish)?;
+    reported.back.iter().chain(&reported.words).for_each(|words| say(NAME, words));
     Ok(match reported {
         Reported { is_nothing_read: true, .. } => NOTHING_AUDITED,
         Reported { has_faults: true, .. } => FAILED,
         Reported { .. } => DONE,
     })
-}
-
-fn write_rows(answer: &Answer, file: &Path) -> Result<(), Failure> {
-    let whole = Whole::new(answer);
-    written(file, |to| why::write(&whole, Form::Rows, to))
 }
 
 /// The capture after the change may fail the run.
@@ -151,6 +139,7 @@ fn explained<'a>(asked: &'a Asked, files: &'a [OsString]) -> explain::Asked<'a> 
         program: NAME,
         files,
         key_logs: &asked.key_logs,
+        is_reordered: asked.is_reordered,
         h2audit: asked.program.clone(),
         options: &asked.options,
         report: asked.audit.as_deref(),

@@ -4,7 +4,7 @@ use std::collections::HashMap;
 use std::fmt::Write;
 
 use explain::answer::{
-    Cause, CauseKind, CauseWhy, ConnectionSaid, Files, How, Leak, Nanos, Request, Share, StallSaid, StallWhy,
+    Cause, CauseKind, CauseWhy, ConnectionSaid, Files, Holder, How, Leak, Nanos, Request, Share, StallSaid, StallWhy,
 };
 use reports::{grouped, Side};
 
@@ -32,6 +32,8 @@ pub struct Phrases<'a> {
 struct Stalls {
     longest: Nanos,
     count: u64,
+    /// Of all of them.
+    nanos: Nanos,
 }
 
 struct LeakSaid {
@@ -48,6 +50,7 @@ impl<'a> Phrases<'a> {
             let window = stalls.entry((one.side, one.stream)).or_default();
             window.longest = window.longest.max(if one.late == 0 { one.nanos } else { one.late });
             window.count += 1;
+            window.nanos += one.nanos;
         }
         Phrases { said, files, behind: Default::default(), silent: Default::default(), stalls, leaks: Vec::new() }
     }
@@ -122,24 +125,26 @@ impl<'a> Phrases<'a> {
             return self.unshown(cause);
         }
         let mut text = if request.is_hung {
-            format!("HUNG for {lasts}, up to {}: ", self.end_words())
+            format!("HUNG for {}, up to {}: ", time_of(request.hung_nanos), self.end_words(request))
         } else {
             format!("stalled {lasts} ({}): ", percent(cause.nanos, request.nanos()))
         };
         text += &self.why(request);
         text += &self.whose(cause);
+        text += &hung_before(request);
         text
     }
 
-    /// At what a connection's hung requests ended.
-    fn end_words(&self) -> String {
-        let ended = &self.said.closing;
-        let packet = ended.at.map_or(0, |at| self.packet(at.packet));
-        match ended.side {
-            Some(side) if ended.how != How::Capture && ended.at.is_some() => {
-                format!("the {side}'s {} (packet {packet})", how_name(ended.how))
-            }
-            _ => format!("the capture's last packet of it ({packet})"),
+    /// Up to where a request hung.
+    fn end_words(&self, request: &Request) -> String {
+        let end = request.cause.last;
+        if let Some(stop) = self.said.stopped_at.filter(|stop| end.map_or(false, |end| stop.time < end.time)) {
+            return format!("the frame at which the audit stopped (packet {})", self.packet(stop.packet));
+        }
+        let (ended, packet) = (&request.ended, end.map_or(0, |at| self.packet(at.packet)));
+        match ended.side.filter(|_| ended.how != How::Capture) {
+            Some(side) => format!("the {side}'s {} (packet {packet})", how_name(ended.how)),
+            None => format!("the capture's last packet of it ({packet})"),
         }
     }
 
@@ -150,6 +155,9 @@ impl<'a> Phrases<'a> {
         let times = stalls.map_or(0, |some| some.count);
         match cause.why {
             CauseWhy::Stalls(StallWhy::CancelledStreams) => self.leak(cause),
+            CauseWhy::Stalls(StallWhy::GrantedNothing) if request.is_hung => {
+                format!("the {ask} granted nothing{}", whose(cause))
+            }
             CauseWhy::Stalls(StallWhy::GrantedNothing) => {
                 let reset = Some(request.ended).filter(|ended| ended.how == How::RstStream && !request.is_hung);
                 let until =
@@ -221,9 +229,8 @@ impl<'a> Phrases<'a> {
 
     /// The SETTINGS that made a stream's window what it is, or the streams that waited for the connection's.
     fn whose(&self, cause: &Cause) -> String {
-        let behind = &self.behind[cause.side as usize];
         match (cause.kind, cause.why) {
-            (CauseKind::ConnectionWindow, _) if behind.len() > 1 => format!("; {} waited", streams_named(behind)),
+            (CauseKind::ConnectionWindow, _) => self.of_connection(cause),
             (CauseKind::StreamWindow, CauseWhy::Stalls(StallWhy::RoundTrip | StallWhy::GrantedNothing)) => {
                 self.initial_window(cause).unwrap_or_default()
             }
@@ -231,8 +238,39 @@ impl<'a> Phrases<'a> {
         }
     }
 
+    /// Of the connection's window: which stream holds it, which waited, and how long it was used up in all.
+    fn of_connection(&self, cause: &Cause) -> String {
+        let (behind, mut text) = (&self.behind[cause.side as usize], String::new());
+        if let Some(holder) = self.holder(cause) {
+            let Holder { stream, bytes, of, .. } = *holder;
+            let much = match bytes == of {
+                true => format!("all {}", grouped(of)),
+                false => format!("{} of {}", grouped(bytes), grouped(of)),
+            };
+            let _ = write!(text, "; stream {stream} holds {much} bytes of the connection's window");
+        }
+        if behind.len() > 1 {
+            let holder = self.holder(cause).map_or(0, |holder| holder.stream);
+            let waited: Vec<u32> = behind.iter().copied().filter(|stream| *stream != holder).collect();
+            let _ = write!(text, "; {} waited", streams_named(&waited));
+        }
+        if let Some(stalls) = self.stalls_of(cause.side, 0).filter(|stalls| stalls.nanos > cause.nanos) {
+            let _ = write!(text, "; the connection's window was used up for {} in all", time_of(stalls.nanos));
+        }
+        text
+    }
+
+    /// The stream that holds most of the connection's window, unless cancelled ones do.
+    fn holder(&self, cause: &Cause) -> Option<&Holder> {
+        let frame = cause.first.map_or(0, |at| at.frame);
+        let last = cause.last.map_or(u32::MAX, |at| at.frame.max(frame));
+        let is_its = |one: &&Holder| one.side == cause.side as usize && (frame..=last).contains(&one.begin);
+        let is_leak = cause.why == CauseWhy::Stalls(StallWhy::CancelledStreams);
+        self.said.holders.iter().find(is_its).filter(|_| !is_leak)
+    }
+
     fn initial_window(&self, cause: &Cause) -> Option<String> {
-        let setting = self.said.announced.get(usize::try_from(cause.setting?).ok()?)?;
+        let setting = self.said.settings.get(usize::try_from(cause.setting?).ok()?)?;
         if setting.value == FIRST_CREDIT {
             return None;
         }
@@ -256,9 +294,10 @@ impl<'a> Phrases<'a> {
         let none = Leak::default();
         let found = self.said.leaks.iter().find(is_of_it).unwrap_or(&none);
         let mut text = format!(
-            "the connection's credit was used up: {} used by {} (cancelled), {} given back",
+            "the connection's credit was used up: {} used by {} (cancelled), of which the {} gave back {}",
             grouped(found.used),
             streams_named(&found.streams),
+            stall.side.other(),
             grouped(found.granted)
         );
         let silent = self.silent[stall.side as usize].iter().filter(|(_, until)| *until > stall.begin.time);
@@ -296,6 +335,14 @@ fn window_stream(request: &Request) -> u32 {
     match request.cause.kind {
         CauseKind::StreamWindow => request.stream,
         _ => 0,
+    }
+}
+
+/// For how long a request that hung was stalled before.
+fn hung_before(request: &Request) -> String {
+    match request.cause.nanos - request.hung_nanos {
+        before if request.is_hung && before >= NEAR => format!("; it was stalled for {} before", time_of(before)),
+        _ => String::new(),
     }
 }
 

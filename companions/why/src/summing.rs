@@ -1,19 +1,21 @@
 //! The answer in one sentence, and what the requests of each connection come to.
 
 use explain::answer::{Answer, CauseKind, ConnectionSaid, Nanos, Request};
-use reports::{grouped, section_of, Side};
+use reports::grouped;
 
 use crate::phrases::Phrases;
+use crate::rules::{broken, errors};
 use crate::wording::{count, time_of};
-
-/// So many rules are named.
-const MOST_RULES: usize = 3;
 
 /// What all that was found comes to.
 #[derive(Clone, Copy, Debug, PartialEq, Eq)]
 pub enum Verdict {
     NothingAudited,
     Faults,
+    /// Each of them can be doubted.
+    DoubtfulFaults,
+    /// A side said so, and no fault was found.
+    Errors,
     Stalls,
     Clean,
 }
@@ -23,6 +25,8 @@ impl Verdict {
         match self {
             Verdict::NothingAudited => "nothing-audited",
             Verdict::Faults => "faults",
+            Verdict::DoubtfulFaults => "doubtful-faults",
+            Verdict::Errors => "errors",
             Verdict::Stalls => "stalls",
             Verdict::Clean => "clean",
         }
@@ -61,6 +65,7 @@ pub struct Summary {
     pub text: String,
     pub audited: u64,
     pub faults: u64,
+    pub doubtful: u64,
     pub tally: Tally,
     pub begin: Nanos,
     pub nanos: Nanos,
@@ -121,18 +126,21 @@ fn summary_of(answer: &Answer, connections: &[Connection<'_>]) -> Summary {
     let audited = answer.audited().count() as u64;
     let of_audited = connections.iter().filter(|one| one.said.is_audited());
     let tally = of_audited.fold(Tally::default(), |sum, one| sum.and(&one.tally));
-    let faults = answer.audited().map(|one| one.faults.len() as u64).sum();
+    let faults: u64 = answer.audited().map(|one| one.faults.len() as u64).sum();
+    let doubtful = answer.audited().flat_map(|one| &one.faults).filter(|fault| fault.is_doubtful()).count() as u64;
     let begin = answer.connections.iter().map(|one| one.begin).filter(|begin| *begin != 0).min().unwrap_or(0);
     let until = answer.connections.iter().map(|one| one.until).max().unwrap_or(0);
     let nanos = until.saturating_sub(begin).max(0);
     let verdict = match () {
         () if audited == 0 => Verdict::NothingAudited,
-        () if faults > 0 => Verdict::Faults,
+        () if faults > doubtful => Verdict::Faults,
+        () if faults > 0 => Verdict::DoubtfulFaults,
+        () if errors(answer).next().is_some() => Verdict::Errors,
         () if tally.held > 0 => Verdict::Stalls,
         () => Verdict::Clean,
     };
     let text = sentences(answer, audited, &tally, nanos).join(" ");
-    Summary { verdict, text, audited, faults, tally, begin, nanos }
+    Summary { verdict, text, audited, faults, doubtful, tally, begin, nanos }
 }
 
 fn sentences(answer: &Answer, audited: u64, tally: &Tally, nanos: Nanos) -> Vec<String> {
@@ -154,35 +162,4 @@ fn sentences(answer: &Answer, audited: u64, tally: &Tally, nanos: Nanos) -> Vec<
         said.push(format!("TCP held back {}.", count(tally.tcp, "request")));
     }
     said
-}
-
-/// Who broke which rule, how often, the most frequent first.
-fn broken(answer: &Answer) -> String {
-    let mut rules: Vec<(Option<Side>, String, &str, u64)> = Vec::new();
-    for fault in answer.audited().flat_map(|one| &one.faults) {
-        let finding = &fault.finding;
-        let (who, section, kind) = (finding.who_broke_it(), section_of(finding), finding.kind.name());
-        match rules.iter_mut().find(|rule| (rule.0, rule.1.as_str(), rule.2) == (who, section.as_str(), kind)) {
-            Some(known) => known.3 += 1,
-            None => rules.push((who, section, kind, 1)),
-        }
-    }
-    if rules.is_empty() {
-        // Of a part alone a clean answer is one of that part.
-        let is_partial = !answer.not_audited.is_empty() || answer.audited().any(|one| !one.gaps.is_empty());
-        return format!("No rule was broken{}.", if is_partial { " in what was audited" } else { "" });
-    }
-    rules.sort_by_key(|rule| std::cmp::Reverse(rule.3));
-    let named: Vec<String> = rules.iter().take(MOST_RULES).map(rule_words).collect();
-    let more = rules.len() - named.len();
-    let more = if more > 0 { format!("; and {more} rules more") } else { String::new() };
-    let text = named.join("; ");
-    format!("T{}{more}.", text.strip_prefix('t').unwrap_or(&text))
-}
-
-fn rule_words((who, section, kind, times): &(Option<Side>, String, &str, u64)) -> String {
-    let side = who.map_or("", Side::name);
-    let rule = if section.is_empty() { "a rule".to_string() } else { format!("RFC 9113, {section}") };
-    let times = if *times > 1 { format!(" {} times", grouped(*times)) } else { String::new() };
-    format!("the {side} broke {rule} ({kind}){times}")
 }

@@ -11,7 +11,7 @@ use reports::{grouped, sentence_of, Side};
 use crate::document::signal_word;
 use crate::page::{Colour, Look, Page};
 use crate::phrases::how_name;
-use crate::summing::{is_held, Connection, Whole};
+use crate::summing::{is_held, Connection, Verdict, Whole};
 use crate::wording::{code_name, count, escaped, grpc_name, letters, time_of};
 
 /// So many are shown where not all are asked for.
@@ -37,7 +37,7 @@ pub fn write(whole: &Whole<'_>, look: Look, to: &mut dyn Write) -> io::Result<()
     }
     let colour = match &whole.summary {
         summary if summary.faults > 0 || summary.audited == 0 => Colour::Red,
-        summary if summary.tally.held > 0 => Colour::Yellow,
+        summary if summary.tally.held > 0 || summary.verdict == Verdict::Errors => Colour::Yellow,
         _ => Colour::Bold,
     };
     page.folded(&whole.summary.text, "  ", colour)?;
@@ -76,13 +76,7 @@ fn connections(whole: &Whole<'_>, page: &mut Page<'_>) -> io::Result<()> {
 fn connection(one: &Connection<'_>, page: &mut Page<'_>) -> io::Result<()> {
     let said = one.said;
     page.folded(&head(said), "  ", Colour::Bold)?;
-    let most = if page.look.is_all { said.faults.len() } else { said.faults.len().min(MOST_FAULTS) };
-    for found in &said.faults[..most] {
-        fault(found, page)?;
-    }
-    if said.faults.len() > most {
-        page.line(&format!("  {} more: --all", count((said.faults.len() - most) as u64, "fault")))?;
-    }
+    faults(said, page)?;
     requests(one, page)?;
     idle_stall(said, page)?;
     for note in &said.notes {
@@ -106,14 +100,49 @@ fn head(said: &ConnectionSaid) -> String {
     }
 }
 
-fn fault(one: &FaultSaid, page: &mut Page<'_>) -> io::Result<()> {
-    let sentence = sentence_of(&one.finding, "");
-    let mut text = format!("  FAULT: {sentence}; {}, frame {}", page.packet(Some(one.at)), one.at.frame);
+/// Each fault that is certain; those that can be doubted once for a stream.
+fn faults(said: &ConnectionSaid, page: &mut Page<'_>) -> io::Result<()> {
+    let mut told: Vec<(&FaultSaid, u64)> = Vec::new();
+    let mut places = HashMap::<_, usize>::new();
+    for one in &said.faults {
+        let finding = &one.finding;
+        let of = (finding.kind.name(), finding.side, finding.stream, one.certainty as u8);
+        match places.get(&of) {
+            Some(place) if one.is_doubtful() => told[*place].1 += 1,
+            _ => {
+                places.insert(of, told.len());
+                told.push((one, 1));
+            }
+        }
+    }
+    let most = if page.look.is_all { told.len() } else { told.len().min(MOST_FAULTS) };
+    told[..most].iter().try_for_each(|(one, times)| fault(one, *times, page))?;
+    match told[most..].iter().map(|one| one.1).sum::<u64>() {
+        0 => Ok(()),
+        more => page.line(&format!("  {} more: --all", count(more, "fault"))),
+    }
+}
+
+fn fault(one: &FaultSaid, times: u64, page: &mut Page<'_>) -> io::Result<()> {
+    let place = format!("{}, frame {}", page.packet(Some(one.at)), one.at.frame);
+    let mut text = match (one.is_doubtful(), times) {
+        (false, _) => format!("  FAULT: {}; {place}", sentence_of(&one.finding, "")),
+        (true, 1) => format!("  DOUBTFUL FAULT: {}; {place}", sentence_of(&one.finding, "")),
+        (true, _) => {
+            let more = format!(", {} times on this stream", grouped(times));
+            format!("  DOUBTFUL FAULT: {}; first in {place}", sentence_of(&one.finding, &more))
+        }
+    };
     if !one.set_text.is_empty() {
         let _ = write!(text, "; its window: {}", one.set_text);
     }
-    text += &if one.doubt.is_empty() { ". Certain".to_string() } else { format!(". Doubtful: {}", one.doubt) };
+    text += &if one.is_doubtful() { format!(". {}", capital(&one.doubt)) } else { ". Certain".to_string() };
     page.folded(&text, "    ", Colour::Red)
+}
+
+fn capital(text: &str) -> String {
+    let mut letters = text.chars();
+    letters.next().map_or(String::new(), |first| first.to_uppercase().collect::<String>() + letters.as_str())
 }
 
 /// The requests of a connection, of which the hung ones come first, then those that were held back longest.
@@ -180,6 +209,7 @@ fn line_of(request: &Request, width: usize, cause: &str, page: &Page<'_>) -> Str
         }
         (How::EndStream | How::RstStream, _) => {}
         _ if request.is_hung => {}
+        _ if request.is_end_unseen => text += "; its end was not captured",
         (how, Some(side)) if how != How::Capture => {
             let code = ended.code.map_or(String::new(), |code| format!(" {}", code_name(code)));
             let _ = write!(text, "; not ended: the {side}'s {}{code}", how_name(how));

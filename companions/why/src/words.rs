@@ -62,6 +62,7 @@ pub struct Asked {
     pub captures: Captures,
     pub key_logs: Vec<OsString>,
     pub is_sorted: bool,
+    pub is_reordered: bool,
     pub is_all: bool,
     pub has_query: bool,
     pub has_names: bool,
@@ -71,10 +72,8 @@ pub struct Asked {
     pub program: Option<OsString>,
     /// h2audit's.
     pub options: Vec<String>,
-    /// Where the report of the original goes, and the times of last packets; and a report that is there, so that no
-    /// program audits.
+    /// Where the report of the original goes; and a report that is there, so that no program audits.
     pub report: Option<PathBuf>,
-    pub last_packets: Option<PathBuf>,
     pub audit: Option<PathBuf>,
     pub gates: Gates,
     pub has_gates: bool,
@@ -91,6 +90,7 @@ struct Taken {
     form: Option<(&'static str, Asks)>,
     key_logs: Vec<OsString>,
     is_sorted: bool,
+    is_reordered: bool,
     is_all: bool,
     has_query: bool,
     has_no_requests: bool,
@@ -99,10 +99,10 @@ struct Taken {
     program: Option<OsString>,
     workers: Option<u64>,
     report: Option<PathBuf>,
-    last_packets: Option<PathBuf>,
     audit: Option<PathBuf>,
     reasons: Vec<Reason>,
     stall: Option<Nanos>,
+    life: Option<Nanos>,
     needs_http2: bool,
     junit: Option<PathBuf>,
     is_quiet: bool,
@@ -117,6 +117,7 @@ pub fn words_of(words: Vec<OsString>) -> Result<Words, Failure> {
             Short('V') | Long("version") => return Ok(Words::Version),
             Short('k') | Long("key-log") => taken.key_logs.push(parser.value().map_err(wrong)?),
             Long("sort") => taken.is_sorted = true,
+            Long("reorder") => taken.is_reordered = true,
             Long("all") => taken.is_all = true,
             Long("query") => taken.has_query = true,
             Long("no-requests") => taken.has_no_requests = true,
@@ -132,7 +133,6 @@ pub fn words_of(words: Vec<OsString>) -> Result<Words, Failure> {
                 taken.form("--rows", Asks::Rows(file))?;
             }
             Long("report") => taken.report = Some(PathBuf::from(parser.value().map_err(wrong)?)),
-            Long("last-packets") => taken.last_packets = Some(PathBuf::from(parser.value().map_err(wrong)?)),
             Long("workers") => {
                 taken.workers = Some(number("--workers", &parser.value().map_err(wrong)?, 1, MOST_WORKERS)?);
             }
@@ -141,7 +141,8 @@ pub fn words_of(words: Vec<OsString>) -> Result<Words, Failure> {
             Long("width") => taken.width = Some(width_of(parser.value().map_err(wrong)?)?),
             Long("h2audit") => taken.program = Some(parser.value().map_err(wrong)?),
             Long("fail-on") => taken.reasons.extend(reasons_of(parser.value().map_err(wrong)?)?),
-            Long("fail-stall") => taken.stall = Some(duration_of(parser.value().map_err(wrong)?)?),
+            Long("fail-stall") => taken.stall = Some(duration_of("--fail-stall", parser.value().map_err(wrong)?)?),
+            Long("fail-life") => taken.life = Some(duration_of("--fail-life", parser.value().map_err(wrong)?)?),
             Long("require-http2") => taken.needs_http2 = true,
             Long("junit") => taken.junit = Some(PathBuf::from(parser.value().map_err(wrong)?)),
             Long("quiet") => taken.is_quiet = true,
@@ -169,7 +170,8 @@ impl Taken {
 
     /// Whether something of CI is asked for.
     fn has_gates(&self) -> bool {
-        !self.reasons.is_empty() || self.stall.is_some() || self.needs_http2 || self.junit.is_some() || self.is_quiet
+        let has_times = self.stall.is_some() || self.life.is_some();
+        !self.reasons.is_empty() || has_times || self.needs_http2 || self.junit.is_some() || self.is_quiet
     }
 
     fn asked(self) -> Result<Asked, Failure> {
@@ -185,6 +187,7 @@ impl Taken {
             captures,
             key_logs: self.key_logs,
             is_sorted: self.is_sorted,
+            is_reordered: self.is_reordered,
             is_all: self.is_all,
             has_query: self.has_query,
             has_names: !self.has_no_requests,
@@ -194,9 +197,8 @@ impl Taken {
             program: self.program,
             options: self.workers.map(|workers| format!("--workers={workers}")).into_iter().collect(),
             report: self.report,
-            last_packets: self.last_packets,
             audit: self.audit,
-            gates: Gates { reasons, stall: self.stall, needs_http2: self.needs_http2 },
+            gates: Gates { reasons, stall: self.stall, life: self.life, needs_http2: self.needs_http2 },
             has_gates,
             junit: self.junit,
             is_quiet: self.is_quiet,
@@ -226,6 +228,9 @@ impl Taken {
         if self.compare.is_some() && self.has_no_requests {
             return refuse("--compare matches requests by their names: not with --no-requests".to_string());
         }
+        if self.has_no_requests && self.reasons.contains(&Reason::Status) {
+            return refuse("--fail-on status reads the fields of answers: not with --no-requests".to_string());
+        }
         if form == Some("--windows") && !(self.files.is_empty() && of_two.is_none() && !self.has_gates()) {
             return refuse("--windows reads a report, and nothing else".to_string());
         }
@@ -239,10 +244,8 @@ impl Taken {
     fn check_report(&self) -> Result<(), Failure> {
         let refuse = |why: &str| Err(Failure::Usage(why.to_string()));
         match (&self.report, &self.audit, &self.form) {
-            (None, ..) if self.last_packets.is_some() => refuse("--last-packets goes with --report"),
             (None, None, _) => Ok(()),
-            (Some(_), Some(_), _) => refuse("--report is of a run of h2audit: not with --audit"),
-            (Some(report), None, Some((_, Asks::Rows(rows)))) if report == rows => {
+            (Some(report), _, Some((_, Asks::Rows(rows)))) if report == rows => {
                 refuse("--rows and --report are the same file")
             }
             (_, _, Some((_, Asks::Rows(_)))) => Ok(()),
@@ -292,10 +295,10 @@ fn reason_of(word: &str) -> Result<Reason, Failure> {
 }
 
 /// Nanoseconds of a time with its unit.
-fn duration_of(word: OsString) -> Result<Nanos, Failure> {
+fn duration_of(option: &str, word: OsString) -> Result<Nanos, Failure> {
     let word = printable(word);
     nanos_of(&word)
-        .ok_or_else(|| Failure::Usage(format!("argument --fail-stall: '{word}' is no time, as 100ms, 1.5s or 250us")))
+        .ok_or_else(|| Failure::Usage(format!("argument {option}: '{word}' is no time, as 100ms, 1.5s or 250us")))
 }
 
 fn nanos_of(word: &str) -> Option<Nanos> {
@@ -361,6 +364,7 @@ mod tests {
         assert_eq!(found.gates.reasons, [Reason::Fault, Reason::Hung, Reason::Gap]);
         assert_eq!((&found.form, found.has_gates), (&Asks::Document, true));
         assert_eq!(found.captures, Captures::One(vec!["a".into(), "b".into()]));
+        assert_eq!(asked(&["a", "--fail-life", "2s"])?.gates.life, Some(2_000_000_000));
         let found = asked(&["--ends", "a", "-", "--rows"]);
         assert_eq!(found.err().as_deref(), Some("argument --rows: expected one argument"));
         assert_eq!(asked(&["--ends", "a", "-"])?.captures, Captures::Ends(["a".into(), "-".into()]));
@@ -384,12 +388,13 @@ mod tests {
         assert!(refused(&["--color", "x"]).ends_with("(choose from 'auto', 'always', 'never')"));
         assert!(refused(&["--fail-on", "fault,x"]).starts_with("argument --fail-on: 'x' is no reason: fault, "));
         assert!(refused(&["--fail-stall", "5"]).contains("'5' is no time, as 100ms"));
+        assert!(refused(&["--fail-life", "5"]).starts_with("argument --fail-life: '5' is no time"));
+        assert!(
+            refused(&["--no-requests", "--fail-on", "hung,status"]).starts_with("--fail-on status reads the fields")
+        );
         assert_eq!(refused(&["--report", "a"]), "--report goes with --rows");
-        assert_eq!(refused(&["--rows", "a", "--last-packets", "b"]), "--last-packets goes with --report");
         assert_eq!(refused(&["--json", "--audit", "a"]), "--audit goes with --rows");
         assert_eq!(refused(&["--rows", "-", "--report", "-"]), "--rows and --report are the same file");
-        let by_report = refused(&["--rows", "-", "--report", "a", "--audit", "b"]);
-        assert_eq!(by_report, "--report is of a run of h2audit: not with --audit");
         let by_name = "--compare matches requests by their names: not with --no-requests";
         assert_eq!(refused(&["--compare", "a", "b", "--no-requests"]), by_name);
         assert_eq!(refused(&["--nothing"]), "unrecognized arguments: --nothing");

@@ -1,0 +1,170 @@
+"""Tests that all forms in which h2audit-why answers say the same of each request, over all captures of the repository:
+text, JSON, lines of JSON, rows, JUnit, and a comparison with itself.
+
+    python3 -m tools.tests.why_forms_test [H2AUDIT] [TEST..]
+"""
+
+import json
+import pathlib
+import re
+import sys
+import unittest
+import xml.etree.ElementTree as ElementTree
+from collections.abc import Iterator
+from typing import Any
+
+from h2audit.report.words import time_of
+from tools.tests.why_test import SCHEMA, words_for
+from tools.tests.why_tools import TOP, Json, OnCaptures, has_programs, programs_of, ran
+
+FOLDERS = ("examples", "tests/tls", "tests/corpus", "tests/answer")
+ENDINGS = (".pcap", ".pcapng", ".gz", ".zst")
+CAPTURES = [path for folder in FOLDERS for path in sorted((TOP / folder).iterdir()) if path.suffix in ENDINGS]
+# The members of a line that say which connection it is of.
+OF_LINE = ("h2audit_why", "connection", "client_address", "server_address")
+# The columns of a row of a request, behind its connection (h2audit/fleet/schema.sql).
+COLUMNS = (
+    "stream", "name", "method", "path", "authority", "status", "grpc_status", "promised_on", "opened_packet",
+    "opened_frame", "opened_time", "nanos", "stalled", "hung", "ended_how", "ended_side", "ended_code", "ended_packet",
+    "ended_frame", "ended_time", "kind", "why", "side", "ask", "cause_nanos", "first", "last", "proved", "text",
+    "needed_window",
+)  # fmt: skip
+Named = dict[tuple[int, int], Any]
+# A line of text about a request: its name, stream, status, life, what is said, and the packets.
+LINE = re.compile(r"  .*  stream (\d+) +(?:-|\d+)(?: grpc \S+)?  +([\d.,]+ (?:ns|µs|ms|s))   (.*)")
+REASONS = "fault,stall,hung,tcp,error,gap,not-audited,unanswered,status,cut"
+
+
+def packet(at: Json | None) -> int | None:
+    return at["packet"] if at else None
+
+
+def of_document(found: Json) -> Iterator[tuple[tuple[int, int], Json]]:
+    for connection in found["connections"]:
+        for request in connection["requests"]:
+            yield (connection["number"], request["stream"]), request
+
+
+class Forms(OnCaptures):
+    """The document of JSON is compared with each other form."""
+
+    def test_all(self) -> None:
+        import jsonschema  # type: ignore[import]
+
+        validator = jsonschema.Draft202012Validator(SCHEMA)
+        self.assertGreater(len(CAPTURES), 50)
+        requests = 0
+        for capture in CAPTURES:
+            with self.subTest(capture.name):
+                words = words_for(capture)
+                run = ran("--json", *words)
+                if run.returncode == 3:
+                    continue
+                found: Json = json.loads(run.stdout)
+                said = dict(of_document(found))
+                requests += len(said)
+                validator.validate(found)
+                self.lines(said, words)
+                self.rows(said, words)
+                self.text(found, words)
+                self.junit(found, said, words)
+                self.compared(said, capture, words)
+        self.assertGreater(requests, 150)
+
+    def lines(self, said: Named, words: list[str]) -> None:
+        lines = [json.loads(line) for line in ran("--json-lines", *words).stdout.splitlines()]
+        by_line = {(line["connection"], line["stream"]): {name: line[name] for name in line if name not in OF_LINE}
+                   for line in lines}  # fmt: skip
+        self.assertEqual(by_line, said)
+
+    def rows(self, said: Named, words: list[str]) -> None:
+        lines = ran("--rows", "-", *words).stdout.decode().splitlines()[1:]
+        rows = [row for row in map(json.loads, lines) if row[0] == "requests"]
+        self.assertEqual({(row[1], row[2]) for row in rows}, set(said))
+        for _, connection, *values in rows:
+            row = dict(zip(COLUMNS, values, strict=True))
+            request = said[connection, row["stream"]]
+            cause = request["cause"]
+            self.assertEqual(
+                [row[name] for name in ("kind", "why", "side", "ask", "cause_nanos", "text")],
+                [cause[name] for name in ("kind", "why", "side", "ask", "nanos", "text")],
+            )
+            self.assertEqual([row["first"], row["last"]], [packet(cause["first"]), packet(cause["last"])])
+            self.assertEqual(
+                [row["opened_time"], row["nanos"], bool(row["hung"]), row["ended_how"], row["ended_time"]],
+                [request["opened"]["time"], request["nanos"], request["hung"], request["ended"]["how"],
+                 request["ended"]["at"] and request["ended"]["at"]["time"]],
+            )  # fmt: skip
+
+    def text(self, found: Json, words: list[str]) -> None:
+        """The cause of a request stands in its line; where it is that of another one, that one is named."""
+        text = ran("--all", *words).stdout.decode()
+        parts = re.split(r"^connection (\d+)  ", text, flags=re.M)
+        told = {int(number): part.splitlines() for number, part in zip(parts[1::2], parts[2::2])}
+        for connection in found["connections"]:
+            if connection["outcome"] != "http2":
+                continue
+            lines = [line for line in map(LINE.fullmatch, told[connection["number"]]) if line]
+            by_stream = {int(line[1]): (line[2], line[3]) for line in lines}
+            self.assertEqual(set(by_stream), {request["stream"] for request in connection["requests"]})
+            for request in connection["requests"]:
+                life, cause = by_stream[request["stream"]]
+                self.assertEqual(life, time_of(request["nanos"]))
+                if not cause.startswith(request["cause"]["text"]):
+                    self.as_another(cause, request, by_stream)
+
+    def as_another(self, said: str, request: Json, by_stream: dict[int, tuple[str, str]]) -> None:
+        front, _, why = request["cause"]["text"].partition(": ")
+        named = re.match(re.escape(front) + r": the connection's window, as stream (\d+)", said)
+        assert named, (said, request["cause"]["text"])
+        self.assertEqual(request["cause"]["kind"], "connection-window")
+        self.assertIn(why, by_stream[int(named[1])][1])
+
+    def junit(self, found: Json, said: Named, words: list[str]) -> None:
+        file = self.folder / "junit.xml"
+        ran("--quiet", "--fail-on", REASONS, "--junit", file, *words)
+        top = ElementTree.fromstring(file.read_bytes())
+        for connection in found["connections"]:
+            name = f"connection {connection['number']} {connection['client']} -> {connection['server']}"
+            (suite,) = [suite for suite in top if suite.get("name") == name]
+            cases = suite.findall("testcase")[1:]
+            self.assertEqual(len(cases), len(connection["requests"]))
+            for case, request in zip(cases, connection["requests"]):
+                self.case(case, request)
+
+    def case(self, case: ElementTree.Element, request: Json) -> None:
+        cause = request["cause"]
+        self.assertRegex(case.get("name") or "", rf"^stream {request['stream']}\b")
+        self.assertEqual(case.get("time"), f"{request['nanos'] // 10**6 / 1000:.3f}")
+        self.assertEqual((case.findtext("system-out") or "").strip(), cause["text"].strip())
+        told = (case.findtext("failure") or "").splitlines()
+        failed = dict(line.partition(": ")[::2] for line in told)
+        wanted = {
+            "hung": request["hung"],
+            "stall": cause["kind"] in ("stream-window", "connection-window"),
+            "tcp": cause["kind"] == "tcp",
+            "status": (request["status"] or 0) >= 500 or bool(request["grpc_status"]),
+        }
+        self.assertEqual({reason for reason in wanted if reason in failed}, {one for one in wanted if wanted[one]})
+        for reason in {"hung", "stall", "tcp"} & set(failed):
+            self.assertIn(cause["text"], failed[reason])
+
+    def compared(self, said: Named, capture: pathlib.Path, words: list[str]) -> None:
+        """A capture beside itself: nothing changed, and both halves say what the document says."""
+        run = ran("--json", *words[1:], "--compare", capture, capture)
+        pairs = json.loads(run.stdout)["requests"]
+        for pair in pairs:
+            self.assertEqual(pair["before"], pair["after"])
+            self.assertEqual((pair["change"], pair["life_change"]), ("same", "same"))
+            half = pair["before"]
+            request = said[half["connection"], half["stream"]]
+            for name in ("nanos", "opened", "hung", "status", "grpc_status", "cause"):
+                self.assertEqual(half[name], request[name])
+        self.assertEqual(len(pairs), sum(bool(request["name"]) for request in said.values()))
+
+
+if __name__ == "__main__":
+    sys.argv = programs_of(sys.argv)
+    if not has_programs():
+        sys.exit("h2audit or h2audit-import is not built")
+    unittest.main()
