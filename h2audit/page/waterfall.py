@@ -166,14 +166,13 @@ def direction(one: Json, most: int) -> Json:
     if one["spans"] is None:
         spans = [number for name in NAMES for number in (one["shares"][name], KIND[name]) if one["shares"][name]]
         return {"content": one["content"], "spans": spans, "in_sum": 1}
-    spans = [number for _, nanos, name in joined(one["spans"], most) for number in (nanos, KIND[name])]
+    found = one["spans"] if len(one["spans"]) <= most else joined(one["spans"], most)
+    spans = [number for _, nanos, name in found for number in (nanos, KIND[name])]
     return {"content": one["content"], "spans": spans}
 
 
 def joined(spans: list[list[int | str]], most: int) -> list[tuple[int, int, str]]:
     """At most so many spans: of each stretch of several that kind which takes the most of it."""
-    if len(spans) <= most:
-        return [(int(begin), int(nanos), str(name)) for begin, nanos, name in spans]
     length = -(-len(spans) // most)
     found: list[tuple[int, int, str]] = []
     for at in range(0, len(spans), max(length, 1)):

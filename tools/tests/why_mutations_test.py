@@ -3,6 +3,7 @@
     python3 -m tools.tests.why_mutations_test [H2AUDIT] [NUMBER [FIRST]]
 """
 
+import json
 import pathlib
 import random
 import sys
@@ -48,7 +49,17 @@ def answered(path: pathlib.Path, keys: pathlib.Path, options: list[str]) -> Json
     for line in text.splitlines():
         if not line.isprintable():
             raise AssertionError(repr(line))
+    check_charts(json.loads(ran("--charts", *words).stdout), found)
     return found
+
+
+def check_charts(shown: Json, found: Json) -> None:
+    """What a page shows is of the same answer, and no window goes back."""
+    if shown["summary"] != found["summary"]:
+        raise AssertionError(f"{shown['summary']} and {found['summary']}")
+    for window in (window for one in shown["connections"] for window in one["charts"]["windows"]):
+        if window["frames"] != sorted(set(window["frames"])) or not window["least"] <= window["greatest"]:
+            raise AssertionError(f"{window['side']} {window['stream']}: {window['frames']}")
 
 
 def check(found: Json) -> None:
