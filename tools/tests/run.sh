@@ -127,6 +127,7 @@ try_built 'many captures: requests of large captures' fleet_answers_test "$built
 try_split 'splitter: full parts and disks, names' splitter_test "$split"
 try 'install and package' tools/tests/package_test.sh "$program" "$split"
 try_built 'the answer in words: captures' why_test "$built"
+try_built 'the answer in words: answers found by hand' why_answers_test "$built"
 try_built 'the answer in words: hostile captures' why_hostile_test "$built"
 try_built 'the answer in words: jobs of CI' why_ci_test "$built"
 try_built 'the answer in words: before and after' why_compare_test "$built"

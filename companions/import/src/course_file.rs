@@ -98,6 +98,7 @@ impl CourseFile<'_> {
                 }
             }
             Why::Hole => writeln!(self.out, "hole {number} {} from {from} to {to}", SIDES[side]),
+            Why::Nagle => writeln!(self.out, "nagle {number} {} from {from} to {to}", SIDES[side]),
             Why::ZeroWindow => writeln!(self.out, "window-zero {number} {} from {from} to {to}", SIDES[1 - side]),
         }
     }

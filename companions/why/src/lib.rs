@@ -11,6 +11,7 @@ mod ends_stalls;
 mod gates;
 mod json;
 mod junit;
+mod life;
 mod page;
 mod phrases;
 mod rows;
