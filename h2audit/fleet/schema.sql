@@ -139,7 +139,7 @@ CREATE TABLE requests (
     FOREIGN KEY (capture, connection) REFERENCES connections (capture, number)
 ) WITHOUT ROWID;
 
--- What one side sent of a request: the seven shares sum to its life.
+-- What one side sent of a request: the eight shares sum to its life.
 CREATE TABLE directions (
     capture INTEGER NOT NULL,
     connection INTEGER NOT NULL,
@@ -153,6 +153,7 @@ CREATE TABLE directions (
     stream_stall_nanos INTEGER NOT NULL,
     connection_stall_nanos INTEGER NOT NULL,
     tcp_nanos INTEGER NOT NULL,
+    others_nanos INTEGER NOT NULL,
     idle_nanos INTEGER NOT NULL,
     unseen_nanos INTEGER NOT NULL,
     first_packet INTEGER,

@@ -23,6 +23,7 @@ WHY = {
     "zero-window": "the TCP window was 0",
     "resent": "bytes were sent again",
     "hole": "bytes came out of order",
+    "nagle": "a small piece waited for an acknowledgement",
     "within-frame": "the rest of a frame came slowly",
     "before": "it took long to begin",
     "between": "it sent nothing, with credit left",

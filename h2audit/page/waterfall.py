@@ -20,7 +20,7 @@ MOST_BYTES = 900_000
 SPANS = (512, 64, 16, 4)
 MOST_NAME, MOST_TEXT = 200, 500
 # What a direction of a request can be doing (docs/WHY.md, section 3), in the order of their colours.
-NAMES = ("waiting", "sending", "stream_stall", "connection_stall", "tcp", "idle", "unseen")
+NAMES = ("waiting", "sending", "stream_stall", "connection_stall", "tcp", "others", "idle", "unseen")
 KIND = {name: at for at, name in enumerate(NAMES)}
 HELD = ("stream_stall", "connection_stall", "tcp")
 MARGIN = 0.9

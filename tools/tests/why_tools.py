@@ -22,7 +22,7 @@ BUILT = {
 }
 SIDES = ("client", "server")
 # The shares of a direction's life.
-NAMES = ("waiting", "sending", "stream_stall", "connection_stall", "tcp", "idle", "unseen")
+NAMES = ("waiting", "sending", "stream_stall", "connection_stall", "tcp", "others", "idle", "unseen")
 # So many letters of a name are kept.
 LONGEST_NAME = 1024
 Json = dict[str, Any]

@@ -93,17 +93,19 @@ pub enum Share {
     StreamStall,
     ConnectionStall,
     Tcp,
+    Others,
     Idle,
     Unseen,
 }
 
 impl Share {
-    pub const ALL: [Share; 7] = [
+    pub const ALL: [Share; 8] = [
         Share::Waiting,
         Share::Sending,
         Share::StreamStall,
         Share::ConnectionStall,
         Share::Tcp,
+        Share::Others,
         Share::Idle,
         Share::Unseen,
     ];
@@ -115,6 +117,7 @@ impl Share {
             Share::StreamStall => "stream_stall",
             Share::ConnectionStall => "connection_stall",
             Share::Tcp => "tcp",
+            Share::Others => "others",
             Share::Idle => "idle",
             Share::Unseen => "unseen",
         }
@@ -122,7 +125,7 @@ impl Share {
 }
 
 /// Nanoseconds by [`Share`], in the order of [`Share::ALL`].
-pub type Shares = [Nanos; 7];
+pub type Shares = [Nanos; 8];
 
 #[derive(Clone, Copy, Debug, PartialEq, Eq)]
 pub struct Span {
@@ -143,6 +146,8 @@ pub struct Direction {
     pub first: Option<At>,
     pub end: Option<At>,
     pub stalls: u32,
+    /// Of what it waited, how long that was since the other side's last frame, without TCP and a way there and back.
+    pub waited: Nanos,
 }
 
 /// How a stream or a connection ended.
@@ -172,6 +177,8 @@ pub enum CauseKind {
     ConnectionWindow,
     Tcp,
     Application,
+    /// Its side sent all the time, this stream or others.
+    Path,
     Unseen,
 }
 
@@ -186,6 +193,7 @@ pub enum CauseWhy {
     ZeroWindow,
     Resent,
     Hole,
+    Nagle,
     WithinFrame,
     /// The application sent nothing between two frames.
     Between,
@@ -204,13 +212,19 @@ pub struct Cause {
     pub nanos: Nanos,
     pub first: Option<At>,
     pub last: Option<At>,
-    /// The most credit of the stream's window from before its first content on, by the walk.
+    /// The most credit of the stream's window from before its first content on, by the walk. Where stalls do not show,
+    /// what the SETTINGS and the grants before the content gave to the stream or the connection.
     pub window: i64,
     /// The lesser of the stream's and the connection's credit as the side began to send nothing.
     pub credit: Option<i64>,
     /// The SETTINGS whose initial window was in force as it began: an index into [`ConnectionSaid::settings`].
     pub setting: Option<u32>,
     pub is_proved: bool,
+    /// Whether the side sent nothing at all on the connection, where it sent nothing on the stream.
+    pub is_silent: bool,
+    /// Of a path: what the side sent on the connection meanwhile, and how many streams shared it.
+    pub content: u64,
+    pub streams: u32,
 }
 
 /// A request, and what answered it.
@@ -231,6 +245,8 @@ pub struct Request {
     /// The client's and the server's.
     pub sides: [Direction; 2],
     pub cause: Cause,
+    /// How long a window held it back, if that counts; and whether one had no more grant.
+    pub held: Nanos,
     pub is_hung: bool,
     /// From the begin of its last stall on, where it hung.
     pub hung_nanos: Nanos,

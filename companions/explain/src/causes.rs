@@ -3,7 +3,7 @@
 
 use import::Why;
 
-use crate::answer::{Cause, CauseKind, CauseWhy, Nanos, Place, Request, Share, StallWhy};
+use crate::answer::{Cause, CauseKind, CauseWhy, How, Nanos, Place, Request, Share, StallWhy};
 use crate::seen::Seen;
 use crate::side_of;
 use crate::stream::{Direction, Stream};
@@ -11,15 +11,24 @@ use crate::stream::{Direction, Stream};
 /// Flow control or TCP held a request back where it did so for 1 ms and for 1 % of its life, at least.
 const LEAST_HELD: Nanos = 1_000_000;
 const HELD_SHARE: i128 = 100;
-/// An application is named where it sent nothing for 10 ms and for a tenth of the request's life, at least.
+/// An application is named where it sent nothing for 10 ms and for a tenth of the request's life, at least; a path where
+/// a side sent for 10 ms and more than half of it.
 const LEAST_IDLE: Nanos = 10_000_000;
 const IDLE_SHARE: i128 = 10;
 
-/// A request whose cause is sought, and the stream that it is told from.
+/// A request whose cause is sought, the stream that it is told from, and how its directions ended.
 pub struct Held<'a> {
     pub seen: &'a Seen,
     pub stream: &'a Stream,
     pub request: &'a Request,
+    pub ends: [How; 2],
+}
+
+/// What held a request back most, how long a window did, and for how long it hung, if it did.
+pub struct Found {
+    pub cause: Cause,
+    pub held: Nanos,
+    pub hung: Option<Nanos>,
 }
 
 fn is_held(nanos: Nanos, request: &Request) -> bool {
@@ -44,24 +53,34 @@ pub fn no_cause() -> Cause {
         credit: None,
         setting: None,
         is_proved: false,
+        is_silent: false,
+        content: 0,
+        streams: 0,
     }
 }
 
+/// The one that took most; of several the first.
+fn most_of<T>(all: impl IntoIterator<Item = T>, nanos: impl Fn(&T) -> Nanos) -> Option<T> {
+    all.into_iter().reduce(|most, one| if nanos(&one) > nanos(&most) { one } else { most })
+}
+
+fn longest(causes: impl IntoIterator<Item = Cause>) -> Option<Cause> {
+    most_of(causes, |cause| cause.nanos)
+}
+
 impl Held<'_> {
-    /// Gives the request its cause.
-    pub fn cause(&self) -> Cause {
-        let mut found: Vec<Cause> = (0..2).flat_map(|side| self.of_direction(side)).flatten().collect();
-        found.extend((0..2).filter_map(|side| self.unshown(side)));
-        if !found.iter().any(is_window) {
-            found.extend(self.of_application());
-        }
-        let mut most: Option<Cause> = None;
-        for cause in found {
-            if most.map_or(true, |most| cause.nanos > most.nanos) {
-                most = Some(cause);
-            }
-        }
-        most.unwrap_or_else(|| self.unseen())
+    /// Seeks the cause. A window that had no more grant is it, whatever took longer before.
+    pub fn found(&self) -> Found {
+        let mut named: Vec<Cause> = (0..2).flat_map(|side| self.of_direction(side)).flatten().collect();
+        named.extend((0..2).filter_map(|side| self.unshown(side)));
+        let held = named.iter().filter(|cause| is_window(cause)).map(|cause| cause.nanos).max().unwrap_or(0);
+        let hung = most_of(named.iter().filter_map(|cause| self.hung(cause)), |hung| hung.0.nanos);
+        let path = if named.is_empty() { self.path() } else { None };
+        let cause = hung.map(|hung| hung.0).or(path).or_else(|| {
+            named.extend(self.of_application());
+            longest(named)
+        });
+        Found { cause: cause.unwrap_or_else(|| self.unseen()), held, hung: hung.map(|hung| hung.1) }
     }
 
     /// Most of its life was not seen, or nothing held it back.
@@ -124,15 +143,19 @@ impl Held<'_> {
     fn of_tcp(&self, side: usize) -> Cause {
         let (said, nanos) = (&self.request.sides[side], self.share(side, Share::Tcp));
         let cause = Cause { kind: CauseKind::Tcp, side: side_of(side), nanos, ..no_cause() };
-        match self.seen.about.tcp.held_by(side, self.life(side), nanos) {
+        // What a side waits for may be bytes that asked for it, and were sent again.
+        let by = |whose: usize| self.seen.about.tcp.held_by(whose, self.life(side), nanos).map(|by| (whose, by));
+        let by_asked = || by(1 - side).filter(|(_, by)| by.why == Why::Resent);
+        match by(side).or_else(by_asked) {
             None => Cause { why: CauseWhy::WithinFrame, first: said.first, last: said.end, ..cause },
-            Some(by) => {
+            Some((whose, by)) => {
                 let (why, ask) = match by.why {
                     Why::ZeroWindow => (CauseWhy::ZeroWindow, Some(side_of(1 - side))),
                     Why::Resent => (CauseWhy::Resent, None),
                     Why::Hole => (CauseWhy::Hole, None),
+                    Why::Nagle => (CauseWhy::Nagle, Some(side_of(side))),
                 };
-                Cause { why, ask, first: Some(by.first), last: Some(by.last), ..cause }
+                Cause { why, ask, side: side_of(whose), first: Some(by.first), last: Some(by.last), ..cause }
             }
         }
     }
@@ -152,28 +175,66 @@ impl Held<'_> {
             let (first, last) = times.within(begin, end);
             times.sum(first, last)
         });
+        let one = &self.stream.sides[side];
+        let left = if one.window.is_live { 0 } else { one.window.credit };
+        let of_stream = one.window.first.unwrap_or(0).max(left);
         let found = [
-            (CauseKind::StreamWindow, self.stream.sides[side].unshown_nanos),
-            (CauseKind::ConnectionWindow, of_connection),
+            (CauseKind::StreamWindow, one.unshown_nanos, of_stream),
+            (CauseKind::ConnectionWindow, of_connection, self.seen.granted_windows[side]),
         ];
-        let mut most: Option<Cause> = None;
-        for (kind, nanos) in found.into_iter().filter(|one| is_held(one.1, self.request)) {
-            let nanos = nanos.min(said.nanos);
-            if most.map_or(true, |most| nanos > most.nanos) {
-                let cause = self.window_cause(side, kind, CauseWhy::Unshown, nanos);
-                most = Some(Cause { first: said.first, last: said.end, ..cause });
-            }
-        }
-        most
+        let is_so = |one: &(CauseKind, Nanos, i64)| is_held(one.1, self.request) && self.is_used(side, one.2);
+        longest(found.into_iter().filter(is_so).map(|(kind, nanos, window)| Cause {
+            first: said.first,
+            last: said.end,
+            window,
+            ..self.window_cause(side, kind, CauseWhy::Unshown, nanos.min(said.nanos))
+        }))
     }
 
-    /// A side that sent nothing though it had credit: between two frames, or before its first.
+    /// Whether a window can be what holds back: it carries less in a round trip than twice the rate that was seen between
+    /// pauses, of all streams.
+    fn is_used(&self, side: usize, window: i64) -> bool {
+        let beside = &self.stream.sides[side].beside;
+        let round_trip = self.seen.about.round_trip.nanos().unwrap_or(0);
+        i128::from(window) * i128::from(beside.active) < 2 * i128::from(beside.content) * i128::from(round_trip)
+    }
+
+    /// A side sent all the time, this stream or others, so that what all of them need took the time.
+    fn path(&self) -> Option<Cause> {
+        if self.request.nanos() < LEAST_IDLE {
+            return None;
+        }
+        let of_side = |side: usize| {
+            let (said, beside) = (&self.request.sides[side], &self.stream.sides[side].beside);
+            let nanos = self.share(side, Share::Sending) + self.share(side, Share::Others);
+            let is_most = nanos >= LEAST_IDLE && i128::from(nanos) * 2 > i128::from(self.request.nanos());
+            is_most.then(|| Cause {
+                kind: CauseKind::Path,
+                side: side_of(side),
+                nanos,
+                first: said.first,
+                last: said.end,
+                content: beside.content,
+                streams: beside.streams,
+                ..no_cause()
+            })
+        };
+        longest((0..2).filter_map(of_side))
+    }
+
+    /// A side that sent nothing though it had credit: between two frames, or before its first. Of a request that never
+    /// ended it is a side that did not end it, the client first, which opened it.
     fn of_application(&self) -> Vec<Cause> {
-        let found = (0..2).flat_map(|side| [self.waited(side), self.between(side)]).flatten();
+        if self.request.nanos() < LEAST_IDLE {
+            return Vec::new();
+        }
         let is_long = |cause: &Cause| {
             cause.nanos >= LEAST_IDLE && i128::from(cause.nanos) * IDLE_SHARE >= i128::from(self.request.nanos())
         };
-        found.filter(is_long).collect()
+        let of_side = |side: usize| [self.waited(side), self.between(side)].into_iter().flatten().filter(is_long);
+        let open = (0..2).filter(|side| self.ends[*side] != How::EndStream);
+        let asked = open.map(|side| of_side(side).collect::<Vec<_>>()).find(|causes| !causes.is_empty());
+        asked.unwrap_or_else(|| (0..2).flat_map(of_side).collect())
     }
 
     fn application(&self, side: usize, why: CauseWhy, nanos: Nanos) -> Cause {
@@ -183,18 +244,12 @@ impl Held<'_> {
     /// How long a side took to begin after the other one's last frame before that.
     fn waited(&self, side: usize) -> Option<Cause> {
         let (said, one): (_, &Direction) = (&self.request.sides[side], &self.stream.sides[side]);
-        let waiting = self.share(side, Share::Waiting);
-        if waiting == 0 {
-            return None;
-        }
-        let begins = said.first.map_or(self.request.until, |first| first.time);
-        let nanos = waiting.min(begins.saturating_sub(one.asked.time));
-        let nanos = nanos.saturating_sub(self.seen.about.round_trip.to_side(side));
-        (nanos > 0).then(|| Cause {
+        (said.waited > 0).then(|| Cause {
             first: Some(one.asked),
             last: said.first.or(said.end),
             credit: one.asked_credit,
-            ..self.application(side, CauseWhy::Before, nanos)
+            is_silent: one.was_silent,
+            ..self.application(side, CauseWhy::Before, said.waited)
         })
     }
 
@@ -207,6 +262,7 @@ impl Held<'_> {
             first: idle.before.or(said.first),
             last: idle.after.or(said.end),
             credit: idle.credit,
+            is_silent: one.life.is_silent,
             ..self.application(side, CauseWhy::Between, end - begin)
         })
     }

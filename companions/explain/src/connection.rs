@@ -3,11 +3,11 @@
 use captures::{placed, Arrival, Flow};
 use programs::Failure;
 
-use crate::answer::{ConnectionSaid, Nanos, StallSaid, StallWhy};
+use crate::answer::{ConnectionSaid, Nanos, RoundTrip, Source, StallSaid, StallWhy};
 use crate::audit::{broken, Audit};
 use crate::blocks::Blocks;
 use crate::charts::Charts;
-use crate::course::Course;
+use crate::course::{Course, Waits};
 use crate::cutter::{kind, Cutter, Head};
 use crate::doubts::limits_of;
 use crate::findings::Findings;
@@ -26,12 +26,16 @@ use crate::table::Table;
 use crate::tcp::Tcp;
 use crate::unanswered::Unanswered;
 use crate::unshown::Unshown;
-use crate::walk::{Asking, Walk};
+use crate::walk::{Asking, Walk, MOST_KEPT};
 use crate::windows::FIRST_CREDIT;
+use crate::words::time_of;
 
 /// What of a field block is wanted: enough to see that it is too long.
 const MOST_FIELDS: usize = hpack::LONGEST_BLOCK + 512;
 const MOST_GOAWAY: usize = 8 + 1024;
+/// The time of a first answer is told where it is so long, and so many round trips.
+const LONG_ANSWER: Nanos = 100_000_000;
+const LONG: Nanos = 4;
 
 /// A connection whose frames come.
 pub struct Connection {
@@ -85,6 +89,9 @@ impl Connection {
             bursts: Default::default(),
             unshown,
             uses_window: [false; 2],
+            totals: Default::default(),
+            most_kept: [MOST_KEPT; 2],
+            begun: None,
             overflow: None,
             early_grants: Default::default(),
             charts,
@@ -109,6 +116,7 @@ impl Connection {
             None => return Ok(()),
         };
         let data = self.flows[side].add(offset, data, Arrival { packet: number, nanos: at.time });
+        self.walk.begun = self.cutters[1 - side].cut_frame().map(|cut| cut.0);
         let (walk, all_frames, mut taken) = (&mut self.walk, &mut self.all_frames, Ok(()));
         self.cutters[side].take(&data, at.time, |cut| {
             if taken.is_ok() {
@@ -184,13 +192,16 @@ fn about(known: &Known, audit: &Audit, course: &mut import::Course, stop: Option
     let lost = known.gaps.iter().flatten().map(|gap| gap.nanos).min().unwrap_or(Nanos::MAX);
     let unseen = lost.min(stop.unwrap_or(Nanos::MAX));
     let is_uncaptured = course.sides.iter().any(|side| side.uncaptured.bytes > 0);
-    let round_trip = round_trip_of(handshake_of(course), known.quickest);
+    let handshake = handshake_of(course);
+    let ways = [0, 1].map(|side| course.ways[side].or(handshake[side]));
+    let round_trip = round_trip_of(ways, &known.quickest);
     let tcp = Tcp::new(course, known.last);
     let pause = round_trip.pause();
     let courses = [0, 1].map(|side| {
         let stalls = audit.stalls.iter().filter(|one| one.stream == 0 && one.side == side);
         let stalls = stalls.map(|one| (one.begin.time, one.end.map_or(Nanos::MAX, |end| end.time).min(unseen)));
-        Course::new(stalls.collect(), tcp.held_times(side), pause, unseen)
+        let waits = Waits { own: tcp.held_before(side), asked: tcp.sent_again(1 - side) };
+        Course::new(stalls.collect(), tcp.held_times(side), pause, unseen).with_waits(waits)
     });
     About {
         opened: known.opened,
@@ -205,12 +216,11 @@ fn about(known: &Known, audit: &Audit, course: &mut import::Course, stop: Option
     }
 }
 
-/// From SYN to SYN ACK the way to the server and back, from there to ACK that to the client.
-fn handshake_of(course: &import::Course) -> Option<[Nanos; 2]> {
-    let (answer, ack) = (course.syn_ack?, course.ack?);
-    let to_server = answer.nanos.saturating_sub(course.syn.nanos);
-    let to_client = ack.nanos.saturating_sub(answer.nanos);
-    (to_server >= 0 && to_client >= 0).then_some([to_client, to_server])
+/// From SYN to SYN ACK the way to the server and back, from there to ACK that to the client, whatever they acknowledge.
+fn handshake_of(course: &import::Course) -> [Option<Nanos>; 2] {
+    let way = |from: Option<Arrival>, to: Option<Arrival>| Some(to?.nanos.saturating_sub(from?.nanos));
+    let ways = [way(course.syn_ack, course.ack), way(Some(course.syn), course.syn_ack)];
+    ways.map(|way| way.filter(|nanos| *nanos >= 0))
 }
 
 fn leaks_of(stalls: &[StallSaid]) -> [Option<Box<Leaks>>; 2] {
@@ -231,15 +241,15 @@ fn leaks_of(stalls: &[StallSaid]) -> [Option<Box<Leaks>>; 2] {
 type CutFrames<'a> = [Option<(u32, &'a [Nanos])>; 2];
 
 fn ended(walk: Walk, cuts: CutFrames<'_>, said: &mut ConnectionSaid) -> (Packed, Seen) {
-    let Walk { about, known, table, initials, windows, settings, blocks, signals, findings, leaks, .. } = walk;
+    let Walk { mut about, known, table, initials, windows, settings, blocks, signals, findings, leaks, .. } = walk;
     let Walk { unanswered, bursts, unshown, mut uses_window, stop, charts, .. } = walk;
+    let is_kept = known.back.is_some();
     let packed = table.end(|stream| {
         stream.sides.iter_mut().zip(&initials).for_each(|(one, initial)| one.window.look(initial));
-        if known.back.is_some() {
-            finish_kept(stream, &about, (&signals.refusing, signals.error()), &cuts);
-        }
+        finish(stream, &about, (&signals.refusing, signals.error()), is_kept.then_some(&cuts));
         stream.note_content(&mut uses_window);
     });
+    about.courses.iter_mut().for_each(|course| course.forget(Nanos::MAX));
     said.round_trip = about.round_trip;
     said.captured_at = about.captured_at;
     said.until = about.tcp.last.time.max(said.begin);
@@ -248,6 +258,7 @@ fn ended(walk: Walk, cuts: CutFrames<'_>, said: &mut ConnectionSaid) -> (Packed,
     let has_overflow = findings.said.iter().any(|fault| fault.finding.kind.name() == "setting-overflow");
     said.notes.extend(unanswered.said(has_overflow));
     said.notes.extend(bursts.said());
+    said.notes.extend((0..2).filter_map(|side| first_answer(&known, &about.round_trip, side)));
     said.notes.extend(blocks.iter().zip(["requests", "answers"]).filter_map(|(blocks, whose)| blocks.unknown(whose)));
     said.stopped_at = stop;
     said.closing = about.tcp.closing(about.opened.time);
@@ -268,6 +279,7 @@ fn ended(walk: Walk, cuts: CutFrames<'_>, said: &mut ConnectionSaid) -> (Packed,
         refusing,
         error,
         connection_windows: said.connection_windows,
+        granted_windows: windows.map(|window| window.first.unwrap_or(0).max(window.credit).max(FIRST_CREDIT)),
         unshown,
         changes,
         about,
@@ -288,13 +300,26 @@ fn stalls_and_leaks(said: &mut ConnectionSaid, mut stalls: Vec<StallSaid>, leaks
     said.stalls = stalls;
 }
 
-/// Divides the life of a stream whose times go back.
-fn finish_kept(stream: &mut Stream, about: &About, goaways: Goaways<'_>, cuts: &CutFrames<'_>) {
-    for (side, cut) in cuts.iter().enumerate() {
+/// Divides what is left of the life of a stream; all of it, where times go back.
+fn finish(stream: &mut Stream, about: &About, goaways: Goaways<'_>, cuts: Option<&CutFrames<'_>>) {
+    for side in 0..2 {
         let end = end_of(stream, side, goaways, &about.tcp);
         let until = end.at.map_or(stream.opened.time, |at| at.time);
         let (opened, holding) = (stream.opened.time, about.holding(side, stream.number));
-        let cut = cut.filter(|cut| cut.0 == stream.number).map(|cut| cut.1);
-        stream.sides[side].finish_kept(&holding, opened, until, cut);
+        match cuts {
+            Some(cuts) => {
+                let cut = cuts[side].filter(|cut| cut.0 == stream.number).map(|cut| cut.1);
+                stream.sides[side].finish_kept(&holding, opened, until, cut);
+            }
+            None => stream.sides[side].finish(&holding, until, false),
+        }
     }
+}
+
+/// How long a side took for its first reaction, where that is no way but its own time.
+fn first_answer(known: &Known, round_trip: &RoundTrip, side: usize) -> Option<String> {
+    let (took, way) = (known.quickest[side].first?, round_trip.nanos()?);
+    let is_own = round_trip.source == Some(Source::Tcp) && took >= LONG_ANSWER && took >= way.saturating_mul(LONG);
+    let (side, took, way) = (side_of(side), time_of(took), time_of(way));
+    is_own.then(|| format!("the {side}'s first answer took {took}: its own time, since a round trip takes {way}"))
 }

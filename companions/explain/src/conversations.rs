@@ -131,7 +131,8 @@ fn course(end: Nanos) -> import::Course {
     let mut sides: [import::Side; 2] = Default::default();
     sides[SERVER].fin = Some(at(90, end));
     sides[SERVER].last = Some(at(90, end));
-    import::Course { syn: at(1, 0), syn_ack: Some(at(2, 0)), ack: Some(at(3, 0)), sides, held: Vec::new() }
+    let (syn_ack, ack) = (Some(at(2, 0)), Some(at(3, 0)));
+    import::Course { syn: at(1, 0), syn_ack, ack, sides, ways: [Some(0); 2], held: Vec::new(), again: Vec::new() }
 }
 
 fn shares(request: &Request, side: usize) -> Vec<(&'static str, Nanos)> {

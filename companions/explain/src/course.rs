@@ -1,32 +1,43 @@
-//! What holds back one side of a connection beside its streams' own windows: the connection's stalls and TCP.
+//! What one side of a connection does beside a stream's own frames: what holds it back, which is known before the
+//! frames come, and when it sends on any stream, which is learned as they come (docs/WHY.md, 3).
 
-use crate::answer::{Nanos, Share, Shares};
+use crate::answer::{Nanos, Share};
 use crate::intervals::{disjoint, without, Interval};
+use crate::marks::Marks;
 
-/// Sums up to each border answer for any stretch of time in two searches.
+/// So many stretches are looked at in which TCP held back what a direction began with.
+const MOST_WAITS: usize = 64;
+/// So many of a side's last frames are looked at.
+const MOST_LAST: usize = 4;
+const PART: Nanos = 20;
+
 #[derive(Clone, Debug, Default)]
 pub struct Course {
     /// The longest pause within sending.
     pub pause: Nanos,
     /// The time from which something was not seen, or not judged.
     pub unseen: Nanos,
-    marked: Vec<Marked>,
+    /// The connection's stalls and TCP.
+    held: Marks,
+    /// The same as far as frames came, and stretches between them in which the side sent on some stream all the time.
+    sent: Marks,
+    /// The last packet, from when on these are known, and the next of what holds back that is not among them.
+    sent_to: Nanos,
+    sent_from: Nanos,
+    next: usize,
+    /// When the last frames of the side came, also those of no stream, the latest first.
+    last: [Nanos; MOST_LAST],
+    waits: Waits,
 }
 
-/// A stretch in which something holds back.
-#[derive(Clone, Copy, Debug)]
-struct Marked {
-    begin: Nanos,
-    end: Nanos,
-    share: Share,
-    /// The last one of its run: stretches of TCP with longer pauses between them. Within a frame all of a run is TCP,
-    /// which the spans of many directions would else go along, each one by one.
-    run: u32,
-    /// What of the connection's stalls, TCP, pauses and longer stretches lies before it.
-    sums: [Nanos; 4],
+/// When TCP held back what a direction begins with.
+#[derive(Clone, Debug, Default)]
+pub struct Waits {
+    /// What the side sent: bytes before it were missing, or a piece of it had to wait for an acknowledgement.
+    pub own: Vec<Interval>,
+    /// What the other side sent again: when it was sent first, and when again, in the order of the latter.
+    pub asked: Vec<Interval>,
 }
-
-const SUMMED: [Share; 4] = [Share::ConnectionStall, Share::Tcp, Share::Sending, Share::Idle];
 
 impl Course {
     /// By stalls of the connection's window, and stretches in which TCP held back.
@@ -36,129 +47,119 @@ impl Course {
         let stalled = stalled.iter().map(|one| (one.0, one.1, Share::ConnectionStall));
         let mut marked: Vec<_> = stalled.chain(held.iter().map(|one| (one.0, one.1, Share::Tcp))).collect();
         marked.sort_unstable();
-        let mut course = Course { pause, unseen, marked: Vec::with_capacity(marked.len()) };
-        let mut sums = [0; 4];
-        for (begin, end, share) in marked {
-            if let Some(last) = course.marked.last() {
-                sums = last.sums_behind(course.free(last.end, begin), begin);
-            }
-            course.marked.push(Marked { begin, end, share, run: 0, sums });
-        }
-        course.mark_runs();
-        course
-    }
-
-    fn mark_runs(&mut self) {
-        let pause = self.pause;
-        let mut after: Option<Marked> = None;
-        for (at, one) in self.marked.iter_mut().enumerate().rev() {
-            let goes_on =
-                |after: &Marked| one.share == Share::Tcp && after.share == Share::Tcp && after.begin - one.end > pause;
-            one.run = after.filter(goes_on).map_or(at as u32, |after| after.run);
-            after = Some(*one);
+        Course {
+            pause,
+            unseen,
+            held: Marks::of(pause, marked.into_iter()),
+            sent: Marks::new(pause),
+            sent_to: Nanos::MIN,
+            sent_from: Nanos::MIN,
+            next: 0,
+            last: [Nanos::MIN; MOST_LAST],
+            waits: Waits::default(),
         }
     }
 
-    /// A stretch in which nothing holds back: a pause as between packets, or one in which nothing was sent.
-    fn free(&self, begin: Nanos, end: Nanos) -> Share {
-        if end - begin <= self.pause {
-            Share::Sending
-        } else {
-            Share::Idle
-        }
+    pub fn with_waits(self, mut waits: Waits) -> Course {
+        waits.own = disjoint(waits.own);
+        waits.asked.sort_unstable_by_key(|one| one.1);
+        Course { waits, ..self }
     }
 
-    pub fn is_free(&self) -> bool {
-        self.marked.is_empty()
-    }
-
-    /// How many stretches begin up to a moment.
-    fn begun(&self, time: Nanos) -> usize {
-        self.marked.partition_point(|one| one.begin <= time)
-    }
-
-    /// Adds what a stretch in which nothing of a stream was sent is made of.
-    pub fn measure(&self, begin: Nanos, end: Nanos, shares: &mut Shares) {
-        if begin >= end {
+    /// Packets with bytes of a stream's frame came.
+    pub fn sent(&mut self, times: &[Nanos]) {
+        if times.last() == Some(&self.sent_to) {
             return;
         }
-        let mut begin = begin;
-        let next = self.begun(begin);
-        let over = next.checked_sub(1).and_then(|at| self.marked.get(at)).filter(|one| one.end > begin);
-        if let Some(over) = over {
-            let until = end.min(over.end);
-            shares[over.share as usize] += until - begin;
-            begin = until;
-        }
-        match self.marked[next..self.begun(end - 1).max(next)].split_last() {
-            None => shares[self.free(begin, end) as usize] += end - begin,
-            Some((last, before)) => self.measure_over(begin, end, before.first().unwrap_or(last), last, shares),
+        for time in times {
+            self.sent_at(*time);
         }
     }
 
-    /// From a free moment on, from one stretch to another, of which the last may go on past the end.
-    fn measure_over(&self, begin: Nanos, end: Nanos, first: &Marked, last: &Marked, shares: &mut Shares) {
-        shares[self.free(begin, first.begin) as usize] += first.begin - begin;
-        for (at, share) in SUMMED.into_iter().enumerate() {
-            shares[share as usize] += last.sums[at] - first.sums[at];
+    fn sent_at(&mut self, time: Nanos) {
+        let from = self.sent_to;
+        self.sent_to = time.max(from);
+        let is_sending = from != Nanos::MIN && time.saturating_sub(from) <= self.pause;
+        let mut at = from.max(self.sent.end());
+        while let Some((begin, end, share)) = self.held.stretch(self.next).filter(|one| one.0 < time) {
+            if is_sending {
+                self.sent.push(at, begin, Share::Others);
+            }
+            self.sent.push(begin, end, share);
+            at = at.max(end);
+            self.next += 1;
         }
-        let until = end.min(last.end);
-        shares[last.share as usize] += until - last.begin;
-        if until < end {
-            shares[self.free(until, end) as usize] += end - until;
+        if is_sending {
+            self.sent.push(at, time, Share::Others);
         }
     }
 
-    /// The same, one span after the other, as long as the taker wants more; within a frame one for each run. Answers
-    /// where it stopped.
-    pub fn spans(
-        &self,
-        begin: Nanos,
-        end: Nanos,
-        is_within: bool,
-        mut take: impl FnMut(Nanos, Nanos, Share) -> bool,
-    ) -> Nanos {
-        let mut begin = begin;
-        let mut at = self.begun(begin).saturating_sub(1);
-        let last = if is_within { self.begun(end - 1).saturating_sub(1) } else { 0 };
-        while let Some(one) = self.marked.get(at).filter(|one| begin < end && one.begin < end) {
-            if one.begin > begin {
-                let wants_more = take(begin, one.begin, self.free(begin, one.begin));
-                begin = one.begin;
-                if !wants_more {
-                    return begin;
-                }
-            }
-            if one.end > begin {
-                at = if is_within { (one.run as usize).min(last) } else { at };
-                let until = self.marked[at].end.min(end);
-                let wants_more = take(begin, until, one.share);
-                begin = until;
-                if !wants_more {
-                    return begin;
-                }
-            }
-            at += 1;
+    /// A frame of the side came, after all that it is about is done.
+    pub fn came(&mut self, time: Nanos) {
+        if time > self.last[0] {
+            self.last.rotate_right(1);
+            self.last[0] = time;
         }
-        if begin < end {
-            take(begin, end, self.free(begin, end));
-        }
-        end
     }
-}
 
-impl Marked {
-    /// What lies before the next stretch, up to which it is free.
-    fn sums_behind(&self, free: Share, next: Nanos) -> [Nanos; 4] {
-        let mut sums = self.sums;
-        for (sum, share) in sums.iter_mut().zip(SUMMED) {
-            if share == self.share {
-                *sum += self.end - self.begin;
-            } else if share == free {
-                *sum += next - self.end;
-            }
+    /// Whether no frame of the side came in a stretch of time that is just over, but in its first and its last twentieth,
+    /// as an acknowledgement, or one that ends all. Of one that was over long before it is not known.
+    pub fn is_silent(&self, since: Nanos, until: Nanos) -> bool {
+        let part = until.saturating_sub(since) / PART;
+        let (begin, end) = (since.saturating_add(part), until.saturating_sub(part));
+        let is_known = self.last.iter().any(|time| *time <= begin);
+        is_known && self.last.iter().all(|time| *time <= begin || *time >= end)
+    }
+
+    /// How many stretches are kept; and lets go of those that no direction needs, which none before a moment does.
+    pub fn kept(&self) -> usize {
+        self.sent.len()
+    }
+
+    pub fn forget(&mut self, until: Nanos) {
+        if let Some(known) = self.sent.forget(until) {
+            self.sent_from = known;
         }
-        sums
+    }
+
+    /// Whether nothing holds back.
+    pub fn is_free(&self) -> bool {
+        self.held.is_empty()
+    }
+
+    /// Whether there is nothing to tell a longer pause by than that it is one.
+    pub fn is_idle(&self, begin: Nanos) -> bool {
+        self.held.is_empty() && self.sent.end() <= begin
+    }
+
+    /// How long TCP held back within a stretch of time.
+    pub fn tcp_within(&self, begin: Nanos, end: Nanos) -> Nanos {
+        let mut found = [0; 8];
+        self.held.measure(begin, end, &mut found);
+        found[Share::Tcp as usize]
+    }
+
+    /// When TCP held back what a direction begins with, which was asked for at a time.
+    pub fn waits(&self, begin: Nanos, end: Nanos, asked: Nanos) -> Vec<Interval> {
+        let (own, again) = (&self.waits.own, &self.waits.asked);
+        if own.is_empty() && again.is_empty() {
+            return Vec::new();
+        }
+        let before = own.partition_point(|one| one.0 < end);
+        let own = own[..before].iter().rev().take_while(|one| one.1 > begin).take(MOST_WAITS);
+        let behind = again.partition_point(|one| one.1 <= asked);
+        let again = again[behind..].iter().take(MOST_WAITS).filter(|one| one.0 <= asked && one.1 <= end);
+        let all = own.map(|one| (one.0.max(begin), one.1.min(end)));
+        disjoint(all.chain(again.map(|one| (asked.max(begin), one.1))).collect())
+    }
+
+    /// The parts of a stretch in which nothing of a stream was sent, each with the marks that are known of it; of a
+    /// pause, or within a frame, those of what holds back alone.
+    pub fn parts(&self, begin: Nanos, end: Nanos, is_within: bool) -> [(Nanos, Nanos, &Marks); 3] {
+        let is_one = is_within || end - begin <= self.pause;
+        let from = if is_one { end } else { self.sent_from.max(begin).min(end) };
+        let to = self.sent.end().max(from).min(end);
+        [(begin, from, &self.held), (from, to, &self.sent), (to, end, &self.held)]
     }
 }
 
@@ -166,40 +167,54 @@ impl Marked {
 mod tests {
     use super::*;
 
-    fn spans(course: &Course, begin: Nanos, end: Nanos, is_within: bool) -> Vec<(Nanos, Nanos, Share)> {
+    fn spans(course: &Course, begin: Nanos, end: Nanos) -> Vec<(Nanos, Nanos, &'static str)> {
         let mut found = Vec::new();
-        course.spans(begin, end, is_within, |from, to, share| {
-            found.push((from, to, share));
-            true
-        });
+        for (begin, end, marks) in course.parts(begin, end, false).into_iter().filter(|part| part.0 < part.1) {
+            marks.spans(begin, end, false, |from, to, share| {
+                found.push((from, to, share.name()));
+                true
+            });
+        }
         found
     }
 
     #[test]
-    fn measures_are_sums_of_spans() {
-        let course = Course::new(vec![(10, 20), (50, 60)], vec![(15, 30), (32, 40), (58, 70), (90, 95)], 5, 1000);
-        for begin in 0..110 {
-            for end in begin + 1..110 {
-                let mut measured = [0; 7];
-                course.measure(begin, end, &mut measured);
-                let mut summed = [0; 7];
-                let mut at = begin;
-                for (from, to, share) in spans(&course, begin, end, false) {
-                    assert_eq!(from, at);
-                    summed[share as usize] += to - from;
-                    at = to;
-                }
-                assert_eq!((at, measured), (end, summed), "{begin} to {end}");
-            }
+    fn other_streams_are_sent_where_nothing_holds_back() {
+        let mut course = Course::new(vec![], vec![(13, 15), (29, 31), (70, 90)], 5, 1000);
+        course.sent(&[10, 12, 16, 20]);
+        course.sent(&[28, 32, 80]);
+        course.came(80);
+        let found = [
+            (0, 10, "idle"),
+            (10, 13, "others"),
+            (13, 15, "tcp"),
+            (15, 20, "others"),
+            (20, 28, "idle"),
+            (28, 29, "others"),
+            (29, 31, "tcp"),
+            (31, 32, "others"),
+            (32, 70, "idle"),
+            (70, 90, "tcp"),
+            (90, 100, "idle"),
+        ];
+        assert_eq!(spans(&course, 0, 100), found);
+        assert_eq!(spans(&course, 11, 16), [(11, 13, "sending"), (13, 15, "tcp"), (15, 16, "sending")], "a pause");
+        assert!(course.is_silent(79, 100) && course.is_silent(60, 81) && !course.is_silent(60, 100));
+        for time in 90..94 {
+            course.came(time);
         }
+        assert!(!course.is_silent(80, 90), "long ago");
+        course.forget(30);
+        assert_eq!(spans(&course, 10, 32).last(), Some(&(31, 32, "others")));
+        assert_eq!(spans(&course, 10, 20), [(10, 13, "sending"), (13, 15, "tcp"), (15, 20, "sending")], "forgotten");
     }
 
     #[test]
-    fn within_a_frame_a_run_of_tcp_is_one_span() {
-        let course = Course::new(vec![], vec![(10, 12), (20, 22), (30, 32), (33, 34)], 5, 1000);
-        let tcp = Share::Tcp;
-        assert_eq!(spans(&course, 10, 25, true), [(10, 22, tcp), (22, 25, Share::Sending)]);
-        let all = [(0, 10, Share::Idle), (10, 32, tcp), (32, 33, Share::Sending), (33, 34, tcp), (34, 40, Share::Idle)];
-        assert_eq!(spans(&course, 0, 40, true), all);
+    fn what_a_direction_waits_for() {
+        let waits = Waits { own: vec![(10, 20), (50, 60)], asked: vec![(5, 40), (30, 45), (2, 90)] };
+        let course = Course::new(vec![], vec![], 5, 1000).with_waits(waits);
+        assert_eq!(course.waits(6, 55, 25), [(10, 20), (25, 40), (50, 55)]);
+        assert_eq!(course.waits(6, 100, 30), [(10, 20), (30, 90)]);
+        assert_eq!(course.waits(20, 50, 45), []);
     }
 }

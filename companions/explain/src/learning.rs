@@ -1,7 +1,6 @@
-//! The first walk, while the import writes: of each connection its quickest answers, its gaps, its last record, where its
+//! The first walk, while the import writes: of each connection its quickest reactions, its gaps, its last record, where its
 //! times go back, and how many frames it has.
 
-use std::collections::{HashMap, VecDeque};
 use std::ffi::OsStr;
 use std::os::unix::ffi::OsStrExt;
 
@@ -9,17 +8,12 @@ use captures::{flags, placed, Arrival, Flow};
 use import::{Addresses, Listener, Summary};
 use programs::{temporary_failure, Failure};
 
-use crate::answer::{At, Files, Nanos};
-use crate::cutter::{flag, kind, Cut, Cutter, Head};
+use crate::answer::{At, Files};
+use crate::cutter::{Cutter, Head};
 use crate::made::Notes;
 use crate::names::text_of;
+use crate::reactions::{Quickest, Reactions};
 use crate::spoken::Spoken;
-
-/// So many PINGs without an answer are remembered.
-const MOST_PINGS: usize = 1 << 16;
-/// SETTINGS without an acknowledgement that are looked at; a peer that answers none is told by the first ones.
-pub const MOST_UNANSWERED: usize = 8;
-const PING: usize = 8;
 
 /// What is known of a connection once the capture is made.
 #[derive(Debug)]
@@ -39,8 +33,8 @@ pub struct Known {
     pub gaps: [Option<Arrival>; 2],
     pub arrivals: [u64; 2],
     pub frames: u32,
-    /// The quickest answer of each side to SETTINGS or PING of the other.
-    pub quickest: [Option<Nanos>; 2],
+    /// The quickest reactions of each side to what the other one sends.
+    pub quickest: [Quickest; 2],
     /// How many SETTINGS of each side were acknowledged, and the frames of the first that were not.
     pub acknowledged: [u32; 2],
     pub unanswered: Vec<u32>,
@@ -60,7 +54,7 @@ pub struct Learned {
     is_early: bool,
     sides: [Side; 2],
     frames: u32,
-    answers: Answers,
+    reactions: Reactions,
 }
 
 /// What is learned of one side.
@@ -71,23 +65,9 @@ struct Side {
     spoken: (Spoken, u64),
 }
 
-/// Answers to SETTINGS and PING.
-#[derive(Debug, Default)]
-struct Answers {
-    /// SETTINGS that wait for an acknowledgement, by their frames; and how many of each side do not.
-    settings: [VecDeque<(u32, Nanos)>; 2],
-    acknowledged: [u32; 2],
-    pings: HashMap<(usize, [u8; PING]), Nanos>,
-    quickest: [Option<Nanos>; 2],
-}
-
 /// How much of a payload is wanted.
 fn wants(head: &Head) -> usize {
-    if head.kind == kind::PING {
-        PING
-    } else {
-        0
-    }
+    Reactions::wants(head.kind, head.length)
 }
 
 impl Learned {
@@ -108,7 +88,7 @@ impl Learned {
             is_early: false,
             sides: [side(true), side(false)],
             frames: 0,
-            answers: Answers::default(),
+            reactions: Reactions::default(),
         }
     }
 
@@ -147,7 +127,7 @@ impl Learned {
     }
 
     fn bytes(&mut self, number: u64, at: At, side: usize, offset: u32, data: &[u8]) {
-        let Learned { sides, frames, answers, .. } = self;
+        let Learned { sides, frames, reactions, .. } = self;
         let one = &mut sides[side];
         let data = one.flow.add(offset, data, Arrival { packet: number, nanos: at.time });
         if data.is_empty() {
@@ -159,7 +139,7 @@ impl Learned {
         }
         one.cutter.take(&data, at.time, |cut| {
             *frames += 1;
-            answers.take(side, *frames, cut, at.time);
+            reactions.take(side, *frames, cut);
         });
     }
 
@@ -177,57 +157,10 @@ impl Learned {
             gaps: [0, 1].map(|side| self.sides[side].flow.behind_hole()),
             arrivals: [0, 1].map(|side| self.sides[side].arrival),
             frames: self.frames,
-            quickest: self.answers.quickest,
-            acknowledged: self.answers.acknowledged,
-            unanswered: self.answers.unanswered(),
+            quickest: self.reactions.quickest,
+            acknowledged: self.reactions.acknowledged,
+            unanswered: self.reactions.unanswered(),
             spoken: [0, 1].map(|side| self.sides[side].spoken),
-        }
-    }
-}
-
-impl Answers {
-    fn unanswered(&self) -> Vec<u32> {
-        let first = |side: usize| self.settings[side].iter().take(MOST_UNANSWERED).map(|one| one.0);
-        let mut frames: Vec<u32> = first(0).chain(first(1)).collect();
-        frames.sort_unstable();
-        frames.truncate(MOST_UNANSWERED);
-        frames
-    }
-
-    fn take(&mut self, side: usize, frame: u32, cut: &Cut<'_>, time: Nanos) {
-        match cut.head.kind {
-            kind::SETTINGS if cut.head.has(flag::ACK) => {
-                let asked = if cut.head.length == 0 { self.settings[1 - side].pop_front() } else { None };
-                if let Some((_, asked)) = asked {
-                    self.acknowledged[1 - side] += 1;
-                    self.answered(side, time, asked);
-                }
-            }
-            kind::SETTINGS if cut.head.length % 6 == 0 => self.settings[side].push_back((frame, time)),
-            kind::PING => self.ping(side, cut, time),
-            _ => {}
-        }
-    }
-
-    fn ping(&mut self, side: usize, cut: &Cut<'_>, time: Nanos) {
-        let octets = match <[u8; PING]>::try_from(cut.payload) {
-            Ok(octets) if cut.head.length as usize == PING => octets,
-            _ => return,
-        };
-        if cut.head.has(flag::ACK) {
-            if let Some(asked) = self.pings.remove(&(1 - side, octets)) {
-                self.answered(side, time, asked);
-            }
-        } else if self.pings.len() < MOST_PINGS || self.pings.contains_key(&(side, octets)) {
-            self.pings.insert((side, octets), time);
-        }
-    }
-
-    fn answered(&mut self, side: usize, time: Nanos, asked: Nanos) {
-        let took = time.saturating_sub(asked);
-        let quickest = &mut self.quickest[side];
-        if took >= 0 && quickest.map_or(true, |before| took < before) {
-            *quickest = Some(took);
         }
     }
 }

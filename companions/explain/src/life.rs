@@ -4,16 +4,19 @@
 use crate::answer::{Nanos, Share, Shares, Span};
 use crate::course::Course;
 use crate::intervals::Interval;
+use crate::marks::Marks;
 
 /// Spans that are told of one direction; more are told as shares alone.
 pub const MOST_SPANS: u16 = 512;
 const TOO_MANY: u16 = MOST_SPANS + 1;
 
-/// What holds back a direction: the stalls of its window, in order and without overlap, and its side's course.
+/// What holds back a direction: the stalls of its window, in order and without overlap, and its side's course; and when
+/// it was asked to begin.
 #[derive(Clone, Copy)]
 pub struct Holding<'a> {
     pub stalls: &'a [Interval],
     pub course: &'a Course,
+    pub asked: Nanos,
 }
 
 /// The life of one direction up to some moment: from the stream's opening on.
@@ -25,6 +28,8 @@ pub struct Life {
     pub until: Nanos,
     pub shares: Shares,
     pub longest_idle: Interval,
+    /// Whether the side sent nothing at all in it.
+    pub is_silent: bool,
     pub has_begun: bool,
     /// The first of the stream's stalls that may lie behind.
     pub stall: u32,
@@ -42,8 +47,9 @@ impl Life {
         Life {
             at: begin,
             until: UNENDED,
-            shares: [0; 7],
+            shares: [0; 8],
             longest_idle: (begin, begin),
+            is_silent: false,
             has_begun: false,
             stall: 0,
             count: 0,
@@ -58,7 +64,7 @@ impl Life {
         let first = first.max(self.at).min(self.until);
         let last = last.max(first).min(self.until);
         if !self.has_begun {
-            self.put(self.at, first, Share::Waiting);
+            self.wait(holding, self.at, first);
         } else if first > self.at {
             self.pause(holding, self.at, first, is_within);
         }
@@ -73,9 +79,20 @@ impl Life {
         if self.has_begun {
             self.pause(holding, at, until, is_within);
         } else {
-            self.put(at, until, Share::Waiting);
+            self.wait(holding, at, until);
         }
         self.at = until;
+    }
+
+    /// The stretch before its first frame.
+    fn wait(&mut self, holding: &Holding<'_>, begin: Nanos, end: Nanos) {
+        let mut begin = begin;
+        for (from, to) in holding.course.waits(begin, end, holding.asked) {
+            self.put(begin, from, Share::Waiting);
+            self.put(from, to, Share::Tcp);
+            begin = to;
+        }
+        self.put(begin, end, Share::Waiting);
     }
 
     /// A stretch between two frames.
@@ -105,26 +122,33 @@ impl Life {
         }
         let long = if is_within { Share::Tcp } else { Share::Idle };
         let in_pause = |from: Nanos, longer: Share| if end - from <= course.pause { Share::Sending } else { longer };
-        if course.is_free() && end <= course.unseen {
+        let is_one = is_within || end - begin <= course.pause;
+        if (course.is_idle(begin) || is_one && course.is_free()) && end <= course.unseen {
             self.put(begin, end, in_pause(begin, long));
-            return;
+        } else {
+            let seen = end.min(begin.max(course.unseen));
+            for (from, to, marks) in course.parts(begin, seen, is_within) {
+                self.by_marks(marks, from, to, is_within);
+            }
+            self.put(seen, end, in_pause(seen, Share::Unseen));
         }
-        let seen = end.min(begin.max(course.unseen));
+        if self.longest_idle.0 >= begin {
+            self.is_silent = course.is_silent(self.longest_idle.0, self.longest_idle.1);
+        }
+    }
+
+    /// A stretch by marks: its spans, as far as they are told, and the rest as sums.
+    fn by_marks(&mut self, marks: &Marks, begin: Nanos, end: Nanos, is_within: bool) {
+        let long = if is_within { Share::Tcp } else { Share::Idle };
         let mut told_to = begin;
-        if self.is_told() && begin < seen {
-            told_to = course.spans(begin, seen, is_within, |from, to, share| {
+        if self.is_told() && begin < end {
+            told_to = marks.spans(begin, end, is_within, |from, to, share| {
                 self.put(from, to, if share == Share::Idle { long } else { share });
                 self.is_told()
             });
         }
-        self.measure(course, told_to, seen, is_within);
-        self.put(seen, end, in_pause(seen, Share::Unseen));
-    }
-
-    /// The rest of a stretch, of which no spans are told.
-    fn measure(&mut self, course: &Course, begin: Nanos, end: Nanos, is_within: bool) {
-        let mut found = [0; 7];
-        course.measure(begin, end, &mut found);
+        let mut found = [0; 8];
+        marks.measure(told_to, end, &mut found);
         if is_within {
             found[Share::Tcp as usize] += std::mem::take(&mut found[Share::Idle as usize]);
         }
@@ -187,7 +211,7 @@ mod tests {
 
     /// Shares are sums of spans, and both sum to the life.
     fn check(life: &Life, begin: Nanos) {
-        let mut shares = [0; 7];
+        let mut shares = [0; 8];
         for span in life.spans.iter().flatten() {
             shares[span.share as usize] += span.end - span.begin;
         }
@@ -198,7 +222,7 @@ mod tests {
     #[test]
     fn what_it_was_doing() {
         let course = Course::new(vec![(200, 300)], vec![(250, 400)], 20, 900);
-        let holding = Holding { stalls: &[(110, 150), (210, 220)], course: &course };
+        let holding = Holding { stalls: &[(110, 150), (210, 220)], course: &course, asked: 0 };
         let mut one = life(0, 1000);
         one.sent(&holding, 50, 60, false);
         one.sent(&holding, 70, 100, false);
@@ -224,7 +248,7 @@ mod tests {
     #[test]
     fn within_a_frame_a_longer_pause_is_tcp() {
         let course = Course::new(vec![], vec![], 20, UNENDED);
-        let holding = Holding { stalls: &[], course: &course };
+        let holding = Holding { stalls: &[], course: &course, asked: 0 };
         let mut one = life(0, 300);
         for (time, is_within) in [(0, false), (100, true), (120, true)] {
             one.sent(&holding, time, time, is_within);
@@ -237,7 +261,7 @@ mod tests {
     #[test]
     fn times_that_go_back_count_as_the_latest_before() {
         let course = Course::new(vec![], vec![], 20, UNENDED);
-        let holding = Holding { stalls: &[], course: &course };
+        let holding = Holding { stalls: &[], course: &course, asked: 0 };
         let mut one = life(100, 200);
         for (first, last) in [(50, 150), (120, 130), (400, 90)] {
             one.sent(&holding, first, last, false);
@@ -251,7 +275,7 @@ mod tests {
     fn more_spans_than_are_told() {
         let held = (0..600).map(|at| (at * 100, at * 100 + 50)).collect();
         let course = Course::new(vec![], held, 20, UNENDED);
-        let holding = Holding { stalls: &[], course: &course };
+        let holding = Holding { stalls: &[], course: &course, asked: 0 };
         let mut one = life(0, 60_000);
         one.sent(&holding, 0, 0, false);
         one.finish(&holding, false);

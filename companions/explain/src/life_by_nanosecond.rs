@@ -3,7 +3,7 @@
 use mutations::Dice;
 
 use crate::answer::{Nanos, Share, Shares};
-use crate::course::Course;
+use crate::course::{Course, Waits};
 use crate::intervals::{disjoint, Interval};
 use crate::life::{Holding, Life};
 
@@ -17,6 +17,11 @@ struct Case {
     stalls: Vec<Interval>,
     connection: Vec<Interval>,
     held: Vec<Interval>,
+    /// What held back its beginning: its own bytes; and those that asked for it, from first to last sending.
+    waits: Waits,
+    asked: Nanos,
+    /// Packets of other streams of its side.
+    others: Vec<Nanos>,
     pause: Nanos,
     unseen: Nanos,
 }
@@ -53,6 +58,9 @@ impl Case {
             stalls: disjoint(intervals(dice, unseen)),
             connection: intervals(dice, unseen),
             held: intervals(dice, Nanos::MAX),
+            waits: Waits { own: intervals(dice, Nanos::MAX), asked: intervals(dice, Nanos::MAX) },
+            asked: number(dice, 70),
+            others: (0..*dice.of_these(&[0, 6, 20])).map(|_| number(dice, 70)).collect(),
             pause: *dice.of_these(&[0, 2, 5, 60]),
             unseen,
         }
@@ -60,7 +68,9 @@ impl Case {
 
     fn divided(&self, has_spans: bool) -> Life {
         let course = Course::new(self.connection.clone(), self.held.clone(), self.pause, self.unseen);
-        let holding = Holding { stalls: &self.stalls, course: &course };
+        let mut course = course.with_waits(self.waits.clone());
+        course.sent(&self.packets());
+        let holding = Holding { stalls: &self.stalls, course: &course, asked: self.asked };
         let mut life = Life { until: self.life.1, ..Life::new(self.life.0, has_spans) };
         for ((first, last), is_within) in &self.frames {
             life.sent(&holding, *first, *last, *is_within);
@@ -69,17 +79,62 @@ impl Case {
         life
     }
 
+    /// All packets of its side with bytes of frames.
+    fn packets(&self) -> Vec<Nanos> {
+        let own = self.frames.iter().flat_map(|frame| [frame.0 .0, frame.0 .1]);
+        let mut all: Vec<Nanos> = own.chain(self.others.iter().copied()).collect();
+        all.sort_unstable();
+        all
+    }
+
+    /// How long the stretch around a moment is in which nothing of the stream was sent, and its window was not stalled.
+    fn around(&self, at: Nanos) -> Nanos {
+        let is_taken = |at: Nanos| {
+            let is_sent = self.frames.iter().any(|frame| (frame.0 .0..frame.0 .1).contains(&at));
+            is_sent || self.stalls.iter().any(|one| (one.0..one.1).contains(&at))
+        };
+        let is_border = |at: Nanos| {
+            let is_sent = self.frames.iter().any(|frame| frame.0 .0 == at || frame.0 .1 == at);
+            is_sent || at == self.unseen || at == self.life.0 || at == self.life.1
+        };
+        let (mut begin, mut end) = (at, at + 1);
+        while !is_border(begin) && !is_taken(begin - 1) {
+            begin -= 1;
+        }
+        while !is_border(end) && !is_taken(end) {
+            end += 1;
+        }
+        end - begin
+    }
+
+    /// Whether the side sent other streams all the time around a moment, in a longer pause of this one.
+    fn is_beside(&self, at: Nanos) -> bool {
+        let packets = self.packets();
+        let is_sending = packets.windows(2).any(|two| (two[0]..two[1]).contains(&at) && two[1] - two[0] <= self.pause);
+        is_sending && self.long_at(at) == Share::Idle && self.around(at) > self.pause
+    }
+
+    /// Whether TCP held back its beginning at a moment before that.
+    fn is_waiting_for_tcp(&self, at: Nanos, first: Nanos) -> bool {
+        let is_asked = |one: &&Interval| one.0 <= self.asked && one.1 > self.asked && one.1 <= first;
+        let mut asked = self.waits.asked.iter().filter(is_asked);
+        self.waits.own.iter().any(|one| (one.0..one.1).contains(&at))
+            || asked.any(|one| (self.asked..one.1).contains(&at))
+    }
+
     /// What a moment is, where it is not free.
     fn share_at(&self, at: Nanos) -> Option<Share> {
         let is_in = |some: &[Interval]| some.iter().any(|one| (one.0..one.1).contains(&at));
         let first = self.frames.first().map_or(self.life.1, |frame| frame.0 .0);
         match () {
+            () if at < first && self.is_waiting_for_tcp(at, first.min(self.life.1)) => Some(Share::Tcp),
             () if at < first => Some(Share::Waiting),
             () if self.frames.iter().any(|frame| (frame.0 .0..frame.0 .1).contains(&at)) => Some(Share::Sending),
             () if is_in(&self.stalls) => Some(Share::StreamStall),
             () if at >= self.unseen => None,
             () if is_in(&self.connection) => Some(Share::ConnectionStall),
             () if is_in(&self.held) => Some(Share::Tcp),
+            () if self.is_beside(at) => Some(Share::Others),
             () => None,
         }
     }
@@ -96,7 +151,7 @@ impl Case {
     }
 
     fn by_nanosecond(&self) -> Shares {
-        let (mut shares, (mut at, end)) = ([0; 7], self.life);
+        let (mut shares, (mut at, end)) = ([0; 8], self.life);
         let is_border =
             |at: Nanos| at == self.unseen || self.frames.iter().any(|frame| frame.0 .0 == at || frame.0 .1 == at);
         while at < end {
@@ -126,7 +181,7 @@ fn as_nanosecond_by_nanosecond() {
         for has_spans in [true, false] {
             assert_eq!(case.divided(has_spans).shares, wanted, "{case:?}");
         }
-        let mut told = [0; 7];
+        let mut told = [0; 8];
         for span in case.divided(true).spans.iter().flatten() {
             told[span.share as usize] += span.end - span.begin;
         }

@@ -2,7 +2,7 @@
 
 use crate::answer::{At, Nanos, Share, Span};
 use crate::life::Life;
-use crate::stream::{Answer, Answered, Asked, Direction, Idle, Reset, Stream};
+use crate::stream::{Answer, Answered, Asked, Beside, Direction, Idle, Reset, Stream};
 use crate::unshown::Unshown;
 use crate::windows::Window;
 
@@ -139,10 +139,18 @@ impl Packer<'_> {
         });
         self.at(Some(one.asked));
         self.option(one.asked_credit, Packer::signed);
+        self.number(u64::from(one.was_silent));
+        self.option(Some(one.beside).filter(|beside| *beside != Beside::default()), Packer::beside);
         self.window(&one.window);
         self.number(one.granted);
         self.option(one.unshown.as_deref(), |packer, unshown| packer.option(unshown.since, Packer::time));
         self.signed(one.unshown_nanos);
+    }
+
+    fn beside(&mut self, one: Beside) {
+        [one.content, one.before].into_iter().for_each(|bytes| self.number(bytes));
+        [one.active, one.active_before].into_iter().for_each(|nanos| self.signed(nanos));
+        self.numbers(&[one.streams, one.ended]);
     }
 
     fn window(&mut self, window: &Window) {
@@ -150,6 +158,7 @@ impl Packer<'_> {
         if window.was_live {
             self.signed(window.credit);
             self.option(window.largest, Packer::signed);
+            self.option(window.first, Packer::signed);
             self.number(u64::from(window.change));
         }
     }
@@ -164,7 +173,8 @@ impl Packer<'_> {
         let (begin, end) = life.longest_idle;
         self.time(begin);
         self.signed(end - begin);
-        self.numbers(&[u32::from(life.has_begun), life.stall, u32::from(life.count), life.last as u32]);
+        let bits = u32::from(life.has_begun) | u32::from(life.is_silent) << 1;
+        self.numbers(&[bits, life.stall, u32::from(life.count), life.last as u32]);
         self.option(life.spans.as_deref(), |packer, spans| {
             packer.number(spans.len() as u64);
             packer.time(spans.first().map_or(0, |span| span.begin));
@@ -248,6 +258,8 @@ impl Unpacker<'_> {
         });
         let asked = self.at().unwrap_or(NOWHERE);
         let asked_credit = self.option(Unpacker::signed);
+        let was_silent = self.flag();
+        let beside = self.option(Unpacker::beside).unwrap_or_default();
         let window = self.window();
         let granted = self.number();
         let unshown = self.option(|unpacker| Unshown::waiting(round_trip, unpacker.option(Unpacker::time)));
@@ -262,6 +274,8 @@ impl Unpacker<'_> {
             idle,
             asked,
             asked_credit,
+            was_silent,
+            beside,
             window,
             granted,
             unshown: unshown.map(Box::new),
@@ -270,31 +284,39 @@ impl Unpacker<'_> {
         }
     }
 
+    fn beside(&mut self) -> Beside {
+        let [content, before] = [(); 2].map(|()| self.number());
+        let [active, active_before] = [(); 2].map(|()| self.signed());
+        let [streams, ended] = [(); 2].map(|()| self.small());
+        Beside { content, before, active, active_before, streams, ended }
+    }
+
     fn window(&mut self) -> Window {
         let bits = self.byte();
         if bits & 1 == 0 {
             return Window::default();
         }
         let credit = self.signed();
-        let largest = self.option(Unpacker::signed);
-        Window { is_live: bits & 2 != 0, was_live: true, credit, largest, change: self.small() }
+        let [largest, first] = [(); 2].map(|()| self.option(Unpacker::signed));
+        Window { is_live: bits & 2 != 0, was_live: true, credit, largest, first, change: self.small() }
     }
 
     fn life(&mut self) -> Life {
         let at = self.time();
         let until = self.option(Unpacker::time).unwrap_or(Nanos::MAX);
         let bits = self.byte();
-        let mut shares = [0; 7];
+        let mut shares = [0; 8];
         for (place, share) in shares.iter_mut().enumerate() {
             *share = if bits & 1 << place != 0 { self.signed() } else { 0 };
         }
         let begin = self.time();
         let longest_idle = (begin, begin.wrapping_add(self.signed()));
-        let has_begun = self.flag();
+        let bits = self.small();
+        let (has_begun, is_silent) = (bits & 1 != 0, bits & 2 != 0);
         let (stall, count, last) = (self.small(), self.small() as u16, self.small());
         let last = share_of(last as u8);
         let spans = self.option(Unpacker::spans);
-        Life { at, until, shares, longest_idle, has_begun, stall, count, last, spans }
+        Life { at, until, shares, longest_idle, is_silent, has_begun, stall, count, last, spans }
     }
 
     fn spans(&mut self) -> Vec<Span> {
@@ -331,7 +353,11 @@ mod tests {
         let one = &mut stream.sides[1];
         one.content = u64::MAX;
         one.first = Some(at(u64::MAX, Nanos::MIN, u32::MAX));
-        one.life.shares = [0, 5, 0, 0, -7, 0, Nanos::MAX];
+        one.life.shares = [0, 5, 0, 0, -7, 0, 3, Nanos::MAX];
+        one.life.is_silent = true;
+        one.was_silent = true;
+        one.beside =
+            Beside { content: u64::MAX, before: 9, active: Nanos::MAX, active_before: 1, streams: 3, ended: u32::MAX };
         one.life.spans = Some(vec![
             Span { begin: 10, end: 20, share: Share::Tcp },
             Span { begin: 20, end: 21, share: Share::Unseen },

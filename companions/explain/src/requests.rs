@@ -3,12 +3,12 @@
 
 use std::rc::Rc;
 
-use crate::answer::{Direction, Ended, Nanos, Request};
+use crate::answer::{Direction, Ended, Nanos, Request, Share};
 use crate::causes::{no_cause, Held};
 use crate::names::{name_of, Texts};
 use crate::packed::{pack, unpack};
 use crate::seen::Seen;
-use crate::stream::{Asked, Stream};
+use crate::stream::{self, Asked, Stream};
 
 /// The requests of a connection, in the order of their openings.
 #[derive(Clone, Debug, Default)]
@@ -149,15 +149,15 @@ fn told(mut stream: Stream, seen: &Seen, texts: Option<&Texts>) -> Request {
         until,
         sides,
         cause: no_cause(),
+        held: 0,
         is_hung: false,
         hung_nanos: 0,
         is_end_unseen: seen.is_end_unseen(&ended, until),
     };
-    let held = Held { seen, stream: &stream, request: &request };
-    let cause = held.cause();
-    let hung = held.hung(&cause);
-    request.is_hung = hung.is_some();
-    (request.cause, request.hung_nanos) = hung.unwrap_or((cause, 0));
+    let held = Held { seen, stream: &stream, request: &request, ends: ends.map(|end| end.how) };
+    let found = held.found();
+    (request.cause, request.held) = (found.cause, found.held);
+    (request.is_hung, request.hung_nanos) = (found.hung.is_some(), found.hung.unwrap_or(0));
     request
 }
 
@@ -179,5 +179,19 @@ fn direction(stream: &mut Stream, side: usize, seen: &Seen, ended: &Ended) -> Di
         first: one.first,
         end: ended.at,
         stalls: seen.about.stalls.get(&(side, number)).map_or(0, |one| one.0),
+        waited: waited(one, side, seen, end),
     }
+}
+
+/// How long a side took to begin after the other one's last frame before that, without TCP and the way.
+fn waited(one: &stream::Direction, side: usize, seen: &Seen, end: Nanos) -> Nanos {
+    let waiting = one.life.shares[Share::Waiting as usize];
+    if waiting == 0 {
+        return 0;
+    }
+    let (asked, begins) = (one.asked.time, one.first.map_or(end, |first| first.time.min(end)));
+    let held = seen.about.courses[side].waits(asked, begins, asked);
+    let held = held.iter().fold(0, |sum: Nanos, one| sum.saturating_add(one.1 - one.0));
+    let own = begins.saturating_sub(asked).saturating_sub(held).min(waiting);
+    own.saturating_sub(seen.about.round_trip.to_side(side)).max(0)
 }

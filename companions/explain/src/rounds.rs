@@ -1,29 +1,30 @@
-//! The round trip of a connection and the place where it was captured, by the times of answers (docs/WHY.md, 5).
+//! The round trip of a connection and the place where it was captured, by the times of acknowledgements and reactions (docs/WHY.md, 5).
 
 use crate::answer::Nanos;
+use crate::reactions::{Quickest, Reaction, LEAST_REACTION};
 
 /// Below this both ends are too near to tell them apart.
 pub const NEAR: Nanos = 1_000_000;
 /// A side is near where the other one's answers take so many times as long.
 const TIMES: Nanos = 4;
 const LEAST_PAUSE: Nanos = 1_000_000;
-/// A peer may take some milliseconds for its first answer; only from here on it tells of the way.
-const LEAST_ANSWER: Nanos = 10_000_000;
+/// The three quickest reactions lie within 25 % of each other.
+const ALIKE: (i128, i128) = (5, 4);
 
 /// By what the round trip is known.
 #[derive(Clone, Copy, Debug, PartialEq, Eq)]
 pub enum Source {
-    Handshake,
+    Tcp,
     Http2,
 }
 
-/// Nanoseconds from the place of the capture to each side and back, by TCP's handshake or by HTTP/2's answers. Each pair
-/// is by sides.
+/// Nanoseconds from the place of the capture to each side and back, by TCP's acknowledgements or by HTTP/2's reactions.
+/// Each pair is by sides.
 #[derive(Clone, Copy, Debug, Default, PartialEq, Eq)]
 pub struct RoundTrip {
     pub source: Option<Source>,
     pub to: Option<[Nanos; 2]>,
-    pub handshake: Option<[Nanos; 2]>,
+    pub tcp: [Option<Nanos>; 2],
     pub http2: [Option<Nanos>; 2],
 }
 
@@ -35,22 +36,38 @@ pub enum Place {
     Between,
 }
 
-/// TCP's handshake counts, unless HTTP/2's own answers take far longer: then something between ends TCP.
-pub fn round_trip_of(handshake: Option<[Nanos; 2]>, http2: [Option<Nanos>; 2]) -> RoundTrip {
-    let mut found = RoundTrip { source: None, to: None, handshake, http2 };
-    if handshake.is_some() {
-        found.source = Some(Source::Handshake);
-        found.to = handshake;
-    }
-    if let [Some(client), Some(server)] = http2 {
-        let answers = client.saturating_add(server);
-        let is_far = |known: Nanos| answers >= LEAST_ANSWER && answers > known.saturating_mul(TIMES);
-        if found.nanos().map_or(true, is_far) {
-            found.source = Some(Source::Http2);
-            found.to = Some([client, server]);
-        }
-    }
-    found
+/// TCP's acknowledgements count, unless a side's reactions show that something between ends TCP; and where there are
+/// none of a side, its quickest reaction.
+pub fn round_trip_of(tcp: [Option<Nanos>; 2], quickest: &[Quickest; 2]) -> RoundTrip {
+    let known = tcp.iter().flatten().fold(0, |sum: Nanos, way| sum.saturating_add(*way));
+    let http2 = [0, 1].map(|side| quickest[side].nanos());
+    let is_farther = [0, 1].map(|side| shows_more(&quickest[side], known));
+    let to = [0, 1].map(|side| if is_farther[side] { http2[side] } else { tcp[side].or(http2[side]) });
+    let to = match to {
+        [Some(client), Some(server)] => Some([client, server]),
+        _ => None,
+    };
+    let is_tcp = |side: usize| !is_farther[side] && tcp[side].is_some();
+    let source = to.map(|_| if is_tcp(0) && is_tcp(1) { Source::Tcp } else { Source::Http2 });
+    RoundTrip { source, to, tcp, http2 }
+}
+
+/// Whether a side's reactions tell of a way and not of an application that took long: they are far above TCP's round
+/// trip, and so alike, though of several kinds or at several times, that no application took them.
+fn shows_more(quickest: &Quickest, known: Nanos) -> bool {
+    let [one, two, three] = match quickest.least {
+        [Some(one), Some(two), Some(three)] => [one, two, three],
+        _ => return false,
+    };
+    let least = one.0;
+    let kinds = [one.2, two.2, three.2];
+    let is_far = least >= LEAST_REACTION && least >= known.saturating_mul(TIMES);
+    let is_alike = i128::from(three.0) * ALIKE.1 <= i128::from(least) * ALIKE.0;
+    let is_of_several = kinds == [Reaction::Ping; 3] || kinds != [one.2; 3];
+    // One moment in which an application wakes ends all that it kept waiting.
+    let began = one.1.max(two.1).max(three.1);
+    let ended = [one, two, three].iter().map(|one| one.1.saturating_add(one.0)).min();
+    is_far && is_alike && is_of_several && ended.map_or(false, |ended| began >= ended)
 }
 
 impl RoundTrip {
@@ -88,20 +105,42 @@ mod tests {
 
     const MS: Nanos = 1_000_000;
 
+    fn quickest(reactions: &[(Nanos, Nanos, Reaction)]) -> Quickest {
+        let mut found = Quickest::default();
+        reactions.iter().for_each(|one| found.add(one.2, one.0 * MS, one.1 * MS));
+        found
+    }
+
+    /// Whether reactions of the server say more than TCP's 1 ms.
+    fn counts(reactions: &[(Nanos, Nanos, Reaction)]) -> bool {
+        let found = round_trip_of([Some(0), Some(MS)], &[Quickest::default(), quickest(reactions)]);
+        assert_eq!(found.tcp, [Some(0), Some(MS)]);
+        found.source == Some(Source::Http2)
+    }
+
     #[test]
-    fn the_handshake_counts_unless_answers_take_far_longer() {
-        let near = round_trip_of(Some([0, MS]), [Some(MS), Some(2 * MS)]);
-        assert_eq!((near.source, near.to), (Some(Source::Handshake), Some([0, MS])));
-        let ended_between = round_trip_of(Some([0, MS]), [Some(20 * MS), Some(30 * MS)]);
-        assert_eq!((ended_between.source, ended_between.nanos()), (Some(Source::Http2), Some(50 * MS)));
-        let alone = round_trip_of(None, [Some(1), Some(2)]);
-        assert_eq!((alone.source, alone.nanos()), (Some(Source::Http2), Some(3)));
-        assert_eq!(round_trip_of(None, [Some(1), None]).nanos(), None);
+    fn reactions_count_where_something_ends_tcp() {
+        use Reaction::{Answer, Grant, Ping, Settings};
+        let pings = [(0, 41, Ping), (50, 92, Ping), (100, 142, Ping)];
+        let found = round_trip_of([Some(0), Some(MS)], &[Quickest::default(), quickest(&pings)]);
+        assert_eq!((found.source, found.to), (Some(Source::Http2), Some([0, 41 * MS])));
+        assert!(counts(&[(0, 41, Settings), (1, 50, Answer), (60, 110, Grant)]), "two kinds");
+        assert!(!counts(&[(0, 41, Answer), (50, 92, Answer), (100, 142, Answer)]), "a slow application");
+        assert!(!counts(&pings[..2]), "two alone");
+        assert!(!counts(&[(0, 41, Ping), (50, 92, Ping), (100, 152, Ping)]), "not alike");
+        assert!(!counts(&[(0, 9, Ping), (50, 59, Ping), (100, 109, Ping)]), "not far");
+        assert!(!counts(&[(0, 922, Settings), (1, 970, Answer), (2, 971, Answer)]), "it woke once");
+        assert!(!counts(&[(0, 41, Ping), (50, 92, Ping), (100, 142, Ping), (200, 201, Ping)]), "the least counts");
+        let near = round_trip_of([Some(0), Some(11 * MS)], &[Quickest::default(), quickest(&pings)]);
+        assert_eq!(near.source, Some(Source::Tcp));
+        let alone = round_trip_of([None; 2], &[quickest(&pings[..1]), quickest(&pings[..1])]);
+        assert_eq!((alone.source, alone.nanos()), (Some(Source::Http2), Some(82 * MS)));
+        assert_eq!(round_trip_of([Some(1), None], &Default::default()).nanos(), None);
     }
 
     #[test]
     fn places() {
-        let place = |client, server| round_trip_of(Some([client, server]), [None; 2]).place();
+        let place = |client, server| round_trip_of([Some(client), Some(server)], &Default::default()).place();
         assert_eq!(place(0, MS), Some(Place::AtClient));
         assert_eq!(place(100 * MS, 25 * MS - 1), Some(Place::AtServer));
         assert_eq!(place(100 * MS, 25 * MS), Some(Place::Between));
@@ -111,6 +150,6 @@ mod tests {
     #[test]
     fn pauses() {
         assert_eq!(RoundTrip::default().pause(), MS);
-        assert_eq!(round_trip_of(Some([MS, MS]), [None; 2]).pause(), 3 * MS);
+        assert_eq!(round_trip_of([Some(MS); 2], &Default::default()).pause(), 3 * MS);
     }
 }

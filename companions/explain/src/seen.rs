@@ -36,7 +36,8 @@ impl About {
     /// What holds back a direction.
     pub fn holding(&self, side: usize, stream: u32) -> Holding<'_> {
         let stalls = if self.stalls.is_empty() { None } else { self.stalls.get(&(side, stream)) };
-        Holding { stalls: stalls.map_or(&[], |one| &one.1), course: &self.courses[side] }
+        let stalls = stalls.map_or(&[][..], |one| &one.1);
+        Holding { stalls, course: &self.courses[side], asked: self.opened.time }
     }
 
     /// The stalls of each window, as far as they were seen.
@@ -78,8 +79,10 @@ pub struct Seen {
     /// Of each side the GOAWAY with the lowest last stream; and the first one with an error.
     pub refusing: [Option<Refusal>; 2],
     pub error: Option<Ended>,
-    /// The most credit of the connection's windows.
+    /// The most credit of the connection's windows; and what was granted of them before the first content, or is not
+    /// used.
     pub connection_windows: [i64; 2],
+    pub granted_windows: [i64; 2],
     /// Pauses that began with the connection's credit used up, where stalls may not show.
     pub unshown: [Option<Box<Stretches<()>>>; 2],
     /// By the side that sends: when its initial window changed.

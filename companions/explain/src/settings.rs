@@ -81,6 +81,11 @@ impl Values {
         }
         found
     }
+
+    /// The initial window alone.
+    pub fn initial_window_of(payload: &[u8]) -> Option<u32> {
+        Values::of(payload).values[INITIAL_WINDOW]
+    }
 }
 
 /// The value in force at a fault, and those that the other side had sent last, with the packet of the last one.

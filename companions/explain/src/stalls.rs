@@ -93,7 +93,15 @@ mod tests {
 
     fn tcp(held: Vec<Held>) -> Tcp {
         let last = Arrival { packet: 9, nanos: 900 * MS };
-        let mut course = Course { syn: last, syn_ack: None, ack: None, sides: Default::default(), held };
+        let mut course = Course {
+            syn: last,
+            syn_ack: None,
+            ack: None,
+            sides: Default::default(),
+            ways: [None; 2],
+            held,
+            again: Vec::new(),
+        };
         Tcp::new(&mut course, at_of(last))
     }
 

@@ -1,6 +1,7 @@
 //! What is known of a stream as its frames come: its request, and what each side sends on it.
 
 use crate::answer::{At, Nanos};
+use crate::course::Course;
 use crate::life::{Holding, Life};
 use crate::unshown::Unshown;
 use crate::windows::Window;
@@ -69,6 +70,9 @@ pub struct Direction {
     /// The other side's last frame before the first one of this side, and the credit after that.
     pub asked: At,
     pub asked_credit: Option<i64>,
+    /// Whether this side sent nothing at all between the two.
+    pub was_silent: bool,
+    pub beside: Beside,
     pub window: Window,
     /// All that the other side granted.
     pub granted: u64,
@@ -77,6 +81,42 @@ pub struct Direction {
     /// How long such stalls took within its life.
     pub unshown_nanos: Nanos,
     pub kept: Option<Box<Kept>>,
+}
+
+/// What its side sent on the connection from its first frame to its last content, and on how many streams; and what was
+/// sent, and how many had ended, before that.
+#[derive(Clone, Copy, Debug, Default, PartialEq, Eq)]
+pub struct Beside {
+    pub content: u64,
+    pub before: u64,
+    /// How long it sent that without a pause that counts where stalls do not show, and before.
+    pub active: Nanos,
+    pub active_before: Nanos,
+    pub streams: u32,
+    pub ended: u32,
+}
+
+/// What a side sent on all streams: content, how long without a pause, and when last; streams that had content, and those
+/// of them that have ended.
+#[derive(Clone, Copy, Debug, Default)]
+pub struct Total {
+    pub content: u64,
+    pub active: Nanos,
+    pub last: Option<Nanos>,
+    pub begun: u32,
+    pub ended: u32,
+}
+
+impl Total {
+    /// Content came in packets at these times; a pause is one that is longer than this.
+    pub fn sent(&mut self, times: &[Nanos], length: u32, pause: Nanos) {
+        self.content += u64::from(length);
+        for &time in times {
+            let gap = self.last.map_or(0, |last| time.saturating_sub(last));
+            self.active += if (0..=pause).contains(&gap) { gap } else { 0 };
+            self.last = self.last.max(Some(time));
+        }
+    }
 }
 
 /// The frames around the longest stretch in which nothing was sent, and the credit as it began.
@@ -169,6 +209,8 @@ impl Direction {
             idle: None,
             asked: opened,
             asked_credit: None,
+            was_silent: false,
+            beside: Beside::default(),
             window: Window::default(),
             granted: 0,
             unshown: None,
@@ -187,6 +229,10 @@ impl Direction {
 
     /// A frame of it came.
     pub fn met(&mut self, holding: &Holding<'_>, met: &Met<'_>) {
+        let holding = &Holding { asked: self.asked.time, ..*holding };
+        if self.first.is_none() {
+            self.was_silent = holding.course.is_silent(self.asked.time, met.at.time);
+        }
         match &mut self.kept {
             Some(kept) => {
                 sent(met.times, holding.course.pause, |first, last, is_within| {
@@ -218,6 +264,11 @@ impl Direction {
 
     /// Divides the rest of its life; within a frame, where one was begun whose rest never came.
     pub fn finish(&mut self, holding: &Holding<'_>, until: Nanos, is_cut: bool) {
+        let holding = &Holding { asked: self.asked.time, ..*holding };
+        if self.first.is_none() && self.life.at < until {
+            self.was_silent = holding.course.is_silent(self.asked.time, until);
+        }
+        self.beside = Beside { before: 0, active_before: 0, ended: 0, ..self.beside };
         self.life.until = until.max(self.life.at);
         let idle = self.life.longest_idle;
         self.life.finish(holding, is_cut);
@@ -229,6 +280,7 @@ impl Direction {
     /// The same where times go back, from its beginning.
     pub fn finish_kept(&mut self, holding: &Holding<'_>, opened: Nanos, until: Nanos, cut: Option<&[Nanos]>) {
         let kept = self.kept.take().unwrap_or_default();
+        let holding = &Holding { asked: self.asked.time, ..*holding };
         self.life = Life { until: until.max(opened), ..Life::new(opened, self.life.spans.is_some()) };
         for &(first, last, is_within) in &kept.sent {
             self.life.sent(holding, first, last, is_within);
@@ -249,6 +301,7 @@ impl Direction {
 
     /// Packets of a frame whose rest never came.
     pub fn cut(&mut self, holding: &Holding<'_>, times: &[Nanos]) {
+        let holding = &Holding { asked: self.asked.time, ..*holding };
         let idle = self.life.longest_idle;
         for (at, time) in times.iter().enumerate() {
             self.life.sent(holding, *time, *time, at > 0);
@@ -266,15 +319,35 @@ impl Direction {
         }
     }
 
-    /// DATA came: pauses before it that began without credit, as far as they began within its life.
-    pub fn content(&mut self, times: &[Nanos], length: u32, credit: Option<i64>) {
+    /// DATA came: pauses before it that began without credit, as far as they began within its life and TCP did not
+    /// hold back meanwhile.
+    pub fn content(&mut self, course: &Course, times: &[Nanos], length: u32, credit: Option<i64>) {
         self.content += u64::from(length);
         let until = self.end.map_or(Nanos::MAX, |end| end.time);
         if let (Some(unshown), Some(first), Some(last)) = (&mut self.unshown, times.first(), times.last()) {
             if let Some((since, until)) = unshown.content((*first, *last), length, credit).filter(|one| one.0 < until) {
-                self.unshown_nanos = self.unshown_nanos.saturating_add(until - since);
+                let nanos = until - since - course.tcp_within(since, until);
+                self.unshown_nanos = self.unshown_nanos.saturating_add(nanos);
             }
         }
+    }
+
+    /// What its side has sent in all, before its first frame.
+    pub fn begin_beside(&mut self, total: &Total) {
+        if self.first.is_none() {
+            let (before, active_before, ended) = (total.content, total.active, total.ended);
+            self.beside = Beside { before, active_before, ended, ..Beside::default() };
+        }
+    }
+
+    /// The same as it sends content.
+    pub fn beside(&mut self, total: &mut Total, times: &[Nanos], length: u32, pause: Nanos) {
+        self.begin_beside(total);
+        total.begun += u32::from(self.content == u64::from(length));
+        total.sent(times, length, pause);
+        self.beside.content = total.content - self.beside.before;
+        self.beside.active = total.active - self.beside.active_before;
+        self.beside.streams = total.begun.saturating_sub(self.beside.ended);
     }
 }
 

@@ -154,11 +154,12 @@ impl Table {
         }
     }
 
-    /// Packs a stream that is over.
-    pub fn settle(&mut self, number: u32) {
+    /// Finishes a stream that is over, and packs it.
+    pub fn settle(&mut self, number: u32, finish: impl FnOnce(&mut Stream)) {
         if self.live.get(&number).map_or(false, |stream| stream.is_over()) {
-            if let Some(stream) = self.live.remove(&number) {
+            if let Some(mut stream) = self.live.remove(&number) {
                 self.count.set(self.count.get() - 1);
+                finish(&mut stream);
                 self.packed.put(&stream);
             }
         }
@@ -212,7 +213,7 @@ mod tests {
         }
         for number in [5, 7] {
             table.touch(number, |stream| stream.sides.iter_mut().for_each(|side| side.finish_at(OPENED)));
-            table.settle(number);
+            table.settle(number, |_| ());
         }
         assert_eq!((table.live.len(), table.count.get()), (3, 3));
         assert!(table.has(5) && table.has(2) && !table.has(3));
@@ -250,7 +251,7 @@ mod tests {
         let mut table = table();
         open(&mut table, 1);
         table.touch(1, |stream| stream.sides.iter_mut().for_each(|side| side.finish_at(OPENED)));
-        table.settle(1);
+        table.settle(1, |_| ());
         for shift in 0..64 {
             table.touch(1, |stream| stream.sides[1].content = 1 << shift);
         }

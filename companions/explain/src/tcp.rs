@@ -1,7 +1,7 @@
 //! What TCP did on a connection, as far as the answer needs it: its ends, and what it held back.
 
 use captures::Arrival;
-use import::{Course, Held, Why};
+use import::{Again, Course, Held, Why};
 
 use crate::answer::{At, Ended, How, Nanos};
 use crate::intervals::{Interval, Stretches};
@@ -20,6 +20,7 @@ pub struct Tcp {
     pub last: At,
     /// By the side that sends it.
     held: [Option<Box<HeldBack>>; 2],
+    again: Vec<Again>,
 }
 
 /// What TCP held back of one side.
@@ -52,12 +53,11 @@ pub fn last_of(course: &Course, or: At) -> At {
     }
 }
 
+/// Reasons in the order in which they count, where several took as long.
+const REASONS: [Why; 4] = [Why::Hole, Why::Resent, Why::ZeroWindow, Why::Nagle];
+
 fn rank(why: Why) -> u8 {
-    match why {
-        Why::Hole => 0,
-        Why::Resent => 1,
-        Why::ZeroWindow => 2,
-    }
+    REASONS.iter().position(|one| *one == why).unwrap_or(0) as u8
 }
 
 impl Tcp {
@@ -72,7 +72,7 @@ impl Tcp {
         let mut all = std::mem::take(&mut course.held);
         all.sort_by_key(|one| one.end);
         let held = [0, 1].map(|side| HeldBack::of(all.iter().filter(|one| usize::from(one.side) == side), last.time));
-        Tcp { closes: closes.into(), last, held }
+        Tcp { closes: closes.into(), last, held, again: std::mem::take(&mut course.again) }
     }
 
     /// How the connection ended for what was still going on at a time: its first FIN or RST from then on.
@@ -86,6 +86,18 @@ impl Tcp {
     /// When TCP held back what a side sends.
     pub fn held_times(&self, side: usize) -> Vec<Interval> {
         self.held[side].iter().flat_map(|held| &held.all).map(interval).collect()
+    }
+
+    /// When TCP held back what a side would begin with.
+    pub fn held_before(&self, side: usize) -> Vec<Interval> {
+        let held = self.held[side].iter().flat_map(|held| &held.all);
+        held.filter(|one| matches!(one.why, Why::Hole | Why::Nagle)).map(interval).collect()
+    }
+
+    /// When bytes of a side were sent again, from when they were sent first.
+    pub fn sent_again(&self, side: usize) -> Vec<Interval> {
+        let again = self.again.iter().filter(|one| usize::from(one.side) == side);
+        again.map(|one| (one.first, one.again)).collect()
     }
 
     /// Whether TCP sent something again for a side, and that took most of a stretch of time.
@@ -112,7 +124,7 @@ impl Tcp {
         let ends = held.get(first.max(last.saturating_sub(MOST_LOOKED_AT))..last).unwrap_or_default();
         let ends = ends.iter().rev().find(is_so).unwrap_or(begins);
         let at_end = ends.last.map(|packet| At { packet: packet.get(), time: ends.end, frame: 0 });
-        let why = [Why::Hole, Why::Resent, Why::ZeroWindow][usize::from(reason)];
+        let why = REASONS.get(usize::from(reason)).copied()?;
         Some(HeldBy { why, first: first_of(begins), last: at_end.unwrap_or(self.last) })
     }
 }
@@ -124,7 +136,7 @@ impl HeldBack {
         if all.is_empty() {
             return None;
         }
-        let resent = all.iter().filter(|one| one.why != Why::ZeroWindow).map(interval).collect();
+        let resent = all.iter().filter(|one| matches!(one.why, Why::Hole | Why::Resent)).map(interval).collect();
         all.sort_by_key(|one| (one.begin, one.end, rank(one.why), one.first));
         let sums = Stretches::new(all.iter().map(|one| (one.begin, one.end.min(last), rank(one.why))).collect());
         Some(Box::new(HeldBack { all, sums, resent }))
@@ -156,7 +168,15 @@ mod tests {
     }
 
     fn tcp(held: Vec<Held>) -> Tcp {
-        let mut course = Course { syn: arrival(1), syn_ack: None, ack: None, sides: Default::default(), held };
+        let mut course = Course {
+            syn: arrival(1),
+            syn_ack: None,
+            ack: None,
+            sides: Default::default(),
+            ways: [None; 2],
+            held,
+            again: Vec::new(),
+        };
         course.sides[0].fin = Some(arrival(7));
         course.sides[1].rst = Some(arrival(5));
         course.sides[1].last = Some(arrival(9));

@@ -19,7 +19,7 @@ use crate::names::Interner;
 use crate::seen::{About, Key};
 use crate::settings::{Settings, Values};
 use crate::signals::Signals;
-use crate::stream::{Asked, Kept, Met, Reset, Stream};
+use crate::stream::{Asked, Kept, Met, Reset, Stream, Total};
 use crate::table::{Numbers, Table};
 use crate::unanswered::Unanswered;
 use crate::unshown::Unshown;
@@ -29,6 +29,8 @@ const STREAM: u32 = (1 << 31) - 1;
 const PRIORITY_FIELDS: usize = 5;
 const PROMISED_STREAM: usize = 4;
 const GOAWAY_FIELDS: usize = 8;
+/// So many stretches in which a side sent are kept; more are where a stream goes on from before all of them.
+pub const MOST_KEPT: usize = 1024;
 /// Of so many streams that are not opened yet, so many grants are remembered.
 const MOST_EARLY: usize = 256;
 
@@ -67,6 +69,11 @@ pub struct Walk {
     pub unshown: [Option<(Unshown, Vec<Interval>)>; 2],
     /// Whether a side sent more on a stream than its window held at once.
     pub uses_window: [bool; 2],
+    /// What each side sent on all streams, and how many stretches of it are kept.
+    pub totals: [Total; 2],
+    pub most_kept: [usize; 2],
+    /// The stream of a frame that the other side has begun.
+    pub begun: Option<u32>,
     /// What of a frame's grant would be too high.
     pub overflow: Option<i64>,
     /// Grants for streams that are not opened yet: by the side that may send, with their times.
@@ -107,6 +114,9 @@ impl Walk {
             self.stop = Some(at);
         }
         let frame = Frame { side, cut, at, record, is_judged };
+        if let kind::DATA | kind::HEADERS | kind::PUSH_PROMISE | kind::CONTINUATION = cut.head.kind {
+            self.about.courses[side].sent(cut.times);
+        }
         match cut.head.kind {
             kind::DATA => self.data(frame),
             kind::HEADERS => self.headers(asking, frame),
@@ -137,11 +147,44 @@ impl Walk {
             let (kind, stream) = (frame.cut.head.kind, frame.cut.head.stream);
             charts.after(&Left { at: frame.at, kind, stream, table, initials, windows });
         }
+        self.about.courses[frame.side].came(frame.at.time);
         let head = &frame.cut.head;
-        if (head.kind == kind::RST_STREAM || head.has(flag::END_STREAM)) && self.known.back.is_none() {
-            self.table.settle(head.stream);
+        if self.known.back.is_none() {
+            if head.kind == kind::RST_STREAM || head.has(flag::END_STREAM) {
+                self.settle(head.stream);
+            }
+            if self.about.courses[frame.side].kept() > self.most_kept[frame.side] {
+                self.forget(frame.side);
+            }
         }
         Ok(())
+    }
+
+    /// Divides what is left of the lives of a stream that is over, and packs it. A frame of it that has begun belongs to
+    /// its life.
+    fn settle(&mut self, number: u32) {
+        let Walk { table, about, begun, .. } = self;
+        table.settle(number, |stream| {
+            for (side, one) in stream.sides.iter_mut().enumerate() {
+                if let Some(end) = one.end.filter(|_| *begun != Some(number)) {
+                    one.finish(&about.holding(side, number), end.time, false);
+                }
+            }
+        });
+    }
+
+    /// Lets go of stretches before all that is to be divided.
+    fn forget(&mut self, side: usize) {
+        let mut needed = Nanos::MAX;
+        self.table.each_going_on(|stream| {
+            let one = &stream.sides[side];
+            if one.life.has_begun && one.end.is_none() {
+                needed = needed.min(one.life.at);
+            }
+        });
+        let course = &mut self.about.courses[side];
+        course.forget(needed);
+        self.most_kept[side] = MOST_KEPT.max(2 * course.kept());
     }
 
     fn data(&mut self, frame: Frame<'_>) {
@@ -154,18 +197,23 @@ impl Walk {
         if let (Some((unshown, found)), Some(first), Some(last)) =
             (&mut self.unshown[side], cut.times.first(), cut.times.last())
         {
-            found.extend(unshown.content((*first, *last), length, None));
+            let course = &self.about.courses[side];
+            let pause = unshown.content((*first, *last), length, None);
+            found.extend(pause.map(|(begin, end)| (begin, end - course.tcp_within(begin, end))));
         }
-        let Walk { table, initials, windows, about, leaks, uses_window, .. } = self;
+        let Walk { table, initials, windows, about, leaks, uses_window, totals, .. } = self;
         let touched = table.touch(cut.head.stream, |stream| {
             let one = &mut stream.sides[side];
             let before = one.window.value(&initials[side]);
-            one.content(cut.times, length, before);
+            one.content(&about.courses[side], cut.times, length, before);
+            if length > 0 && one.end.is_none() {
+                one.beside(&mut totals[side], cut.times, length, about.round_trip.nanos().unwrap_or(0) / 8);
+            }
             one.window.content(&initials[side], if is_judged { length } else { 0 });
             if let Some(leaks) = &mut leaks[side] {
                 leaks.content(Some(stream), length);
             }
-            met(stream, frame, about, initials, windows);
+            totals[side].ended += u32::from(met(stream, frame, about, initials, windows));
             stream.note_use(uses_window);
         });
         if let (None, Some(leaks)) = (touched, &mut leaks[side]) {
@@ -182,9 +230,10 @@ impl Walk {
             if side == import::CLIENT && number % 2 == 1 && !self.table.has(number) {
                 self.open(asking, frame, number, 0);
             }
-            let Walk { table, initials, windows, about, uses_window, .. } = self;
+            let Walk { table, initials, windows, about, uses_window, totals, .. } = self;
             table.touch(number, |stream| {
-                met(stream, frame, about, initials, windows);
+                stream.sides[side].begin_beside(&totals[side]);
+                totals[side].ended += u32::from(met(stream, frame, about, initials, windows));
                 stream.note_use(uses_window);
             });
         }
@@ -249,7 +298,7 @@ impl Walk {
         };
         if !is_promise {
             let Walk { table, initials, windows, about, .. } = self;
-            table.touch(cut.head.stream, |stream| met(stream, frame, about, initials, windows));
+            table.touch(cut.head.stream, |stream| drop(met(stream, frame, about, initials, windows)));
         }
         let decoded = self.blocks[side].go_on(cut.payload, cut.head.has(flag::END_HEADERS));
         self.decoded(asking, side, decoded);
@@ -279,13 +328,16 @@ impl Walk {
             Some(code) if cut.head.length == 4 => code,
             _ => return,
         };
-        let Walk { table, initials, leaks, signals, unanswered, bursts, uses_window, .. } = self;
+        let Walk { table, initials, leaks, signals, unanswered, bursts, uses_window, totals, .. } = self;
         table.touch(cut.head.stream, |stream| {
             if stream.reset.is_some() {
                 return;
             }
             let reset = Reset { side, at, code };
             stream.sides.iter_mut().zip(&*initials).for_each(|(one, initial)| one.window.end(initial));
+            for (one, total) in stream.sides.iter().zip(totals) {
+                total.ended += u32::from(one.end.is_none() && one.content > 0);
+            }
             stream.reset(reset);
             leaks.iter_mut().flatten().for_each(|leaks| leaks.reset(stream));
             signals.reset(stream, &reset);
@@ -366,8 +418,14 @@ impl Walk {
     }
 }
 
-/// A frame of a stream came, that may end its direction.
-fn met(stream: &mut Stream, frame: Frame<'_>, about: &About, initials: &[Initial; 2], windows: &[ConnectionWindow; 2]) {
+/// A frame of a stream came, that may end its direction. Answers whether it ends one that had content.
+fn met(
+    stream: &mut Stream,
+    frame: Frame<'_>,
+    about: &About,
+    initials: &[Initial; 2],
+    windows: &[ConnectionWindow; 2],
+) -> bool {
     let Frame { side, cut, at, .. } = frame;
     let credit = |stream: &Stream, side: usize| {
         stream.sides[side].window.value(&initials[side]).map(|credit| credit.min(windows[side].credit))
@@ -379,10 +437,13 @@ fn met(stream: &mut Stream, frame: Frame<'_>, about: &About, initials: &[Initial
         stream.sides[other].asked_credit = credit(stream, other);
         stream.sides[other].asked = at;
     }
-    if cut.head.kind != kind::CONTINUATION && cut.head.has(flag::END_STREAM) {
+    let ends = cut.head.kind != kind::CONTINUATION && cut.head.has(flag::END_STREAM);
+    let is_first = stream.sides[side].end.is_none();
+    if ends {
         stream.sides[side].window.end(&initials[side]);
         stream.sides[side].finish_at(at);
     }
+    ends && is_first && stream.sides[side].content > 0
 }
 
 /// What is left of a window.

@@ -47,6 +47,8 @@ pub struct Window {
     pub credit: i64,
     /// The most credit from before the first content on, up to a change of the initial window.
     pub largest: Option<i64>,
+    /// The credit before the first content.
+    pub first: Option<i64>,
     pub change: u32,
 }
 
@@ -65,6 +67,7 @@ impl Window {
     pub fn content(&mut self, initial: &Initial, length: u32) {
         if self.largest.is_none() {
             self.largest = self.value(initial);
+            self.first = self.largest;
             self.change = initial.changes;
         }
         self.look(initial);
@@ -111,13 +114,14 @@ impl Window {
 #[derive(Clone, Copy, Debug)]
 pub struct ConnectionWindow {
     pub credit: i64,
-    /// The most from before the first content on.
+    /// The most from before the first content on, and what it was then.
     pub largest: Option<i64>,
+    pub first: Option<i64>,
 }
 
 impl Default for ConnectionWindow {
     fn default() -> ConnectionWindow {
-        ConnectionWindow { credit: FIRST_CREDIT, largest: None }
+        ConnectionWindow { credit: FIRST_CREDIT, largest: None, first: None }
     }
 }
 
@@ -125,6 +129,7 @@ impl ConnectionWindow {
     /// DATA came, of which so much counts.
     pub fn content(&mut self, length: u32) {
         self.largest = self.largest.or(Some(self.credit));
+        self.first = self.first.or(self.largest);
         self.credit -= i64::from(length);
     }
 

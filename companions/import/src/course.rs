@@ -34,8 +34,13 @@ pub struct Course {
     pub ack: Option<Arrival>,
     /// [`tls::CLIENT`] and [`tls::SERVER`].
     pub sides: [Side; 2],
+    /// By the side that acknowledges, the least time from a segment that was not sent again to the first that
+    /// acknowledges it. A SYN counts from its last sending.
+    pub ways: [Option<i64>; 2],
     /// In the order in which they ended.
     pub held: Vec<Held>,
+    /// What was sent again before it was acknowledged.
+    pub again: Vec<Again>,
 }
 
 /// What one side sent.
@@ -78,6 +83,9 @@ pub enum Why {
     /// Bytes were missing: from the first segment behind them to the one after which none is missing up to the last
     /// that came.
     Hole,
+    /// Nagle's algorithm: a piece below the segment size was held back until all before it was acknowledged, for 20 ms
+    /// and more, and was sent within a tenth of that then: since the side's segment with payload before it.
+    Nagle,
 }
 
 /// A stretch of time in which TCP held back what a side sends.
@@ -94,6 +102,14 @@ pub struct Held {
     pub why: Why,
     /// Whose bytes were held back.
     pub side: u8,
+}
+
+/// Bytes that a side sent again, as far as they were not acknowledged: when they were sent first, and when again.
+#[derive(Clone, Copy, Debug, PartialEq, Eq)]
+pub struct Again {
+    pub side: u8,
+    pub first: i64,
+    pub again: i64,
 }
 
 impl Courses {
@@ -117,6 +133,14 @@ impl Courses {
 
 impl Course {
     fn of(syn: Arrival) -> Course {
-        Course { syn, syn_ack: None, ack: None, sides: Default::default(), held: Vec::new() }
+        Course {
+            syn,
+            syn_ack: None,
+            ack: None,
+            sides: Default::default(),
+            ways: [None; 2],
+            held: Vec::new(),
+            again: Vec::new(),
+        }
     }
 }

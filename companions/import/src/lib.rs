@@ -41,11 +41,12 @@ mod shifted;
 mod sink;
 mod table;
 mod tracked;
+mod ways;
 mod words;
 
 pub use addresses::{escaped, Addresses};
 pub use command::sorted;
-pub use course::{Course, Courses, Held, Side, Uncaptured, Why, NEVER};
+pub use course::{Again, Course, Courses, Held, Side, Uncaptured, Why, NEVER};
 pub use importing::{imported, Asked};
 pub use listener::{Files, Listener, Record, Sender, Written};
 pub use map_file::MapFile;

@@ -5,8 +5,9 @@ use std::num::NonZeroU64;
 use captures::{flags, Arrival, Segment};
 use tls::{CLIENT, SERVER};
 
-use crate::course::{Course, Held, Why, NEVER};
+use crate::course::{Again, Course, Held, Why, NEVER};
 use crate::sent::{Fresh, Sent};
+use crate::ways::{Brief, Sending, Way};
 
 #[derive(Default)]
 pub struct Tracked {
@@ -21,6 +22,8 @@ struct State {
     closed: Option<Arrival>,
     /// Since when bytes of it are missing.
     holed: Option<Arrival>,
+    /// What it sent, until the other side acknowledges it.
+    way: Way,
 }
 
 impl Tracked {
@@ -41,20 +44,30 @@ impl Tracked {
         if has(flags::RST) {
             known.rst.get_or_insert(arrival);
         }
-        self.count(course, side, arrival, segment);
+        let brief = Brief::of(segment);
+        self.count(course, side, arrival, (segment, &brief));
         if has(flags::ACK) && !has(flags::RST) {
             course.sides[side].acknowledges |= !has(flags::SYN);
             self.sides[1 - side].sent.acknowledge(segment.acknowledgement);
         }
         self.window(course, side, arrival, segment);
+        if let Some(took) = self.sides[1 - side].way.answered(arrival, &brief) {
+            let least = &mut course.ways[side];
+            *least = Some(least.map_or(took, |least| least.min(took)));
+        }
     }
 
     /// Counts the bytes of a segment, and notes holes.
-    fn count(&mut self, course: &mut Course, side: usize, arrival: Arrival, segment: &Segment<'_>) {
+    fn count(&mut self, course: &mut Course, side: usize, arrival: Arrival, (segment, brief): (&Segment<'_>, &Brief)) {
         let state = &mut self.sides[side];
         let known = &mut course.sides[side];
         let before = state.sent.last();
-        match state.sent.add(arrival, segment) {
+        let fresh = state.sent.add(arrival, segment);
+        let Sending { held: held_back, first } = match fresh {
+            Fresh::Doubled => Sending::default(),
+            _ => state.way.sent(arrival, brief),
+        };
+        match fresh {
             Fresh::None => return,
             Fresh::Doubled => known.doubled += 1,
             Fresh::Bytes { fresh, again } => {
@@ -63,8 +76,13 @@ impl Tracked {
                 if again > 0 {
                     let from = Arrival { nanos: before.unwrap_or(arrival.nanos), ..arrival };
                     course.held.push(Held { bytes: again, ..held(Why::Resent, side, from, Some(arrival)) });
+                    let again = first.map(|first| Again { side: side as u8, first, again: arrival.nanos });
+                    course.again.extend(again);
                 }
             }
+        }
+        if let Some(from) = held_back {
+            course.held.push(held(Why::Nagle, side, from, Some(arrival)));
         }
         known.segments += 1;
         if state.sent.has_hole() {
@@ -96,6 +114,7 @@ impl Tracked {
             course.held.extend(state.closed.map(|from| held(Why::ZeroWindow, 1 - side, from, None)));
         }
         course.held.shrink_to_fit();
+        course.again.shrink_to_fit();
     }
 }
 

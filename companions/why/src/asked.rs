@@ -127,14 +127,15 @@ fn held(request: &Request) -> Nanos {
     request.sides.iter().map(shares).fold(0, |sum: Nanos, nanos: Nanos| sum.saturating_add(nanos))
 }
 
-/// The share of a direction's life that stands for a cause.
-fn share_of(request: &Request) -> Option<Share> {
+/// The shares of a direction's life that stand for a cause.
+fn shares_of(request: &Request) -> Option<&'static [Share]> {
     match (request.cause.kind, request.cause.why) {
-        (CauseKind::StreamWindow, _) => Some(Share::StreamStall),
-        (CauseKind::ConnectionWindow, _) => Some(Share::ConnectionStall),
-        (CauseKind::Tcp, _) => Some(Share::Tcp),
-        (CauseKind::Application, CauseWhy::Before) => Some(Share::Waiting),
-        (CauseKind::Application, _) => Some(Share::Idle),
+        (CauseKind::StreamWindow, _) => Some(&[Share::StreamStall]),
+        (CauseKind::ConnectionWindow, _) => Some(&[Share::ConnectionStall]),
+        (CauseKind::Tcp, _) => Some(&[Share::Tcp]),
+        (CauseKind::Application, CauseWhy::Before) => Some(&[Share::Waiting]),
+        (CauseKind::Application, _) => Some(&[Share::Idle]),
+        (CauseKind::Path, _) => Some(&[Share::Sending, Share::Others]),
         (CauseKind::None | CauseKind::Unseen, _) => None,
     }
 }
@@ -142,8 +143,8 @@ fn share_of(request: &Request) -> Option<Share> {
 /// What held a request back, and when. Where its spans do not tell all of it, as of stalls that do not show, it is one
 /// stretch of as much time from the first place on.
 fn waited(said: &ConnectionSaid, request: &Request) -> Option<(Matter, Vec<Interval>)> {
-    let (cause, share) = (&request.cause, share_of(request)?);
-    let spans = request.sides[cause.side as usize].spans.iter().flatten().filter(|span| span.share == share);
+    let (cause, shares) = (&request.cause, shares_of(request)?);
+    let spans = request.sides[cause.side as usize].spans.iter().flatten().filter(|span| shares.contains(&span.share));
     let mut found: Vec<Interval> = spans.map(|span| (span.begin, span.end)).collect();
     if found.iter().map(|one| one.1 - one.0).sum::<Nanos>() < cause.nanos {
         let begin = cause.first.map_or(request.opened.time, |first| first.time);

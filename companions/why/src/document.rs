@@ -12,6 +12,7 @@ use crate::asked::Shown;
 use crate::charts;
 use crate::gates::is_unanswered;
 use crate::json::Json;
+use crate::life::life_of;
 use crate::phrases::{how_name, Phrases};
 use crate::summing::{Connection, Summary, Whole};
 use crate::wording::{code_name, grpc_name, SIDES};
@@ -191,8 +192,7 @@ fn round_trip(json: &mut Json<'_>, one: &RoundTrip) {
     json.object(|json| {
         json.name("nanos").some_number(one.to.map(|[client, server]| client + server));
         json.name("source").some_word(one.source.map(source_name));
-        let handshake = one.handshake.map_or([None; 2], |[client, server]| [Some(client), Some(server)]);
-        by_sides(json.name("handshake"), handshake);
+        by_sides(json.name("tcp"), one.tcp);
         by_sides(json.name("http2"), one.http2);
     });
 }
@@ -281,6 +281,7 @@ fn request(json: &mut Json<'_>, one: &Request, phrases: &Phrases<'_>, files: &Fi
     json.name("end_unseen").truth(one.is_end_unseen);
     cause(json.name("cause"), one, phrases, files);
     json.name("needed_window").some_number(phrases.needed_window(one));
+    json.name("life").some(life_of(one).as_deref(), |json, life| json.text(life));
 }
 
 fn direction(json: &mut Json<'_>, one: &Direction, opened: Nanos, files: &Files) {
@@ -339,6 +340,7 @@ pub fn kind_name(kind: CauseKind) -> &'static str {
         CauseKind::ConnectionWindow => "connection-window",
         CauseKind::Tcp => "tcp",
         CauseKind::Application => "application",
+        CauseKind::Path => "path",
         CauseKind::Unseen => "unseen",
     }
 }
@@ -351,6 +353,7 @@ pub fn why_name(why: CauseWhy) -> Option<&'static str> {
         CauseWhy::ZeroWindow => Some("zero-window"),
         CauseWhy::Resent => Some("resent"),
         CauseWhy::Hole => Some("hole"),
+        CauseWhy::Nagle => Some("nagle"),
         CauseWhy::WithinFrame => Some("within-frame"),
         CauseWhy::Between => Some("between"),
         CauseWhy::Before => Some("before"),
@@ -404,7 +407,7 @@ fn place_name(place: Place) -> &'static str {
 
 fn source_name(source: Source) -> &'static str {
     match source {
-        Source::Handshake => "handshake",
+        Source::Tcp => "tcp",
         Source::Http2 => "http2",
     }
 }

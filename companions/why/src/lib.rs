@@ -12,6 +12,7 @@ mod ends_said;
 mod ends_stalls;
 mod gates;
 mod junit;
+mod life;
 mod page;
 mod phrases;
 mod rows;

@@ -83,7 +83,8 @@ impl<'a> Phrases<'a> {
                 let share = percent(cause.nanos, request.nanos());
                 format!("held by TCP for {lasts} ({share}): {}", tcp_words(cause))
             }
-            CauseKind::Application => of_application(cause),
+            CauseKind::Application => of_application(request),
+            CauseKind::Path => of_path(cause),
             CauseKind::Unseen => {
                 format!("not known for {lasts}: behind a gap, or past the frame at which the audit stopped")
             }
@@ -120,14 +121,15 @@ impl<'a> Phrases<'a> {
     /// How long it was stalled, and why.
     fn of_window(&self, request: &Request) -> String {
         let cause = &request.cause;
-        let lasts = time_of(cause.nanos);
         if cause.why == CauseWhy::Unshown {
             return self.unshown(cause);
         }
+        let stalled = stalled_on(request, cause.side);
+        let lasts = time_of(stalled);
         let mut text = if request.is_hung {
             format!("HUNG for {}, up to {}: ", time_of(request.hung_nanos), self.end_words(request))
         } else {
-            format!("stalled {lasts} ({}): ", percent(cause.nanos, request.nanos()))
+            format!("stalled {lasts} ({}): ", percent(stalled, request.nanos()))
         };
         text += &self.why(request);
         text += &self.whose(cause);
@@ -314,8 +316,9 @@ impl<'a> Phrases<'a> {
 
     /// The most credit that it had.
     fn window(&self, cause: &Cause) -> i64 {
-        match cause.kind {
-            CauseKind::ConnectionWindow => self.said.connection_windows[cause.side as usize],
+        match (cause.kind, cause.why) {
+            (_, CauseWhy::Unshown) => cause.window,
+            (CauseKind::ConnectionWindow, _) => self.said.connection_windows[cause.side as usize],
             _ => cause.window,
         }
     }
@@ -346,6 +349,12 @@ fn hung_before(request: &Request) -> String {
     }
 }
 
+/// How long both windows of a direction were stalled.
+fn stalled_on(request: &Request, side: Side) -> Nanos {
+    let shares = &request.sides[side as usize].shares;
+    shares[Share::StreamStall as usize] + shares[Share::ConnectionStall as usize]
+}
+
 fn whose(cause: &Cause) -> &'static str {
     match cause.kind {
         CauseKind::ConnectionWindow => " on the connection",
@@ -359,19 +368,36 @@ fn tcp_words(cause: &Cause) -> String {
         CauseWhy::ZeroWindow => format!("the {other}'s TCP window was 0"),
         CauseWhy::Resent => format!("TCP sent bytes of the {side} again"),
         CauseWhy::Hole => format!("bytes of the {side} came out of order or again"),
+        CauseWhy::Nagle => format!(
+            "the {side} kept a small piece back until the {other} had acknowledged all before it (Nagle's algorithm: \
+             TCP_NODELAY)"
+        ),
         _ => format!("a frame of the {side} was begun, and its rest came slowly"),
     }
 }
 
 /// A side that sent nothing, and the credit that it had.
-fn of_application(cause: &Cause) -> String {
-    let said = format!("not stalled: the {} sent nothing for {}", cause.side, time_of(cause.nanos));
+fn of_application(request: &Request) -> String {
+    let cause = &request.cause;
+    let whole = if cause.is_silent { "" } else { " on this stream" };
+    let said = format!("not stalled: the {} sent nothing{whole} for {}", cause.side, time_of(cause.nanos));
     match cause.credit {
         Some(credit) if credit > 0 => format!("{said} with {} bytes of credit", grouped(credit)),
         // What goes before content needs no credit.
         Some(_) if cause.why == CauseWhy::Before => format!("{said}, no headers either"),
+        _ if cause.side == Side::Client && request.ended.how != How::EndStream => format!("{said}, and did not end it"),
         _ => said,
     }
+}
+
+/// A side that sent all the time, how much, and on how many streams.
+fn of_path(cause: &Cause) -> String {
+    let (lasts, rate) = (time_of(cause.nanos), rate_of(cause.content.into(), cause.nanos));
+    let shared = match cause.streams {
+        0 | 1 => String::new(),
+        some => format!(", shared by {} streams", grouped(u64::from(some))),
+    };
+    format!("not stalled: the {} sent all the time: {lasts} at {rate}{shared}", cause.side)
 }
 
 pub fn how_name(how: How) -> &'static str {

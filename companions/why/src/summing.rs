@@ -54,6 +54,8 @@ pub struct Tally {
     /// Held back by windows, and of these hung.
     pub held: u64,
     pub hung: u64,
+    /// Those that windows held back, and something else longer.
+    pub partly: u64,
     pub tcp: u64,
     /// The longest time for which one was held back, by no application.
     pub worst: Nanos,
@@ -95,7 +97,7 @@ impl<'a> Connection<'a> {
     }
 }
 
-/// Whether a window held a request back.
+/// Whether a window held a request back most.
 pub fn is_held(request: &Request) -> bool {
     matches!(request.cause.kind, CauseKind::StreamWindow | CauseKind::ConnectionWindow)
 }
@@ -105,8 +107,9 @@ impl Tally {
         self.requests += 1;
         self.held += u64::from(is_held(request));
         self.hung += u64::from(request.is_hung);
+        self.partly += u64::from(request.held > 0 && !is_held(request));
         self.tcp += u64::from(request.cause.kind == CauseKind::Tcp);
-        if request.cause.kind != CauseKind::Application {
+        if !matches!(request.cause.kind, CauseKind::Application | CauseKind::Path) {
             self.worst = self.worst.max(request.trouble());
         }
     }
@@ -116,6 +119,7 @@ impl Tally {
             requests: self.requests + other.requests,
             held: self.held + other.held,
             hung: self.hung + other.hung,
+            partly: self.partly + other.partly,
             tcp: self.tcp + other.tcp,
             worst: self.worst.max(other.worst),
         }
@@ -136,7 +140,7 @@ fn summary_of(answer: &Answer, connections: &[Connection<'_>]) -> Summary {
         () if faults > doubtful => Verdict::Faults,
         () if faults > 0 => Verdict::DoubtfulFaults,
         () if errors(answer).next().is_some() => Verdict::Errors,
-        () if tally.held > 0 => Verdict::Stalls,
+        () if tally.held > 0 || tally.partly > 0 => Verdict::Stalls,
         () => Verdict::Clean,
     };
     let text = sentences(answer, audited, &tally, nanos).join(" ");
@@ -153,6 +157,8 @@ fn sentences(answer: &Answer, audited: u64, tally: &Tally, nanos: Nanos) -> Vec<
     said.push(if tally.held > 0 {
         let hung = if tally.hung > 0 { format!(", of which {} hung", grouped(tally.hung)) } else { String::new() };
         format!("Flow control held back {}{hung}.", count(tally.held, "request"))
+    } else if tally.partly > 0 {
+        format!("Flow control took a lesser part of {}.", count(tally.partly, "request"))
     } else if answer.audited().any(|one| !one.stalls.is_empty()) {
         "Flow control held back no request for as long as a millisecond.".to_string()
     } else {

@@ -9,6 +9,7 @@ use explain::answer::{At, ConnectionSaid, FaultSaid, How, Nanos, Place, Request,
 use reports::{grouped, sentence_of, Side};
 
 use crate::document::signal_word;
+use crate::life::life_of;
 use crate::page::{Colour, Look, Page};
 use crate::phrases::how_name;
 use crate::summing::{is_held, Connection, Verdict, Whole};
@@ -89,7 +90,7 @@ fn connection(one: &Connection<'_>, page: &mut Page<'_>) -> io::Result<()> {
 fn head(said: &ConnectionSaid) -> String {
     let mut text = format!("connection {}  {} -> {}", said.number, said.client, said.server);
     if let RoundTrip { to: Some([client, server]), source, .. } = said.round_trip {
-        let by = if source == Some(Source::Http2) { " by SETTINGS and PING" } else { "" };
+        let by = if source == Some(Source::Http2) { " by HTTP/2's reactions" } else { "" };
         let _ = write!(text, "   round trip {}{by}", time_of(client + server));
     }
     match said.captured_at {
@@ -166,6 +167,7 @@ fn requests(one: &Connection<'_>, page: &mut Page<'_>) -> io::Result<()> {
         };
         let cause = cause(&request, &one.phrases.of(&request), &mut told);
         page.folded(&line_of(&request, width, &cause, page), "      ", colour)?;
+        life_of(&request).map_or(Ok(()), |life| page.folded(&format!("      {life}"), "        ", Colour::Plain))?;
     }
     if ordered.len() > shown.len() {
         let rest = count((ordered.len() - shown.len()) as u64, "request");
