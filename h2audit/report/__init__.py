@@ -1,4 +1,4 @@
-"""What the programs beside h2audit share: the lines of a report, who is to blame for each, their command lines, what a
+"""What the programs beside h2audit share: what h2audit-why shows of a capture or a report, their command lines, what a
 signal does, and how a file is written.
 """
 

@@ -94,7 +94,7 @@ class Statuses(unittest.TestCase):
         )
         for raised, status, why in rows:
             script = (
-                "import sys; from h2audit.report.command import Failed, run; from h2audit.report.lines import Refused\n"
+                "import sys; from h2audit.report.command import Failed, Refused, run\n"
                 f"def main(words): raise {raised}\nsys.argv[0] = '/a/h2audit-page'; run(main)"
             )
             run = subprocess.run([sys.executable, "-c", script], cwd=TOP, capture_output=True, text=True)

@@ -17,10 +17,10 @@ import unittest
 from collections.abc import Iterator
 from typing import Any
 
-from h2audit.report.blame import FRAME_TYPES
 from tests.programs import named
 from tools.tests import derived_report
 from tools.tests import import_tools as tools
+from tools.tests.kinds import FRAME_TYPES
 from tools.tests.packages import needs
 
 PROGRAM = next(iter(named()), None)

@@ -1,5 +1,5 @@
-"""Tests of what the programs beside h2audit share: the lines of a report, who is to blame, as the documents say, and
-files that are there only once they are whole.
+"""Tests of what the programs beside h2audit share: who is to blame, as the documents say, and files that are there only
+once they are whole.
 """
 
 import io
@@ -9,7 +9,9 @@ import sys
 import tempfile
 import unittest
 
-from h2audit.report import blame, lines, words
+from h2audit.report import words
+from h2audit.report.charts import Json, document_of_report
+from tools.tests.kinds import FRAME_TYPES, KINDS, NOBODY
 from tools.tests.signals import SIGNALS, hidden_in, signalled
 
 TOP = pathlib.Path(__file__).resolve().parents[2]
@@ -36,40 +38,61 @@ def sections_in(text: str) -> set[str]:
     return found
 
 
+Asked = tuple[str, str, int, int]
+
+
+def findings(asked: list[Asked]) -> list[Json]:
+    """What h2audit-why says of findings by side, kind, stream and value. Credits are none."""
+    report = "capture records 9 segments 9 snapped 0 not-ipv4 0 fragments 0 not-tcp 0 refused 0\n"
+    report += "connection 1 client 10.0.0.1:1 server 10.0.0.2:2 record 1 http2 frames 9\n"
+    for side, kind, stream, value in asked:
+        report += f"frame 7 record 12 time 1 {side} {kind} stream {stream} value {value}\n"
+    (one,) = document_of_report(io.BytesIO(report.encode()))["connections"]
+    found: list[Json] = one["charts"]["findings"]
+    return found
+
+
+def faults_and_stalls() -> list[str]:
+    return [kind for kind in KINDS if not kind.endswith("-credit")]
+
+
 class Blame(unittest.TestCase):
     """The table of kinds says what the documents say."""
 
     def test_who_broke_the_rule(self) -> None:
         ranked = {kind: who.strip("* ") for kind, who in RANKED.findall((DOCS / "REPORT_FORMAT.md").read_text())}
         self.assertEqual(len(ranked), 27)
-        self.assertEqual({kind: said.blame for kind, said in blame.KINDS.items()}, ranked)
+        self.assertEqual({kind: said.blame for kind, said in KINDS.items()}, ranked)
 
     def test_who_is_to_blame(self) -> None:
         """So says the table of the README."""
         for cells in rows("../README.md"):
             for who in set(re.findall(r"the named side|the other side|nobody", cells[-1].lower())):
                 for kind in re.findall(r"`([a-z-]+)`", cells[0]):
-                    if kind in blame.KINDS:
-                        self.assertEqual(blame.KINDS[kind].blame, who, kind)
+                    if kind in KINDS:
+                        self.assertEqual(KINDS[kind].blame, who, kind)
 
     def test_sections(self) -> None:
         named: dict[str, set[str]] = {}
         for cells in rows("AUDIT_RULES.md"):
             kinds, colon, _ = cells[0].partition(":")
             for kind in re.findall(r"[a-z-]+", kinds) if colon else []:
-                if kind in blame.KINDS and len(cells) > 1:
+                if kind in KINDS and len(cells) > 1:
                     named.setdefault(kind, set()).update(sections_in(cells[1]))
-        faults = {kind: sections_in(said.sections) for kind, said in blame.KINDS.items() if blame.is_fault(kind)}
+        faults = {kind: sections_in(said.sections) for kind, said in KINDS.items() if said.blame != NOBODY}
         self.assertEqual(faults, {kind: named.get(kind) for kind in faults})
-        self.assertFalse([kind for kind, said in blame.KINDS.items() if not blame.is_fault(kind) and said.sections])
+        self.assertFalse([kind for kind, said in KINDS.items() if said.blame == NOBODY and said.sections])
 
     def test_sections_of_findings(self) -> None:
         """Where side or value decide, the section is one of the kind's."""
-        for kind, said in blame.KINDS.items():
-            for side in ("client", "server"):
-                for value in range(-2, 12):
-                    found = blame.section_of(lines.Finding(1, 1, 1, side, kind, 1, value))
-                    self.assertLessEqual(sections_in(found), sections_in(said.sections), kind)
+        asked = [
+            (side, kind, value)
+            for kind in faults_and_stalls()
+            for side in ("client", "server")
+            for value in range(-2, 12)
+        ]
+        for (_, kind, _), found in zip(asked, findings([(side, kind, 1, value) for side, kind, value in asked])):
+            self.assertLessEqual(sections_in(found["section"] or ""), sections_in(KINDS[kind].sections), kind)
 
     def test_types(self) -> None:
         """Frame types have the sections 6.1 to 6.10 in their order, as the table of section 4 of the rules has them."""
@@ -78,10 +101,11 @@ class Blame(unittest.TestCase):
             for cells in rows("AUDIT_RULES.md")
             if re.match(r"\d [A-Z_]+$", cells[0])
         }
-        self.assertEqual(types, dict(enumerate(blame.FRAME_TYPES)))
+        self.assertEqual(types, dict(enumerate(FRAME_TYPES)))
 
     def said(self, side: str, kind: str, stream: int, value: int) -> str:
-        return blame.sentence_of(lines.Finding(7, 12, 1, side, kind, stream, value))
+        (found,) = findings([(side, kind, stream, value)])
+        return f"{found['text']} ({found['kind']}); {found['blame']}"
 
     def test_sentences(self) -> None:
         """Written by hand, from the tables of the documents."""
@@ -120,7 +144,7 @@ class Blame(unittest.TestCase):
         )
 
     def test_every_kind_has_a_sentence(self) -> None:
-        for kind in [*blame.KINDS, "new-kind"]:
+        for kind in [*faults_and_stalls(), "new-kind"]:
             said = self.said("client", kind, 0, 9)
             self.assertIn(f"({kind})", said)
             self.assertNotRegex(said, r"[{}]|  ")
@@ -136,55 +160,6 @@ class Blame(unittest.TestCase):
             (1234000000007, "1,234.000000007 s"),
         ):
             self.assertEqual(words.duration(nanos), said)
-
-
-class Lines(unittest.TestCase):
-    def test_examples(self) -> None:
-        """Each line of each report is read."""
-        for report in sorted((TOP / "examples").glob("*report")):
-            read = list(lines.read_lines(io.BytesIO(report.read_bytes())))
-            self.assertEqual(len(read), len(report.read_text().splitlines()))
-
-    def test_each_line(self) -> None:
-        """The lines that the reader in Rust is held against too."""
-        kinds = {
-            "passed-over": lines.PassedOver,
-            "unopened": lines.Unopened,
-            "opening": lines.Opening,
-            "flow": lines.Flow,
-            "fragments": lines.Fragments,
-            "finding": lines.Finding,
-            "stall": lines.Stall,
-            "audited": lines.Audited,
-            "none": type(None),
-        }
-        rows = [row for row in (TOP / "tests" / "report_lines.txt").read_text().splitlines() if row[0] != "#"]
-        for kind, text in (row.split("|", 1) for row in rows):
-            self.assertIs(type(lines.read_line(text.removeprefix(" "))), kinds[kind.strip()], text)
-
-    def test_reports_of_imports(self) -> None:
-        """Addresses of IPv6, and connections that were not decrypted."""
-        line = "connection 1 client [2001:db8::1]:40000 server [2001:db8::2]:443 record 1 "
-        opening = lines.read_line(line + "http2 frames 2")
-        assert isinstance(opening, lines.Opening)
-        self.assertEqual(opening.client, "[2001:db8::1]:40000")
-        for reason in ("refused no-key", "refused cipher-suite 0x1302"):
-            opening = lines.read_line(line + reason)
-            assert isinstance(opening, lines.Opening)
-            self.assertEqual(opening.form, reason)
-
-    def refuses(self, text: bytes, why: str) -> None:
-        with self.assertRaisesRegex(lines.Refused, why):
-            list(lines.read_lines(io.BytesIO(text)))
-
-    def test_refused(self) -> None:
-        good = (TOP / "examples" / "stream_overrun_go.report").read_bytes()
-        self.refuses(b"", "not a report of h2audit")
-        self.refuses(b"\xff\n", "not a report of h2audit")
-        self.refuses(good.replace(b"nanos", b"nano"), "line 8 is no line of a report")
-        self.refuses(good.split(b"\n")[0] + b"\nflow client bytes 1 gap none tail 0\n", "line 2 is no line")
-        self.refuses(good + good, "line 10 is no line of a report")
-        self.refuses(good + b"x" * 10**6, "line 10 is no line of a report")
 
 
 # Writes a part of a file, and reads on.

@@ -82,7 +82,7 @@ try 'known reports by definition' definitions_test
 try_built 'random captures by definition' definitions_test "$built" captures
 try_built 'random connections by definition' definitions_test "$built" connections
 try 'pictures' plot_test
-try 'lines of reports, and who is to blame' report_test
+try 'who is to blame, and written files' report_test
 try 'command lines of programs in Python' commands_test
 try 'comments of packets: examples' comment_test Examples
 try 'comments of packets: forms of captures' comment_test Forms

@@ -9,9 +9,9 @@ import tempfile
 import unittest
 from typing import Any
 
-from h2audit.report.lines import Finding, Opening, Stall, read_lines
 from tests.programs import named
 from tools.tests.companions import companion
+from tools.tests.report_lines import Finding, Opening, Stall, read_lines
 
 TOP = pathlib.Path(__file__).resolve().parents[2]
 

@@ -1,4 +1,4 @@
-//! The kinds of findings. The table is that of the programs in Python, so both tell the same.
+//! The kinds of findings: their table is a file of its own, which tests hold against the documents.
 
 use std::fmt;
 use std::rc::Rc;

@@ -362,7 +362,7 @@ fn unopened(text: &str) -> Option<Line> {
 mod tests {
     use super::Line;
 
-    /// The lines that the reader in Python is held against too.
+    /// Lines with what each of them is.
     const LINES: &str = include_str!("../../../tests/report_lines.txt");
 
     fn kind_of(text: &str) -> &'static str {
