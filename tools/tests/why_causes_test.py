@@ -183,7 +183,7 @@ class Clients(Causes):
         request = request_of(by_port(found, port), "/medium")
         self.check(request, "connection-window", ("cancelled-streams",), "client")
         self.assertTrue(request["hung"])
-        for words in ("(cancelled)", "0 given back", "never had a byte"):
+        for words in ("(cancelled)", "of which the client gave back 0", "never had a byte"):
             self.assertIn(words, request["cause"]["text"])
 
     def test_stopped_reader(self) -> None:

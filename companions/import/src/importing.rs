@@ -143,6 +143,7 @@ struct Importer<'a, 'b> {
     decoder: Decoder,
     table: Table,
     packets: u64,
+    dropped: u64,
     counts: Capture,
     others: Others,
     last: Option<i64>,
@@ -165,6 +166,7 @@ impl<'a, 'b> Importer<'a, 'b> {
             decoder: Decoder::default(),
             table: Table::default(),
             packets: 0,
+            dropped: 0,
             counts: Capture::default(),
             others: Others::default(),
             last: None,
@@ -189,6 +191,7 @@ impl<'a, 'b> Importer<'a, 'b> {
             }
         }
         self.look_for_problems()?;
+        self.dropped = self.dropped.saturating_add(reader.dropped());
         Ok(reader.source().has_bytes_behind())
     }
 
@@ -298,6 +301,7 @@ impl<'a, 'b> Importer<'a, 'b> {
         let (outcomes, unopened) = std::mem::take(&mut self.table).finish_all(self.shared, self.sink);
         let summary = Summary {
             counts: self.counts,
+            dropped: self.dropped,
             back: self.back.take(),
             others: self.others.most_seen(),
             unopened,

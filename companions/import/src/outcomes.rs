@@ -142,6 +142,8 @@ impl Back {
 #[derive(Debug, Default)]
 pub struct Summary {
     pub counts: Capture,
+    /// How many packets were dropped while the files were captured, as they say.
+    pub dropped: u64,
     pub back: Option<Back>,
     /// What was passed over, the most frequent first.
     pub others: Vec<crate::others::Other>,
