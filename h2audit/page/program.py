@@ -45,6 +45,7 @@ def arguments(words: list[str]) -> argparse.Namespace:
         "-t", "--title", metavar="TITLE", help="the heading of the page; without it the name of the file"
     )
     parser.add_argument("--sort", action="store_true", help="read several captures in the order of their first packets")
+    parser.add_argument("--reorder", action="store_true", help="put packets in order of time that are at most 1 s late")
     parser.add_argument("--no-requests", action="store_true", help="leave out the names of requests")
     parser.add_version()
     return parser.parse_args(words)

@@ -27,8 +27,9 @@ def audit_of(asked: Namespace) -> Audit:
         if is_text(file):
             if len(asked.files) > 1:
                 raise Failed(WRONG_WORDS, f"{first} is a report, and stands alone, without {asked.files[1]}")
-            if asked.key_log or asked.no_requests or asked.sort:
-                raise Failed(WRONG_WORDS, f"{first} is a report, and -k, --sort and --no-requests are for captures")
+            if asked.key_log or asked.no_requests or asked.sort or asked.reorder:
+                words = "-k, --sort, --reorder and --no-requests"
+                raise Failed(WRONG_WORDS, f"{first} is a report, and {words} are for captures")
             return read_audit(file)
         return of_captures(asked, file)
 
@@ -62,7 +63,8 @@ def captures(asked: Namespace, place: Path, first: BinaryIO) -> list[str]:
 
 def audited(asked: Namespace, place: Path, names: list[str]) -> Audit:
     """The report with its credit lines, and the answer, which two programs make side by side."""
-    words = [word for log in asked.key_log for word in ("-k", log)] + ["--sort"] * asked.sort
+    words = [word for log in asked.key_log for word in ("-k", log)]
+    words += ["--sort"] * asked.sort + ["--reorder"] * asked.reorder
     auditor = ["--h2audit", program_named("h2audit")]
     why = [program_named("h2audit-why"), "--json", *["--no-requests"] * asked.no_requests]
     report = [program_named("h2audit-any"), "--frames"]

@@ -3,6 +3,7 @@
 complete -c h2audit-any -s k -l key-log -r -d 'Secrets of TLS connections'
 complete -c h2audit-any -s j -l jobs -x -a '(seq 64)' -d 'Taken from 1 to 64, and changes nothing'
 complete -c h2audit-any -l sort -d 'Read the files in the order of their first packets'
+complete -c h2audit-any -l reorder -d 'Put packets in order of time'
 complete -c h2audit-any -l workers -x -a '(seq 64)' -d 'Threads that audit at once, from 1 to 64'
 complete -c h2audit-any -l groups -x -a '1 4 16 64 256 1024' -d 'Groups of streams, from 1 to 1024'
 complete -c h2audit-any -l block -x -a '1 64 1024 4096 16384 65536 1048576' -d 'Frames in a block, from 1 to 1048576'

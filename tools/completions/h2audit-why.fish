@@ -2,6 +2,7 @@
 
 complete -c h2audit-why -s k -l key-log -r -d 'Secrets of TLS connections'
 complete -c h2audit-why -l sort -d 'Read files in the order of their first packets'
+complete -c h2audit-why -l reorder -d 'Put packets in order of time'
 complete -c h2audit-why -l all -d 'Every request and connection'
 complete -c h2audit-why -l query -d 'Show the query of paths too'
 complete -c h2audit-why -l no-requests -d 'Leave out the names of requests'

@@ -52,7 +52,7 @@ _h2audit_page() {
     --title | -t) COMPREPLY=() ;;
     *)
         case $word in
-        -*) _h2audit_offer -W '--key-log --output --title --sort --no-requests --help --version -k -o -t -h -V' -- "$word" ;;
+        -*) _h2audit_offer -W '--key-log --output --title --sort --reorder --no-requests --help --version -k -o -t -h -V' -- "$word" ;;
         *) _h2audit_offer -f -- "$word" ;;
         esac
         ;;
@@ -61,7 +61,7 @@ _h2audit_page() {
 
 _h2audit_import() {
     local word=${COMP_WORDS[COMP_CWORD]} before=${COMP_WORDS[COMP_CWORD - 1]}
-    local options='--key-log -k --jobs -j --sort --output -o --map -m --course --help -h --version -V'
+    local options='--key-log -k --jobs -j --sort --reorder --output -o --map -m --course --help -h --version -V'
     [[ $word == = ]] && word=
     [[ $before == = ]] && before=${COMP_WORDS[COMP_CWORD - 2]}
     case $before in
@@ -77,8 +77,8 @@ _h2audit_import() {
 
 _h2audit_any() {
     local word=${COMP_WORDS[COMP_CWORD]} before=${COMP_WORDS[COMP_CWORD - 1]}
-    local options='--key-log -k --jobs -j --sort --workers --groups --block --frames --parts --last-packets --map --h2audit'
-    options+=' --help -h --version -V'
+    local options='--key-log -k --jobs -j --sort --reorder --workers --groups --block --frames --parts --last-packets'
+    options+=' --map --h2audit --help -h --version -V'
     [[ $before == = ]] && before=${COMP_WORDS[COMP_CWORD - 2]}
     case $before in
     --parts) _h2audit_offer -W '2 4 8 16 32 64 128 256 500' -- "$word" ;;
@@ -95,8 +95,9 @@ _h2audit_any() {
 
 _h2audit_why() {
     local word=${COMP_WORDS[COMP_CWORD]} before=${COMP_WORDS[COMP_CWORD - 1]}
-    local options='--key-log -k --sort --all --query --no-requests --json --json-lines --rows --color --width --h2audit'
-    options+=' --report --last-packets --audit --workers --fail-on --fail-stall --fail-life --require-http2 --junit --quiet'
+    local options='--key-log -k --sort --reorder --all --query --no-requests --json --json-lines --rows --color --width'
+    options+=' --h2audit --report --last-packets --audit --workers --fail-on --fail-stall --fail-life --require-http2'
+    options+=' --junit --quiet'
     options+=' --compare --ends --help -h --version -V'
     [[ $word == = ]] && word=
     [[ $before == = ]] && before=${COMP_WORDS[COMP_CWORD - 2]}

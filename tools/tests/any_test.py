@@ -93,9 +93,22 @@ class Originals(InFolder):
         names = [self.folder / "g.pcap2", self.folder / "g.pcap10"]
         for name, part in zip(names, (packets[:half], packets[half:])):
             name.write_bytes(tools.pcap_of(part, link))
-        back = f"h2audit-any: times go back at packet {len(packets) - half + 1}: are the files in order? reordercap\n"
+        back = f"h2audit-any: times go back at packet {len(packets) - half + 1}: are the files in order? --reorder\n"
         self.assertTrue(tools.report_of(str(PROGRAM), *reversed(names))[2].startswith(back))
         self.assertEqual(tools.report_of(str(PROGRAM), "--sort", *reversed(names)), (wanted, status, ""))
+
+    def test_late_packets(self) -> None:
+        """Packets of two queues: in order of time, no fault is left, and numbers are the packets' own."""
+        late = tools.TOP / "tests" / "answer" / "packets_late_in_file.pcap"
+        status, said = self.both_ways(late)[1:]
+        self.assertEqual((status, said.endswith(": are the files in order? --reorder\n")), (1, True))
+        self.assertEqual(self.both_ways("--reorder", late)[1:], (0, ""))
+        packets, link = tools.read_pcap(EXAMPLE.read_bytes())
+        packets = [one._replace(nanos=one.nanos + 10**10) for one in packets]
+        packets.append(packets[-1]._replace(nanos=packets[-1].nanos - 2 * 10**9))
+        said = self.both_ways("--reorder", self.write(packets, link))[2]
+        back = f"times go back at packet {len(packets)}: 1 packet too late for --reorder: reordercap"
+        self.assertEqual(said, f"h2audit-any: {back}\n")
 
     def test_tunnels(self) -> None:
         """What was passed over is named; with a connection beside it tunnels alone are, and the status stays."""

@@ -18,6 +18,7 @@ from tools.tests import import_tools as tools
 CORPUS = tools.TOP / "tests" / "corpus"
 RAW = 101
 EXAMPLE = tools.EXAMPLES / "stream_overrun_go.pcap"
+LATE = tools.TOP / "tests" / "answer" / "packets_late_in_file.pcap"
 SYN, ACK, PUSH = 2, 16, 24
 PREFACE = b"PRI * HTTP/2.0\r\n\r\nSM\r\n\r\n" + bytes.fromhex("000000040000000000")
 V2_LINE = b"\r\n\r\n\0\r\nQUIT\n" + b"\x21\x11\x00\x0c" + bytes(12)
@@ -213,13 +214,52 @@ class Files(unittest.TestCase):
         wrong = tools.imported(*reversed(paths))
         at = len(packets) - 9 + 1
         self.assertEqual(
-            wrong.said, f"h2audit-import: times go back at packet {at}: are the files in order? reordercap\n"
+            wrong.said, f"h2audit-import: times go back at packet {at}: are the files in order? --reorder\n"
         )
         nanos = packets[-1].nanos - packets[0].nanos
         self.assertEqual(tools.lines_of(wrong, "back"), [f"back file 2 packet 1 packets 1 nanos {nanos}"])
         self.assertEqual(tools.imported("--sort", *reversed(paths)), right)
         piped = tools.imported("--sort", "-", paths[0], input=b"")
         self.assertEqual((piped.status, piped.said), (2, "h2audit-import: --sort takes files alone, and - is none\n"))
+
+    def test_reorder(self) -> None:
+        """Packets that are late in the file are put in order of time, under their own numbers; the warning says how."""
+        packets, link = tools.read_pcap(LATE.read_bytes())
+        late = tools.imported(LATE)
+        said = "h2audit-import: times go back at packet 13: are the files in order? --reorder\n"
+        self.assertEqual((late.said, tools.lines_of(late, "reordered")), (said, []))
+        order = sorted(range(len(packets)), key=lambda at: packets[at].nanos)
+        path = self.folder / "sorted.pcap"
+        path.write_bytes(tools.pcap_of([packets[at] for at in order], link))
+        wanted, found = tools.imported(path), tools.imported("--reorder", LATE)
+        self.assertEqual((found.bytes, found.said), (wanted.bytes, ""))
+        numbers = {record: order[packet - 1] + 1 for record, (_, packet) in tools.packet_of_each_record(wanted).items()}
+        of_records = {record: packet for record, (_, packet) in tools.packet_of_each_record(found).items()}
+        self.assertEqual(of_records, numbers)
+        newest = [max(one.nanos for one in packets[: at + 1]) for at in range(len(packets))]
+        ways = [newest[at] - packets[at].nanos for at in range(len(packets)) if packets[at].nanos < newest[at]]
+        self.assertEqual(
+            tools.lines_of(found, "reordered"), [f"reordered packets {len(ways)} nanos {max(ways)} left 0"]
+        )
+
+    def test_too_late(self) -> None:
+        """What is more than a second late is left where it is, and that is said with how many."""
+        packets, link = tools.read_pcap(EXAMPLE.read_bytes())
+        packets = [one._replace(nanos=10**9 + at * 500_000_000) for at, one in enumerate(packets)]
+        packets.insert(6, packets.pop(3))
+        packets[8:10] = reversed(packets[8:10])
+        path = self.folder / "late.pcap"
+        path.write_bytes(tools.pcap_of(packets, link))
+        made = tools.imported("--reorder", path)
+        self.assertEqual(
+            made.said, "h2audit-import: times go back at packet 7: 1 packet too late for --reorder: reordercap\n"
+        )
+        told = tools.lines_of(made, "reordered") + tools.lines_of(made, "back")
+        self.assertEqual(
+            told, ["reordered packets 1 nanos 500000000 left 1", "back file 1 packet 7 packets 1 nanos 1500000000"]
+        )
+        numbers = [packet for _, packet in tools.packet_of_each_record(made).values()]
+        self.assertEqual(numbers, [1, 2, 3, 4, 5, 6, 7, 8, 10, 9, *range(11, len(packets) + 1)])
 
     def test_names(self) -> None:
         """What a terminal would act on is escaped in messages, and in the map as ever."""

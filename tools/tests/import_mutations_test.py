@@ -124,7 +124,7 @@ def one(folder: pathlib.Path, seed: int, known: set[bytes], number: int) -> str:
     out, map_path = folder / "out", folder / "map"
     for path in (out, map_path):
         path.unlink(missing_ok=True)
-    status, said = run(["-k", keys, "-o", out, "-m", map_path, capture])
+    status, said = run([*["--reorder"] * dice.randrange(2), "-k", keys, "-o", out, "-m", map_path, capture])
     assert status in STATUSES, (status, said)
     assert (status == 0) <= all(any(word in line for word in WARNINGS) for line in said.splitlines()), said
     assert status == 0 or said.startswith("h2audit-import: "), said

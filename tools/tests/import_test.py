@@ -34,7 +34,7 @@ FRAMES = {
 # Words of h2audit, and how the reports are named that it gives with them.
 FORMS: tuple[tuple[list[str], str], ...] = (([], ".report"), (["--frames"], ".frames.report"))
 # What is said of packets whose times go back, as those of two interfaces do.
-BACK = {"two-interfaces": "h2audit-any: times go back at packet 32: are the files in order? reordercap\n"}
+BACK = {"two-interfaces": "h2audit-any: times go back at packet 32: are the files in order? --reorder\n"}
 NGHTTP_LOGS = ("nghttp-nghttpd-13", "small-window-v6", "loss-and-reordering")
 needs_program = unittest.skipUnless(PROGRAM, "h2audit is not built")
 

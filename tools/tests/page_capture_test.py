@@ -80,6 +80,14 @@ class Examples(unittest.TestCase):
         shown = text_of(page(first, second, "--sort"))
         self.assertIn("frame 7, packet 12 of ", shown)
 
+    def test_late_packets(self) -> None:
+        """In order of time no rule was broken, on the page as in the report below it."""
+        late = TOP / "tests" / "answer" / "packets_late_in_file.pcap"
+        self.assertIn("(--reorder)", text_of(page(late)))
+        shown = text_of(page(late, "--reorder"))
+        self.assertNotIn("(--reorder)", shown)
+        self.assertIn("No rule was broken", shown)
+
     def test_of_a_report_as_before(self) -> None:
         report = TOP / "examples" / "stream_overrun_go.frames.report"
         self.assertIn("Made by h2audit-page from a report of h2audit.", page(report))

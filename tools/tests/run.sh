@@ -138,9 +138,9 @@ try_built 'the answer in words: two clocks, two ends as JUnit' why_two_ends_test
 try_built 'the answer in words: words' why_words_test "$built"
 try_built 'the answer in words: damaged captures' why_mutations_test "$built"
 try_built 'the answer in words: both ends of a wire' why_place_test "$built"
-try_built 'the answer in words: windows of real peers' why_causes_test "$built" Windows
-try_built 'the answer in words: real clients' why_causes_test "$built" Clients
-try_built 'the answer in words: real applications' why_causes_test "$built" Applications
+try_built 'the answer in words: real peers' why_causes_test "$built"
+try_built 'the answer in words: causes that were set' why_set_causes_test "$built"
+try_built 'the answer in words: causes that are set anew' why_set_causes_test "$built" --make
 try_built 'refused growths, threads, reads and writes' refusals_test "$built"
 try_built 'threads that are started' threads_test "$built"
 try_built 'random bytes, and reads of any length' calls_test "$built"

@@ -35,9 +35,9 @@ def damaged(source: random.Random, octets: bytes) -> bytes:
     return bytes(made[: source.randrange(24, len(made))] if source.random() < 0.05 else made)
 
 
-def answered(path: pathlib.Path, keys: pathlib.Path) -> Json | None:
+def answered(path: pathlib.Path, keys: pathlib.Path, options: list[str]) -> Json | None:
     """The answer, which has a text too; or None where the capture is refused."""
-    words = [str(path), *(["-k", str(keys)] if keys.exists() else [])]
+    words = [str(path), *options, *(["-k", str(keys)] if keys.exists() else [])]
     try:
         found = said_of(*words)
     except Refused as why:
@@ -70,11 +70,12 @@ def main(words: list[str]) -> int:
             sample = source.choice(SAMPLES)
             path.write_bytes(damaged(source, sample.read_bytes()))
             try:
-                found = answered(path, sample.with_suffix(".keys"))
+                options = ["--reorder"] * source.randrange(2)
+                found = answered(path, sample.with_suffix(".keys"), options)
                 if found is not None:
                     check(found)
             except BaseException:
-                print(f"seed {seed}, {sample.name}")
+                print(f"seed {seed}, {sample.name} {' '.join(options)}")
                 raise
             refused += found is None
             audited += found is not None and bool(found["summary"]["audited"])

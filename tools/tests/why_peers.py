@@ -1,4 +1,5 @@
-"""Real servers and clients on loopback for the tests of h2audit-why, a proxy that delays, and their capture.
+"""Real servers and clients for the tests of h2audit-why, on loopback or at the ends of a wire (why_wire.py); a proxy
+that delays, and their capture.
 
 A client speaks to the proxy, and the proxy to the server, so that one capture has the connection as each end sees it.
 """
@@ -16,12 +17,40 @@ import time
 import unittest
 from collections import deque
 from collections.abc import Callable, Iterator
+from typing import Protocol
 
 PREFACE = b"PRI * HTTP/2.0\r\n\r\nSM\r\n\r\n"
 # No test depends on how fast a machine is; what takes longer than this has failed.
 PATIENCE = 60.0
 LARGEST_QUEUE = 1 << 20
+# The files that servers have.
+SIZES = {"small": 2_000, "medium": 60_000, "large": 400_000, "mega": 1_000_000, "huge": 24_000_000}
 can_capture = os.geteuid() == 0 and shutil.which("tcpdump") is not None
+
+
+class Place(Protocol):
+    """Where a client (end 0) and a server (end 1) are, and the server's address."""
+
+    address: str
+
+    def within(self, end: int) -> list[str]:
+        """The words that run a command at an end."""
+
+    def socket(self, end: int) -> socket.socket:
+        """A socket of TCP at an end."""
+
+
+class Loopback:
+    address = "127.0.0.1"
+
+    def within(self, _: int) -> list[str]:
+        return []
+
+    def socket(self, _: int) -> socket.socket:
+        return socket.socket()
+
+
+LOOPBACK = Loopback()
 
 
 def free_port() -> int:
@@ -30,10 +59,13 @@ def free_port() -> int:
         return int(one.getsockname()[1])
 
 
-def wait_for_port(port: int) -> None:
+def wait_for_port(port: int, place: Place = LOOPBACK) -> None:
+    """Waits until a server answers at its own end."""
     until = time.monotonic() + PATIENCE
     while time.monotonic() < until:
-        with contextlib.suppress(OSError), socket.create_connection(("127.0.0.1", port), 1):
+        with contextlib.suppress(OSError), place.socket(1) as one:
+            one.settimeout(1)
+            one.connect((place.address, port))
             return
         time.sleep(0.02)
     raise AssertionError(f"no server at port {port}")
@@ -172,13 +204,14 @@ def grown(path: pathlib.Path, size: int) -> None:
 
 
 @contextlib.contextmanager
-def process(*words: str | pathlib.Path, port: int = 0) -> Iterator[subprocess.Popen[bytes]]:
-    """A program that runs meanwhile, and answers at a port where one is named."""
-    child = subprocess.Popen([str(word) for word in words], stdout=subprocess.DEVNULL, stderr=subprocess.DEVNULL,
+def process(*words: str | pathlib.Path, port: int = 0, place: Place = LOOPBACK) -> Iterator[subprocess.Popen[bytes]]:
+    """A program that runs meanwhile, and answers at a port where one is named: then it is a server."""
+    front = place.within(1) if port else []
+    child = subprocess.Popen([*front, *map(str, words)], stdout=subprocess.DEVNULL, stderr=subprocess.DEVNULL,
                              stdin=subprocess.DEVNULL)  # fmt: skip
     try:
         if port:
-            wait_for_port(port)
+            wait_for_port(port, place)
         yield child
     finally:
         child.kill()
@@ -197,36 +230,38 @@ events {{ worker_connections 256; }}
 http {{
     access_log off; client_body_temp_path {folder}/body; proxy_temp_path {folder}/proxy; fastcgi_temp_path {folder}/f;
     uwsgi_temp_path {folder}/u; scgi_temp_path {folder}/s; keepalive_timeout 60s;
-    server {{ listen 127.0.0.1:{port} http2; root {folder}; }}
+    server {{ listen {address}:{port} http2; root {folder}; {more} }}
 }}
 """
 
 
 @contextlib.contextmanager
-def nginx(folder: pathlib.Path) -> Iterator[int]:
+def nginx(folder: pathlib.Path, place: Place = LOOPBACK, more: str = "") -> Iterator[int]:
     port = free_port()
     configuration = folder / "nginx.conf"
-    configuration.write_text(NGINX.format(folder=folder, port=port))
-    with process("nginx", "-e", folder / "error.log", "-p", folder, "-c", configuration, port=port):
+    configuration.write_text(NGINX.format(folder=folder, address=place.address, port=port, more=more))
+    words: list[str | pathlib.Path] = ["nginx", "-e", folder / "error.log", "-p", folder, "-c", configuration]
+    with process(*words, port=port, place=place):
         yield port
 
 
 @contextlib.contextmanager
-def nghttpd(folder: pathlib.Path) -> Iterator[int]:
+def nghttpd(folder: pathlib.Path, place: Place = LOOPBACK, more: tuple[str, ...] = ()) -> Iterator[int]:
     port = free_port()
-    with process("nghttpd", "--no-tls", "-a", "127.0.0.1", "-d", folder, str(port), port=port):
+    words: list[str | pathlib.Path] = ["nghttpd", "--no-tls", "-a", place.address, *more, "-d", folder, str(port)]
+    with process(*words, port=port, place=place):
         yield port
 
 
 @contextlib.contextmanager
-def h2o(folder: pathlib.Path) -> Iterator[int]:
+def h2o(folder: pathlib.Path, place: Place = LOOPBACK) -> Iterator[int]:
     port = free_port()
     configuration = folder / "h2o.conf"
     configuration.write_text(
-        f"listen: {{host: 127.0.0.1, port: {port}}}\nuser: root\nnum-threads: 1\n"
+        f"listen: {{host: {place.address}, port: {port}}}\nuser: root\nnum-threads: 1\n"
         f"hosts:\n  default:\n    paths:\n      /: {{file.dir: {folder}}}\n"
     )
-    with process("h2o", "-c", configuration, port=port):
+    with process("h2o", "-c", configuration, port=port, place=place):
         yield port
 
 
@@ -240,7 +275,7 @@ CADDY = """
     }}
 }}
 http://:{port} {{
-    bind 127.0.0.1
+    bind {address}
     root * {folder}
     file_server
 }}
@@ -248,12 +283,12 @@ http://:{port} {{
 
 
 @contextlib.contextmanager
-def caddy(folder: pathlib.Path) -> Iterator[int]:
+def caddy(folder: pathlib.Path, place: Place = LOOPBACK) -> Iterator[int]:
     """A server in Go, which answers by GOAWAY where others reset the stream."""
     port = free_port()
     configuration = folder / "Caddyfile"
-    configuration.write_text(CADDY.format(folder=folder, port=port))
-    with process("caddy", "run", "--adapter", "caddyfile", "--config", configuration, port=port):
+    configuration.write_text(CADDY.format(folder=folder, address=place.address, port=port))
+    with process("caddy", "run", "--adapter", "caddyfile", "--config", configuration, port=port, place=place):
         yield port
 
 
@@ -270,22 +305,32 @@ server.on('stream', (stream, headers) => {
     setTimeout(() => stream.end(Buffer.alloc(1000)), 700);
   } else if (path === '/late') {
     setTimeout(() => { stream.respond({':status': 200}); stream.end('late'); }, 700);
+  } else if (path === '/large') {
+    stream.respond({':status': 200});
+    stream.end(Buffer.alloc(400000));
+  } else if (path === '/reads' || path === '/reads-late') {
+    stream.on('end', () => { stream.respond({':status': 200}); stream.end('read'); });
+    setTimeout(() => stream.resume(), path === '/reads' ? 0 : 700);
+  } else if (path === '/goes-away') {
+    stream.respond({':status': 200});
+    stream.write(Buffer.alloc(1000));
+    setTimeout(() => stream.session.destroy(new Error('made')), 700);
   } else if (path === '/reset') {
     stream.respond({':status': 200});
     stream.write(Buffer.alloc(1000));
     setTimeout(() => stream.destroy(new Error('made')), 200);
   } else { stream.respond({':status': 200}); stream.end('at once'); }
 });
-server.listen(Number(process.argv[2]), '127.0.0.1');
+server.listen(Number(process.argv[2]), process.argv[3]);
 """
 
 
 @contextlib.contextmanager
-def node(folder: pathlib.Path) -> Iterator[int]:
+def node(folder: pathlib.Path, place: Place = LOOPBACK) -> Iterator[int]:
     port = free_port()
     script = folder / "server.js"
     script.write_text(NODE)
-    with process("node", script, str(port), port=port):
+    with process("node", script, str(port), place.address, port=port, place=place):
         yield port
 
 
@@ -293,11 +338,26 @@ def frame(kind: int, flags: int, stream: int, payload: bytes = b"") -> bytes:
     return len(payload).to_bytes(3, "big") + bytes([kind, flags]) + struct.pack(">I", stream) + payload
 
 
+def block_of(*fields: tuple[str, str]) -> bytes:
+    """Literal fields without indexing (RFC 7541, 6.2.2)."""
+    return b"".join(
+        b"\0" + bytes([len(name)]) + name.encode() + bytes([len(value)]) + value.encode() for name, value in fields
+    )
+
+
+def request(stream: int, method: str, path: str, flags: int = 5) -> bytes:
+    fields = ((":method", method), (":scheme", "http"), (":path", path), (":authority", "localhost"))
+    return frame(1, flags, stream, block_of(*fields))
+
+
 class RawClient:
     """A client that writes its frames itself, for what no library would send; it reads meanwhile, or does not."""
 
-    def __init__(self, port: int, settings: bytes = b"") -> None:
-        self.socket = socket.create_connection(("127.0.0.1", port))
+    def __init__(self, port: int, settings: bytes = b"", place: Place = LOOPBACK, receive_buffer: int = 0) -> None:
+        self.socket = place.socket(0)
+        if receive_buffer:
+            self.socket.setsockopt(socket.SOL_SOCKET, socket.SO_RCVBUF, receive_buffer)
+        self.socket.connect((place.address, port))
         self.socket.setsockopt(socket.IPPROTO_TCP, socket.TCP_NODELAY, 1)
         self.received = bytearray()
         self.frames: list[tuple[int, int, int, bytes]] = []
@@ -308,12 +368,10 @@ class RawClient:
         self.socket.sendall(octets)
 
     def get(self, stream: int, path: str) -> None:
-        """A request by literal fields without indexing (RFC 7541, 6.2.2)."""
-        fields = ((":method", "GET"), (":scheme", "http"), (":path", path), (":authority", "localhost"))
-        block = b"".join(
-            b"\0" + bytes([len(name)]) + name.encode() + bytes([len(value)]) + value.encode() for name, value in fields
-        )
-        self.write(frame(1, 5, stream, block))
+        self.write(request(stream, "GET", path))
+
+    def grant(self, *streams: int, size: int = 1 << 20) -> None:
+        self.write(b"".join(frame(8, 0, stream, struct.pack(">I", size)) for stream in streams))
 
     def read_until(
         self, is_enough: Callable[[list[tuple[int, int, int, bytes]]], bool], seconds: float = PATIENCE
@@ -356,14 +414,20 @@ class RawClient:
         self.socket.close()
 
 
+@contextlib.contextmanager
+def folder_to_serve() -> Iterator[pathlib.Path]:
+    """A folder with files of zeros."""
+    with tempfile.TemporaryDirectory(prefix="h2audit-why-test-") as name:
+        folder = pathlib.Path(name)
+        folder.chmod(0o755)
+        for file, size in SIZES.items():
+            (folder / file).write_bytes(bytes(size))
+        yield folder
+
+
 class Peers(unittest.TestCase):
     """A folder with files to serve, and the answer on what was captured."""
 
     def setUp(self) -> None:
-        folder = tempfile.TemporaryDirectory(prefix="h2audit-why-test-")
-        self.addCleanup(folder.cleanup)
-        self.folder = pathlib.Path(folder.name)
-        self.folder.chmod(0o755)
-        for name, size in (("small", 2_000), ("medium", 60_000), ("large", 400_000), ("huge", 24_000_000)):
-            (self.folder / name).write_bytes(bytes(size))
+        self.folder = self.enterContext(folder_to_serve())
         self.capture = self.folder / "capture.pcap"

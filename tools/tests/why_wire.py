@@ -1,13 +1,18 @@
-"""Two network namespaces with a wire between them that delays, and loses what it is told to: each end can be captured.
+"""Two network namespaces with a line between them, which delays, has a bandwidth, and loses what it is told to: each
+end can be captured.
 
-Unlike a proxy it ends no TCP, so handshakes take the round trip, and lost packets are sent again.
+Unlike a proxy it ends no TCP, so handshakes take the round trip, and lost packets are sent again. Each end is a tap
+device, and a thread hands frames from one to the other, so no kernel needs to know of delays.
 """
 
 import contextlib
+import ctypes
+import fcntl
 import os
 import pathlib
 import select
 import socket
+import struct
 import subprocess
 import threading
 import time
@@ -15,14 +20,9 @@ from collections import deque
 from collections.abc import Callable, Iterator
 
 CLIENT, SERVER = "10.98.0.1", "10.98.0.2"
-ALL_PROTOCOLS = 3
-# Checksums that a card would fill in are filled in by no wire of ours; and packets stay as small as the wire's.
-PLAIN = """
-import array, fcntl, socket, struct
-words = array.array("B", struct.pack("II", 0x17, 0))
-request = struct.pack("16sP", b"wire", words.buffer_info()[0])
-fcntl.ioctl(socket.socket(), 0x8946, request)
-"""
+# Of <linux/if_tun.h> and <linux/sched.h>.
+TUNSETIFF, TAP_WITHOUT_FRONT, NEW_NETWORK = 0x400454CA, 0x1002, 0x40000000
+LONGEST_FRAME = 1 << 17
 Loses = Callable[[int, bytes], bool]
 
 
@@ -30,13 +30,26 @@ def ip(*words: str) -> None:
     subprocess.run(["ip", *words], check=True, capture_output=True)
 
 
-class Wire:
-    """Hands on each packet after half of a round trip. It loses those that it is told to, by their end and bytes."""
+def tap(name: str) -> int:
+    """A tap device that is there as long as this file is open: what is sent into it comes here, frame by frame."""
+    file = os.open("/dev/net/tun", os.O_RDWR | os.O_NONBLOCK)
+    fcntl.ioctl(file, TUNSETIFF, struct.pack("16sH14x", name.encode(), TAP_WITHOUT_FRONT))
+    return file
 
-    def __init__(self, round_trip: float, loses: Loses) -> None:
+
+class Wire:
+    """Hands on each frame after half of a round trip. It loses those that it is told to, by their end and bytes.
+
+    With a bandwidth, in bytes a second, a frame waits for those before it in its direction.
+    """
+
+    address = SERVER
+
+    def __init__(self, round_trip: float, loses: Loses, bandwidth: float = 0) -> None:
         self.names = [f"h2audit-why-{os.getpid()}-{end}" for end in "ab"]
-        self.delay, self.loses = round_trip / 2, loses
-        self.sockets: list[socket.socket] = []
+        self.delay, self.loses, self.bandwidth = round_trip / 2, loses, bandwidth
+        self.files: list[int] = []
+        self.free = [0.0, 0.0]
         self.is_over = False
         self.thread = threading.Thread(target=self.hand_on, daemon=True)
 
@@ -44,49 +57,67 @@ class Wire:
         for end, (name, address) in enumerate(zip(self.names, (CLIENT, SERVER))):
             outer = f"hw{os.getpid() % 100000}{'ab'[end]}"
             ip("netns", "add", name)
-            ip("link", "add", outer, "type", "veth", "peer", "name", "wire", "netns", name)
-            ip("-n", name, "link", "set", "wire", "gso_max_segs", "1")
+            self.files.append(tap(outer))
+            ip("link", "set", outer, "netns", name, "name", "wire")
+            ip("-n", name, "link", "set", "lo", "up")
             ip("-n", name, "address", "add", f"{address}/24", "dev", "wire")
             ip("-n", name, "link", "set", "wire", "up")
-            ip("link", "set", outer, "up")
-            subprocess.run([*self.within(end), "/usr/bin/python3", "-c", PLAIN], check=True)
-            one = socket.socket(socket.AF_PACKET, socket.SOCK_RAW, socket.htons(ALL_PROTOCOLS))
-            one.bind((outer, 0))
-            self.sockets.append(one)
         self.thread.start()
 
     def hand_on(self) -> None:
-        waiting: deque[tuple[float, int, bytes]] = deque()
+        waiting: list[deque[tuple[float, bytes]]] = [deque(), deque()]
         while not self.is_over:
             now = time.monotonic()
-            while waiting and waiting[0][0] <= now:
-                _, end, octets = waiting.popleft()
-                with contextlib.suppress(OSError):
-                    self.sockets[1 - end].send(octets)
-            patience = max(0.0, waiting[0][0] - now) if waiting else 0.05
-            for one in select.select(self.sockets, [], [], patience)[0]:
-                octets, address = one.recvfrom(1 << 17)
-                end = self.sockets.index(one)
-                if address[2] != socket.PACKET_OUTGOING and not self.loses(end, octets):
-                    waiting.append((time.monotonic() + self.delay, end, octets))
+            for end in (0, 1):
+                while waiting[end] and waiting[end][0][0] <= now:
+                    with contextlib.suppress(OSError):
+                        os.write(self.files[1 - end], waiting[end].popleft()[1])
+            due = [queue[0][0] - now for queue in waiting if queue]
+            for file in select.select(self.files, [], [], max(0.0, min([0.05, *due])))[0]:
+                end = self.files.index(file)
+                with contextlib.suppress(OSError):  # a device is down while it is laid
+                    octets = os.read(file, LONGEST_FRAME)
+                    if not self.loses(end, octets):
+                        waiting[end].append((self.arrival(end, len(octets)), octets))
+
+    def arrival(self, end: int, length: int) -> float:
+        self.free[end] = max(time.monotonic(), self.free[end])
+        if self.bandwidth:
+            self.free[end] += length / self.bandwidth
+        return self.free[end] + self.delay
 
     def within(self, end: int) -> list[str]:
         """The words that run a command at an end."""
         return ["ip", "netns", "exec", self.names[end]]
 
+    def socket(self, end: int) -> socket.socket:
+        """A socket of TCP at an end."""
+        made: list[socket.socket] = []
+
+        def make() -> None:
+            with open(f"/run/netns/{self.names[end]}", "rb") as network:
+                if ctypes.CDLL(None).setns(network.fileno(), NEW_NETWORK) == 0:
+                    made.append(socket.socket())
+
+        # A thread has a network of its own, and its sockets stay there.
+        thread = threading.Thread(target=make)
+        thread.start()
+        thread.join()
+        return made[0]
+
     def take_away(self) -> None:
         self.is_over = True
         if self.thread.is_alive():
             self.thread.join()
-        for one in self.sockets:
-            one.close()
+        for file in self.files:
+            os.close(file)
         for name in self.names:
             subprocess.run(["ip", "netns", "delete", name], capture_output=True)
 
 
 @contextlib.contextmanager
-def wire(round_trip: float, loses: Loses = lambda _, __: False) -> Iterator[Wire]:
-    made = Wire(round_trip, loses)
+def wire(round_trip: float, loses: Loses = lambda _, __: False, bandwidth: float = 0) -> Iterator[Wire]:
+    made = Wire(round_trip, loses, bandwidth)
     try:
         made.lay()
         yield made

@@ -97,6 +97,16 @@ class Words(OnCaptures):
         self.assertIn("g10 ends", found["warnings"][0]["text"])
         self.assertEqual(said_of("--sort", *words)["warnings"], [])
 
+    def test_late_packets(self) -> None:
+        """Packets of two queues: the warning names the option, with which there is neither fault nor warning."""
+        late = str(TOP / "tests" / "answer" / "packets_late_in_file.pcap")
+        found = said_of(late)
+        self.assertEqual([one["kind"] for one in found["warnings"]], ["times-go-back"])
+        self.assertTrue(found["warnings"][0]["text"].endswith("may be wrong (--reorder)"))
+        self.assertNotEqual(found["summary"]["verdict"], "stalls")
+        found = said_of("--reorder", late)
+        self.assertEqual((found["warnings"], found["connections"][0]["faults"]), ([], []))
+
     def test_doubled(self) -> None:
         """Each packet came twice, as where a bridge and its port are both captured."""
         octets = self.EXAMPLE.read_bytes()

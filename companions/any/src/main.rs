@@ -108,9 +108,7 @@ fn write(report: impl BufRead, original: &mut Original) -> Result<Shown, Failure
 
 /// Says that times go back, where they do.
 fn say_back(original: &Original) {
-    if let Some(packet) = original.back {
-        say(NAME, &import::times_go_back(packet));
-    }
+    original.back.iter().for_each(|words| say(NAME, words));
 }
 
 /// The last line: whether anything could be read, and what was passed over that may hold more.

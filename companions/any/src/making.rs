@@ -18,7 +18,8 @@ pub fn make(
     let mut keeping = Keeping::default();
     let mut courses = asked.last_packets.as_ref().map(|_| Courses::default());
     let mut sink = Sink::new(made, &mut keeping)?;
-    let import = import::Asked { program: NAME, files, key_logs: &asked.key_logs, can_repeat: true };
+    let Audited { key_logs, is_reordered, .. } = asked;
+    let import = import::Asked { program: NAME, files, key_logs, is_reordered: *is_reordered, can_repeat: true };
     let summary = import::imported(&import, &mut sink, courses.as_mut())?;
     drop(sink);
     Ok((keeping.original, courses.map(|courses| LastPackets::of(&summary, &courses))))

@@ -46,6 +46,8 @@ struct Reading {
     original: Original,
     files: u64,
     has_counts: bool,
+    /// How many packets are too late to be put in order, where that was asked for.
+    left: Option<u64>,
     /// The connection whose lines come, with the flows that it has so far.
     connection: Option<(u64, Began, Vec<SideRead>, u64)>,
 }
@@ -112,7 +114,8 @@ impl Reading {
                 self.connection.as_mut()?.2.push(side);
             }
             "fragments" => self.connection.as_mut()?.3 = number(1)?,
-            "back" => self.original.back = Some(number(4)?),
+            "reordered" => self.left = Some(number(6)?),
+            "back" => self.original.back = Some(import::times_go_back(number(4)?, number(8)?, self.left)),
             "other" => {
                 let name = words.get(3)?.to_string();
                 self.original.others.push(Other { name, packets: number(5)? });

@@ -27,6 +27,7 @@ pub struct Audited {
     pub files: Vec<OsString>,
     pub key_logs: Vec<OsString>,
     pub is_sorted: bool,
+    pub is_reordered: bool,
     /// h2audit's.
     pub options: Vec<String>,
     pub parts: Option<u64>,
@@ -49,6 +50,7 @@ pub fn words_of(words: Vec<OsString>) -> Result<Words, Failure> {
                 count(&mut parser, "-j/--jobs", MOST_JOBS)?;
             }
             Long("sort") => asked.is_sorted = true,
+            Long("reorder") => asked.is_reordered = true,
             Long("workers") => workers = Some(count(&mut parser, "--workers", MOST_WORKERS)?),
             Long("groups") => groups = Some(count(&mut parser, "--groups", MOST_GROUPS)?),
             Long("block") => block = Some(count(&mut parser, "--block", MOST_FRAMES)?),
@@ -75,7 +77,8 @@ pub fn words_of(words: Vec<OsString>) -> Result<Words, Failure> {
 impl Audited {
     fn is_empty(&self) -> bool {
         let has_words = !self.files.is_empty() || !self.key_logs.is_empty() || !self.options.is_empty();
-        !has_words && !self.is_sorted && self.parts.is_none() && self.last_packets.is_none() && self.program.is_none()
+        let has_order = self.is_sorted || self.is_reordered;
+        !has_words && !has_order && self.parts.is_none() && self.last_packets.is_none() && self.program.is_none()
     }
 }
 

@@ -56,19 +56,22 @@ struct Held {
     /// Of the longest piece that is held, by its offset.
     lengths: HashMap<u32, usize>,
     cost: usize,
+    /// How many pieces came. Their packets need not have rising numbers.
+    count: u64,
 }
 
 #[derive(Debug, PartialEq, Eq, PartialOrd, Ord)]
 struct Piece {
     offset: u32,
+    turn: u64,
     arrival: Arrival,
     data: Box<[u8]>,
 }
 
-/// A piece that reaches the place that is asked for, of which the first that arrived comes first.
+/// A piece that reaches the place that is asked for, of which the first that came comes first.
 #[derive(PartialEq, Eq, PartialOrd, Ord)]
 struct Active<'a> {
-    arrival: Arrival,
+    turn: u64,
     offset: u32,
     data: Cow<'a, [u8]>,
 }
@@ -88,8 +91,8 @@ impl Flow {
 
     /// The first packet that brought bytes behind a hole which is still there.
     pub fn behind_hole(&self) -> Option<Arrival> {
-        let held = self.held.as_ref().and_then(|held| held.pieces.iter().map(|piece| piece.0.arrival).min());
-        self.lost.or(held)
+        let first = || self.held.as_ref()?.pieces.iter().min_by_key(|piece| piece.0.turn);
+        self.lost.or_else(|| Some(first()?.0.arrival))
     }
 
     /// The bytes that are in order now.
@@ -105,7 +108,8 @@ impl Flow {
             return Cow::Borrowed(&[]);
         }
         if let Some(held) = self.held.take() {
-            return Cow::Owned(self.joined(held, Active { arrival, offset, data: Cow::Borrowed(data) }));
+            let turn = held.count;
+            return Cow::Owned(self.joined(held, Active { turn, offset, data: Cow::Borrowed(data) }));
         }
         let fresh = &data[(self.next - offset) as usize..];
         self.next = end;
@@ -119,7 +123,8 @@ impl Flow {
             return;
         }
         *longest = data.len();
-        held.pieces.push(Reverse(Piece { offset, arrival, data: data.into() }));
+        held.pieces.push(Reverse(Piece { offset, turn: held.count, arrival, data: data.into() }));
+        held.count += 1;
         held.cost += data.len() + COST_OF_A_PIECE;
         if held.cost > MOST_HELD {
             self.lost = self.behind_hole();
@@ -134,9 +139,9 @@ impl Flow {
         let mut at = self.next;
         loop {
             while held.pieces.peek().map_or(false, |piece| piece.0.offset <= at) {
-                let Piece { offset, arrival, data } = held.pieces.pop().expect("it was looked at").0;
+                let Piece { offset, turn, data, .. } = held.pieces.pop().expect("it was looked at").0;
                 held.forget(offset, data.len());
-                active.push(Reverse(Active { arrival, offset, data: Cow::Owned(data.into_vec()) }));
+                active.push(Reverse(Active { turn, offset, data: Cow::Owned(data.into_vec()) }));
             }
             let next_held = held.pieces.peek().map_or(END_OF_OFFSETS, |piece| piece.0.offset);
             match active.peek() {
@@ -190,7 +195,7 @@ mod tests {
         }
     }
 
-    /// Beside a model that keeps of each offset the first byte that came for it.
+    /// Beside a model that keeps of each offset the first byte that came for it, whatever the packets' numbers.
     #[test]
     fn first_byte_of_each_offset_counts() {
         let mut dice = Dice(RandomState::new().build_hasher().finish() | 1);
@@ -204,7 +209,7 @@ mod tests {
                 for (at, byte) in (offset as usize..).zip(&data) {
                     first[at].get_or_insert(*byte);
                 }
-                given.extend_from_slice(&flow.add(offset as u32, &data, arrival(packet)));
+                given.extend_from_slice(&flow.add(offset as u32, &data, arrival(packet ^ 5)));
                 let run: Vec<u8> = first.iter().map_while(|byte| *byte).collect();
                 assert_eq!(given, run, "{steps:?}");
                 assert_eq!(flow.next() as usize, run.len(), "{steps:?}");

@@ -207,7 +207,7 @@ pub struct Cause {
     pub window: i64,
     /// The lesser of the stream's and the connection's credit as the side began to send nothing.
     pub credit: Option<i64>,
-    /// The SETTINGS whose initial window was in force as it began: an index into [`ConnectionSaid::announced`].
+    /// The SETTINGS whose initial window was in force as it began: an index into [`ConnectionSaid::settings`].
     pub setting: Option<u32>,
     pub is_proved: bool,
 }
@@ -344,9 +344,8 @@ pub struct ConnectionSaid {
     pub round_trip: RoundTrip,
     pub captured_at: Option<Place>,
     pub limits: Vec<String>,
-    /// Those that are told; and all, for [`Cause::setting`].
+    /// Those of the first SETTINGS.
     pub settings: Vec<SettingSaid>,
-    pub announced: Vec<SettingSaid>,
     pub faults: Vec<FaultSaid>,
     /// In the order in which they began.
     pub stalls: Vec<StallSaid>,

@@ -24,6 +24,8 @@ pub struct Asked<'a> {
     /// In the order in which they are read; standard input where there is none.
     pub files: &'a [OsString],
     pub key_logs: &'a [OsString],
+    /// Whether packets are put in order of time.
+    pub is_reordered: bool,
     /// The program that audits, where it is named, and its options.
     pub h2audit: Option<OsString>,
     pub options: &'a [String],
@@ -97,8 +99,8 @@ fn make(asked: &Asked<'_>, keeping: Option<Keeping>) -> Result<(Made, Option<Kee
     let mut listening = Listening { learning: Learning::new()?, keeping };
     let mut courses = Courses::default();
     let mut sink = Sink::new(&mut capture, &mut listening)?;
-    let import =
-        import::Asked { program: asked.program, files: asked.files, key_logs: asked.key_logs, can_repeat: true };
+    let Asked { program, files, key_logs, is_reordered, .. } = *asked;
+    let import = import::Asked { program, files, key_logs, is_reordered, can_repeat: true };
     let summary = import::imported(&import, &mut sink, Some(&mut courses))?;
     drop(sink);
     if summary.counts.fragments + summary.counts.refused > 0 {

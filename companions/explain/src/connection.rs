@@ -17,7 +17,7 @@ use crate::learning::Known;
 use crate::made::Record;
 use crate::requests::Packed;
 use crate::rounds::round_trip_of;
-use crate::seen::{end_of, in_force, About, Goaways, Seen, WindowStalls};
+use crate::seen::{end_of, About, Goaways, Seen, WindowStalls};
 use crate::side_of;
 use crate::stalls::may_be_leaks;
 use crate::stream::Stream;
@@ -253,9 +253,8 @@ fn ended(walk: Walk, cuts: CutFrames<'_>, said: &mut ConnectionSaid) -> (Packed,
     let (refusing, error) = (signals.refusing, signals.error());
     said.signals = signals.said();
     stalls_and_leaks(said, findings.stalls, leaks);
-    let (announced, told) = settings.said();
-    said.settings = announced.get(..told).unwrap_or_default().to_vec();
-    said.announced = announced;
+    let (told, changes) = settings.said();
+    said.settings = told;
     let unshown = unshown.map(|one| {
         let found = one.map(|one| one.1).filter(|found| !found.is_empty())?;
         Some(Box::new(Stretches::new(found.into_iter().map(|(begin, end)| (begin, end, ())).collect())))
@@ -266,7 +265,7 @@ fn ended(walk: Walk, cuts: CutFrames<'_>, said: &mut ConnectionSaid) -> (Packed,
         error,
         connection_windows: said.connection_windows,
         unshown,
-        in_force: in_force(&said.announced),
+        changes,
         about,
     };
     (packed, seen)

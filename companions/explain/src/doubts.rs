@@ -3,7 +3,7 @@
 
 use std::collections::BTreeMap;
 
-use import::{Courses, Older, Summary, Uncaptured};
+use import::{help_for, Courses, Older, Summary, Uncaptured};
 use reports::grouped;
 
 use crate::answer::{Answer, Files, NotAudited, Place, RoundTrip, Warning};
@@ -79,8 +79,9 @@ fn clocks(files: &Files, summary: &Summary) -> Vec<Warning> {
         Some(back) => back,
         None => return said,
     };
+    let left = summary.reordered.map(|reordered| reordered.left);
     for one in &back.first {
-        let one = clock(files, one, back.packets);
+        let one = clock(files, one, back.packets, left);
         if !said.iter().any(|before| before.kind == one.kind) {
             said.push(one);
         }
@@ -88,7 +89,7 @@ fn clocks(files: &Files, summary: &Summary) -> Vec<Warning> {
     said
 }
 
-fn clock(files: &Files, one: &Older, packets: u64) -> Warning {
+fn clock(files: &Files, one: &Older, packets: u64, left: Option<u64>) -> Warning {
     let nanos = time_of(i64::try_from(one.nanos).unwrap_or(i64::MAX));
     let (file, packet) = files.place(one.arrival.packet);
     let at = Some(at_of(one.arrival));
@@ -104,8 +105,12 @@ fn clock(files: &Files, one: &Older, packets: u64) -> Warning {
         0 | 1 => String::new(),
         _ => format!(", and in {} other places", grouped(packets - 1)),
     };
+    let help = match left {
+        Some(left) => format!("{} too late for --reorder: reordercap", count(left, "packet")),
+        None => help_for(one.nanos).to_string(),
+    };
     let text = format!(
-        "times go back at packet {packet} by {nanos}{many}: what is said of order and of durations may be wrong (reordercap)"
+        "times go back at packet {packet} by {nanos}{many}: what is said of order and of durations may be wrong ({help})"
     );
     Warning { at, ..warning("times-go-back", text) }
 }

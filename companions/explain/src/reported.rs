@@ -20,8 +20,8 @@ const MOST_SAID: u64 = 1 << 16;
 pub struct Reported {
     pub has_faults: bool,
     pub is_nothing_read: bool,
-    /// The packet at which times go back.
-    pub back: Option<u64>,
+    /// What is to be said of times that go back.
+    pub back: Option<String>,
     /// What was passed over that may hold more, or that nothing was read.
     pub words: Option<String>,
     /// Of the connections with a stall that did not end.
@@ -104,7 +104,7 @@ pub fn of_original(
     Ok(Reported {
         has_faults: shown.has_faults,
         is_nothing_read,
-        back: original.back,
+        back: original.back.take(),
         words: original.passed_over_words(is_nothing_read),
         last_packets: last_packets.with_open_stalls(&shown),
     })

@@ -3,10 +3,11 @@
 
 use std::collections::HashMap;
 
-use crate::answer::{is_pushed, At, Ended, How, Nanos, Place, RoundTrip, SettingSaid, StallSaid, StallWhy};
+use crate::answer::{is_pushed, At, Ended, How, Nanos, Place, RoundTrip, StallSaid, StallWhy};
 use crate::course::Course;
 use crate::intervals::{disjoint, Interval, Stretches};
 use crate::life::Holding;
+use crate::settings::Changes;
 use crate::side_of;
 use crate::stream::{Direction, Stream};
 use crate::tcp::Tcp;
@@ -81,8 +82,8 @@ pub struct Seen {
     pub connection_windows: [i64; 2],
     /// Pauses that began with the connection's credit used up, where stalls may not show.
     pub unshown: [Option<Box<Stretches<()>>>; 2],
-    /// By the side that sends: each acknowledgement of an initial window, and which of all that were announced it is.
-    pub in_force: [Vec<(u32, u32)>; 2],
+    /// By the side that sends: when its initial window changed.
+    pub changes: [Changes; 2],
 }
 
 /// Reasons in the order of their names, of which the first counts where several took as long.
@@ -137,19 +138,9 @@ impl Seen {
 
     /// Which SETTINGS made the initial window of a side what it was at a frame.
     pub fn setting(&self, side: usize, frame: u32) -> Option<u32> {
-        let acknowledged = self.in_force[side].partition_point(|one| one.0 <= frame);
-        acknowledged.checked_sub(1).and_then(|at| self.in_force[side].get(at)).map(|one| one.1)
+        let changed = self.changes[side].partition_point(|one| one.0 <= frame);
+        changed.checked_sub(1).and_then(|at| self.changes[side].get(at)).and_then(|one| one.1)
     }
-}
-
-/// The acknowledgements of what the other side announced, by the side that sends.
-pub fn in_force(announced: &[SettingSaid]) -> [Vec<(u32, u32)>; 2] {
-    let mut found = [Vec::new(), Vec::new()];
-    for (at, one) in announced.iter().enumerate() {
-        let acknowledged = one.acknowledged.map(|answer| (answer.frame, at as u32));
-        found[1 - one.side as usize].extend(acknowledged);
-    }
-    found
 }
 
 /// What ends streams of a connection: refusals of a side, and a GOAWAY with an error.

@@ -13,32 +13,52 @@ pub const MAX_FRAME_SIZE: usize = 2;
 const HEADER_TABLE_SIZE: u16 = 1;
 /// Of a connection with more SETTINGS, those of the first ones are told.
 const MOST_TOLD: u32 = 1000;
-/// SETTINGS without an acknowledgement that are looked at.
+/// The last SETTINGS without an acknowledgement, which are looked at.
 const MOST_PENDING: usize = 64;
 
-/// SETTINGS that say one of [`KINDS`].
+/// SETTINGS that say one of [`KINDS`], and wait for their acknowledgement.
 #[derive(Clone, Copy, Debug)]
-struct Announced {
-    side: usize,
-    /// How many SETTINGS came before.
-    number: u32,
+struct Waiting {
+    /// How many SETTINGS that say none of them wait between these and the ones before.
+    others: u32,
     at: At,
     values: [Option<u32>; 3],
-    acknowledged: Option<At>,
+    /// Where their initial window is told, if it is.
+    told: Option<u32>,
 }
 
-/// What the SETTINGS of a connection said so far.
+/// Those of a side that wait, the oldest first.
+#[derive(Debug, Default)]
+struct Queue {
+    waiting: VecDeque<Waiting>,
+    /// How many wait behind the last one that says one of the kinds.
+    others: u32,
+}
+
+/// What the SETTINGS of a connection said so far. Nothing is kept of SETTINGS that no longer wait, but what is told.
 #[derive(Debug, Default)]
 pub struct Settings {
-    all: Vec<Announced>,
     count: u32,
-    /// By the side that sent them: those that wait for an acknowledgement.
-    pending: [VecDeque<Option<u32>>; 2],
-    /// Those of them that say one of the kinds.
-    waiting: [[VecDeque<u32>; 3]; 2],
-    /// By the side that obeys them: those that count.
-    in_force: [[Option<u32>; 3]; 2],
+    /// By the side that sent them.
+    queues: [Queue; 2],
+    /// By the side that obeys them.
+    in_force: [InForce; 2],
+    /// The initial windows that the first SETTINGS announced.
+    told: Vec<SettingSaid>,
 }
+
+/// What a side obeys.
+#[derive(Debug, Default)]
+struct InForce {
+    values: [Option<u32>; 3],
+    /// The SETTINGS of its initial window, and the acknowledgement.
+    window: Option<(u32, At, At)>,
+    changes: Changes,
+}
+
+/// The frames that acknowledge an initial window, and which of those told it is; the first one that is not told, and none
+/// behind it.
+pub type Changes = Vec<(u32, Option<u32>)>;
 
 /// What SETTINGS say; of several values the last one counts.
 #[derive(Clone, Copy, Debug, Default, PartialEq, Eq)]
@@ -63,72 +83,84 @@ impl Values {
     }
 }
 
-/// The value in force at a fault, and those that the other side had sent, with the packet of the last one.
+/// The value in force at a fault, and those that the other side had sent last, with the packet of the last one.
 pub struct AtFault {
     pub in_force: u32,
     pub packet: u64,
     pub pending: Vec<u32>,
 }
 
+impl Queue {
+    /// The oldest of those that wait is acknowledged. Answers it, if it says one of the kinds.
+    fn acknowledged(&mut self) -> Option<Waiting> {
+        let others = self.waiting.front_mut().map_or(&mut self.others, |first| &mut first.others);
+        match others.checked_sub(1) {
+            Some(rest) => *others = rest,
+            None => return self.waiting.pop_front(),
+        }
+        None
+    }
+
+    /// The last ones that wait, the newest first.
+    fn last(&self) -> impl Iterator<Item = &Waiting> + Clone {
+        self.waiting.iter().rev().take(MOST_PENDING)
+    }
+}
+
 impl Settings {
     /// A side sent SETTINGS.
     pub fn sent(&mut self, side: usize, at: At, values: [Option<u32>; 3]) {
-        let index = values.iter().any(Option::is_some).then_some(self.all.len() as u32);
-        if let Some(index) = index {
-            self.all.push(Announced { side, number: self.count, at, values, acknowledged: None });
-            for (waiting, _) in self.waiting[side].iter_mut().zip(values).filter(|one| one.1.is_some()) {
-                waiting.push_back(index);
-            }
+        let is_told = self.count < MOST_TOLD;
+        self.count = self.count.saturating_add(1);
+        let queue = &mut self.queues[side];
+        if values.iter().all(Option::is_none) {
+            queue.others += 1;
+            return;
         }
-        self.count += 1;
-        self.pending[side].push_back(index);
+        let told = values[INITIAL_WINDOW].filter(|_| is_told).map(|value| {
+            self.told.push(SettingSaid { side: side_of(side), value, at, acknowledged: None });
+            self.told.len() as u32 - 1
+        });
+        let others = std::mem::take(&mut queue.others);
+        queue.waiting.push_back(Waiting { others, at, values, told });
     }
 
     /// A side acknowledges the oldest SETTINGS of the other that wait. Answers the initial window that counts from here.
     pub fn acknowledged(&mut self, side: usize, at: At) -> Option<u32> {
-        let index = self.pending[1 - side].pop_front()??;
-        let announced = self.all.get_mut(index as usize)?;
-        announced.acknowledged = Some(at);
-        for (kind, _) in announced.values.iter().enumerate().filter(|one| one.1.is_some()) {
-            self.waiting[1 - side][kind].pop_front();
-            self.in_force[side][kind] = Some(index);
+        let announced = self.queues[1 - side].acknowledged()?;
+        let now = &mut self.in_force[side];
+        for (value, announced) in now.values.iter_mut().zip(announced.values) {
+            *value = announced.or(*value);
         }
-        announced.values[INITIAL_WINDOW]
-    }
-
-    fn value(&self, index: u32, kind: usize) -> Option<u32> {
-        self.all.get(index as usize).and_then(|one| one.values[kind])
+        let window = announced.values[INITIAL_WINDOW]?;
+        now.window = Some((window, announced.at, at));
+        if announced.told.is_some() || now.changes.last().map_or(true, |last| last.1.is_some()) {
+            now.changes.push((at.frame, announced.told));
+        }
+        if let Some(told) = announced.told.and_then(|told| self.told.get_mut(told as usize)) {
+            told.acknowledged = Some(at);
+        }
+        Some(window)
     }
 
     /// What holds for a side.
     pub fn at_fault(&self, side: usize, kind: usize) -> AtFault {
-        let waiting = &self.waiting[1 - side][kind];
-        let from = waiting.len().saturating_sub(MOST_PENDING);
-        let last = waiting.back().and_then(|index| self.all.get(*index as usize));
+        let waiting = self.queues[1 - side].last().filter_map(|one| Some((one.at.packet, one.values[kind]?)));
         AtFault {
-            in_force: self.in_force[side][kind].and_then(|index| self.value(index, kind)).unwrap_or(KINDS[kind].1),
-            packet: last.map_or(0, |one| one.at.packet),
-            pending: waiting.iter().skip(from).filter_map(|index| self.value(*index, kind)).collect(),
+            in_force: self.in_force[side].values[kind].unwrap_or(KINDS[kind].1),
+            packet: waiting.clone().next().map_or(0, |one| one.0),
+            pending: waiting.map(|one| one.1).collect(),
         }
     }
 
     /// The SETTINGS whose initial window is in force for a side: its value, where they stand, and their acknowledgement.
     pub fn initial_window(&self, side: usize) -> Option<(u32, At, At)> {
-        let one = self.all.get(self.in_force[side][INITIAL_WINDOW]? as usize)?;
-        Some((one.values[INITIAL_WINDOW]?, one.at, one.acknowledged?))
+        self.in_force[side].window
     }
 
-    /// All initial windows that were announced, and how many of them are told.
-    pub fn said(&self) -> (Vec<SettingSaid>, usize) {
-        let with_window = self.all.iter().filter_map(|one| one.values[INITIAL_WINDOW].map(|value| (one, value)));
-        let told = with_window.clone().filter(|one| one.0.number < MOST_TOLD).count();
-        let said = with_window.map(|(one, value)| SettingSaid {
-            side: side_of(one.side),
-            value,
-            at: one.at,
-            acknowledged: one.acknowledged,
-        });
-        (said.collect(), told)
+    /// The initial windows that are told, and when they changed what each side obeys.
+    pub fn said(self) -> (Vec<SettingSaid>, [Changes; 2]) {
+        (self.told, self.in_force.map(|now| now.changes))
     }
 }
 
@@ -156,11 +188,37 @@ mod tests {
         assert_eq!(settings.acknowledged(0, at(6)), Some(10));
         assert_eq!(settings.acknowledged(0, at(7)), None);
         let found = settings.at_fault(0, INITIAL_WINDOW);
-        assert_eq!((found.in_force, found.packet, found.pending), (10, 40, vec![30, 40]));
+        assert_eq!((found.in_force, found.packet, found.pending), (10, 40, vec![40, 30]));
         assert_eq!(settings.at_fault(1, MAX_FRAME_SIZE).in_force, 16_384);
         assert_eq!(settings.initial_window(0), Some((10, at(1), at(6))));
-        let (said, told) = settings.said();
-        assert_eq!((said.len(), told, said[0].acknowledged), (3, 3, Some(at(6))));
+        let (said, changes) = settings.said();
+        assert_eq!((said.len(), said[0].acknowledged, said[1].acknowledged), (3, Some(at(6)), None));
+        assert_eq!(changes, [vec![(6, Some(0))], vec![]]);
+    }
+
+    #[test]
+    fn of_many_the_first_are_told_and_those_that_wait_kept() {
+        let mut settings = Settings::default();
+        for number in 0..2 * MOST_TOLD {
+            settings.sent(1, at(number), window(number));
+            settings.acknowledged(0, at(number));
+        }
+        settings.sent(1, at(9000), window(7));
+        assert_eq!(settings.queues[1].waiting.len(), 1);
+        assert_eq!(settings.initial_window(0).map(|one| one.0), Some(2 * MOST_TOLD - 1));
+        let (said, [changes, _]) = settings.said();
+        assert_eq!((said.len() as u32, changes.len() as u32), (MOST_TOLD, MOST_TOLD + 1));
+        assert_eq!(changes.last(), Some(&(MOST_TOLD, None)));
+    }
+
+    #[test]
+    fn those_that_say_nothing_wait_too() {
+        let mut settings = Settings::default();
+        for values in [[None; 3], window(1), [None; 3], [None; 3], window(2), [None; 3]] {
+            settings.sent(0, at(1), values);
+        }
+        let answered: Vec<_> = (0..8).map(|_| settings.acknowledged(1, at(2))).collect();
+        assert_eq!(answered, [None, Some(1), None, None, Some(2), None, None, None]);
     }
 
     #[test]

@@ -210,7 +210,6 @@ pub fn unsaid(number: u64, client: String, server: String, opened: At) -> Connec
         captured_at: None,
         limits: Vec::new(),
         settings: Vec::new(),
-        announced: Vec::new(),
         faults: Vec::new(),
         stalls: Vec::new(),
         leaks: Vec::new(),

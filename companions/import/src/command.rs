@@ -9,7 +9,7 @@ use programs::{end_cleanly, is_special, print, printable, say, Failure, Outcome,
 
 use crate::course::Courses;
 use crate::course_file::CourseFile;
-use crate::importing::{imported, times_go_back, Asked};
+use crate::importing::{imported, Asked};
 use crate::map_file::MapFile;
 use crate::outcomes::Summary;
 use crate::sink::Sink;
@@ -66,9 +66,7 @@ fn import(asked: &Import) -> Outcome {
     let mut map = asked.map.as_deref().map(Output::begin_private).transpose()?;
     let mut course = asked.course.as_deref().map(Output::begin_private).transpose()?;
     let summary = made(asked, &files, &mut output, map.as_mut(), course.as_mut())?;
-    if let Some(back) = &summary.back {
-        say(NAME, &times_go_back(back.packet()));
-    }
+    summary.times_go_back().iter().for_each(|words| say(NAME, words));
     output.finish()?;
     [map, course].into_iter().flatten().try_for_each(Output::finish)?;
     if summary.read() > 0 {
@@ -94,7 +92,9 @@ fn made(
     let summary = {
         let mut sink = Sink::new(output, &mut map)?;
         let courses = course.is_some().then_some(&mut courses);
-        imported(&Asked { program: NAME, files, key_logs: &asked.key_logs, can_repeat }, &mut sink, courses)?
+        let Import { key_logs, is_reordered, .. } = asked;
+        let asked = Asked { program: NAME, files, key_logs, is_reordered: *is_reordered, can_repeat };
+        imported(&asked, &mut sink, courses)?
     };
     if let Some(out) = course {
         let (files_of, addresses) = map.names();

@@ -47,7 +47,7 @@ enum Verdict {
 
 /// An opening with all segments that belong to it.
 pub struct Connection {
-    pub opening: u64,
+    opening: u64,
     numbers: Numbers,
     mode: Mode,
     preamble: Option<Preamble>,
@@ -252,7 +252,7 @@ impl Connection {
     }
 
     fn go_on_tls(&mut self, shared: &mut Shared, sink: &mut Sink<'_>, held: Vec<Arrived>) {
-        self.mode = Mode::Tls(Box::new(tls::Connection::new(self.opening, shared)));
+        self.mode = Mode::Tls(Box::new(tls::Connection::new(self.number() as u64, shared)));
         for one in held {
             let segment = one.segment.segment();
             if segment.flags & flags::SYN != 0 {

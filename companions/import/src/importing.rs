@@ -15,6 +15,7 @@ use crate::course::Courses;
 use crate::others::Others;
 use crate::outcomes::{Back, Older, Summary};
 use crate::progress::Progress;
+use crate::reorder::{Held, Reorder};
 use crate::sink::{Problem, Sink};
 use crate::table::Table;
 
@@ -29,6 +30,8 @@ pub struct Asked<'a> {
     /// In the order in which they are read; standard input where there is none.
     pub files: &'a [OsString],
     pub key_logs: &'a [OsString],
+    /// Whether packets are put in order of time.
+    pub is_reordered: bool,
     /// Whether what is made can be taken back, so that the files are read once more where that gives more keys.
     pub can_repeat: bool,
 }
@@ -90,7 +93,8 @@ fn read_through(
         *courses = Courses::default();
         courses
     });
-    let mut importer = Importer::new(shared, sink, courses, Progress::new(asked.program));
+    let reorder = asked.is_reordered.then(Reorder::default);
+    let mut importer = Importer::new(shared, sink, courses, reorder, Progress::new(asked.program));
     for path in files {
         let has_bytes_behind = importer.file(path).map_err(|problem| problem.failure(Some(path)))?;
         if has_bytes_behind && is_first {
@@ -100,11 +104,6 @@ fn read_through(
     }
     let (summary, missed) = importer.finish().map_err(|problem| problem.failure(None))?;
     Ok((summary, missed))
-}
-
-/// What is said of packets whose times lie before that of the packet before them; this is the first of them.
-pub fn times_go_back(packet: u64) -> String {
-    format!("times go back at packet {packet}: are the files in order? reordercap")
 }
 
 /// What ends the work early.
@@ -139,9 +138,11 @@ struct Importer<'a, 'b> {
     shared: &'a mut Shared,
     sink: &'a mut Sink<'b>,
     courses: Option<&'a mut Courses>,
+    reorder: Option<Reorder>,
     progress: Progress,
     decoder: Decoder,
     table: Table,
+    /// How many were read.
     packets: u64,
     dropped: u64,
     counts: Capture,
@@ -156,12 +157,14 @@ impl<'a, 'b> Importer<'a, 'b> {
         shared: &'a mut Shared,
         sink: &'a mut Sink<'b>,
         courses: Option<&'a mut Courses>,
+        reorder: Option<Reorder>,
         progress: Progress,
     ) -> Importer<'a, 'b> {
         Importer {
             shared,
             sink,
             courses,
+            reorder,
             progress,
             decoder: Decoder::default(),
             table: Table::default(),
@@ -182,7 +185,7 @@ impl<'a, 'b> Importer<'a, 'b> {
         let mut reader = Reader::new(source)?;
         while let Some(item) = reader.next()? {
             match item {
-                Item::Packet(packet) => self.packet(&packet)?,
+                Item::Packet(packet) => self.read(&packet)?,
                 Item::Secrets(text) => self.secrets(text),
                 Item::Cut => self.sink.listener.passed(self.packets + 1, "cut"),
             }
@@ -202,20 +205,39 @@ impl<'a, 'b> Importer<'a, 'b> {
         }
     }
 
-    fn packet(&mut self, packet: &Packet<'_>) -> Result<(), Early> {
+    /// Numbers a packet that was read. Where packets are put in order, those are taken before which no other can come.
+    fn read(&mut self, packet: &Packet<'_>) -> Result<(), Early> {
         self.packets += 1;
         if self.packets & MOST_BETWEEN_LOOKS == 0 {
             self.progress.tell(self.packets);
             self.look_for_problems()?;
         }
-        let arrival = Arrival { packet: self.packets, nanos: packet.nanos };
+        match &mut self.reorder {
+            None => self.packet(self.packets, packet),
+            Some(reorder) => {
+                reorder.add(self.packets, packet);
+                self.in_order(Reorder::due)
+            }
+        }
+    }
+
+    /// Takes packets in their new order, as long as some are given.
+    fn in_order(&mut self, next: fn(&mut Reorder) -> Option<Held>) -> Result<(), Early> {
+        while let Some(held) = self.reorder.as_mut().and_then(next) {
+            self.packet(held.number(), &held.packet())?;
+        }
+        Ok(())
+    }
+
+    fn packet(&mut self, number: u64, packet: &Packet<'_>) -> Result<(), Early> {
+        let arrival = Arrival { packet: number, nanos: packet.nanos };
         if packet.link.is_some() {
             self.look_at_time(arrival);
         }
         let segment = match self.decoder.segment(packet)? {
             Ok(segment) => segment,
             Err(why) => {
-                self.pass_over(&why);
+                self.pass_over(number, &why);
                 return Ok(());
             }
         };
@@ -245,21 +267,21 @@ impl<'a, 'b> Importer<'a, 'b> {
         }
     }
 
-    fn pass_over(&mut self, why: &PassedOver) {
+    fn pass_over(&mut self, number: u64, why: &PassedOver) {
         self.others.add(why);
         match why {
             PassedOver::NotIp(_) => self.counts.not_ipv4 += 1,
             PassedOver::NotTcp(..) => self.counts.not_tcp += 1,
             PassedOver::Refused(why) => {
                 self.counts.refused += 1;
-                self.sink.listener.passed(self.packets, &format!("refused {why}"));
+                self.sink.listener.passed(number, &format!("refused {why}"));
             }
             PassedOver::Fragment(fragment) => {
                 self.counts.fragments += 1;
                 if let Some(fragment) = fragment {
                     self.count_fragment(fragment);
                 }
-                self.sink.listener.passed(self.packets, "fragment");
+                self.sink.listener.passed(number, "fragment");
             }
         }
     }
@@ -291,6 +313,7 @@ impl<'a, 'b> Importer<'a, 'b> {
     /// Ends all connections, and answers what the map says last; and lines of a key log with which more could be read,
     /// from the beginning.
     fn finish(mut self) -> Result<(Summary, Vec<u8>), Early> {
+        self.in_order(Reorder::take)?;
         self.table.ask_for_sessions(self.shared);
         let mut missed = tls::lines_for(&self.shared.sessions, &self.shared.keys);
         if !missed.is_empty() && self.shared.keys.waits_for_sessions {
@@ -303,6 +326,7 @@ impl<'a, 'b> Importer<'a, 'b> {
             counts: self.counts,
             dropped: self.dropped,
             back: self.back.take(),
+            reordered: self.reorder.as_ref().map(Reorder::done),
             others: self.others.most_seen(),
             unopened,
             outcomes,

@@ -4,8 +4,8 @@
 //! The way of a packet:
 //!
 //! ```text
-//! captures ─ importing ─ table, connections ─ tls ─ sink
-//! segments               clear or TLS                capture and listener
+//! captures ─ reorder ─ importing ─ table, connections ─ tls ─ sink
+//! packets    by time   segments    clear or TLS                capture and listener
 //! ```
 //!
 //! [`imported`] does the work of [`Asked`], into a [`Sink`] over a [`Target`], which takes the bytes of the capture that
@@ -36,6 +36,7 @@ mod outcomes;
 mod plaintext;
 mod preamble;
 mod progress;
+mod reorder;
 mod sent;
 mod shifted;
 mod sink;
@@ -46,11 +47,13 @@ mod words;
 pub use addresses::{escaped, Addresses};
 pub use command::sorted;
 pub use course::{Course, Courses, Held, Side, Uncaptured, Why, NEVER};
-pub use importing::{imported, times_go_back, Asked};
+pub use importing::{imported, Asked};
 pub use listener::{Files, Listener, Record, Sender, Written};
 pub use map_file::MapFile;
 pub use others::{is_tunnel, Kind, Other};
-pub use outcomes::{Back, Became, End, Older, Outcome, Read, SideRead, Summary, Unopened};
+pub use outcomes::{
+    help_for, times_go_back, Back, Became, End, Older, Outcome, Read, Reordered, SideRead, Summary, Unopened,
+};
 pub use preamble::Preamble;
 pub use sink::{Problem, Sink, Target};
 pub use tls::{CLIENT, SERVER};

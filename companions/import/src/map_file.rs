@@ -9,7 +9,7 @@ use programs::{Failure, Output};
 use crate::addresses::{escaped_path, Addresses};
 use crate::listener::{Files, Listener, Record};
 use crate::others::Kind;
-use crate::outcomes::{Became, Outcome, Read, SideRead, Summary};
+use crate::outcomes::{Became, Outcome, Read, Reordered, SideRead, Summary};
 
 const FIRST_LINE: &str = "h2audit-map 1";
 
@@ -115,6 +115,9 @@ impl Listener for MapFile<'_> {
 
     fn finish(&mut self, summary: &Summary) {
         self.line(format_args!("{}", summary.counts.line().trim_end()));
+        if let Some(Reordered { packets, nanos, left }) = summary.reordered {
+            self.line(format_args!("reordered packets {packets} nanos {nanos} left {left}"));
+        }
         if let Some(back) = &summary.back {
             let (file, packet) = self.files.place(back.packet());
             let (packets, nanos) = (back.packets, back.nanos);

@@ -8,6 +8,7 @@ use tls::Reason;
 
 use crate::addresses::escaped;
 use crate::preamble::Preamble;
+use crate::reorder::MOST_LATE;
 
 /// So many packets are named whose times go back.
 const MOST_KEPT: usize = 16;
@@ -138,13 +139,51 @@ impl Back {
     }
 }
 
+/// What was put in order of time (docs/MAP.md, 3).
+#[derive(Clone, Copy, Debug, Default, PartialEq, Eq)]
+pub struct Reordered {
+    /// Packets that went before others.
+    pub packets: u64,
+    /// The latest of them came so long after a newer one.
+    pub nanos: u64,
+    /// Packets that are too late for that, and were left where they are.
+    pub left: u64,
+}
+
+/// What helps where times go back so far at most.
+pub fn help_for(nanos: u64) -> &'static str {
+    match nanos <= MOST_LATE.unsigned_abs() {
+        true => "--reorder",
+        false => "reordercap",
+    }
+}
+
+/// So many packets.
+fn packets(count: u64) -> String {
+    format!("{count} packet{}", if count == 1 { "" } else { "s" })
+}
+
+/// What is said of packets whose times lie before that of the packet before them: the first of these, and the longest way
+/// back; and how many packets were left where they are, where packets were to be put in order.
+pub fn times_go_back(packet: u64, nanos: u64, left: Option<u64>) -> String {
+    match left {
+        Some(left) => {
+            format!("times go back at packet {packet}: {} too late for --reorder: reordercap", packets(left))
+        }
+        None => format!("times go back at packet {packet}: are the files in order? {}", help_for(nanos)),
+    }
+}
+
 /// All that is known at the end.
 #[derive(Debug, Default)]
 pub struct Summary {
     pub counts: Capture,
     /// How many packets were dropped while the files were captured, as they say.
     pub dropped: u64,
+    /// Packets are as they are written, after those that were put in order.
     pub back: Option<Back>,
+    /// Where packets were to be put in order.
+    pub reordered: Option<Reordered>,
     /// What was passed over, the most frequent first.
     pub others: Vec<crate::others::Other>,
     /// In the order of first segments.
@@ -154,6 +193,12 @@ pub struct Summary {
 }
 
 impl Summary {
+    /// What is to be said of times that go back.
+    pub fn times_go_back(&self) -> Option<String> {
+        let back = self.back.as_ref()?;
+        Some(times_go_back(back.packet(), back.nanos, self.reordered.map(|reordered| reordered.left)))
+    }
+
     /// How many connections were not refused.
     pub fn read(&self) -> usize {
         self.outcomes.iter().filter(|outcome| !matches!(outcome.became, Became::Refused(_))).count()

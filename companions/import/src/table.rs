@@ -31,8 +31,8 @@ struct Place {
 enum State {
     /// Its connection has this slot.
     Open(usize),
-    /// Its connection is over: whether segments still pass, and packet and number of its opening.
-    Over { passes: bool, opening: u64, sequence: Option<u32> },
+    /// Its connection is over: whether segments still pass, and the sequence number of its opening.
+    Over { passes: bool, sequence: Option<u32> },
 }
 
 struct Stray {
@@ -80,18 +80,21 @@ pub struct Taken {
 #[derive(Default)]
 pub struct Table {
     places: HashMap<Ends, Place>,
-    strays: HashMap<Ends, Stray>,
+    /// Where the pairs stand that no opening was seen of, which come in the order of their first segments.
+    strays: HashMap<Ends, usize>,
+    unopened: Vec<Stray>,
     slots: Vec<Option<Box<Connection>>>,
     free: Vec<usize>,
-    outcomes: Vec<Outcome>,
+    /// By the numbers of connections.
+    outcomes: Vec<(usize, Outcome)>,
     /// How many connections opened.
     count: usize,
     /// With the time of an RST, until that is long ago.
-    reset: VecDeque<(i64, u64, usize)>,
+    reset: VecDeque<(i64, usize, usize)>,
     /// Which connections wait for the keys of a client random.
-    waiting: HashMap<Random, Vec<(u64, usize)>>,
-    /// How many fragments belong to connections, by their openings.
-    fragments: HashMap<u64, u64>,
+    waiting: HashMap<Random, Vec<(usize, usize)>>,
+    /// How many fragments belong to connections, by their numbers.
+    fragments: HashMap<usize, u64>,
     room: Vec<u8>,
 }
 
@@ -167,7 +170,7 @@ impl Table {
             return;
         }
         if segment.flags & flags::RST != 0 && connection.is_tls() {
-            self.reset.push_back((arrival.nanos, connection.opening, slot));
+            self.reset.push_back((arrival.nanos, connection.number(), slot));
         }
         self.list(slot);
     }
@@ -177,7 +180,7 @@ impl Table {
         if let Some(connection) = self.slots[slot].as_mut().filter(|one| !one.is_listed && one.waits_for_key()) {
             if let Some(random) = connection.random() {
                 connection.is_listed = true;
-                self.waiting.entry(random).or_default().push((connection.opening, slot));
+                self.waiting.entry(random).or_default().push((connection.number(), slot));
             }
         }
     }
@@ -224,13 +227,13 @@ impl Table {
     /// Ends connections whose RST was so long ago that no segment sent before it is still on its way. Where there is a
     /// hole, or something waits, that is left to the end, so that what is written keeps its order.
     fn end_reset(&mut self, shared: &mut Shared, sink: &mut Sink<'_>, now: i64) {
-        while let Some(&(then, opening, slot)) = self.reset.front() {
+        while let Some(&(then, number, slot)) = self.reset.front() {
             if now.saturating_sub(then) <= LONGEST_WAY {
                 break;
             }
             self.reset.pop_front();
             let connection = self.slots[slot].as_ref();
-            if connection.map_or(false, |connection| connection.opening == opening && connection.is_quiet()) {
+            if connection.map_or(false, |connection| connection.number() == number && connection.is_quiet()) {
                 self.finish(shared, sink, slot);
             }
         }
@@ -238,7 +241,11 @@ impl Table {
 
     /// Counts a segment of no connection, and writes its headers, for h2audit to name it.
     fn stray(&mut self, sink: &mut Sink<'_>, arrival: Arrival, segment: &Segment<'_>, pair: Ends) {
-        self.strays.entry(pair).or_insert_with(|| Stray::new(arrival, segment.ends)).take(segment);
+        let place = *self.strays.entry(pair).or_insert(self.unopened.len());
+        if place == self.unopened.len() {
+            self.unopened.push(Stray::new(arrival, segment.ends));
+        }
+        self.unopened[place].take(segment);
         sink.emit(arrival, None, Written::headers(segment, &mut self.room));
     }
 
@@ -246,8 +253,8 @@ impl Table {
     pub fn keys_came(&mut self, shared: &mut Shared, sink: &mut Sink<'_>, randoms: &[Random]) {
         let mut slots: Vec<_> = randoms.iter().filter_map(|random| self.waiting.remove(random)).flatten().collect();
         slots.sort_unstable();
-        for (opening, slot) in slots {
-            if let Some(connection) = self.slots[slot].as_mut().filter(|one| one.opening == opening) {
+        for (number, slot) in slots {
+            if let Some(connection) = self.slots[slot].as_mut().filter(|one| one.number() == number) {
                 connection.is_listed = false;
                 if connection.waits_for_key() {
                     connection.note_later(later_than(connection, &self.places));
@@ -260,13 +267,8 @@ impl Table {
 
     /// Counts a fragment at the connection that its pair has now.
     pub fn fragment(&mut self, ends: &Ends) {
-        let opening = match self.places.get(&pair_of(ends).0).map(|place| place.state) {
-            Some(State::Open(slot)) => self.slots[slot].as_ref().map(|connection| connection.opening),
-            Some(State::Over { opening, .. }) => Some(opening),
-            None => None,
-        };
-        if let Some(opening) = opening {
-            *self.fragments.entry(opening).or_insert(0) += 1;
+        if let Some(place) = self.places.get(&pair_of(ends).0) {
+            *self.fragments.entry(place.connection).or_insert(0) += 1;
         }
     }
 
@@ -282,7 +284,7 @@ impl Table {
     /// Those of open connections, in the order of openings.
     fn open_slots(&self) -> Vec<usize> {
         let mut open: Vec<_> = (0..self.slots.len()).filter(|slot| self.slots[*slot].is_some()).collect();
-        open.sort_by_key(|slot| self.slots[*slot].as_ref().map(|connection| connection.opening));
+        open.sort_by_key(|slot| self.slots[*slot].as_ref().map(|connection| connection.number()));
         open
     }
 
@@ -293,11 +295,10 @@ impl Table {
         };
         self.free.push(slot);
         connection.note_later(later_than(&connection, &self.places));
-        self.outcomes.push(connection.finish(shared, sink));
+        self.outcomes.push((connection.number(), connection.finish(shared, sink)));
         if let Some(place) = self.places.get_mut(&pair_of(connection.ends()).0) {
             if matches!(place.state, State::Open(open) if open == slot) {
-                let (opening, sequence) = (connection.opening, connection.initial());
-                place.state = State::Over { passes: connection.is_clear(), opening, sequence };
+                place.state = State::Over { passes: connection.is_clear(), sequence: connection.initial() };
             }
         }
     }
@@ -308,12 +309,11 @@ impl Table {
         for slot in self.open_slots() {
             self.finish(shared, sink, slot);
         }
-        self.outcomes.sort_by_key(|outcome| outcome.opening);
-        for outcome in &mut self.outcomes {
-            outcome.fragments = self.fragments.get(&outcome.opening).copied().unwrap_or(0);
+        self.outcomes.sort_by_key(|(number, _)| *number);
+        for (number, outcome) in &mut self.outcomes {
+            outcome.fragments = self.fragments.get(number).copied().unwrap_or(0);
         }
-        let mut unopened: Vec<_> = self.strays.into_values().map(Stray::unopened).collect();
-        unopened.sort_by_key(|pair| pair.first.packet);
-        (self.outcomes, unopened)
+        let unopened = self.unopened.into_iter().map(Stray::unopened).collect();
+        (self.outcomes.into_iter().map(|(_, outcome)| outcome).collect(), unopened)
     }
 }

@@ -19,14 +19,14 @@ const MOST_SECONDS: u64 = 60;
 const MOST_GROWTH: usize = 8;
 
 /// Imports these files into a folder, and answers the lines of the map.
-fn import(folder: &Path) -> Result<Vec<u8>, Failure> {
+fn import(folder: &Path, is_reordered: bool) -> Result<Vec<u8>, Failure> {
     let mut outputs = Vec::new();
     for name in ["out", "map"] {
         outputs.push(Output::begin(&folder.join(name))?);
     }
     if let [out, map] = &mut outputs[..] {
         let (files, key_logs) = ([OsString::from(folder.join("capture"))], [OsString::from(folder.join("keys"))]);
-        let asked = Asked { program: "import", files: &files, key_logs: &key_logs, can_repeat: true };
+        let asked = Asked { program: "import", files: &files, key_logs: &key_logs, is_reordered, can_repeat: true };
         let mut map = MapFile::new(Some(map));
         let mut sink = Sink::new(out, &mut map)?;
         imported(&asked, &mut sink, Some(&mut Courses::default()))?;
@@ -46,11 +46,11 @@ fn packets_in(made: &[u8]) -> usize {
     count
 }
 
-fn try_one(folder: &Path, capture: &[u8], keys: &[u8]) {
+fn try_one(folder: &Path, capture: &[u8], keys: &[u8], is_reordered: bool) {
     fs::write(folder.join("capture"), capture).unwrap();
     fs::write(folder.join("keys"), keys).unwrap();
     let begin = Instant::now();
-    let map = match import(folder) {
+    let map = match import(folder, is_reordered) {
         Ok(map) => map,
         Err(Failure::Refused(_)) => return,
         Err(failure) => panic!("{}", failure.message()),
@@ -70,10 +70,11 @@ fn mutated_captures_and_key_logs() {
     let originals: Vec<(Vec<u8>, Vec<u8>)> = common::captures().into_iter().map(read).collect();
     mutations::each(3000, |dice| {
         let (capture, keys) = dice.of_these(&originals).clone();
+        let is_reordered = dice.below(2) == 0;
         if !keys.is_empty() && dice.below(4) == 0 {
-            try_one(folder.path(), &capture, &changed(&keys, dice, &common::INTERESTING));
+            try_one(folder.path(), &capture, &changed(&keys, dice, &common::INTERESTING), is_reordered);
         } else {
-            try_one(folder.path(), &changed(&capture, dice, &common::INTERESTING), &keys);
+            try_one(folder.path(), &changed(&capture, dice, &common::INTERESTING), &keys, is_reordered);
         }
     });
 }

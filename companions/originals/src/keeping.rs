@@ -35,7 +35,7 @@ impl Listener for Keeping {
 
     fn finish(&mut self, summary: &Summary) {
         self.original.capture = summary.counts;
-        self.original.back = summary.back.as_ref().map(import::Back::packet);
+        self.original.back = summary.times_go_back();
         let others = summary.others.iter();
         self.original.others = others.map(|one| Other { name: one.kind.name().into(), packets: one.packets }).collect();
         for outcome in &summary.outcomes {

@@ -60,8 +60,8 @@ pub struct Original {
     pub capture: Capture,
     /// By the packets of their openings.
     connections: HashMap<u64, Connection>,
-    /// The first packet whose time lies before that of the packet before it.
-    pub back: Option<u64>,
+    /// What is to be said of times that go back.
+    pub back: Option<String>,
     pub others: Vec<Other>,
 }
 

@@ -123,10 +123,10 @@ pub struct Connection {
 }
 
 impl Connection {
-    /// A connection that opened with this packet.
-    pub fn new(opening: u64, shared: &Shared) -> Connection {
+    /// Of this number; connections count in the order of openings.
+    pub fn new(number: u64, shared: &Shared) -> Connection {
         Connection {
-            handshake: Handshake::new(opening, shared.more_keys),
+            handshake: Handshake::new(number, shared.more_keys),
             sides: Default::default(),
             queue: None,
             refused: None,

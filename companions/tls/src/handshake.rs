@@ -53,7 +53,7 @@ const NOTHING: Content = Ok(Some(0));
 /// Takes the records of each side in order.
 #[derive(Default)]
 pub struct Handshake {
-    opening: u64,
+    number: u64,
     more_keys: bool,
     waits_for_key: bool,
     halves: [Half; 2],
@@ -77,8 +77,8 @@ pub struct Handshake {
 }
 
 impl Handshake {
-    pub fn new(opening: u64, more_keys: bool) -> Handshake {
-        Handshake { opening, more_keys, ..Handshake::default() }
+    pub fn new(number: u64, more_keys: bool) -> Handshake {
+        Handshake { number, more_keys, ..Handshake::default() }
     }
 
     #[inline]
@@ -259,7 +259,7 @@ impl Handshake {
     /// Asks for the secret of the session that this connection goes on with.
     pub fn resume(&self, shared: &mut Shared) {
         if let Some(hello) = &self.client_hello {
-            shared.sessions.resume([&hello.ticket, &hello.session], self.opening, &hello.random);
+            shared.sessions.resume([&hello.ticket, &hello.session], self.number, &hello.random);
         }
     }
 

@@ -18,7 +18,7 @@ use crate::key_log::{Keys, Label};
 pub struct Sessions {
     /// From a name to the client's random.
     began: HashMap<u64, Random>,
-    /// Opening, client's random, and names.
+    /// Connection's number, client's random, and names.
     resumed: Vec<(u64, Random, Vec<u64>)>,
     hashing: RandomState,
 }
@@ -33,9 +33,9 @@ impl Sessions {
     }
 
     /// A connection goes on with a session of one of these names.
-    pub fn resume(&mut self, names: [&[u8]; 2], opening: u64, random: &Random) {
+    pub fn resume(&mut self, names: [&[u8]; 2], number: u64, random: &Random) {
         let names = names.iter().filter(|name| !name.is_empty()).map(|name| self.hash_of(name)).collect();
-        self.resumed.push((opening, *random, names));
+        self.resumed.push((number, *random, names));
     }
 
     fn hash_of(&self, name: &[u8]) -> u64 {

@@ -68,8 +68,7 @@ fn rows(asked: &Asked, files: &[OsString], file: &Path) -> Outcome {
     if let Some(file) = &asked.last_packets {
         explain::write_last_packets(&reported.last_packets, file)?;
     }
-    reported.back.iter().for_each(|packet| say(NAME, &import::times_go_back(*packet)));
-    reported.words.iter().for_each(|words| say(NAME, words));
+    reported.back.iter().chain(&reported.words).for_each(|words| say(NAME, words));
     Ok(match reported {
         Reported { is_nothing_read: true, .. } => NOTHING_AUDITED,
         Reported { has_faults: true, .. } => FAILED,
@@ -136,6 +135,7 @@ fn explained<'a>(asked: &'a Asked, files: &'a [OsString]) -> explain::Asked<'a> 
         program: NAME,
         files,
         key_logs: &asked.key_logs,
+        is_reordered: asked.is_reordered,
         h2audit: asked.program.clone(),
         options: &asked.options,
         report: asked.audit.as_deref(),

@@ -270,7 +270,7 @@ impl<'a> Phrases<'a> {
     }
 
     fn initial_window(&self, cause: &Cause) -> Option<String> {
-        let setting = self.said.announced.get(usize::try_from(cause.setting?).ok()?)?;
+        let setting = self.said.settings.get(usize::try_from(cause.setting?).ok()?)?;
         if setting.value == FIRST_CREDIT {
             return None;
         }

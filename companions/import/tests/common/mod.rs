@@ -105,11 +105,22 @@ pub fn import<T: Default>(
     courses: Option<&mut Courses>,
     take: impl FnMut(&mut T, &Record<'_>),
 ) -> Result<(Vec<u8>, T, Summary), Failure> {
+    import_in(&[path], keys, false, courses, take)
+}
+
+/// The same of several files, whose packets may be put in order of time.
+pub fn import_in<T: Default>(
+    paths: &[&Path],
+    keys: &Path,
+    is_reordered: bool,
+    courses: Option<&mut Courses>,
+    take: impl FnMut(&mut T, &Record<'_>),
+) -> Result<(Vec<u8>, T, Summary), Failure> {
     let (mut made, mut listener) = (Made::default(), Each { state: T::default(), take });
-    let files = [OsString::from(path)];
+    let files: Vec<OsString> = paths.iter().map(OsString::from).collect();
     let key_logs: Vec<OsString> = keys.exists().then(|| keys.into()).into_iter().collect();
     let mut sink = Sink::new(&mut made, &mut listener)?;
-    let asked = Asked { program: "import", files: &files, key_logs: &key_logs, can_repeat: true };
+    let asked = Asked { program: "import", files: &files, key_logs: &key_logs, is_reordered, can_repeat: true };
     let summary = imported(&asked, &mut sink, courses)?;
     drop(sink);
     Ok((made.0, listener.state, summary))
