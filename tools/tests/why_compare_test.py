@@ -81,7 +81,7 @@ class Generated(OnCaptures):
         self.assertEqual([one["method"] for one in found["requests"]], ["GET", "HEAD", "PUT"])
 
     def test_lives(self) -> None:
-        """A life grew or shrank by 1 ms and a tenth of the shorter one; what grew is told before what was not stalled."""
+        """A life grew or shrank by 1 ms, and by a tenth of the shorter one."""
         octets = self.capture("capture", "/a", "/b").read_bytes()
         for before, after, change, words in (
             (10_000, 11_000, "longer", "2 lived longer, 0 shorter."),
