@@ -40,7 +40,7 @@ def processor_seconds() -> float:
 
 def fleet_seconds(folder: pathlib.Path, program: pathlib.Path, jobs: int) -> Seconds:
     (folder / "a.sqlite").unlink(missing_ok=True)
-    words: list[str | pathlib.Path] = [FLEET, "--db", "a.sqlite", "--import", "never", "--jobs", str(jobs), "captures"]
+    words: list[str | pathlib.Path] = [FLEET, "--db", "a.sqlite", "--jobs", str(jobs), "captures"]
     return seconds_of(words, folder, program)
 
 

@@ -3,22 +3,20 @@
     words     the command line
     walk      which captures the PATHs name
     names     a path as one word of printable ASCII
-    sniff     what the bytes of a file say of it
-    ends      when connections had their last packets
+    sniff     what the first bytes of a file say of it
     programs  one run of a program over a capture: its bytes, its digest, its time
     tasks     what a worker does with a capture; large has the tasks of large ones
-    answers   what h2audit-why tells of a capture, for the tables of requests
     carrier   what is asked of that which carries tasks to workers
     pool      the workers of this machine; worker is what each of them does
     cluster   the workers of a scheduler of dask by its address
     workers   which of both, and whether there is one
     course    which task comes next: tries, parts, Ctrl-C
-    rows      a report of h2audit as rows
+    rows      the rows of the tables, as h2audit-any and h2audit-why write them
     verdicts  how many captures have which verdict, and in which words
     database  the one writer; schema.sql is the schema
     collect   reports that were made without this program
     progress  the line that tells how far it is
 
 The modules that a worker of dask needs are sent to it with each task, and import nothing but the standard library:
-programs, sniff, ends, answers, tasks and large. So a worker needs h2audit and python3-distributed alone.
+programs, sniff, tasks and large. So a worker needs h2audit and python3-distributed alone.
 """

@@ -22,7 +22,7 @@ from multiprocessing import resource_tracker
 from types import TracebackType
 from typing import Any
 
-from h2audit.fleet import answers, ends, large, programs, sniff, tasks
+from h2audit.fleet import large, programs, sniff, tasks
 from h2audit.fleet.carrier import Client, Future
 from h2audit.fleet.workers import LOOK_SECONDS, NoWorkers, first_line
 
@@ -95,7 +95,7 @@ def settle() -> None:
     logging.disable(logging.CRITICAL)
     os.environ.setdefault("DASK_LOGGING__DISTRIBUTED", "critical")
     os.environ["PYTHONSAFEPATH"] = "1"  # what lies in the folder that they begin in is no module of theirs
-    for module in (tasks, large, answers, programs, sniff, ends, sys.modules[__name__]):
+    for module in (tasks, large, programs, sniff, sys.modules[__name__]):
         cloudpickle.register_pickle_by_value(module)
     dask.config.set({"distributed.scheduler.allowed-failures": 0, "logging.distributed": "critical"})
 

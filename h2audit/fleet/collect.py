@@ -7,7 +7,7 @@ A folder has for each capture, under one name of any kind:
     NAME.sha256   the digest of its bytes; may be missing
     NAME.report   the report
     NAME.error    what was said on standard error
-    NAME.last-packets  what --last-packets wrote; may be missing
+    NAME.rows     the rows that --rows wrote
     NAME.status   the status and the seconds that it took; written last, so what has none did not come to its end
 """
 
@@ -16,8 +16,9 @@ import re
 from collections.abc import Iterator
 from contextlib import suppress
 from pathlib import Path
+from typing import IO
 
-from h2audit.fleet import ends, programs, tasks
+from h2audit.fleet import programs, tasks
 from h2audit.fleet.tasks import Answer
 
 # timeout(1) ends with this status; a shell has those of signals above 128.
@@ -44,19 +45,16 @@ def read_job(named: Path, version: str) -> tuple[bytes, Answer] | None:
 
 
 def report_of(named: Path) -> Answer:
-    """The report of a job, which may have lost it since."""
+    """The report of a job and its rows, which it may have lost since."""
     try:
-        with os.fdopen(tasks.opened(os.fsencode(named.with_suffix(".report"))), "rb") as report:
-            return tasks.kept(report) | ends_of(named)
+        with part_of(named, ".report") as report, part_of(named, ".rows") as rows:
+            return tasks.kept(report, rows, is_kept=True)
     except (tasks.Unread, OSError) as why:
         return {"outcome": "failed", "status": None, "reason": f"bad-report: {tasks.named(why)}"}
 
 
-def ends_of(named: Path) -> Answer:
-    """When connections with an open stall had their last packets, as far as the job tells."""
-    with suppress(OSError), open(named.with_suffix(".last-packets"), "rb") as lines:
-        return {"ends": ends.by_lines(lines)}
-    return {}
+def part_of(named: Path, suffix: str) -> IO[bytes]:
+    return os.fdopen(tasks.opened(os.fsencode(named.with_suffix(suffix))), "rb")
 
 
 def run_of(status: int, named: Path) -> programs.Run:

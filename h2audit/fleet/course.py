@@ -16,7 +16,7 @@ from dataclasses import dataclass, field
 from functools import partial
 from typing import Any
 
-from h2audit.fleet import answers, large, tasks
+from h2audit.fleet import large, tasks
 from h2audit.fleet.carrier import Client, Future
 from h2audit.fleet.tasks import Answer, Order
 from h2audit.fleet.walk import Found
@@ -42,11 +42,10 @@ class Lost(Exception):
 
 @dataclass
 class Capture:
-    """A capture on its way: how often it was tried, its parts where it is large, and whether it is imported first."""
+    """A capture on its way: how often it was tried; a large one is imported first, and takes room beside itself."""
 
     found: Found
-    parts: int = 0
-    is_imported: bool = False
+    is_large: bool = False
     tries: int = 0
     seconds: float = 0.0
     folder: str | None = None
@@ -59,11 +58,6 @@ class Capture:
     def size(self) -> int:
         """Its bytes; 0 where it is not there."""
         return self.found.size or 0
-
-    @property
-    def is_large(self) -> bool:
-        """Whether it takes room beside itself, for its parts or its import."""
-        return bool(self.parts) or self.is_imported
 
 
 @dataclass(frozen=True)
@@ -95,7 +89,7 @@ class Course:
 
     def run(self, captures: Iterable[Found], tick: Callable[[], bool]) -> bool:
         """Audits all captures. Ends early, with False, where a tick says so."""
-        self.waiting.extend(Capture(found, tasks.parts_of(found.size, self.order)) for found in captures)
+        self.waiting.extend(Capture(found, bool(tasks.parts_of(found.size, self.order))) for found in captures)
         while tick():
             self.fill()
             if not self.on_way:
@@ -120,7 +114,7 @@ class Course:
             return [first] if first else []
         captures, left = [first], BYTES_TOGETHER - first.size
         most = min(MOST_TOGETHER, 1 + len(self.waiting) // room)
-        while len(captures) < most and self.waiting and not self.waiting[0].parts and self.waiting[0].size <= left:
+        while len(captures) < most and self.waiting and not self.waiting[0].is_large and self.waiting[0].size <= left:
             captures.append(self.waiting.popleft())
             left -= captures[-1].size
         return captures
@@ -130,7 +124,7 @@ class Course:
             return self.held.popleft()
         while self.waiting:
             capture = self.waiting.popleft()
-            if not capture.parts or self.large < MOST_LARGE:
+            if not capture.is_large or self.large < MOST_LARGE:
                 return capture
             self.held.append(capture)
         return None
@@ -156,31 +150,25 @@ class Course:
         for capture in captures:
             capture.tries += 1
         paths = [capture.found.path for capture in captures]
-        work = answers.answered_all if answers.are_wanted(self.order) else tasks.audit_all
-        future = self.client.submit(work, paths, self.order, priority=USUAL)
+        future = self.client.submit(tasks.audit_all, paths, self.order, priority=USUAL)
         self.fly(future, partial(self.after_all, captures))
 
     def begin(self, capture: Capture) -> None:
         capture.tries += 1
         path = capture.found.path
         if not capture.is_large:
-            work = answers.answered if answers.are_wanted(self.order) else tasks.audit
-            self.submit(capture, self.after_whole, work, path, self.order)
+            self.submit(capture, self.after_whole, tasks.audit, path, self.order)
             return
         self.large += 1
-        parts = 0 if capture.is_imported else capture.parts
         if self.limits.scratch is None:
-            self.submit(capture, self.after_whole, large.in_parts, path, parts, self.order)
+            self.submit(capture, self.after_whole, large.in_parts, path, self.order)
             return
         try:
             capture.folder = tempfile.mkdtemp(dir=self.limits.scratch)
         except OSError as why:
             self.after_whole(capture, {"outcome": "failed", "status": None, "reason": tasks.named(why)})
             return
-        if parts:
-            self.submit(capture, self.after_split, large.split, path, folder_of_parts(capture), parts, self.order)
-        else:
-            self.import_first(capture)
+        self.submit(capture, self.after_import, large.import_first, path, capture.folder, self.order)
 
     def submit(
         self,
@@ -246,7 +234,7 @@ class Course:
         """What may grow large as it is imported waits for its turn among the large ones; that was no try yet."""
         self.on_way -= 1
         capture.tries -= 1
-        capture.is_imported = True
+        capture.is_large = True
         capture.futures = set()
         self.held.append(capture)
 
@@ -263,10 +251,6 @@ class Course:
             self.on_way += 1
             self.begin(capture)
 
-    def import_first(self, capture: Capture) -> None:
-        capture.is_imported = True
-        self.submit(capture, self.after_import, large.import_first, capture.found.path, capture.folder, self.order)
-
     def after_import(self, capture: Capture, answer: Answer) -> None:
         """Splits what was made where that is large; else it is audited whole."""
         if answer["outcome"] != "imported":
@@ -276,25 +260,22 @@ class Course:
         capture.divided = answer
         if parts := tasks.parts_of(answer["made_size"], self.order):
             folder = folder_of_parts(capture)
-            self.submit(capture, self.after_split, large.split_made, answer, folder, parts, self.order)
+            self.submit(capture, self.after_split, large.split, answer, folder, parts, self.order)
         else:
             self.merge_when_ready(capture)
 
     def after_split(self, capture: Capture, answer: Answer) -> None:
-        if answer["outcome"] == "import":
-            self.import_first(capture)
-        elif answer["outcome"] == "split":
-            capture.seconds += answer["seconds"]
-            if capture.is_imported:
-                # Its parts take its room.
-                with suppress(OSError):
-                    os.unlink(capture.divided["made"])
-            capture.divided, capture.waiting = answer, set(answer["standing"])
-            for number in answer["standing"]:
-                self.submit_part(capture, number)
-            self.merge_when_ready(capture)
-        else:
+        if answer["outcome"] != "split":
             self.after_whole(capture, answer)
+            return
+        capture.seconds += answer["seconds"]
+        # Its parts take its room.
+        with suppress(OSError):
+            os.unlink(capture.divided["made"])
+        capture.divided, capture.waiting = answer, set(answer["standing"])
+        for number in answer["standing"]:
+            self.submit_part(capture, number)
+        self.merge_when_ready(capture)
 
     def submit_part(self, capture: Capture, number: int) -> None:
         capture.part_tries[number] = tries = capture.part_tries.get(number, 0) + 1
@@ -317,17 +298,7 @@ class Course:
 
     def merge_when_ready(self, capture: Capture) -> None:
         if not capture.waiting:
-            self.submit(capture, self.after_merge, large.merge, capture.found.path, capture.divided, self.order)
-
-    def after_merge(self, capture: Capture, answer: Answer) -> None:
-        """The merge may show that the whole has to be imported first: then its parts are not needed."""
-        if answer["outcome"] == "import":
-            capture.seconds += answer["seconds"]
-            capture.part_tries = {}
-            shutil.rmtree(folder_of_parts(capture), ignore_errors=True)
-            self.import_first(capture)
-        else:
-            self.after_whole(capture, answer)
+            self.submit(capture, self.after_whole, large.merge, capture.found.path, capture.divided, self.order)
 
     def finish(self, capture: Capture, answer: Answer) -> None:
         self.release(capture)

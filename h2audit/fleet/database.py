@@ -13,18 +13,17 @@ import stat
 import tempfile
 from collections.abc import Iterable, Iterator
 from contextlib import contextmanager, suppress
-from itertools import chain
 from pathlib import Path
 from typing import Any
 
 from h2audit.fleet import names
-from h2audit.fleet.answers import NAMED, UNNAMED
-from h2audit.fleet.rows import HTTP2, REQUESTS, Row, Rows, Told, rows_of, unpacked
+from h2audit.fleet.rows import CAPTURES, HTTP2, REQUESTS, BadRows, Row, Rows, unpacked
+from h2audit.fleet.tasks import NAMED, UNNAMED
 from h2audit.fleet.verdicts import Verdicts
-from h2audit.report.blame import KINDS
-from h2audit.report.lines import Refused
 
 SCHEMA = Path(__file__).with_name("schema.sql")
+# A kind of finding and who broke the rule, in the first two columns.
+KINDS = Path(__file__).parents[1] / "report" / "kinds.txt"
 SCHEMA_VERSION = 3
 APPLICATION = 1748123206
 # Those that h2audit-why tells of, and those of reports.
@@ -78,8 +77,9 @@ class Database:
             self.base = sqlite3.connect(path, isolation_level=None, timeout=60)
             self.check() if is_there else self.make()
             self.columns = {
-                table: len(self.base.execute(f"PRAGMA table_info({table})").fetchall()) - 1 for table in TOLD
+                table: len(self.base.execute(f"PRAGMA table_info({table})").fetchall()) - 1 for table in TABLES
             }
+            self.columns[CAPTURES] = len(HEADS)
             if not is_resumed and self.base.execute("SELECT 1 FROM captures LIMIT 1").fetchone():
                 raise Unusable("it has captures already: --resume goes on with it")
             # What is taken away may be names of requests.
@@ -107,7 +107,7 @@ class Database:
 
     def make(self) -> None:
         self.base.executescript("BEGIN;" + SCHEMA.read_text() + "COMMIT;")
-        self.base.executemany("INSERT INTO kinds VALUES (?, ?)", [(word, kind.blame) for word, kind in KINDS.items()])
+        self.base.executemany("INSERT INTO kinds VALUES (?, ?)", kinds())
 
     def close(self) -> None:
         """Leaves one file, without a log beside it; the log goes later where others read, or where there is no room."""
@@ -171,20 +171,19 @@ class Database:
         """Enters a capture with all that its report says; what was there of it goes. Answers with the row."""
         row = {column: answer.get(column) for column in COLUMNS}
         row |= {"path": names.word_of(path), "entered": now()}
-        rows, told = Rows(answer.get("ends")), Told(self.columns)
-        packed, packed_rows = answer.get("report"), answer.get("rows")
+        rows, packed = Rows(self.columns), answer.get("rows")
         try:
-            if packed is not None and self.reports:
-                keep(self.reports, answer["report_sha256"], packed)
+            if answer.get("report") is not None and self.reports:
+                keep(self.reports, answer["report_sha256"], answer["report"])
             with self.transaction():
-                found = rows_of(unpacked(packed), rows) if packed is not None else iter(())
-                more = told.of(unpacked(packed_rows)) if packed_rows is not None else iter(())
-                self.put_rows(self.put(row), chain(found, more))
-                row |= dict(zip(HEADS, rows.heads)) | {REQUESTS: told.requests if packed_rows is not None else None}
+                self.put_rows(self.put(row), rows.of(unpacked(packed)) if packed is not None else ())
+                row |= dict(zip(HEADS, rows.heads))
+                if answer.get("has_requests"):
+                    row[REQUESTS] = rows.requests
                 self.put(row)
-        except (Refused, sqlite3.IntegrityError, OverflowError) as why:
+        except (BadRows, sqlite3.IntegrityError, OverflowError) as why:
             # SQLite holds numbers below 2^63.
-            why = Refused("a number of the report is too large") if isinstance(why, OverflowError) else why
+            why = BadRows("a number is too large") if isinstance(why, OverflowError) else why
             row |= {"outcome": "failed", "reason": f"bad-report: {why}"} | dict.fromkeys((*HEADS, REQUESTS))
             with self.transaction():
                 self.put_rows(self.put(row), ())
@@ -231,6 +230,13 @@ class Database:
             marks = ", ".join("?" * len(lines[0]))
             self.base.executemany(f"INSERT INTO {table} VALUES ({marks})", lines)
             lines.clear()
+
+
+def kinds() -> list[tuple[str, str]]:
+    """The kinds of findings, and who broke the rule."""
+    lines = [line for line in KINDS.read_text(encoding="ascii").splitlines() if not line.startswith("#")]
+    rows = [[cell.strip() for cell in line.split("|")] for line in lines]
+    return [(kind, broke) for kind, broke, *_ in rows if kind]
 
 
 def held(path: str, mode: int) -> int:

@@ -1,8 +1,7 @@
-"""Tasks of large captures: each is imported first where it has to be, split, audited in parts, and merged.
+"""Tasks of large captures: each is imported, what is made is split where it is large, audited in parts, and merged.
 
-    import_first  the import of a capture that may be large, into a folder that all workers share
-    split         a large capture into parts, in such a folder
-    split_made    the same, of what an import made
+    import_first  the import of a capture, into a folder that all workers share
+    split         what an import made, into parts, in such a folder
     part          the audit of one part
     merge         the reports of the parts into that of the whole, and of an import back to that of the original
     in_parts      all of them, where workers share no folder
@@ -11,45 +10,40 @@ A worker needs this module, which is sent to it: it imports the standard library
 """
 
 import os
-import shutil
 import tempfile
 import time
-from collections.abc import Iterator
-from contextlib import contextmanager
 from typing import IO
 
-from h2audit.fleet import answers, ends, programs
+from h2audit.fleet import programs
 from h2audit.fleet.tasks import (
     AUDIT,
     CHANGED,
     IMPORT,
     IMPORT_ALONE,
     MERGE,
-    OPEN_STALL,
     REFUSED,
     SPLIT,
     Answer,
     Order,
     Unread,
-    ends_of,
-    has_more,
-    holds,
-    is_imported,
-    kept,
+    are_requests_wanted,
     named,
     on_capture,
     opened,
     parts_of,
     run_on,
     state_of,
+    told,
     verdict,
     while_unchanged,
+    without_requests,
     words_of_keys,
+    words_of_requests,
     worker_name,
 )
 
 # What stands in the folder of an import.
-MADE, MAP, COURSE, REPORT = (f"imported.{kind}" for kind in ("pcap", "map", "course", "report"))
+MADE, MAP, REPORT = (f"imported.{kind}" for kind in ("pcap", "map", "report"))
 
 
 def import_first(path: bytes, folder: str, order: Order) -> Answer:
@@ -58,42 +52,37 @@ def import_first(path: bytes, folder: str, order: Order) -> Answer:
 
 
 def import_file(file: int, name: str, folder: str, order: Order) -> Answer:
-    made, map_file, course = (os.path.join(folder, each) for each in (MADE, MAP, COURSE))
-    words = [IMPORT_ALONE, *words_of_keys(order), "-o", made, "-m", map_file, "--course", course, name]
+    made, map_file = (os.path.join(folder, each) for each in (MADE, MAP))
+    words = [IMPORT_ALONE, *words_of_keys(order), "-o", made, "-m", map_file, name]
     with tempfile.TemporaryFile() as output:
-        answer = run_on(words, file, output, order, is_fed=False) | {"program": IMPORT}
+        answer = run_on(words, output, order, file)
     if answer["outcome"] != "audited":
         return answer
     return answer | {"outcome": "imported", "made": made, "made_size": os.path.getsize(made), "map": map_file}
 
 
-def split(path: bytes, folder: str, parts: int, order: Order) -> Answer:
-    """Splits a capture, for an answer with the parts that stand; or says that it has to be imported first."""
-    return on_capture(path, lambda file, _: split_file(file, folder, parts, order))
+def split(imported: Answer, folder: str, parts: int, order: Order) -> Answer:
+    """Splits what an import made, for an answer about the original with the parts that stand."""
+    begin = time.monotonic()
+    answer: Answer = {"outcome": "failed", "status": None, "worker": worker_name()}
+    try:
+        with tempfile.TemporaryFile() as output:
+            words = [SPLIT, "--parts", str(parts), "-o", folder, imported["made"]]
+            answer |= verdict(programs.run(words, output, order["timeout"]))
+        answer |= split_into(folder, parts, answer)
+    except (programs.NoProgram, OSError) as why:
+        answer |= {"outcome": "failed", "status": None, "reason": named(why)}
+    whole = {key: imported[key] for key in ("size", "modified", "sha256", "program", "map")}
+    return answer | whole | {"seconds": time.monotonic() - begin}
 
 
-def split_made(imported: Answer, folder: str, parts: int, order: Order) -> Answer:
-    """Splits what an import made, for an answer about the original."""
-    as_it_is: Order = {"keys": [], "imports": "never", "timeout": order["timeout"], "split_above": order["split_above"]}
-    answer = split(os.fsencode(imported["made"]), folder, parts, as_it_is)
-    if answer["reason"] == "not-there":
-        answer["reason"] = "io-failed ENOENT"
-    return answer | {key: imported[key] for key in ("size", "modified", "sha256", "program", "map")}
-
-
-def split_file(file: int, folder: str, parts: int, order: Order) -> Answer:
-    if is_imported(file, order):
-        return {"outcome": "import"}
-    with tempfile.TemporaryFile() as output:
-        answer = run_on([SPLIT, "--parts", str(parts), "-o", folder], file, output, order)
+def split_into(folder: str, parts: int, answer: Answer) -> Answer:
+    """What a split that came to its end gave."""
     refused = refused_parts(folder)
     if refused is None or answer["outcome"] == "failed":
-        if answer["outcome"] == "audited":
-            return answer | {"outcome": "failed", "reason": "no-parts"}
-        return {"outcome": "import"} if has_more(file, order, answer) else answer
+        return {"outcome": "failed", "reason": "no-parts"} if answer["outcome"] == "audited" else {}
     standing = [part for part in range(1, parts + 1) if part not in refused]
-    reason = "; ".join(refused.values()) or None
-    return answer | {"outcome": "split", "folder": folder, "standing": standing, "reason": reason}
+    return {"outcome": "split", "folder": folder, "standing": standing, "reason": "; ".join(refused.values()) or None}
 
 
 def refused_parts(folder: str) -> dict[int, str] | None:
@@ -113,45 +102,27 @@ def part(folder: str, number: int, order: Order) -> Answer:
     try:
         with open(name + ".report", "w+b") as output:
             words = [AUDIT, "--workers", "1", name + ".pcap"]
-            run = programs.run(words, None, output, order["timeout"])
+            run = programs.run(words, output, order["timeout"])
     except (programs.NoProgram, OSError) as why:
         return answer | {"reason": named(why)}
     return answer | verdict(run) | {"seconds": run.seconds}
 
 
 def merge(path: bytes, divided: Answer, order: Order) -> Answer:
-    """The report of the whole, of the answer of a split, or of an import that needed none.
-
-    What h2audit passed over may ask for an import instead.
-    """
+    """The report of the whole, of the answer of a split, or of an import that needed none."""
     begin = time.monotonic()
     whole = {key: divided[key] for key in ("size", "modified", "sha256")}
-    whole |= {"program": IMPORT if "map" in divided else MERGE, "worker": worker_name()}
+    whole |= {"program": IMPORT, "worker": worker_name()}
     answer: Answer = {"outcome": "failed", "status": None}
     try:
-        with report_file(folder_of(divided), order) as output:
-            answer |= verdict(programs.run(words_of_merge(divided), None, output, order["timeout"]))
+        with open(os.path.join(os.path.dirname(divided["map"]), REPORT), "w+b") as report:
+            answer |= verdict(programs.run(words_of_merge(divided), report, order["timeout"]))
             if answer["outcome"] == "audited":
-                answer |= after_merge(path, divided, output, order)
+                answer |= of_original(path, divided, report, order)
+        answer |= of_refused_parts(divided, answer)
     except (Unread, programs.NoProgram, OSError) as why:
         answer |= {"outcome": "failed", "status": None, "reason": named(why)}
-    return whole | answer | {"seconds": time.monotonic() - begin}
-
-
-@contextmanager
-def report_file(folder: str, order: Order) -> Iterator[IO[bytes]]:
-    """Where the report of what was made goes: into the folder of the import where h2audit-why reads it too."""
-    if not answers.are_wanted(order):
-        with tempfile.TemporaryFile() as output:
-            yield output
-        return
-    with open(os.path.join(folder, REPORT), "w+b") as output:
-        yield output
-
-
-def folder_of(divided: Answer) -> str:
-    """The folder of an import, or of parts where there is none."""
-    return str(os.path.dirname(divided["map"]) if "map" in divided else divided["folder"])
+    return answer | whole | {"seconds": time.monotonic() - begin}
 
 
 def words_of_merge(divided: Answer) -> list[str]:
@@ -159,22 +130,6 @@ def words_of_merge(divided: Answer) -> list[str]:
     if divided["outcome"] == "imported":
         return [AUDIT, "--workers", "1", divided["made"]]
     return [MERGE, *["--standing"] * bool(divided["reason"]), divided["folder"]]
-
-
-def after_merge(path: bytes, divided: Answer, report: IO[bytes], order: Order) -> Answer:
-    """What follows from a merged report, and from packets and parts that are not in it. An import passes none over."""
-    file = opened(path)
-    try:
-        if "map" in divided:
-            answer = of_original(file, divided, report, order)
-            return answer | of_refused_parts(divided, answer)
-        answer = {"outcome": "audited"} | kept(report)
-        if has_more(file, order, answer):
-            return {"outcome": "import"}
-        more = {"outcome": "partial", "reason": divided["reason"]} if divided["reason"] else {}
-        return answer | ends_of(file, report) | more
-    finally:
-        os.close(file)
 
 
 def of_refused_parts(divided: Answer, answer: Answer) -> Answer:
@@ -185,58 +140,43 @@ def of_refused_parts(divided: Answer, answer: Answer) -> Answer:
     return {"outcome": "partial", "status": REFUSED, "reason": "; ".join(reasons)}
 
 
-def of_original(file: int, divided: Answer, report: IO[bytes], order: Order) -> Answer:
+def of_original(path: bytes, divided: Answer, report: IO[bytes], order: Order) -> Answer:
     """The report of what an import made, as one about the original, and its requests where they are wanted."""
-    with tempfile.TemporaryFile() as output:
-        os.lseek(report.fileno(), 0, os.SEEK_SET)
-        answer = verdict(programs.run([IMPORT, "--map", divided["map"]], report.fileno(), output, order["timeout"]))
-        if answer["outcome"] != "audited":
+    untold = {}
+    if are_requests_wanted(order):
+        answer = with_requests(path, divided, report.name, order)
+        if answer["outcome"] == "audited" or answer["reason"] == CHANGED:
             return answer
-        folder = folder_of(divided)
-        answer |= kept(output) | ends_by_import(folder, output)
-    return answer | (rows_of(file, divided, folder, order) if answers.are_wanted(order) else {})
+        untold = without_requests(answer)
+    report.seek(0)
+    answer = told([IMPORT, "--map", divided["map"]], order, source=report)
+    return answer | untold if answer["outcome"] == "audited" else answer
 
 
-def ends_by_import(folder: str, report: IO[bytes]) -> Answer:
-    """When connections with an open stall had their last packets, by the course of the import."""
-    if not holds(report, OPEN_STALL):
-        return {}
-    with open(os.path.join(folder, COURSE), "rb") as course:
-        return {"ends": ends.by_course(course, ends.with_open_stalls(report))}
-
-
-def rows_of(file: int, divided: Answer, folder: str, order: Order) -> Answer:
+def with_requests(path: bytes, divided: Answer, report: str, order: Order) -> Answer:
     """What h2audit-why tells of the capture and its report, where it is still the capture that was imported."""
-    answer = answers.rows_of(file, os.path.join(folder, REPORT), order)
-    if state_of(file) != (divided["size"], divided["modified"]):
-        return {"outcome": "failed", "status": None, "reason": CHANGED}
-    return answer
-
-
-def in_parts(path: bytes, parts: int, order: Order) -> Answer:
-    """A large capture on one worker, in a folder of its own. Without parts it is known that it is imported first."""
-    begin = time.monotonic()
-    with tempfile.TemporaryDirectory(prefix="h2audit-fleet-") as scratch:
-        folder = os.path.join(scratch, "parts")
-        answer: Answer = {"outcome": "import"}
-        if parts:
-            answer = in_its_parts(path, split(path, folder, parts, order), order)
-        if answer["outcome"] == "import":
-            shutil.rmtree(folder, ignore_errors=True)
-            answer = in_its_parts(path, imported_in_parts(path, scratch, folder, order), order)
-    return answer | {"seconds": time.monotonic() - begin}
-
-
-def imported_in_parts(path: bytes, scratch: str, folder: str, order: Order) -> Answer:
-    """The answer of an import, or of the split of what was made where that is large."""
-    answer = import_first(path, scratch, order)
-    parts = parts_of(answer.get("made_size"), order)
-    if not parts:
+    file = opened(path)
+    try:
+        answer = told([*words_of_requests(order), "--audit", report], order, file)
+        if state_of(file) != (divided["size"], divided["modified"]):
+            return {"outcome": "failed", "status": None, "reason": CHANGED}
         return answer
-    divided = split_made(answer, folder, parts, order)
-    if divided["outcome"] == "split":
-        os.unlink(answer["made"])
-    return divided
+    finally:
+        os.close(file)
+
+
+def in_parts(path: bytes, order: Order) -> Answer:
+    """A large capture on one worker, in a folder of its own."""
+    begin = time.monotonic()
+    with tempfile.TemporaryDirectory(prefix="h2audit-fleet-") as folder:
+        answer = import_first(path, folder, order)
+        if parts := parts_of(answer.get("made_size"), order):
+            made = answer["made"]
+            answer = split(answer, os.path.join(folder, "parts"), parts, order)
+            # Its parts take its room.
+            os.unlink(made)
+        answer = in_its_parts(path, answer, order)
+    return answer | {"seconds": time.monotonic() - begin}
 
 
 def in_its_parts(path: bytes, divided: Answer, order: Order) -> Answer:

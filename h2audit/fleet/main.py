@@ -11,12 +11,12 @@ from contextlib import contextmanager
 from types import FrameType
 
 from h2audit.fleet import collect, names, tasks
-from h2audit.fleet.answers import NAMED, NO_REQUESTS
 from h2audit.fleet.carrier import Client
 from h2audit.fleet.course import Capture, Course, Limits, Lost, scratch_in
 from h2audit.fleet.database import Database, Unusable
 from h2audit.fleet.progress import Progress
 from h2audit.fleet.rows import REQUESTS
+from h2audit.fleet.tasks import NAMED, NO_REQUESTS
 from h2audit.fleet.verdicts import FAULTS, Verdicts
 from h2audit.fleet.walk import Found, NotThere, Walk, found_in
 from h2audit.fleet.words import MEGABYTE, Asked, read_words
@@ -137,10 +137,10 @@ def run(
         print(f"{NAME}: dashboard at {client.dashboard_link}", file=sys.stderr)
     order: tasks.Order = {
         "keys": [os.path.abspath(key) for key in asked.keys],
-        "imports": asked.imports,
         "timeout": asked.timeout,
         "split_above": asked.split_above * MEGABYTE,
         "requests": asked.requests,
+        "reports": asked.reports is not None,
     }
     course = Course(client, order, limits, enter)
     is_whole = course.run(captures, tick)
@@ -168,7 +168,7 @@ def options_of(asked: Asked) -> str:
         with open(key, "rb") as file:
             digest.update(hashlib.sha256(file.read()).digest())
     requests = f" {REQUESTS} {asked.requests}" * bool(asked.requests)
-    return f"import {asked.imports}" + f" keys {digest.hexdigest()}" * bool(asked.keys) + requests
+    return (f"keys {digest.hexdigest()}" if asked.keys else "no keys") + requests
 
 
 def missing_in(database: Database, walk: Walk, version: str, options: str) -> list[Found]:

@@ -1,12 +1,10 @@
-"""One run of a program over a capture: it gets the bytes on standard input, and a digest of the same bytes is taken.
+"""One run of a program over a capture, which is handed to it as an open file, while a digest of its bytes is taken.
 
-So the digest is that of what was audited, also where the capture is still written to, and no name of a file reaches the
-program.
+So no name of a file reaches the program.
 
 A worker needs this module, which is sent to it: it imports the standard library alone.
 """
 
-import fcntl
 import hashlib
 import os
 import shutil
@@ -44,8 +42,8 @@ class Run:
 
 
 @dataclass(frozen=True)
-class Report:
-    """The text of a report, compressed, with the digest and the number of its bytes."""
+class Text:
+    """What a program wrote, compressed, with the digest and the number of its bytes."""
 
     packed: bytes
     digest: str
@@ -56,21 +54,19 @@ def is_there(program: str) -> bool:
     return shutil.which(program) is not None
 
 
-def run(words: Sequence[str], source: int | None, output: IO[bytes], seconds: float, is_fed: bool = True) -> Run:
+def run(
+    words: Sequence[str], output: IO[bytes], seconds: float, capture: int | None = None, source: IO[bytes] | None = None
+) -> Run:
     """Runs a program for so many seconds at most.
 
-    It is fed with an open file on its standard input, or is handed the file itself. The digest is taken meanwhile.
+    It may have a file as its standard input, and is handed an open capture, whose digest is taken meanwhile.
     """
     if not is_there(words[0]):
         raise NoProgram(words[0])
     begin = time.monotonic()
-    has_input = source is not None and is_fed
-    handed = () if source is None or is_fed else (source,)
-    with tempfile.TemporaryFile() as said, child_of(words, has_input, handed, output, said) as child:
+    with tempfile.TemporaryFile() as said, child_of(words, source, capture, output, said) as child:
         with time_limit(child, seconds) as is_late:
-            size, digest = 0, ""
-            if source is not None:
-                size, digest = feed(source, child.stdin, is_late) if child.stdin else digest_of(source, is_late)
+            size, digest = digest_of(capture, is_late) if capture is not None else (0, "")
             status = child.wait()
         return Run(status, last_line(said), time.monotonic() - begin, is_late.is_set(), size, digest)
 
@@ -82,28 +78,21 @@ def tied() -> list[str]:
 
 @contextmanager
 def child_of(
-    words: Sequence[str], has_input: bool, handed: tuple[int, ...], output: IO[bytes], said: IO[bytes]
+    words: Sequence[str], source: IO[bytes] | None, capture: int | None, output: IO[bytes], said: IO[bytes]
 ) -> Iterator[subprocess.Popen[bytes]]:
-    """A child in a session of its own, which keys of the terminal do not reach.
-
-    It does not outlive its worker for long: one that is fed comes to the end of its capture, and any other is tied to
-    the worker.
-    """
+    """A child in a session of its own, which keys of the terminal do not reach. It is tied to its worker."""
     child = subprocess.Popen(
-        [*([] if has_input else tied()), *words],
-        stdin=subprocess.PIPE if has_input else subprocess.DEVNULL,
+        [*tied(), *words],
+        stdin=source or subprocess.DEVNULL,
         stdout=output,
         stderr=said,
-        bufsize=0,
-        pass_fds=handed,
+        pass_fds=() if capture is None else (capture,),
         start_new_session=True,
     )
     try:
         yield child
     finally:
         end_group(child)
-        if child.stdin:
-            child.stdin.close()
         child.wait()
 
 
@@ -131,23 +120,6 @@ def end_group(child: subprocess.Popen[bytes]) -> None:
             os.killpg(child.pid, signal.SIGKILL)
 
 
-def feed(source: int, pipe: IO[bytes], is_late: threading.Event) -> tuple[int, str]:
-    """Gives a file to a pipe up to its end, also where the reader goes; the number and the digest of its bytes.
-
-    When time is up it stops, and there is no digest: a file that is written to may have no end.
-    """
-    with suppress(OSError):
-        fcntl.fcntl(pipe.fileno(), fcntl.F_SETPIPE_SZ, PIECE)
-    digest, size, has_reader, room = hashlib.sha256(), 0, True, bytearray(IN_CACHE)
-    while not is_late.is_set() and (length := os.readv(source, [room])):
-        piece = memoryview(room)[:length]
-        has_reader = has_reader and is_written(pipe, piece)
-        digest.update(piece)
-        size += length
-    pipe.close()
-    return (0, "") if is_late.is_set() else (size, digest.hexdigest())
-
-
 def digest_of(source: int, is_late: threading.Event) -> tuple[int, str]:
     """The number and the digest of a file's bytes, which a program reads at its own place; none when time is up."""
     digest, size, room = hashlib.sha256(), 0, bytearray(IN_CACHE)
@@ -157,15 +129,6 @@ def digest_of(source: int, is_late: threading.Event) -> tuple[int, str]:
     return (0, "") if is_late.is_set() else (size, digest.hexdigest())
 
 
-def is_written(pipe: IO[bytes], rest: memoryview) -> bool:
-    try:
-        while rest:
-            rest = rest[pipe.write(rest) :]
-    except BrokenPipeError:
-        return False
-    return True
-
-
 def last_line(said: IO[bytes]) -> str:
     """The last line of a file that is not empty, in printable characters."""
     said.seek(max(said.seek(0, os.SEEK_END) - MOST_SAID, 0))
@@ -173,7 +136,7 @@ def last_line(said: IO[bytes]) -> str:
     return "".join(sign if sign.isprintable() else "?" for sign in lines[-1]) if lines else ""
 
 
-def report_of(output: IO[bytes]) -> Report:
+def text_of(output: IO[bytes]) -> Text:
     digest, packer, size, packed = hashlib.sha256(), zlib.compressobj(1), 0, []
     output.seek(0)
     while piece := output.read(PIECE):
@@ -181,4 +144,4 @@ def report_of(output: IO[bytes]) -> Report:
         size += len(piece)
         packed.append(packer.compress(piece))
     packed.append(packer.flush())
-    return Report(b"".join(packed), digest.hexdigest(), size)
+    return Text(b"".join(packed), digest.hexdigest(), size)

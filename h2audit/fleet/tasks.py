@@ -1,7 +1,9 @@
-"""What a worker does with a capture: audits it, by h2audit or by an import. `large` has the tasks of large ones.
+"""What a worker does with a capture: one program imports and audits it, and gives its report and its rows.
+
+That is h2audit-any, or h2audit-why where requests are wanted. `large` has the tasks of large captures.
 
 Each task answers with a dictionary of plain values, also where it fails. An answer that is the last of a capture has an
-`outcome`: `audited`, `partial` (a part of a large capture, or an import that may read more, was refused), `refused`
+`outcome`: `audited`, `partial` (a part of a large capture was refused, or its requests could not be told), `refused`
 (the capture cannot be audited, and never will be) or `failed` (it might be another time), with a `reason`. Others are
 `import` (it has to be imported first), `imported` and `split`.
 
@@ -16,10 +18,9 @@ import subprocess
 import tempfile
 import time
 from collections.abc import Callable
-from contextlib import suppress
-from typing import IO, Any, BinaryIO, NotRequired, TypedDict
+from typing import IO, Any, NotRequired, TypedDict
 
-from h2audit.fleet import ends, programs, sniff
+from h2audit.fleet import programs, sniff
 
 Answer = dict[str, Any]
 
@@ -31,29 +32,28 @@ MOST_PARTS = 500
 # How large a compressed capture is shows as it is read. One that would be large, grown so much, is imported first.
 USUAL_GROWTH = 10
 TOO_LARGE = "too-large"
-# Refusals of h2audit where an import may read the file, or says better what it is.
-OF_ANOTHER_FORM = ("bad-magic", "bad-version", "link-type")
 WRITE_FAILED, CHANGED = "write-failed", "changed"
 NOTHING_COULD_BE_READ = "no connection could be read"
 # The least and the most nanoseconds since 1970 that a column of the database holds: from 1677 to 2262.
 FIRST_TIME, LAST_TIME = -(1 << 63), (1 << 63) - 1
 VERSION_SECONDS = 60
-# What stands in no other line of a report than that of such a connection, or of such a stall.
-HTTP2, NOT_HTTP2, OPEN_STALL = b" http2 frames ", b" not-http2\n", b" open\n"
+# How requests are entered, and what a reason begins with where they could not be told.
+NAMED, UNNAMED = "named", "unnamed"
+NO_REQUESTS = "no requests: "
 
 
 class Order(TypedDict):
-    """How captures are to be audited: files of keys, when to import, seconds for each run of a program, above how many
-    bytes a capture is split, 0 for none, in which folder files may stand that the end of the run takes away, and how
-    requests are entered, "named" or "unnamed".
+    """How captures are to be audited: files of keys, seconds for each run of a program, above how many bytes a capture
+    is split, 0 for none, in which folder files may stand that the end of the run takes away, how requests are entered,
+    and whether reports are kept.
     """
 
     keys: list[str]
-    imports: str
     timeout: float
     split_above: int
     scratch: NotRequired[str | None]
     requests: NotRequired[str | None]
+    reports: NotRequired[bool]
 
 
 class Unread(Exception):
@@ -113,60 +113,25 @@ def audit_all(paths: list[bytes], order: Order) -> list[Answer]:
 
 
 def audit_file(file: int, order: Order) -> Answer:
-    if is_imported(file, order):
-        return {"outcome": "import"} if may_be_large(file, order) else by_import(file, order)
-    answer = by_program([AUDIT, "--workers", "1"], file, order)
-    if not has_more(file, order, answer):
-        return answer
-    imported = by_import(file, order)
-    return beside(answer, imported) if imported["outcome"] == "refused" else imported
+    if may_be_large(file, order):
+        return {"outcome": "import"}
+    answer = while_unchanged(file, lambda _: told(words_of(order), order, file))
+    if answer["reason"] == TOO_LARGE and order["split_above"]:
+        # What an import made may be too large for h2audit.
+        return {"outcome": "import"}
+    if are_requests_wanted(order) and answer["outcome"] == "failed" and answer["reason"] != CHANGED:
+        report = while_unchanged(file, lambda _: told(words_of_report(order), order, file))
+        return report | without_requests(answer) if report["outcome"] == "audited" else report
+    return answer
 
 
-def beside(answer: Answer, imported: Answer) -> Answer:
-    """What h2audit audited stands, where an import that might have read more is refused."""
-    if answer["outcome"] != "audited" or not answer["has_http2"]:
-        return imported
-    return answer | {"outcome": "partial", "reason": f"import refused: {imported['reason']}"}
-
-
-def is_imported(file: int, order: Order) -> bool:
-    """Whether a capture needs an import, by its first bytes. Where there are keys any may, for requests each does."""
-    if order.get("requests"):
-        return True
-    if order["imports"] != "auto":
-        return order["imports"] == "always"
-    return bool(order["keys"]) or sniff.kind_of(os.pread(file, sniff.FILE_HEADER, 0)) == sniff.OTHER
-
-
-def has_more(file: int, order: Order, answer: Answer) -> bool:
-    """Whether an import may read more of a capture than h2audit did.
-
-    It may where h2audit found a connection that is none of HTTP/2, which may be TLS; where it found none of HTTP/2,
-    but packets that are not IPv4 or not TCP; and where it passed over packets that an import reads.
-    """
-    if order["imports"] != "auto" or not programs.is_there(IMPORT):
-        return False
-    if answer["outcome"] == "refused":
-        return answer["reason"] in OF_ANOTHER_FORM
-    if answer["outcome"] != "audited":
-        return False
-    if answer["has_others"] or not answer["has_http2"] and (answer["not_ipv4"] or answer["not_tcp"]):
-        return True
-    if not answer["not_ipv4"]:
-        return False
-    with capture_of(file) as capture:
-        return sniff.holds_more(capture)
-
-
-def capture_of(file: int) -> BinaryIO:
-    """An open capture from its beginning."""
-    os.lseek(file, 0, os.SEEK_SET)
-    return os.fdopen(os.dup(file), "rb", buffering=programs.PIECE)
+def are_requests_wanted(order: Order) -> bool:
+    return bool(order.get("requests"))
 
 
 def may_be_large(file: int, order: Order) -> bool:
     """Whether a compressed capture may hold more than what is split, by what captures usually grow to."""
-    is_packed = os.pread(file, sniff.FILE_HEADER, 0).startswith(sniff.PACKED)
+    is_packed = sniff.is_packed(os.pread(file, sniff.FRONT, 0))
     return is_packed and bool(parts_of(USUAL_GROWTH * os.fstat(file).st_size, order))
 
 
@@ -177,20 +142,18 @@ def parts_of(size: int | None, order: Order) -> int:
     return min(-(-2 * size // order["split_above"]), MOST_PARTS)
 
 
-def by_import(file: int, order: Order) -> Answer:
-    """The answer of the program that imports and audits. What it made may be too large for h2audit: then it says so."""
-    answer = while_unchanged(file, lambda name: imported(file, name, order))
-    return {"outcome": "import"} if answer["reason"] == TOO_LARGE and order["split_above"] else answer
+def words_of(order: Order) -> list[str]:
+    """What imports and audits a capture, and tells of its requests where they are wanted."""
+    return words_of_requests(order) if are_requests_wanted(order) else words_of_report(order)
 
 
-def imported(file: int, name: str, order: Order) -> Answer:
-    with tempfile.TemporaryDirectory(prefix="h2audit-fleet-", dir=order.get("scratch")) as folder:
-        last_packets = os.path.join(folder, "last-packets")
-        words = [IMPORT, *words_of_keys(order), "--workers", "1", "--last-packets", last_packets, name]
-        answer = by_program(words, file, order, is_fed=False)
-        with suppress(FileNotFoundError), open(last_packets, "rb") as lines:
-            answer["ends"] = ends.by_lines(lines)
-        return answer
+def words_of_report(order: Order) -> list[str]:
+    return [IMPORT, *words_of_keys(order), "--workers", "1"]
+
+
+def words_of_requests(order: Order) -> list[str]:
+    unnamed = ["--no-requests"] * (order.get("requests") == UNNAMED)
+    return [WHY, *words_of_keys(order), *unnamed, "--workers", "1", "--report", "-"]
 
 
 def words_of_keys(order: Order) -> list[str]:
@@ -202,11 +165,16 @@ def while_unchanged(file: int, work: Callable[[str], Answer]) -> Answer:
 
     Where the capture is written to meanwhile nobody can say what was audited.
     """
-    name, before = f"/dev/fd/{file}", state_of(file)
+    name, before = name_of(file), state_of(file)
     answer = work(name)
     if state_of(file) != before:
         return {"outcome": "failed", "status": None, "program": IMPORT, "reason": CHANGED}
     return answer | {"reason": answer["reason"].removesuffix(f": {name}") if answer["reason"] else None}
+
+
+def name_of(file: int) -> str:
+    """What a program that is handed an open file knows it by."""
+    return f"/dev/fd/{file}"
 
 
 def state_of(file: int) -> tuple[int, int]:
@@ -220,27 +188,40 @@ def nearest_time(nanos: int) -> int:
     return max(FIRST_TIME, min(nanos, LAST_TIME))
 
 
-def by_program(words: list[str], file: int, order: Order, is_fed: bool = True) -> Answer:
-    """A program's answer to an open capture, with its report."""
-    with tempfile.TemporaryFile() as output:
-        answer = run_on(words, file, output, order, is_fed)
-        if answer["outcome"] == "audited":
-            answer |= kept(output) | (ends_of(file, output) if is_fed else {})
-        elif answer["reason"] == WRITE_FAILED:
-            answer["reason"] = no_room()
-        return answer
+def told(words: list[str], order: Order, capture: int | None = None, source: IO[bytes] | None = None) -> Answer:
+    """What a program answers that prints a report, of a capture or of what it reads, and writes its rows."""
+    names = [] if capture is None else [name_of(capture)]
+    with tempfile.TemporaryDirectory(prefix="h2audit-fleet-", dir=order.get("scratch")) as folder:
+        rows = os.path.join(folder, "rows")
+        with tempfile.TemporaryFile() as report:
+            answer = run_on([*words, "--rows", rows, *names], report, order, capture, source)
+            if answer["outcome"] == "audited" and not os.path.exists(rows):
+                answer |= {"outcome": "failed", "status": None, "reason": "bad-report: no rows were written"}
+            elif answer["outcome"] == "audited":
+                with open(rows, "rb") as lines:
+                    answer |= kept(report, lines, is_kept=bool(order.get("reports")))
+                    answer["has_requests"] = words[0] == WHY
+            elif answer["reason"] == WRITE_FAILED:
+                answer["reason"] = no_room()
+            return answer
 
 
-def run_on(words: list[str], file: int, output: IO[bytes], order: Order, is_fed: bool = True) -> Answer:
-    """What a program's end says of an open capture, which it is given from the beginning."""
-    os.lseek(file, 0, os.SEEK_SET)
-    run = programs.run(words, file, output, order["timeout"], is_fed)
-    return verdict(run) | {"program": words[0]} | bytes_of(run.size, run.digest)
+def run_on(
+    words: list[str], output: IO[bytes], order: Order, capture: int | None = None, source: IO[bytes] | None = None
+) -> Answer:
+    """What a program's end says of an open capture, or of what it reads."""
+    run = programs.run(words, output, order["timeout"], capture, source)
+    return verdict(run) | {"program": IMPORT} | bytes_of(run.size, run.digest)
 
 
 def bytes_of(size: int, digest: str) -> Answer:
     """What a program was given, where it was given all of a capture."""
     return {"size": size, "sha256": digest} if digest else {}
+
+
+def without_requests(untold: Answer) -> Answer:
+    """What a report is without the requests, which another try may tell."""
+    return {"outcome": "partial", "reason": f"{NO_REQUESTS}{untold['reason']}", "is_worth_a_try": True}
 
 
 def verdict(run: programs.Run) -> Answer:
@@ -277,48 +258,15 @@ def no_room() -> str:
     return f"no-room {tempfile.gettempdir()}"
 
 
-def kept(output: Any) -> Answer:
-    """A report on its way to the writer, and what decides how it goes on."""
-    report = programs.report_of(output)
-    output.seek(0)
-    first = output.readline(4096)
+def kept(report: IO[bytes], rows: IO[bytes], is_kept: bool) -> Answer:
+    """A report and its rows on their way to the writer; the text of the report goes there if it is kept."""
+    text = programs.text_of(report)
     return {
-        "report": report.packed,
-        "report_sha256": report.digest,
-        "report_bytes": report.size,
-        "not_ipv4": number_after(first, b"not-ipv4"),
-        "not_tcp": number_after(first, b"not-tcp"),
-        "has_http2": holds(output, HTTP2),
-        "has_others": holds(output, NOT_HTTP2),
+        "report": text.packed if is_kept else None,
+        "report_sha256": text.digest,
+        "report_bytes": text.size,
+        "rows": programs.text_of(rows).packed,
     }
-
-
-def holds(output: IO[bytes], words: bytes) -> bool:
-    """Whether these words stand in a report."""
-    output.seek(0)
-    rest = b""
-    while piece := output.read(programs.PIECE):
-        if words in rest + piece:
-            return True
-        rest = piece[-len(words) :]
-    return False
-
-
-def number_after(line: bytes, word: bytes) -> int:
-    words = line.split()
-    number = words[words.index(word) + 1 :][:1] if word in words else []
-    return int(number[0]) if number and number[0].isdigit() else 0
-
-
-# Open stalls
-
-
-def ends_of(file: int, report: IO[bytes]) -> Answer:
-    """When the connections of a plain capture that have an open stall had their last packets."""
-    if not holds(report, OPEN_STALL):
-        return {}
-    with capture_of(file) as capture:
-        return {"ends": ends.by_walk(capture, ends.with_open_stalls(report))}
 
 
 def version() -> str:

@@ -117,7 +117,7 @@ def is_capture(path: bytes) -> bool:
         if USUAL_NAME.search(path):
             return True
         with open(path, "rb") as file:
-            return sniff.kind_of(file.read(sniff.FILE_HEADER)) != sniff.NONE
+            return sniff.is_capture(file.read(sniff.FRONT))
     except OSError:
         return bool(USUAL_NAME.search(path))
 

@@ -3,7 +3,7 @@
 import argparse
 from dataclasses import dataclass
 
-from h2audit.fleet.answers import NAMED, UNNAMED
+from h2audit.fleet.tasks import NAMED, UNNAMED
 from h2audit.report.command import Words, number
 
 MEGABYTE = 1000000
@@ -37,7 +37,6 @@ class Asked:
     unencrypted: bool
     dashboard: str | None
     keys: list[str]
-    imports: str
     requests: str | None
     timeout: int
     retries: int
@@ -88,21 +87,7 @@ def parser() -> Words:
 
 
 def add_audit(words: Words) -> None:
-    words.add_argument(
-        "-k",
-        "--keys",
-        metavar="FILE",
-        action="append",
-        default=[],
-        help="a key log of TLS; all captures are imported then",
-    )
-    words.add_argument(
-        "--import",
-        dest="imports",
-        choices=("auto", "always", "never"),
-        default="auto",
-        help="import captures that an import may read more of (auto), all, or none",
-    )
+    words.add_argument("-k", "--keys", metavar="FILE", action="append", default=[], help="a key log of TLS")
     requests = words.add_mutually_exclusive_group()
     requests.add_argument(
         "--requests",
@@ -136,8 +121,7 @@ def add_audit(words: Words) -> None:
         metavar="MB",
         type=number(0, LARGEST),
         default=512,
-        help="split captures, and imports, of more megabytes, and audit their parts side by side; "
-        "0 never (default: 512)",
+        help="split captures of more megabytes, and audit their parts side by side; 0 never (default: 512)",
     )
     words.add_argument(
         "--scratch", metavar="DIR", help="where imports and parts stand for a while: a folder that all workers share"
@@ -177,8 +161,6 @@ def problem_of(asked: Asked) -> str | None:
         return problem_of_collection(asked)
     if not asked.paths and not asked.lists:
         return "a PATH, --list or --collect is needed"
-    if asked.requests and asked.imports == "never":
-        return "--requests and --unnamed-requests import each capture: not with --import never"
     if asked.scheduler is None:
         is_for_one = any(has_tls) or asked.unencrypted
         return "--tls-ca, --tls-cert, --tls-key and --unencrypted are for a --scheduler" if is_for_one else None

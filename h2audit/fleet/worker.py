@@ -2,9 +2,9 @@
 
 from multiprocessing.connection import Connection
 
-from h2audit.fleet import answers, large, tasks
+from h2audit.fleet import large, tasks
 
-MODULES = {module.__name__: module for module in (answers, large, tasks)}
+MODULES = {module.__name__: module for module in (large, tasks)}
 Said = tuple[object, Exception | None]
 
 

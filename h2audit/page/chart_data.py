@@ -13,10 +13,9 @@ from dataclasses import dataclass
 from math import gcd
 from typing import NamedTuple
 
-from h2audit.page.model import Audit, Connection, Window
+from h2audit.page.model import Audit, Connection, Others, Window
 from h2audit.page.series import Series, series_of, thinned
-from h2audit.report.blame import KINDS, OTHER
-from h2audit.report.lines import Finding
+from h2audit.report.charts import Finding
 
 MOST_BYTES = 2_900_000
 # Points of a window at most, from what a screen can show to its four extremes.
@@ -26,11 +25,13 @@ MARKS = (2000, 200, 20, 1)
 UNBOUNDED = 2**62
 LEVELS = [*((points, UNBOUNDED) for points in POINTS), *((POINTS[-1], marks) for marks in MARKS)]
 # So many windows say how large all of them would be; what is larger by half is not packed to see it.
-SAMPLE, DOUBT = 200, 1.5
+SAMPLE, DOUBT, FEW_NUMBERS = 200, 1.5, 250_000
 # A chart shows so many faults of its connection.
 LINES = 500
 # What is left of too large a size is aimed at a little less.
 MARGIN = 0.95
+# Of deflate.
+LEVEL = 6
 
 
 @dataclass
@@ -39,13 +40,16 @@ class Packed:
 
     text: str
     points: int
-    points_in_report: int
+    # How often the credits of these windows changed.
+    changes: int
     # Of stalls and faults, how many are marked, and how many of these share a mark.
     marked: int
     merged: int
     marks_in_report: int
     windows: int
     left_out: list[Window]
+    # Those that were left out before.
+    others: Others
 
 
 def packed(audit: Audit, taken: int = 0) -> Packed:
@@ -60,8 +64,9 @@ def packed(audit: Audit, taken: int = 0) -> Packed:
         sum(one.marked for one in series) + elsewhere,
         sum(one.merged for one in series),
         sum(len(window.stalls) + len(window.faults) for window in audit.windows),
-        len(windows),
+        len(windows) + audit.others.number,
         windows[len(series) :],
+        audit.others,
     )
 
 
@@ -93,13 +98,13 @@ def fitting(audit: Audit, windows: list[Window], whole: list[Series], most: int)
 
 
 def estimated(audit: Audit, windows: list[Window], series: list[Series]) -> int:
-    """About the packed size, by that of some windows; 0 where they are so few that they can be packed to see it."""
-    every = len(windows) // SAMPLE
-    if every < 2:
+    """About the packed size, by that of some windows; 0 where all are so little that they can be packed to see it."""
+    every, whole = len(windows) // SAMPLE, sum(map(numbers, series))
+    if every < 2 or whole < FEW_NUMBERS:
         return 0
     sample = series[::every]
     size = len(cut(audit, windows[::every], sample).packed)
-    return size * sum(map(numbers, series)) // sum(map(numbers, sample))
+    return size * whole // sum(map(numbers, sample))
 
 
 def numbers(series: Series) -> int:
@@ -109,7 +114,7 @@ def numbers(series: Series) -> int:
 
 def cut(audit: Audit, windows: list[Window], series: list[Series]) -> Fitting:
     elsewhere = faults_without_chart(windows)
-    return Fitting(series, len(elsewhere), zlib.compress(json_of(audit, windows, series, elsewhere), 9))
+    return Fitting(series, len(elsewhere), zlib.compress(json_of(audit, windows, series, elsewhere), LEVEL))
 
 
 def faults_without_chart(windows: list[Window]) -> list[tuple[Connection, Finding]]:
@@ -130,16 +135,18 @@ def json_of(
     used = sorted({places[id(window.connection)] for window in windows})
     new = {place: number for number, place in enumerate(used)}
     kinds = sorted({fault[1] for one in series for fault in one.faults})
-    times = [list(onward(time - window.connection.zero for time in one.times)) for window, one in zip(windows, series)]
+    times = [list(onward(time - window.connection.start for time in one.times)) for window, one in zip(windows, series)]
+    faults = [note.finding for window in windows for note in window.faults]
+    by_other = {fault.kind for fault in faults if fault.broke != fault.side}
     waits = [max(window.waits, default=0) for window in windows]
-    others = [(new[places[id(one)]], finding.frame, one.since_zero(finding)) for one, finding in elsewhere]
+    others = [(new[places[id(one)]], finding.frame, one.since_start(finding)) for one, finding in elsewhere]
     unit = gcd(*waits, *(other[2] for other in others), *(time for column in times for time in column)) or 1
     openings = [audit.connections[place].opening for place in used]
     said = {
         "connections": list(steps(one.number for one in openings)),
         "clients": [one.client for one in openings],
         "servers": [one.server for one in openings],
-        "kinds": [[kind, int(kind in KINDS and KINDS[kind].blame == OTHER)] for kind in kinds],
+        "kinds": [[kind, int(kind in by_other)] for kind in kinds],
         # Of each window its connection, side and stream, how many points, stalls and faults follow, its longest stall.
         "places": list(steps(new[places[id(window.connection)]] for window in windows)),
         "sides": [int(window.side == "server") for window in windows],

@@ -86,7 +86,7 @@ def body(audit: Audit, title: str, charts: Packed | None, choice: Choice, reques
     shown = [section(one, choice) for one in audit.connections if id(one) in choice.sections]
     main = [
         summary(audit, choice.notes),
-        left_out(choice, audit.lines, charts),
+        left_out(choice, charts),
         asset_markup("filters.html") if charts else "",
         requests,
         chart_section(audit, charts),

@@ -13,7 +13,7 @@ Content = str | int | Iterable["Content"]
 
 def markup(content: Content) -> Markup:
     """HTML of a text, of a number, or of several contents one after the other."""
-    if isinstance(content, Markup):
+    if type(content) is Markup:
         return content
     if isinstance(content, int):
         return Markup(f"{content:,}")
@@ -24,6 +24,8 @@ def markup(content: Content) -> Markup:
 
 def printable(text: str) -> str:
     """Without what no page may hold, or what turns the order of letters: shown by its number."""
+    if text.isprintable():
+        return text
     return "".join(letter if letter.isprintable() or letter == "\n" else f"\\u{{{ord(letter):x}}}" for letter in text)
 
 
@@ -49,7 +51,7 @@ def table(caption: str, heads: list[str], rows: Iterable[Markup], **attributes: 
 
 
 def row(cells: Iterable[Content], **attributes: str | int | None) -> Markup:
-    return element("tr", [element("td", cell) for cell in cells], **attributes)
+    return element("tr", Markup("".join(f"<td>{markup(cell)}</td>" for cell in cells)), **attributes)
 
 
 def items(lines: Iterable[Content]) -> Markup:

@@ -1,43 +1,59 @@
-"""What a report says, gathered by connections and by their windows."""
+"""What the page shows of a capture or a report, gathered by connections and by their windows."""
 
-from array import array
-from bisect import bisect_left
 from dataclasses import dataclass, field
 from functools import cached_property
-from typing import BinaryIO
+from typing import BinaryIO, NamedTuple
 
 from h2audit.page.answer import Answer
-from h2audit.report.blame import CREDIT_KINDS, STALL_BEGIN
-from h2audit.report.lines import (
-    Audited,
-    Capture,
-    Finding,
-    Flow,
-    Opening,
-    PassedOver,
-    Refused,
-    Stall,
-    Unopened,
-    read_lines,
-)
-from h2audit.report.notes import Note, Pairing
+from h2audit.report.charts import Finding, Json, Note, document_of_report, notes_of
 
-# The credit of a connection's window before any line (RFC 9113, 6.9.2).
-FIRST_CONNECTION_CREDIT = 65535
-# Lists of frames and times hold numbers below it.
-PAST_NUMBERS = 1 << 63
+
+class Opening(NamedTuple):
+    """A connection's number, its endpoints, the packet that opened it, what became of it, and its frames."""
+
+    number: int
+    client: str
+    server: str
+    record: int
+    form: str
+    frames: int
+
+
+class Flow(NamedTuple):
+    side: str
+    bytes: int
+    gap: int | None
+    tail: int
+
+
+@dataclass(slots=True)
+class Others:
+    """Windows that are not shown: how many, and the least and the greatest credit of them."""
+
+    number: int = 0
+    least: int | None = None
+    greatest: int | None = None
+
+    @property
+    def credits(self) -> list[int]:
+        return [credit for credit in (self.least, self.greatest) if credit is not None]
 
 
 @dataclass(slots=True)
 class Window:
-    """One side's window: its credit lines, and the notes of its stalls and faults."""
+    """One side's window: points of its credit where it is shown, and the notes of its stalls and faults."""
 
     connection: "Connection"
     side: str
     stream: int
-    frames: "array[int]" = field(default_factory=lambda: array("q"))
-    times: "array[int]" = field(default_factory=lambda: array("q"))
-    credits: "array[int]" = field(default_factory=lambda: array("q"))
+    frames: list[int] = field(default_factory=list)
+    times: list[int] = field(default_factory=list)
+    credits: list[int] = field(default_factory=list)
+    # How often the credit changed, and its extremes.
+    changes: int = 0
+    least: int = 0
+    greatest: int = 0
+    last: int = 0
     stalls: list[Note] = field(default_factory=list)
     faults: list[Note] = field(default_factory=list)
 
@@ -54,12 +70,6 @@ class Window:
     def name(self) -> str:
         return f"{self.side}, " + (f"stream {self.stream}" if self.stream else "connection window")
 
-    def credit_before(self, frame: int) -> int:
-        """The credit that the report tells last before a frame."""
-        at = bisect_left(self.frames, frame)
-        first = self.credits[0] if self.stream else FIRST_CONNECTION_CREDIT
-        return self.credits[at - 1] if at else first
-
 
 @dataclass(slots=True)
 class Connection:
@@ -67,19 +77,18 @@ class Connection:
     flows: list[Flow] = field(default_factory=list)
     notes: list[Note] = field(default_factory=list)
     windows: dict[tuple[str, int], Window] = field(default_factory=dict)
-    # The times of its first and last findings.
+    others: Others = field(default_factory=Others)
+    # From when to when it lasted: its SYN and its last packet, or by a report its first and its last finding.
     start: int = 0
     end: int = 0
-    last_frame: int = 0
-    has_findings: bool = False
-    audited: Audited | None = None
-    pairing: Pairing = field(default_factory=Pairing)
-    # Where the capture is known: the times of its SYN and of its last packet, up to when each open stall lasted by its
-    # side, stream and first frame, and why each stall was one.
-    opened: int | None = None
-    until: int | None = None
+    stopped_at: int | None = None
+    # Where the capture is known: up to when each open stall lasted by its side, stream and first frame.
+    is_captured: bool = False
     open_until: dict[tuple[str, int, int], int] = field(default_factory=dict)
-    why: dict[tuple[str, int, int], str] = field(default_factory=dict)
+
+    @property
+    def has_findings(self) -> bool:
+        return bool(self.notes or self.windows)
 
     @property
     def faults(self) -> list[Note]:
@@ -87,44 +96,15 @@ class Connection:
 
     @property
     def stalls(self) -> list[Note]:
-        return [note for note in self.notes if note.finding.kind in STALL_BEGIN]
+        return [note for note in self.notes if note.finding.is_stall_begin]
 
-    def add(self, finding: Finding) -> None:
-        if max(finding.frame, finding.time) >= PAST_NUMBERS:
-            raise OverflowError
-        if not self.has_findings:
-            self.start, self.has_findings = finding.time, True
-        if finding.frame < self.last_frame:
-            raise Refused(f"the frames of connection {self.opening.number} go back")
-        self.end, self.last_frame = finding.time, finding.frame
-        if finding.kind in CREDIT_KINDS:
-            self.add_credit(finding)
-            return
-        note = self.pairing.note(finding)
-        self.notes.append(note)
-        if finding.kind in STALL_BEGIN:
-            self.window(finding).stalls.append(note)
-        elif finding.is_fault:
-            self.window(finding).faults.append(note)
+    def window(self, side: str, stream: int) -> Window:
+        if (side, stream) not in self.windows:
+            self.windows[side, stream] = Window(self, side, stream)
+        return self.windows[side, stream]
 
-    def window(self, finding: Finding) -> Window:
-        if finding.window not in self.windows:
-            self.windows[finding.window] = Window(self, *finding.window)
-        return self.windows[finding.window]
-
-    def add_credit(self, finding: Finding) -> None:
-        window = self.window(finding)
-        window.frames.append(finding.frame)
-        window.times.append(finding.time)
-        window.credits.append(finding.value)
-
-    @property
-    def zero(self) -> int:
-        """From when on times count: the SYN, or the first finding where the report is all there is."""
-        return self.start if self.opened is None else self.opened
-
-    def since_zero(self, finding: Finding) -> int:
-        return finding.time - self.zero
+    def since_start(self, finding: Finding) -> int:
+        return finding.time - self.start
 
     def open_end(self, finding: Finding) -> int:
         """Up to when a stall without an end lasted: by the capture, or at least up to the last finding."""
@@ -140,23 +120,32 @@ class Connection:
         return [stall for stall in self.stalls if stall.waited != 0]
 
 
+class Capture(NamedTuple):
+    records: int
+    segments: int
+    snapped: int
+    not_ipv4: int
+    fragments: int
+    not_tcp: int
+    refused: int
+
+
 @dataclass
 class Audit:
-    """A whole report."""
+    """All of a capture or a report that the page may show."""
 
     capture: Capture
-    lines: int = 0
-    fragments: int = 0
     cut: int | None = None
     unopened: int = 0
     unopened_segments: int = 0
     connections: list[Connection] = field(default_factory=list)
-    # What h2audit-why says of the capture, where it was given.
+    asked: list[Json] = field(default_factory=list)
+    # What h2audit-why says of a capture.
     answer: Answer | None = None
 
     @cached_property
     def windows(self) -> list[Window]:
-        """All windows of the report that was read, those with trouble first."""
+        """All windows that are told, those with trouble first."""
         windows = [window for one in self.connections for window in one.windows.values()]
         return sorted(windows, key=lambda window: window.trouble)
 
@@ -164,35 +153,50 @@ class Audit:
     def has_credit(self) -> bool:
         return any(window.frames for one in self.connections for window in one.windows.values())
 
+    @property
+    def others(self) -> Others:
+        return together([one.others for one in self.connections])
+
+
+def together(found: list[Others]) -> Others:
+    credits = [credit for one in found for credit in one.credits]
+    number = sum(one.number for one in found)
+    return Others(number, min(credits, default=None), max(credits, default=None))
+
 
 def read_audit(report: BinaryIO) -> Audit:
-    lines = read_lines(report)
-    first = next(lines, None)
-    assert isinstance(first, Capture)
-    audit = Audit(first, 1)
-    try:
-        for line in lines:
-            audit.lines += 1
-            take(audit, line)
-    except OverflowError:
-        raise Refused(f"line {audit.lines} has a number that is too large") from None
+    """What a report says."""
+    return audit_of_document(document_of_report(report))
+
+
+def audit_of_document(document: Json) -> Audit:
+    """What h2audit-why shows of a capture or of a report."""
+    answer = Answer(document) if "summary" in document else None
+    files = document.get("files", ())
+    audit = Audit(Capture(**document["capture"]), answer=answer, asked=document["asked"])
+    for name, value in document.get("report", {}).items():
+        setattr(audit, name, value)
+    audit.connections = [connection_of(one, files) for one in document["connections"]]
     return audit
 
 
-def take(audit: Audit, line: object) -> None:
-    if isinstance(line, Finding):
-        audit.connections[-1].add(line)
-    elif isinstance(line, Opening):
-        audit.connections.append(Connection(line))
-    elif isinstance(line, Flow):
-        audit.connections[-1].flows.append(line)
-    elif isinstance(line, Audited):
-        audit.connections[-1].audited = line
-    elif isinstance(line, Unopened):
-        audit.unopened += 1
-        audit.unopened_segments += line.segments
-    elif isinstance(line, PassedOver) and line.why == "cut":
-        audit.cut = line.record
-    else:
-        # Stalls are known from their ends, and other records from the counts of the first line.
-        assert isinstance(line, (Stall, PassedOver))
+def connection_of(one: Json, files: list[str]) -> Connection:
+    charts = one["charts"]
+    opening = Opening(one["number"], one["client"], one["server"], charts["record"], charts["form"], charts["frames"])
+    found = Connection(
+        opening, [Flow(**flow) for flow in charts["flows"]], notes_of(charts, files),
+        start=charts["begin"], end=charts["until"], stopped_at=charts["stopped_at"], is_captured="stalls" in one,
+        others=Others(**charts["other_windows"]),
+    )  # fmt: skip
+    for window in charts["windows"]:
+        found.windows[window["side"], window["stream"]] = Window(found, **window)
+    for note in found.notes:
+        if note.finding.is_stall_begin:
+            found.window(*note.finding.window).stalls.append(note)
+        elif note.finding.is_fault:
+            found.window(*note.finding.window).faults.append(note)
+    for stall in one.get("stalls", ()):
+        if stall["end"] is None:
+            key = stall["side"], stall["stream"], stall["begin"]["frame"]
+            found.open_until[key] = stall["begin"]["time"] + stall["nanos"]
+    return found

@@ -2,33 +2,32 @@
 
 from h2audit.page.model import Connection
 from h2audit.page.words import clock, waited
-from h2audit.report.blame import OTHER_SIDE, STALL_BEGIN, STALL_END, duration, what_happened, who_is_to_blame
-from h2audit.report.lines import Finding
-from h2audit.report.notes import Note
+from h2audit.report.charts import Finding, Note
+from h2audit.report.words import OTHER_SIDE, duration
 
 
 def sentence(one: Connection, note: Note) -> str:
-    return f"{what_happened(note.finding)}{other_end(one, note)} ({note.finding.kind}); {blame(note)}"
+    return f"{note.finding.text}{other_end(one, note)} ({note.finding.kind}); {blame(note)}"
 
 
 def blame(note: Note) -> str:
     """A peer that granted too little, or 0, did grant: so it is asked about its window, and not why it gave nothing."""
     finding = note.finding
-    if finding.kind in STALL_BEGIN and note.waited != 0:
+    if finding.is_stall_begin and note.waited != 0:
         return f"nobody broke a rule: ask the {OTHER_SIDE[finding.side]}, whose window it is"
-    return "nobody broke a rule" if finding.kind in STALL_BEGIN else who_is_to_blame(finding)
+    return "nobody broke a rule" if finding.is_stall_begin else finding.blame
 
 
 def other_end(one: Connection, note: Note) -> str:
     """Where a stall ended or began, and how long it took."""
     finding = note.finding
-    if finding.kind in STALL_BEGIN:
+    if finding.is_stall_begin:
         if note.other is None:
             return f", and waited {waited(one, note)}" if one.wait(note) else ", and no end of the stall was seen"
         if note.waited == 0:
             return f", and had more in the same instant, in {note.other.place}"
         return f", and waited {duration(note.waited or 0)}, up to {note.other.place}"
-    if finding.kind in STALL_END and note.other is not None:
+    if finding.is_stall_end and note.other is not None:
         nanos = note.waited or 0
         return f", {duration(nanos)} after {note.other.place}" if nanos else ", in the instant in which it began"
     return ""
@@ -36,13 +35,13 @@ def other_end(one: Connection, note: Note) -> str:
 
 def moment(one: Connection, finding: Finding) -> str:
     """Since the connection's SYN, where the capture was given; a report has no time of it, so there it is of day."""
-    return duration(one.since_zero(finding)) if one.opened is not None else clock(finding.time).removesuffix(" UTC")
+    return duration(one.since_start(finding)) if one.is_captured else clock(finding.time).removesuffix(" UTC")
 
 
 def zero(one: Connection) -> str:
     """From when on the times of a connection count."""
-    if one.opened is not None:
-        return f"Times count from the connection's SYN, at {clock(one.opened)}."
+    if one.is_captured:
+        return f"Times count from the connection's SYN, at {clock(one.start)}."
     charts = f" Charts count from the first finding, at {clock(one.start)}." if has_charts(one) else ""
     return "Times are in UTC, since a report has no time of the connection's SYN." + charts
 

@@ -1,24 +1,24 @@
 """The points of a window's chart, and how a long one is thinned: stalls, faults and extremes stay."""
 
-from array import array
 from bisect import bisect_left
 from dataclasses import dataclass
 
 from h2audit.page.model import Window
+from h2audit.report.charts import Note
 
 
 @dataclass(slots=True)
 class Series:
     """Points by frame, time and credit, and what is marked at them."""
 
-    frames: "array[int]"
-    times: "array[int]"
-    credits: "array[int]"
+    frames: list[int]
+    times: list[int]
+    credits: list[int]
     # The two points of each shade, of which an open stall has no second, and how many stalls it stands for.
     stalls: list[tuple[int, int | None, int]]
     # The point of each cross, the kind and value of its first fault, and how many faults of the kind it stands for.
     faults: list[tuple[int, str, int, int]]
-    # How many points the report has.
+    # How often the credit changed.
     whole: int
 
     @property
@@ -38,68 +38,14 @@ class Series:
 
 
 def series_of(window: Window) -> Series:
-    """Each credit line, and where the report tells no credit a point at each end of a stall, each fault and the end."""
-    frames, times, credits = array("q"), array("q"), array("q")
-    extra = extra_points(window)
-    at = 0
-    for frame, time in extra:
-        end = bisect_left(window.frames, frame, at)
-        frames.extend(window.frames[at:end])
-        times.extend(window.times[at:end])
-        credits.extend(window.credits[at:end])
-        at = end
-        if at == len(window.frames) or window.frames[at] != frame:
-            frames.append(frame)
-            times.append(time)
-            credits.append(window.credit_before(frame))
-    frames.extend(window.frames[at:])
-    times.extend(window.times[at:])
-    credits.extend(window.credits[at:])
-    if stands_to_the_end(window) and times and last_time(window) > times[-1]:
-        frames.append(max(frames[-1], window.connection.opening.frames))
-        times.append(last_time(window))
-        credits.append(credits[-1])
-    return Series(frames, times, credits, *marks(window, frames), len(window.frames))
+    """The points of a window that is shown, among them where its findings stand."""
 
+    def place(note: Note) -> int:
+        return min(bisect_left(window.frames, note.finding.frame), len(window.frames) - 1)
 
-def extra_points(window: Window) -> list[tuple[int, int]]:
-    """The frames of a window, with their times, that need a point though they may have no credit line."""
-    connection = window.connection
-    notes = [note for stall in window.stalls for note in (stall, stall.other) if note] + window.faults
-    points = {note.finding.frame: note.finding.time for note in notes}
-    if connection.has_findings and stands_to_the_end(window):
-        points.setdefault(connection.last_frame, connection.end)
-    if window.stream == 0 and connection.has_findings:
-        points.setdefault(0, connection.zero)
-    return sorted(points.items())
-
-
-def stands_to_the_end(window: Window) -> bool:
-    """Whether the last credit is known to stand up to the last finding; of a stream without a stall nothing says so."""
-    return window.stream == 0 or (bool(window.stalls) and window.stalls[-1].other is None)
-
-
-def last_time(window: Window) -> int:
-    """Up to when the last credit stands: an open stall's end, or the connection's last packet."""
-    connection = window.connection
-    if window.stalls and window.stalls[-1].other is None:
-        return connection.open_end(window.stalls[-1].finding)
-    return connection.end if connection.until is None else connection.until
-
-
-Marks = tuple[list[tuple[int, int | None, int]], list[tuple[int, str, int, int]]]
-
-
-def marks(window: Window, frames: "array[int]") -> Marks:
-    def place(frame: int) -> int:
-        return bisect_left(frames, frame)
-
-    stalls = [
-        (place(stall.finding.frame), place(stall.other.finding.frame) if stall.other else None, 1)
-        for stall in window.stalls
-    ]
-    faults = [(place(note.finding.frame), note.finding.kind, note.finding.value, 1) for note in window.faults]
-    return stalls, faults
+    stalls = [(place(stall), place(stall.other) if stall.other else None, 1) for stall in window.stalls]
+    faults = [(place(note), note.finding.kind, note.finding.value or 0, 1) for note in window.faults]
+    return Series(window.frames, window.times, window.credits, stalls, faults, window.changes)
 
 
 def thinned(whole: Series, most: int, most_marks: int) -> Series:
@@ -113,16 +59,16 @@ def thinned(whole: Series, most: int, most_marks: int) -> Series:
     order = sorted(kept)
     new = {at: place for place, at in enumerate(order)}
     return Series(
-        array("q", (whole.frames[at] for at in order)),
-        array("q", (whole.times[at] for at in order)),
-        array("q", (whole.credits[at] for at in order)),
+        [whole.frames[at] for at in order],
+        [whole.times[at] for at in order],
+        [whole.credits[at] for at in order],
         [(new[begin], None if end is None else new[end], number) for begin, end, number in stalls],
         [(new[at], kind, value, number) for at, kind, value, number in faults],
         whole.whole,
     )
 
 
-def extremes(credits: "array[int]", most: int) -> set[int]:
+def extremes(credits: list[int], most: int) -> set[int]:
     """The first and the last point, and of each of most/2 stretches the least and the greatest."""
     length = max(2, -(-2 * len(credits) // max(most, 2)))
     kept = {0, len(credits) - 1}

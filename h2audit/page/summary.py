@@ -4,13 +4,13 @@ from h2audit.page.markup import Content, Markup, element, items, row, table
 from h2audit.page.model import Audit, Connection
 from h2audit.page.top import Asked, asked, headline, limits
 from h2audit.page.words import Breach, breaches, counts, endpoint, longest_stalls, waited, windows_named
-from h2audit.report.blame import duration
-from h2audit.report.notes import Note
+from h2audit.report.charts import Note
+from h2audit.report.words import duration
 
 MOST_ROWS = 10
 PROVED = (
-    "Faults, stalls and credits are those of h2audit's proved report. Names, lives, causes, TCP and place of capture "
-    "are not: h2audit-why reads them from the frames and the packets."
+    "Faults and stalls are those of h2audit's proved report. Credits, names, lives, causes, TCP and place of capture "
+    "are not: h2audit-why reads them from the frames and the packets, and checks credits by the report's findings."
 )
 
 
@@ -52,7 +52,7 @@ def asked_table(audit: Audit) -> Markup:
                 f"the {one.side}, {one.peer}" if one.side else one.peer,
                 one.why,
                 one.times,
-                len(one.intervals),
+                one.connections,
                 said(one, one.longest),
                 said(one, one.nanos),
             ]

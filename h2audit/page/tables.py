@@ -4,13 +4,12 @@ from dataclasses import dataclass
 
 from h2audit.page.chart_data import Packed
 from h2audit.page.markup import Content, Markup, element, items, markup, row, table
-from h2audit.page.model import Audit, Connection, Window
+from h2audit.page.model import Audit, Connection, Others, Window, together
 from h2audit.page.sentences import moment, sentence, zero
 from h2audit.page.summary import row_id
 from h2audit.page.words import breaches, flow_words, longest_stalls, verdict
-from h2audit.report.blame import duration
-from h2audit.report.notes import Note
-from h2audit.report.words import count
+from h2audit.report.charts import Note
+from h2audit.report.words import count, duration
 
 # So many rows of each table, times what the room of a page of 5 MB allows.
 MOST_FINDINGS, MOST_WINDOWS, MOST_SECTIONS, MOST_CONNECTIONS = 1500, 500, 100, 500
@@ -56,7 +55,11 @@ def left_out_words(audit: Audit, sections: int, listed: int, notes: int, windows
         (sections, all_connections, "connections in full: what the summary names, then by faults, stalls, windows"),
         (listed, all_connections, "connections in the list: those with the most faults, then the most stalls"),
         (notes, all_notes, "findings, of the connections in full: what the summary names, faults, the longest stalls"),
-        (windows, len(audit.windows), "windows, of the connections in full: by faults, then by the time of all stalls"),
+        (
+            windows,
+            len(audit.windows) + audit.others.number,
+            "windows, of the connections in full: by faults, then by the time of all stalls",
+        ),
     ]
     return [f"{shown:,} of {number:,} {rule}" for shown, number, rule in rules if number > shown]
 
@@ -188,21 +191,24 @@ def window_table(one: Connection, choice: Choice) -> Markup:
     windows = sorted(one.windows.values(), key=lambda window: window.trouble)
     rows = [window_row(window) for window in windows if id(window) in choice.windows]
     rest = [window for window in windows if id(window) not in choice.windows]
-    if rest:
-        rows.append(row([f"{count(len(rest), 'window')} more", *sums_of(rest), ""]))
+    if number := len(rest) + one.others.number:
+        rows.append(row([f"{count(number, 'window')} more", *sums_of(rest, one.others), ""]))
     caption = f"Windows of connection {one.opening.number}, those with trouble first"
     return table(caption, WINDOW_HEADS, rows)
 
 
 def window_row(window: Window) -> Markup:
-    last = f"{window.credits[-1]:,}" if window.frames else "not in the report"
+    last = f"{window.last:,}" if window.frames else "not in the report"
     return row([window.name, *sums_of([window]), last], id=window_id(window))
 
 
-def sums_of(windows: list[Window]) -> list[Content]:
-    """What windows have together: faults, stalls, the longest, the time of all, the least and the greatest credit."""
+def sums_of(windows: list[Window], others: Others | None = None) -> list[Content]:
+    """What windows have together: faults, stalls, the longest, the time of all, the least and the greatest credit;
+    those that are not told with them have no faults or stalls that they do not have too.
+    """
     waits = [wait for window in windows for wait in window.waits]
-    credits = [credit for window in windows if window.frames for credit in (min(window.credits), max(window.credits))]
+    credits = [credit for window in windows if window.frames for credit in (window.least, window.greatest)]
+    credits += others.credits if others else []
     return [
         sum(len(window.faults) for window in windows),
         len(waits),
@@ -217,26 +223,27 @@ def others(audit: Audit, choice: Choice) -> Markup:
     """What the windows have together of the connections that are not shown in full."""
     rest = [one for one in audit.connections if id(one) not in choice.sections]
     windows = [window for one in rest for window in one.windows.values()]
-    if not windows:
+    more = together([one.others for one in rest])
+    if not windows and not more.number:
         return Markup("")
-    said = count(len(windows), "window")
+    said = count(len(windows) + more.number, "window")
     parts = [
         element("h2", f"{count(len(rest), 'connection')} more", id="others"),
-        table("Windows of these connections", WINDOW_HEADS, [row([said, *sums_of(windows), ""])]),
+        table("Windows of these connections", WINDOW_HEADS, [row([said, *sums_of(windows, more), ""])]),
     ]
     return element("section", parts, aria_labelledby="others")
 
 
-def left_out(choice: Choice, lines: int, charts: Packed | None) -> Markup:
-    """What a large report has and the tables have not."""
+def left_out(choice: Choice, charts: Packed | None) -> Markup:
+    """What there was, and the tables have not."""
     if not choice.left_out:
         return Markup("")
     said = [
-        f"The report has {count(lines, 'line')}, so the tables of this page are not whole. They have:",
+        "The tables of this page are not whole. They have:",
         items(choice.left_out),
         "Where rows are left out, the last row of a table says how many, and of windows their extremes. ",
         marked_words(charts) if charts else "",
-        "The report has everything.",
+        "A report of h2audit has everything.",
     ]
     return element("div", said, class_="note", id="left-out")
 
@@ -244,19 +251,19 @@ def left_out(choice: Choice, lines: int, charts: Packed | None) -> Markup:
 def thinning(charts: Packed) -> Markup:
     """Whether the charts have every credit line, and what is left out where they have not."""
     said = []
-    if charts.points < charts.points_in_report:
+    if charts.points < charts.changes:
         said.append(
-            f"The charts are thinned: of {charts.points_in_report:,} credit lines they have {charts.points:,} points, "
+            f"The charts are thinned: of {charts.changes:,} credit lines they have {charts.points:,} points, "
             "among them of each chart the first, the last, the least and the greatest credit, and both ends of each "
             "shade. "
         )
-    if charts.left_out:
+    if number := len(charts.left_out) + charts.others.number:
         windows = charts.left_out
-        *_, least, greatest = sums_of(windows)
+        *_, least, greatest = sums_of(windows, charts.others)
         faults, stalls = sum(len(one.faults) for one in windows), sum(len(one.waits) for one in windows)
         said.append(
-            f"{len(windows):,} of {charts.windows:,} windows have no chart: those with the most faults have one, then "
-            "those that stood still longest, then those that the report has first. The others have "
+            f"{number:,} of {charts.windows:,} windows have no chart: those with the most faults have one, then "
+            "those that stood still longest, then those that were opened first. The others have "
             f"{count(faults, 'fault')} and {count(stalls, 'stall')}, and credits from {least} to {greatest}. "
         )
     if said:

@@ -1,23 +1,13 @@
 """The answer at a glance: one sentence, what limits it, who broke which rule, and whom to ask."""
 
 from collections import defaultdict
-from collections.abc import Iterable, Iterator
-from dataclasses import dataclass, field
+from typing import NamedTuple
 
-from h2audit.page.answer import Json
 from h2audit.page.model import Audit, Connection
-from h2audit.page.words import MOST_NAMED, breaches, doubts, peer, reason_of
-from h2audit.report.blame import OTHER_SIDE
-from h2audit.report.words import count, time_of
+from h2audit.page.words import MOST_NAMED, breaches, doubts, reason_of
+from h2audit.report.charts import Json
+from h2audit.report.words import OTHER_SIDE, count, time_of
 
-# Which share of a direction's life stands for which kind of cause; of an application, for which why.
-SHARES = {
-    "stream-window": "stream_stall",
-    "connection-window": "connection_stall",
-    "tcp": "tcp",
-    "before": "waiting",
-    "between": "idle",
-}
 KINDS = {
     "stream-window": "its window of a stream",
     "connection-window": "its window of the connection",
@@ -29,7 +19,6 @@ WHY = {
     "granted-late": "it granted late",
     "grant-lost": "a grant was lost",
     "round-trip": "it is too small for the round trip",
-    "unshown": "it is too small for the round trip",
     "cancelled-streams": "cancelled streams had used it up",
     "zero-window": "the TCP window was 0",
     "resent": "bytes were sent again",
@@ -77,7 +66,7 @@ def held_back(audit: Audit) -> str:
     if not any(one.waiting for one in audit.connections):
         return "Where a side used up its credit, it had more in the same instant."
     first = asked(audit)[0]
-    where = f"in {count(len(first.intervals), 'connection')}"
+    where = f"in {count(first.connections, 'connection')}"
     if not first.nanos:
         return f"The {first.side}, {first.peer}, gave no credit up to the end of what was found, {where}."
     other, nanos = OTHER_SIDE[first.side], time_of(first.nanos)
@@ -116,86 +105,28 @@ def names(connections: list[Connection]) -> str:
     return ", ".join(said) + f", and {more:,} more" * (more > 0)
 
 
-@dataclass
-class Asked:
+class Asked(NamedTuple):
     """One peer and one cause: how often it held back another, and for how long."""
 
     side: str
     peer: str
     why: str
-    times: int = 0
-    longest: int = 0
-    # Of each connection by its number.
-    intervals: dict[int, list[tuple[int, int]]] = field(default_factory=lambda: defaultdict(list))
-
-    @property
-    def nanos(self) -> int:
-        """The time of all, in which the same instant of a connection counts once."""
-        return sum(end - begin for found in self.intervals.values() for begin, end in disjoint(found))
-
-    def add(self, connection: int, intervals: list[tuple[int, int]], nanos: int) -> None:
-        self.times += 1
-        self.longest = max(self.longest, nanos)
-        self.intervals[connection] += intervals
+    times: int
+    connections: int
+    longest: int
+    # The time of all, in which the same instant of a connection counts once.
+    nanos: int
 
 
 def asked(audit: Audit) -> list[Asked]:
-    """Whom to ask and why, what took longest first."""
-    found: dict[tuple[str, str, str], Asked] = {}
-    for one in audit.connections:
-        for side, who, why, intervals, nanos in waits_of(audit, one):
-            key = side, who, why
-            found.setdefault(key, Asked(*key)).add(one.opening.number, intervals, nanos)
-    return sorted(found.values(), key=lambda one: -one.nanos)
+    """Whom to ask and why, what took longest first: of a capture about requests, of a report about stalls."""
+    return [
+        Asked(one["side"] or "", one["peer"] or "nobody: the path between them", why_of(audit, one), one["times"],
+              one["connections"], one["longest"], one["nanos"]) for one in audit.asked
+    ]  # fmt: skip
 
 
-Waited = tuple[str, str, str, list[tuple[int, int]], int]
-
-
-def waits_of(audit: Audit, one: Connection) -> Iterator[Waited]:
-    """Of a capture what held back each request; of a report each stall."""
+def why_of(audit: Audit, one: Json) -> str:
     if audit.answer:
-        for request in audit.answer.requests(one.opening.number):
-            if request["cause"]["kind"] in KINDS:
-                yield of_request(one, request)
-        return
-    for stall in one.waiting:
-        side = OTHER_SIDE[stall.finding.side]
-        kind = "stream-window" if stall.finding.stream else "connection-window"
-        why = KINDS[kind] + ": no grant was seen" * (stall.other is None)
-        begin, nanos = stall.finding.time, one.wait(stall)
-        yield side, peer(one.opening, side), why, [(begin, begin + nanos)], nanos
-
-
-def of_request(one: Connection, request: Json) -> Waited:
-    cause = request["cause"]
-    side = cause["ask"] or ""
-    who = peer(one.opening, side) if side else "nobody: the path between them"
-    return side, who, f"{KINDS[cause['kind']]}: {WHY[cause['why']]}", intervals_of(request), cause["nanos"]
-
-
-def intervals_of(request: Json) -> list[tuple[int, int]]:
-    """When a request was held back. Where its spans do not tell all of it, as of stalls that do not show, it is one
-    stretch of as much time from the first place on.
-    """
-    cause, opened = request["cause"], request["opened"]["time"]
-    share = SHARES.get(cause["kind"]) or SHARES.get(cause["why"])
-    spans = [span for span in request[cause["side"]]["spans"] or () if span[2] == share]
-    if sum(nanos for _, nanos, _ in spans) < cause["nanos"]:
-        begin = cause["first"]["time"] if cause["first"] else opened
-        return [(begin, begin + cause["nanos"])]
-    return [(opened + begin, opened + begin + nanos) for begin, nanos, _ in spans]
-
-
-def disjoint(intervals: Iterable[tuple[int, int]]) -> list[tuple[int, int]]:
-    """The union of intervals, in order."""
-    union: list[tuple[int, int]] = []
-    for begin, end in sorted(intervals):
-        if end <= begin:
-            continue
-        if union and begin <= union[-1][1]:
-            if end > union[-1][1]:
-                union[-1] = union[-1][0], end
-        else:
-            union.append((begin, end))
-    return union
+        return f"{KINDS[one['kind']]}: {WHY[one['why']]}"
+    return KINDS[one["kind"]] + ": no grant was seen" * (one["why"] is not None)

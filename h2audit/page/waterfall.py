@@ -1,6 +1,6 @@
 """Packs the requests of a capture for the waterfall of the page, and shows the first of them in a table.
 
-What h2audit-why --json tells of each request is kept as lists of numbers, deflated, in base64. Where many requests
+What h2audit-why tells of each request that it shows is kept as lists of numbers, deflated, in base64. Where many
 would be too large, spans are joined first, and then those with the least trouble are left out.
 """
 
@@ -10,9 +10,9 @@ import zlib
 from dataclasses import dataclass
 from itertools import islice
 
-from h2audit.page.answer import Json
 from h2audit.page.markup import Content, Markup, element, markup, row, table
 from h2audit.page.model import Audit
+from h2audit.report.charts import Json
 from h2audit.report.words import count, time_of
 
 MOST_BYTES = 900_000
@@ -24,6 +24,8 @@ NAMES = ("waiting", "sending", "stream_stall", "connection_stall", "tcp", "idle"
 KIND = {name: at for at, name in enumerate(NAMES)}
 HELD = ("stream_stall", "connection_stall", "tcp")
 MARGIN = 0.9
+# Of deflate: what the highest makes 4 % smaller takes three times as long.
+LEVEL = 6
 # What stands of faults of one stream, and of one connection's window.
 MOST_MARKS = 20
 MOST_ROWS = 200
@@ -57,7 +59,8 @@ def waterfall(audit: Audit) -> Waterfall | None:
     while len(text) > MOST_BYTES:
         number = int(number * MARGIN * MOST_BYTES / len(text))
         text = packed(audit, ranked[:number], faults, most)
-    return Waterfall(base64.b64encode(text).decode(), number, len(ranked), ranked)
+    whole = int(audit.answer.document["summary"]["requests"])
+    return Waterfall(base64.b64encode(text).decode(), number, whole, ranked)
 
 
 def sizes(found: list[Found]) -> list[int]:
@@ -108,7 +111,7 @@ def packed(audit: Audit, found: list[Found], faults: Faults, most: int) -> bytes
     for one, line in zip(connections, said["connections"]):
         assert isinstance(line, dict)
         line["begin"] = one["begin"] - begin
-    return zlib.compress(json.dumps(said, separators=(",", ":")).encode(), 9)
+    return zlib.compress(json.dumps(said, separators=(",", ":")).encode(), LEVEL)
 
 
 def connection_row(one: Json, faults: Faults) -> Json:
@@ -169,6 +172,8 @@ def direction(one: Json, most: int) -> Json:
 
 def joined(spans: list[list[int | str]], most: int) -> list[tuple[int, int, str]]:
     """At most so many spans: of each stretch of several that kind which takes the most of it."""
+    if len(spans) <= most:
+        return [(int(begin), int(nanos), str(name)) for begin, nanos, name in spans]
     length = -(-len(spans) // most)
     found: list[tuple[int, int, str]] = []
     for at in range(0, len(spans), max(length, 1)):
@@ -182,7 +187,7 @@ def request_table(found: Waterfall, times: float) -> Markup:
     """The first of the requests, those with trouble first, for readers without scripts, and screen readers."""
     shown = found.requests[: max(int(MOST_ROWS * times), 10)]
     rows = [row(cells(one, request)) for one, request in shown]
-    if rest := len(found.requests) - len(shown):
+    if rest := found.whole - len(shown):
         rows.append(row([f"{count(rest, 'request')} more, with less trouble", *[""] * 6]))
     heads = ["Request", "Stream", "Connection", "Status", "Life", "What held it back", "Ended by"]
     return table("Requests, those with trouble first", heads, rows)

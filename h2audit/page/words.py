@@ -4,11 +4,9 @@ from collections import Counter
 from dataclasses import dataclass
 from datetime import datetime, timezone
 
-from h2audit.page.model import Audit, Connection
-from h2audit.report.blame import OTHER_SIDE, duration, section_of
-from h2audit.report.lines import Opening
-from h2audit.report.notes import Note
-from h2audit.report.words import REASONS, count, streams_named
+from h2audit.page.model import Audit, Connection, Opening
+from h2audit.report.charts import Note
+from h2audit.report.words import OTHER_SIDE, REASONS, count, duration, streams_named
 
 MOST_STALLS = 10
 FORMS = {
@@ -92,8 +90,8 @@ def breaches(audit: Audit) -> list[Breach]:
 
 
 def breach_of(one: Connection, note: Note) -> tuple[str, str, str, str]:
-    side = note.finding.who_broke_it or ""
-    return side, note.finding.kind, section_of(note.finding), peer(one.opening, side)
+    side = note.finding.broke or ""
+    return side, note.finding.kind, note.finding.section, peer(one.opening, side)
 
 
 def peer(opening: Opening, side: str) -> str:
@@ -120,7 +118,7 @@ def waited(connection: Connection, stall: Note) -> str:
     nanos = connection.wait(stall)
     if stall.waited is not None:
         return duration(nanos)
-    until = "the connection's end" if connection.until is not None else "the last finding"
+    until = "the connection's end" if connection.is_captured else "the last finding"
     return f"{duration(nanos)} up to {until}, and no end was seen" if nanos else "no end was seen"
 
 
@@ -148,8 +146,8 @@ def verdict(one: Connection) -> str:
     said = [count(len(one.faults), "fault") if one.faults else "no fault"]
     if one.waiting:
         said.append(count(len(one.waiting), "stall"))
-    if one.audited is not None and one.audited.stopped_at is not None:
-        said.append(f"broken by frame {one.audited.stopped_at:,}, after which nothing is judged")
+    if one.stopped_at is not None:
+        said.append(f"broken by frame {one.stopped_at:,}, after which nothing is judged")
     if any(flow.gap is not None for flow in one.flows):
         said.append("bytes are missing")
     return "; ".join(said)

@@ -4,24 +4,20 @@ import warnings
 from collections.abc import Sequence
 from typing import TYPE_CHECKING, BinaryIO
 
-from h2audit.plot.windows import Connection, Window
-from h2audit.report.blame import OVERFLOWS
-from h2audit.report.lines import Finding
+from h2audit.plot.windows import Connection, Place, Window
+from h2audit.report.charts import Finding
 
 if TYPE_CHECKING:  # loaded where it draws: what is wrong with words or report is said sooner, and where it is missing
     from matplotlib.axes import Axes
     from matplotlib.figure import Figure
 
 LARGEST_WINDOW = 2**31 - 1
-FIRST_CONNECTION_CREDIT = 65535
 # A panel names so many of its faults.
 MOST_LABELS = 6
 # The scale is logarithmic where the greatest credit is so many times the one in the middle of a window.
 MUCH_GREATER = 10
 # Of stalls.
 SHADE, SHADE_EDGE = "#ffd8b0", "tab:orange"
-# Faults whose value is a credit, and so a height in the picture.
-AT_A_CREDIT = (*OVERFLOWS, "connection-overrun", "stream-overrun")
 
 
 class Axis:
@@ -30,14 +26,14 @@ class Axis:
     UNITS = (("s", 10**9), ("ms", 10**6), ("µs", 10**3), ("ns", 1))
 
     def __init__(self, windows: list[Window], by_frame: bool) -> None:
-        findings = [finding for window in windows for finding in window.connection.findings]
+        findings = [place for window in windows for place in window.connection.places]
         times = [finding.time for finding in findings]
         self.by_frame, self.start = by_frame, min(times)
         span = max(times) - self.start
         self.unit, self.nanos = next((unit for unit in self.UNITS if span >= unit[1]), self.UNITS[-1])
         self.middle = (min(map(self.at, findings)) + max(map(self.at, findings))) / 2
 
-    def at(self, finding: Finding) -> float:
+    def at(self, finding: Place) -> float:
         return finding.frame if self.by_frame else (finding.time - self.start) / self.nanos
 
     @property
@@ -118,38 +114,49 @@ def spans_orders(windows: list[Window]) -> bool:
 
     Each window counts by the size that is in its middle, since one may have many more credits than the others.
     """
-    sizes = [sorted(abs(finding.value) for finding in heights(window) if finding.value) for window in windows]
+    sizes = [sorted(abs(credit) for credit in heights(window) if credit) for window in windows]
     middles = [size[(len(size) - 1) // 2] for size in sizes if size]
     return bool(middles) and max(size[-1] for size in sizes if size) > MUCH_GREATER * min(middles)
 
 
-def heights(window: Window) -> list[Finding]:
-    """The findings whose values are drawn."""
-    return window.credits + [fault for fault in window.faults if fault.kind in AT_A_CREDIT]
+def is_overflow(fault: Finding) -> bool:
+    """Whether the other side granted too much."""
+    return fault.broke not in (None, fault.side)
+
+
+def is_at_a_credit(fault: Finding) -> bool:
+    """Whether the fault's value is a credit, and so a height in the picture."""
+    return is_overflow(fault) or fault.kind.endswith("-overrun")
+
+
+def heights(window: Window) -> list[int]:
+    """The credits that are drawn."""
+    faults = [fault.value for fault in window.faults if is_at_a_credit(fault) and fault.value is not None]
+    return [*(point.value for point in window.credits), *faults]
 
 
 def draw_credit(panel: "Axes", window: Window, axis: Axis) -> None:
-    """The credit as steps; a connection's window begins at 65,535, which no line says."""
+    """The credit as steps; what a connection's window begins with, no frame tells."""
     points = [(axis.at(finding), finding.value) for finding in window.credits]
     panel.plot(*zip(*points), linestyle="none", marker=".", markersize=4, color="tab:blue", gid=gid("credit", window))
-    if window.stream == 0:
-        points.insert(0, (axis.at(window.connection.findings[0]), FIRST_CONNECTION_CREDIT))
+    if window.before is not None:
+        points.insert(0, (axis.at(window.connection.first), window.before))
     if last := last_seen(window):
         points.append((axis.at(last), points[-1][1]))
     panel.step(*zip(*points), where="post", linewidth=1.2, color="tab:blue")
 
 
-def last_seen(window: Window) -> Finding | None:
+def last_seen(window: Window) -> Place | None:
     """The finding up to which the last credit stood; of a stream's window that is not stalled the report tells none."""
     if window.stream == 0 or (window.stalls and window.stalls[-1][1] is None):
-        return window.connection.findings[-1]
+        return window.connection.last
     end = window.stalls[-1][1] if window.stalls else None
     return end if end and end.frame > window.credits[-1].frame else None
 
 
 def draw_stalls(panel: "Axes", window: Window, axis: Axis) -> None:
     """Shades the stalls; one that is open goes up to the last finding."""
-    ends = [(axis.at(begin), axis.at(end or window.connection.findings[-1])) for begin, end in window.stalls]
+    ends = [(axis.at(begin), axis.at(end or window.connection.last)) for begin, end in window.stalls]
     if ends:
         panel.broken_barh(
             [(left, right - left) for left, right in ends],
@@ -176,9 +183,9 @@ def draw_faults(panel: "Axes", window: Window, named: list[Finding], axis: Axis)
             linestyle="--",
         )
     for fault in window.faults:
-        if fault.kind in AT_A_CREDIT:
+        if fault.value is not None and is_at_a_credit(fault):
             panel.plot([axis.at(fault)], [fault.value], marker="x", color="tab:red")
-    if any(fault.kind in OVERFLOWS for fault in window.faults):
+    if any(map(is_overflow, window.faults)):
         panel.axhline(LARGEST_WINDOW, color="tab:red", linewidth=0.6, linestyle=":")
     for row, fault in enumerate(named[:MOST_LABELS]):
         more = len(named) - MOST_LABELS if row == MOST_LABELS - 1 else 0
@@ -194,7 +201,7 @@ def draw_faults(panel: "Axes", window: Window, named: list[Finding], axis: Axis)
 
 def label_of(fault: Finding, window: Window) -> str:
     place = f" on stream {fault.stream}" if fault.stream and fault.stream != window.stream else ""
-    return f"frame {fault.frame}: {fault.kind} by the {fault.who_broke_it}{place}"
+    return f"frame {fault.frame}: {fault.kind} by the {fault.broke}{place}"
 
 
 def draw_label(panel: "Axes", row: int, label: str, at: float, axis: Axis, name: str) -> None:

@@ -1,13 +1,26 @@
 """The windows of a report, and which of them are drawn."""
 
 import argparse
+from collections.abc import Iterator
 from dataclasses import dataclass, field
-from typing import BinaryIO
+from functools import cached_property
+from typing import BinaryIO, NamedTuple
 
-from h2audit.report.blame import CREDIT_KINDS, STALL_BEGIN, STALL_END
-from h2audit.report.lines import Finding, Opening, Refused, read_lines
+from h2audit.report.charts import Finding, Json, document_of_report, notes_of
+from h2audit.report.command import Refused
 
 Stall = tuple[Finding, Finding | None]  # its begin, and its end if it has one
+
+
+class Point(NamedTuple):
+    """A credit that a window has from a frame on."""
+
+    frame: int
+    time: int
+    value: int
+
+
+Place = Point | Finding
 
 
 @dataclass
@@ -15,23 +28,39 @@ class Connection:
     number: int
     client: str
     server: str
-    findings: list[Finding] = field(default_factory=list)
-    # Those of no window that has a credit line.
+    findings: list[Finding]
+    windows: "list[Window]" = field(default_factory=list)
+    # Those of no window whose credit is told.
     other_faults: list[Finding] = field(default_factory=list)
 
     @property
     def faults(self) -> list[Finding]:
         return [finding for finding in self.findings if finding.is_fault]
 
+    @property
+    def places(self) -> list[Place]:
+        """All that is told of it."""
+        return [*self.findings, *(point for window in self.windows for point in window.credits)]
+
+    @cached_property
+    def first(self) -> Place:
+        return min(self.places, key=lambda place: place.frame)
+
+    @cached_property
+    def last(self) -> Place:
+        return max(self.places, key=lambda place: place.frame)
+
 
 @dataclass
 class Window:
-    """What the report says of one window: credits and stalls, each at its findings."""
+    """What is told of one window: credits and stalls, each at its frame."""
 
     connection: Connection
     side: str
     stream: int
-    credits: list[Finding] = field(default_factory=list)
+    credits: list[Point]
+    # What the connection's window begins with.
+    before: int | None
     stalls: list[Stall] = field(default_factory=list)
     faults: list[Finding] = field(default_factory=list)
 
@@ -42,37 +71,37 @@ class Window:
 
 
 def connections_of(report: BinaryIO) -> list[Connection]:
-    """The connections of a report, each with its findings."""
-    found: list[Connection] = []
-    for line in read_lines(report):
-        if isinstance(line, Opening):
-            found.append(Connection(line.number, line.client, line.server))
-        elif isinstance(line, Finding):
-            found[-1].findings.append(line)
+    """The connections of a report, each with its findings and its windows."""
+    return [connection_of(one) for one in document_of_report(report)["connections"]]
+
+
+def connection_of(one: Json) -> Connection:
+    notes = notes_of(one["charts"], ())
+    found = Connection(one["number"], one["client"], one["server"], [note.finding for note in notes])
+    windows = {(said["side"], said["stream"]): window_of(found, said) for said in one["charts"]["windows"]}
+    for note in notes:
+        window = windows.get(note.finding.window)
+        if note.finding.is_fault:
+            (window.faults if window else found.other_faults).append(note.finding)
+        elif window and note.finding.is_stall_begin:
+            window.stalls.append((note.finding, note.other.finding if note.other else None))
+    found.windows = [windows[key] for key in sorted(windows)]
     return found
 
 
-def windows_of(connection: Connection) -> list[Window]:
-    """The windows of a connection of which the report tells a credit, in order of side and stream."""
-    windows: dict[tuple[str, int], Window] = {}
-    for finding in connection.findings:
-        if finding.kind in CREDIT_KINDS:
-            windows.setdefault(finding.window, Window(connection, *finding.window)).credits.append(finding)
-    for finding in connection.findings:
-        if finding.window in windows:
-            note_stall(windows[finding.window], finding)
-        if finding.is_fault:
-            faults = windows[finding.window].faults if finding.window in windows else connection.other_faults
-            faults.append(finding)
-    return [windows[key] for key in sorted(windows)]
+def window_of(connection: Connection, said: Json) -> Window:
+    points = [Point(*point) for point in zip(said["frames"], said["times"], said["credits"])]
+    before = points[0].value if points and not points[0].frame else None
+    return Window(connection, said["side"], said["stream"], list(changes(points)), before)
 
 
-def note_stall(window: Window, finding: Finding) -> None:
-    """Begins a stall, or ends the one that is open."""
-    if finding.kind in STALL_BEGIN:
-        window.stalls.append((finding, None))
-    elif finding.kind in STALL_END and window.stalls:
-        window.stalls[-1] = (window.stalls[-1][0], finding)
+def changes(points: list[Point]) -> Iterator[Point]:
+    """The points at which the credit is another one: there are some more, of findings and where a window begins."""
+    last: int | None = None
+    for point in points:
+        if point.frame and point.value != last:
+            yield point
+        last = point.value
 
 
 def chosen(connections: list[Connection], asked: argparse.Namespace) -> tuple[list[Window], int]:
@@ -81,7 +110,7 @@ def chosen(connections: list[Connection], asked: argparse.Namespace) -> tuple[li
         connections = [one for one in connections if one.number == asked.connection]
         if not connections:
             raise Refused(f"the report has no connection {asked.connection}")
-    windows = [window for one in connections for window in windows_of(one)]
+    windows = [window for one in connections for window in one.windows]
     if not windows:
         raise Refused("the report has no credit lines: make it with h2audit --frames")
     if asked.stream is not None:
@@ -99,4 +128,4 @@ def rank(window: Window) -> tuple[bool, int]:
 
 def stall_nanos(window: Window, stall: Stall) -> int:
     begin, end = stall
-    return (end or window.connection.findings[-1]).time - begin.time
+    return (end or window.connection.last).time - begin.time

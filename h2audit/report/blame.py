@@ -8,10 +8,11 @@ import pathlib
 from dataclasses import dataclass
 from typing import TYPE_CHECKING
 
+from h2audit.report.words import OTHER_SIDE as OTHER_SIDE
+
 if TYPE_CHECKING:
     from h2audit.report.lines import Finding
 
-OTHER_SIDE = {"client": "server", "server": "client"}
 NAMED, OTHER, NOBODY = "the named side", "the other side", "nobody"
 FRAME_TYPES = (
     "DATA",
@@ -119,13 +120,3 @@ def who_is_to_blame(finding: "Finding") -> str:
 def sentence_of(finding: "Finding", more: str = "") -> str:
     """One sentence for a finding; more is added to what happened."""
     return f"{what_happened(finding)}{more} ({finding.kind}); {who_is_to_blame(finding)}"
-
-
-def duration(nanos: int) -> str:
-    """A time in a unit that fits, exactly."""
-    for unit, size in (("s", 10**9), ("ms", 10**6), ("µs", 10**3)):
-        if abs(nanos) >= size:
-            whole, rest = divmod(abs(nanos), size)
-            digits = f"{rest:0{len(str(size)) - 1}}".rstrip("0")
-            return "-" * (nanos < 0) + f"{whole:,}" + f".{digits}" * bool(digits) + f" {unit}"
-    return f"{nanos} ns"

@@ -33,6 +33,16 @@ class Failed(Exception):
         return str(self)
 
 
+class Refused(Failed):
+    """Why a report is not taken."""
+
+    def __init__(self, why: str) -> None:
+        super().__init__(REFUSED, why)
+
+    def said(self) -> str:
+        return f"report refused: {self}"
+
+
 class Words(argparse.ArgumentParser):
     """A command line of which one line says what is wrong with it."""
 

@@ -10,7 +10,7 @@ from collections.abc import Callable, Iterator
 from typing import BinaryIO, NamedTuple
 
 from h2audit.report.blame import is_fault, who_broke_it
-from h2audit.report.command import REFUSED, Failed
+from h2audit.report.command import Refused as Refused
 
 # No number of a report has more digits, and no line more bytes.
 NUMBER = r"\d{1,20}"
@@ -40,16 +40,6 @@ CREDIT = re.compile(
     r"value (-?\d{1,18})[\r\n]*".encode()
 )
 AUDIT = re.compile(rf"audit (?:of all frames|stopped at frame ({NUMBER}))")
-
-
-class Refused(Failed):
-    """Why a report is not taken."""
-
-    def __init__(self, why: str) -> None:
-        super().__init__(REFUSED, why)
-
-    def said(self) -> str:
-        return f"report refused: {self}"
 
 
 class Capture(NamedTuple):

@@ -2,6 +2,7 @@
 
 from collections.abc import Sequence
 
+OTHER_SIDE = {"client": "server", "server": "client"}
 MOST_NAMED = 8
 # Reasons of the map and forms of the report, in words; {n} is "3 connections".
 REASONS = {
@@ -37,3 +38,13 @@ def streams_named(streams: Sequence[int]) -> str:
     if len(streams) <= MOST_NAMED:
         return "streams " + ", ".join(map(str, streams))
     return f"{len(streams):,} streams, {streams[0]} to {streams[-1]}"
+
+
+def duration(nanos: int) -> str:
+    """A time in a unit that fits, exactly."""
+    for unit, size in (("s", 10**9), ("ms", 10**6), ("µs", 10**3)):
+        if abs(nanos) >= size:
+            whole, rest = divmod(abs(nanos), size)
+            digits = f"{rest:0{len(str(size)) - 1}}".rstrip("0")
+            return "-" * (nanos < 0) + f"{whole:,}" + f".{digits}" * bool(digits) + f" {unit}"
+    return f"{nanos} ns"

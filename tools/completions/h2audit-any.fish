@@ -8,7 +8,7 @@ complete -c h2audit-any -l workers -x -a '(seq 64)' -d 'Threads that audit at on
 complete -c h2audit-any -l groups -x -a '1 4 16 64 256 1024' -d 'Groups of streams, from 1 to 1024'
 complete -c h2audit-any -l block -x -a '1 64 1024 4096 16384 65536 1048576' -d 'Frames in a block, from 1 to 1048576'
 complete -c h2audit-any -l frames -d 'Also show the credit of each window'
-complete -c h2audit-any -l last-packets -r -d 'Also write times of last packets'
+complete -c h2audit-any -l rows -r -d 'Also write rows for h2audit-fleet'
 complete -c h2audit-any -l parts -x -a '2 4 8 16 32 64 128 256 500' -d 'Split it, and audit its parts, from 1 to 500'
 complete -c h2audit-any -l map -r -d 'Take a report back, by the map of an import'
 complete -c h2audit-any -l h2audit -r -d 'The program that audits'

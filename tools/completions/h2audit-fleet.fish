@@ -7,7 +7,6 @@ complete -c h2audit-fleet -l require-http2 -d 'Status 3 where nothing was audite
 complete -c h2audit-fleet -l reports -x -a '(__fish_complete_directories)' -d 'Keep each report there'
 complete -c h2audit-fleet -l collect -x -a '(__fish_complete_directories)' -d 'Enter the reports of a folder'
 complete -c h2audit-fleet -s k -l keys -r -d 'A key log of TLS'
-complete -c h2audit-fleet -l import -x -a 'auto always never' -d 'When to import'
 complete -c h2audit-fleet -l requests -d 'Enter requests too, with their names'
 complete -c h2audit-fleet -l unnamed-requests -d 'Enter requests too, without names'
 complete -c h2audit-fleet -l timeout -x -d 'Seconds for a capture'

@@ -6,6 +6,5 @@ complete -c h2audit-import -l sort -d 'Read the files in the order of their firs
 complete -c h2audit-import -l reorder -d 'Put packets in order of time'
 complete -c h2audit-import -s o -l output -r -d 'Where the capture goes'
 complete -c h2audit-import -s m -l map -r -d 'Where the map goes'
-complete -c h2audit-import -l course -r -d 'Where the course of TCP goes'
 complete -c h2audit-import -s h -l help -d 'Print the usage, and nothing else'
 complete -c h2audit-import -s V -l version -d 'Print the name and the version, and nothing else'

@@ -61,7 +61,7 @@ _h2audit_page() {
 
 _h2audit_import() {
     local word=${COMP_WORDS[COMP_CWORD]} before=${COMP_WORDS[COMP_CWORD - 1]}
-    local options='--key-log -k --jobs -j --sort --reorder --output -o --map -m --course --help -h --version -V'
+    local options='--key-log -k --jobs -j --sort --reorder --output -o --map -m --help -h --version -V'
     [[ $word == = ]] && word=
     [[ $before == = ]] && before=${COMP_WORDS[COMP_CWORD - 2]}
     case $before in
@@ -77,13 +77,13 @@ _h2audit_import() {
 
 _h2audit_any() {
     local word=${COMP_WORDS[COMP_CWORD]} before=${COMP_WORDS[COMP_CWORD - 1]}
-    local options='--key-log -k --jobs -j --sort --reorder --workers --groups --block --frames --parts --last-packets'
-    options+=' --map --h2audit --help -h --version -V'
+    local options='--key-log -k --jobs -j --sort --reorder --workers --groups --block --frames --parts --rows --map'
+    options+=' --h2audit --help -h --version -V'
     [[ $before == = ]] && before=${COMP_WORDS[COMP_CWORD - 2]}
     case $before in
     --parts) _h2audit_offer -W '2 4 8 16 32 64 128 256 500' -- "$word" ;;
     --jobs | -j) _h2audit_offer -W "$(echo {1..64})" -- "$word" ;;
-    --key-log | -k | --last-packets | --map | --h2audit) _h2audit_offer -f -- "$word" ;;
+    --key-log | -k | --rows | --map | --h2audit) _h2audit_offer -f -- "$word" ;;
     *)
         case $word in
         -*) _h2audit_offer -W "$options" -- "$word" ;;
@@ -95,8 +95,8 @@ _h2audit_any() {
 
 _h2audit_why() {
     local word=${COMP_WORDS[COMP_CWORD]} before=${COMP_WORDS[COMP_CWORD - 1]}
-    local options='--key-log -k --sort --reorder --all --query --no-requests --json --json-lines --rows --color --width'
-    options+=' --h2audit --report --last-packets --audit --workers --fail-on --fail-stall --fail-life --require-http2'
+    local options='--key-log -k --sort --reorder --all --query --no-requests --json --json-lines --charts --rows --windows'
+    options+=' --color --width --h2audit --report --audit --workers --fail-on --fail-stall --fail-life --require-http2'
     options+=' --junit --quiet'
     options+=' --compare --ends --help -h --version -V'
     [[ $word == = ]] && word=
@@ -106,7 +106,7 @@ _h2audit_why() {
     --fail-stall) _h2audit_offer -W '10ms 100ms 1s' -- "$word" ;;
     --fail-life) _h2audit_offer -W '1s 2s 10s' -- "$word" ;;
     --color) _h2audit_offer -W 'auto always never' -- "$word" ;;
-    --rows | --report | --last-packets | --audit) _h2audit_offer -f -- "$word" ;;
+    --rows | --windows | --report | --audit) _h2audit_offer -f -- "$word" ;;
     --width) _h2audit_offer -W '80 100 120 160' -- "$word" ;;
     --workers) _h2audit_offer -W '1 2 4 8 16 32 64' -- "$word" ;;
     *)
@@ -120,11 +120,10 @@ _h2audit_why() {
 
 _h2audit_fleet() {
     local word=${COMP_WORDS[COMP_CWORD]} before=${COMP_WORDS[COMP_CWORD - 1]}
-    local options='--db --list --resume --require-http2 --reports --collect --keys --import --requests --unnamed-requests'
+    local options='--db --list --resume --require-http2 --reports --collect --keys --requests --unnamed-requests'
     options+=' --timeout --retries --split-above --scratch --jobs --dashboard --scheduler --tls-ca --tls-cert --tls-key --unencrypted --version --help'
     options+=' -k -j -V -h'
     case $before in
-    --import) _h2audit_offer -W 'auto always never' -- "$word" ;;
     --split-above) _h2audit_offer -W '0 256 512 1024' -- "$word" ;;
     --reports | --collect | --scratch) _h2audit_offer -d -- "$word" ;;
     --timeout | --retries | --jobs | -j | --dashboard | --scheduler) COMPREPLY=() ;;

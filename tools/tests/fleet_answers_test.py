@@ -14,13 +14,14 @@ import struct
 import unittest
 from unittest import mock
 
-from h2audit.fleet import answers, tasks
+from h2audit.fleet import tasks
 from tests.captures import PREFACE, SYN, SYN_ACK, Capture, frame
 from tools.tests import fleet_parts_test as parts
-from tools.tests.fleet_captures import PATIENCE, PROGRAM, TOP, Machine, Row, beside, until
+from tools.tests.fleet_captures import PATIENCE, PROGRAM, TOP, Machine, beside, until
 from tools.tests.fleet_cluster_test import Cluster
 from tools.tests.fleet_imports_test import SPLIT, TABLES, Imported, over_tls
 from tools.tests.fleet_requests_test import NEW_TABLES, Base, link_programs, name_programs, rows_of, sorted_rows
+from tools.tests.fleet_rows import Row
 from tools.tests.request_captures import block
 from tools.tests.why_tools import LONGEST_NAME, said_of
 
@@ -94,26 +95,27 @@ class Misfortunes(OnMachine):
 
     def test_no_rows(self) -> None:
         """What is no row fails the capture, which has no row of any kind then."""
-        first = "printf 'h2audit-rows 1\\n'; "
+        first = "printf 'h2audit-rows 1\\n[\"captures\",1,1,0,0,0,0,0]\\n'; "
         long = '["certainty", 1, 6, "client", "push", 1, "certain", null, "%s"]'
         for script, why in (
-            ("echo text", "rows of h2audit-why of another version"),
-            ("true", "rows of h2audit-why of another version"),
-            (first + "echo text", "line 2 of h2audit-why is no row"),
-            (first + "echo '[\"captures\", 1]'", "line 2 of h2audit-why is no row"),
-            (first + "echo '[\"certainty\", 1]'", "line 2 of h2audit-why is no row"),
-            (first + "echo '[[], 1]'; exit 0", "line 2 of h2audit-why is no row"),
-            (first + "echo '" + long.replace("%s", "\\u001b[31m") + "'", "line 2 of h2audit-why is no row"),
-            (first + "echo '" + long.replace("%s", "\\ud800") + "'", "line 2 of h2audit-why is no row"),
-            (first + "head -c 3000000 /dev/zero", "line 2 of h2audit-why is no row"),
-            (first + "yes '[' | head -n 100000 | tr -d '\\n'", "line 2 of h2audit-why is no row"),
-            (first + "echo '" + long.replace("6,", f"{1 << 63},") + "'", "a number of the report is too large"),
+            ("echo text", "no rows, or those of another version"),
+            ("true", "no rows, or those of another version"),
+            (first + "echo text", "line 3 of the rows is none"),
+            (first + "echo '[\"captures\", 1]'", "line 3 of the rows is none"),
+            (first + "echo '[\"certainty\", 1]'", "line 3 of the rows is none"),
+            (first + "echo '[[], 1]'", "line 3 of the rows is none"),
+            (first + "echo '" + long.replace("%s", "\\u001b[31m") + "'", "line 3 of the rows is none"),
+            (first + "echo '" + long.replace("%s", "\\ud800") + "'", "line 3 of the rows is none"),
+            (first + "head -c 3000000 /dev/zero", "line 3 of the rows is none"),
+            (first + "yes '[' | head -n 100000 | tr -d '\\n'", "line 3 of the rows is none"),
+            (first + "echo '" + long.replace("6,", f"{1 << 63},") + "'", "a number is too large"),
             (first + f"for n in 1 2; do echo '{long}'; done", "UNIQUE constraint failed: certainty"),
-            (first + "echo '" + long.replace("certain", "sure", 2) + "'", "line 2 of h2audit-why is no row"),
+            (first + "echo '" + long.replace("certain", "sure", 2) + "'", "line 3 of the rows is none"),
             (first + "echo '" + long.replace('"certain"', '"sure"') + "'", "CHECK constraint failed"),
         ):  # fmt: skip
-            report = f'{beside("h2audit-why")} "$@" > /dev/null'
-            self.machine.script("h2audit-why", f"{report}\n{script}\nexit 0\n")
+            find = 'for word; do [ "$before" = --rows ] && rows=$word; before=$word; done'
+            report = f'{beside("h2audit-why")} "$@"'
+            self.machine.script("h2audit-why", f'{find}\n{report}\n{{ {script}; }} > "$rows"\nexit 0\n')
             self.machine.database.unlink(missing_ok=True)
             self.assertEqual(self.run_fleet(), 3, script)
             for outcome, reason in self.machine.ask("SELECT outcome, reason FROM captures"):
@@ -125,13 +127,13 @@ class Misfortunes(OnMachine):
     def test_no_program(self) -> None:
         """Without h2audit-why the row says so, at once; h2audit-any and h2audit-import are not asked for."""
         path = os.fsencode(self.machine.captures / f"{EXAMPLES[0]}.pcap")
-        order: tasks.Order = {"keys": [], "imports": "auto", "timeout": 60.0, "split_above": 0, "requests": "named"}
+        order: tasks.Order = {"keys": [], "timeout": 60.0, "split_above": 0, "requests": "named"}
         for name in ("h2audit-any", "h2audit-import"):
             (self.machine.bin / name).unlink()
         with mock.patch.dict(os.environ, self.machine.surroundings):
-            self.assertEqual(answers.answered(path, order)["outcome"], "audited")
+            self.assertEqual(tasks.audit(path, order)["outcome"], "audited")
             (self.machine.bin / "h2audit-why").unlink()
-            answer = answers.answered(path, order)
+            answer = tasks.audit(path, order)
         self.assertEqual((answer["outcome"], answer["reason"]), ("failed", "no-program h2audit-why"))
 
     def test_killed_worker(self) -> None:
@@ -166,7 +168,7 @@ class Misfortunes(OnMachine):
         """Ctrl-C while programs put one file after the other into the folder of the run: none is left."""
         self.machine.script(
             "h2audit-why",
-            'while [ "$1" != --report ]; do shift; done\n'
+            'while [ "$1" != --rows ]; do shift; done\n'
             'while :; do n=$(((n + 1) % 200)); : > "$2.$n"; [ $n != 199 ] || : > "$FLEET_ORDERS.at"; done\n',
         )
         for number in (signal.SIGINT, signal.SIGTERM):
@@ -187,12 +189,7 @@ class Misfortunes(OnMachine):
         self.assertEqual(rows, [("refused", "bad-magic", None), ("refused", "short-header", None)])
 
     def test_words(self) -> None:
-        for words in (
-            ("--requests", "--unnamed-requests", "captures"),
-            ("--requests", "--import", "never", "captures"),
-            ("--unnamed-requests", "--import", "never", "captures"),
-            ("--requests", "--collect", "captures"),
-        ):
+        for words in (("--requests", "--unnamed-requests", "captures"), ("--requests", "--collect", "captures")):
             status, said, error = self.machine.run(*words)
             self.assertEqual((status, said, error.count("\n")), (2, "", 1), error)
 

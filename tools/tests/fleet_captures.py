@@ -14,13 +14,13 @@ import tempfile
 import time
 from collections.abc import Callable
 from dataclasses import dataclass, field
-from typing import Any
 
 from bench import generate, wire
 from tests import captures as scripts
 from tests import reports_test
 from tests.programs import named
 from tools.tests.companions import companion
+from tools.tests.fleet_rows import Row, lines_of
 
 TOP = pathlib.Path(__file__).resolve().parents[2]
 
@@ -30,8 +30,6 @@ PROGRAM = next(iter(named()), None)
 STAND_IN = TOP / "tools" / "tests" / "fleet_stand_in"
 # Seconds for what takes a few on a machine that is not busy.
 PATIENCE = 200
-# A row of the database, as SQLite has it.
-Row = tuple[Any, ...]
 Ran = subprocess.CompletedProcess[bytes]
 
 
@@ -44,6 +42,8 @@ class Sample:
     status: int
     error: str
     report: str
+    # When its packets end, where a stall lasts up to it.
+    end: int | None = None
 
     @property
     def digest(self) -> str:
@@ -85,6 +85,11 @@ def answer_of(text: str) -> tuple[int, str, str]:
     return int(status.removeprefix("status ")), error, said.removeprefix(error)
 
 
+def answered(sample: Sample) -> tuple[int, str, str, str]:
+    """What stands in for h2audit-any answers."""
+    return sample.status, sample.error, sample.report, lines_of(sample.report, sample.end)
+
+
 def by_hand() -> list[Sample]:
     found = []
     for name, text in reports_test.rows():
@@ -114,7 +119,7 @@ def generated(program: str, number: int) -> list[Sample]:
 
 @dataclass
 class Machine:
-    """A folder with captures, a folder of programs, and orders for the one that stands in for h2audit."""
+    """A folder with captures, and a folder of programs: h2audit and h2audit-any, or what stands in for both."""
 
     samples: list[Sample]
     program: str | None
@@ -126,8 +131,8 @@ class Machine:
         self.folder = pathlib.Path(self.held.name)
         for name in ("bin", "captures", "notes", "temporary"):
             (self.folder / name).mkdir()
-        for name in ("h2audit", "h2audit-any"):
-            self.link(name, STAND_IN)
+        self.link("h2audit", self.program or STAND_IN)
+        self.link("h2audit-any", beside("h2audit-any") if self.program else STAND_IN)
         for sample in self.samples:
             (self.captures / f"{sample.name}.pcap").write_bytes(sample.capture)
         return self
@@ -169,10 +174,9 @@ class Machine:
 
     def write_orders(self) -> None:
         orders = {
-            "program": self.program,
             "notes": str(self.folder / "notes"),
             "acts": self.acts,
-            "answers": {sample.digest: [sample.status, sample.error, sample.report] for sample in self.samples},
+            "answers": {sample.digest: answered(sample) for sample in self.samples},
         }
         (self.folder / "orders.json").write_text(json.dumps(orders))
 

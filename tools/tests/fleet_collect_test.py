@@ -11,7 +11,7 @@ import unittest
 
 from h2audit.fleet import names
 from tools.tests.fleet_captures import PATIENCE, PROGRAM, TOP, Machine, beside, by_hand
-from tools.tests.fleet_test import rows_by_hand
+from tools.tests.fleet_rows import lines_of, rows_by_hand
 
 BLOCK = re.compile(r"^```\n(.*?)^```$", re.M | re.S)
 EXAMPLES = (
@@ -99,35 +99,39 @@ class Collected(unittest.TestCase):
         self.assertEqual(self.machine.run("--collect", "jobs")[0], 1)
         self.assertEqual(self.machine.ask("SELECT COUNT(*) FROM captures WHERE outcome = 'audited'"), [(2,)])
 
-    def job(self, name: str, status: str | None, report: bytes = b"", error: str = "") -> None:
+    def job(self, name: str, status: str | None, rows: str = "", error: str = "") -> None:
         self.jobs.mkdir(exist_ok=True)
         (self.jobs / f"{name}.path").write_text(f"/captures/{name}.pcap")
-        (self.jobs / f"{name}.report").write_bytes(report)
+        (self.jobs / f"{name}.report").write_text(self.machine.samples[0].report)
+        (self.jobs / f"{name}.rows").write_text(rows)
         (self.jobs / f"{name}.error").write_text(error)
         if status is not None:
             (self.jobs / f"{name}.status").write_text(status)
 
     def test_misfortunes(self) -> None:
-        """Time that is up, signals, refusals, what is no report, and what did not come to its end."""
-        report = self.machine.samples[0].report.encode()
+        """Time that is up, signals, refusals, what are no rows, and what did not come to its end."""
+        rows = lines_of(self.machine.samples[0].report)
         self.job("late", "124 3600\n")
         self.job("killed", "137 3\n")
         self.job("poor", "5 3\n", error="h2audit-any: out of memory\n")
         self.job("odd", "3 1\n", error="h2audit-any: capture refused: link-type 105\n")
-        self.job("torn", "1 1\n", report[:-20])
-        self.job("huge", "1 1\n", report.replace(b" stream 1 ", b" stream 99999999999999999999 "))
+        self.job("torn", "1 1\n", rows[:-20])
+        self.job("huge", "1 1\n", rows.replace('["findings", 1,', '["findings", 99999999999999999999,'))
+        self.job("wide", "1 1\n", rows.replace('["findings", 1,', '["findings", 1, 1,'))
+        self.job("bare", "1 1\n", rows.partition("\n")[0] + "\n")
         self.job("empty", "0 1\n")
         self.job("unended", None)
         self.job("unread", "no status\n")
         status, said, error = self.machine.run("--collect", "jobs")
         wanted = (
-            "7 captures: 0 with faults, 7 in which nothing was audited (1 refused, 6 failed); "
+            "9 captures: 0 with faults, 9 in which nothing was audited (1 refused, 8 failed); "
             "2 did not come to their end\n"
         )
         self.assertEqual((status, said, error), (3, wanted, ""))
-        rows = self.machine.ask(f"SELECT {PATHS}, outcome || ' ' || reason FROM captures")
-        found = {name: why for name, why in rows}
-        self.assertRegex(found.pop("torn"), r"^failed bad-report: line \d+ is no line of a report$")
+        said_of = self.machine.ask(f"SELECT {PATHS}, outcome || ' ' || reason FROM captures")
+        found = {name: why for name, why in said_of}
+        for name in ("torn", "wide"):
+            self.assertRegex(found.pop(name), r"^failed bad-report: line \d+ of the rows is none$")
         self.assertEqual(
             found,
             {
@@ -135,21 +139,22 @@ class Collected(unittest.TestCase):
                 "killed": "failed signal 9",
                 "poor": "failed out-of-memory",
                 "odd": "refused link-type 105",
-                "huge": "failed bad-report: a number of the report is too large",
-                "empty": "failed bad-report: not a report of h2audit",
+                "huge": "failed bad-report: a number is too large",
+                "bare": "failed bad-report: the rows of no report",
+                "empty": "failed bad-report: no rows, or those of another version",
             },
         )
         for table in ("connections", "findings", "stalls", "unopened", "passed_over"):
             self.assertEqual(self.machine.ask(f"SELECT * FROM {table}"), [])
 
     def test_odd_jobs(self) -> None:
-        """A job without its report, one with a folder or a pipe in its place, one of a name that no file has, and one
-        of a time that no column holds: all others stand.
+        """A job without its report or rows, one with a folder or a pipe in its place, one of a name that no file has,
+        and one of a time that no column holds: all others stand.
         """
         sample = self.machine.samples[0]
-        report = sample.report.encode()
-        for name in ("a", "b", "c", "d", "e", "f"):
-            self.job(name, f"{sample.status} 1\n", report)
+        for name in ("a", "b", "c", "d", "e", "f", "g"):
+            self.job(name, f"{sample.status} 1\n", lines_of(sample.report))
+        (self.jobs / "g.rows").unlink()
         for name in ("a", "b", "c"):
             (self.jobs / f"{name}.report").unlink()
         (self.jobs / "b.report").mkdir()
@@ -157,7 +162,7 @@ class Collected(unittest.TestCase):
         (self.jobs / "d.path").write_bytes(b"/captures/d.pcap\0")
         (self.jobs / "e.file").write_text("10 9999999999.999999999\n")
         status, said, error = self.machine.run("--collect", "jobs")
-        wanted = "6 captures: 3 with faults, 3 in which nothing was audited (3 failed)\n"
+        wanted = "7 captures: 3 with faults, 4 in which nothing was audited (4 failed)\n"
         self.assertEqual((status, said, error), (3, wanted, ""))
         rows = self.machine.ask(f"SELECT {PATHS}, outcome, reason, size, modified FROM captures ORDER BY path")
         self.assertEqual(
@@ -169,6 +174,7 @@ class Collected(unittest.TestCase):
                 ("d%00", "audited", None, None, None),
                 ("e", "audited", None, 10, (1 << 63) - 1),
                 ("f", "audited", None, None, None),
+                ("g", "failed", "bad-report: not-there", None, None),
             ],
         )
 

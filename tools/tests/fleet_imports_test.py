@@ -60,10 +60,6 @@ def noise() -> bytes:
 class Imported(parts.Beside):
     """A machine with all programs, and large captures in forms that h2audit does not read."""
 
-    def setUp(self) -> None:
-        super().setUp()
-        self.machine.link("h2audit-import", beside("h2audit-import"))
-
     def capture(self, name: str, content: bytes) -> pathlib.Path:
         path = self.machine.captures / name
         path.write_bytes(content)
@@ -143,7 +139,7 @@ class Forms(Imported):
         runs = (self.machine.folder / "runs").read_text().splitlines()
         audits = [run for run in runs if run.startswith("--workers ")]
         self.assertEqual([run for run in audits if "/part-" not in run], [])
-        self.assertGreaterEqual(len(audits), 4 * 3)
+        self.assertEqual(len(audits), 3 * 3)
 
     def test_keys(self) -> None:
         """TLS with its keys, which make each capture one that is imported: also one that h2audit would read."""
@@ -168,7 +164,7 @@ class Forms(Imported):
     def test_no_key(self) -> None:
         """Of TLS without keys nothing can be read: the status is 6."""
         self.capture("tls.pcap", over_tls(self.machine.folder))
-        self.machine.run("--jobs", "2", "--import", "always", *SPLIT, "captures")
+        self.machine.run("--jobs", "2", *SPLIT, "captures")
         path = self.machine.captures / "tls.pcap"
         alone = self.any(path)
         rows = self.machine.ask("SELECT outcome, status, report_sha256 FROM captures")
@@ -230,7 +226,7 @@ class Misfortunes(Imported):
         self.assertEqual(self.machine.run("--jobs", "2", *SPLIT, "captures")[0], 3)
         made = self.machine.folder / "made.pcap"
         subprocess.run([self.machine.bin / "h2audit-import", "-o", made, path], check=True)
-        order: tasks.Order = {"keys": [], "imports": "auto", "timeout": 60.0, "split_above": 1000000}
+        order: tasks.Order = {"keys": [], "timeout": 60.0, "split_above": 1000000}
         alone = self.any("--parts", str(tasks.parts_of(made.stat().st_size, order)), path)
         row = self.machine.ask("SELECT program, outcome, status, reason, report_sha256 FROM captures")[0]
         self.assertEqual(row[:3], ("h2audit-any", "partial", alone.returncode))
@@ -270,13 +266,13 @@ class OnCluster(Imported):
             self.assertEqual(list((self.machine.folder / "shared").iterdir()), [])
 
     def test_one_worker(self) -> None:
-        """Where workers share no folder one of them does all of it, also where IPv6 is found at the end."""
+        """Where workers share no folder one of them does all of it."""
         os.environ["PATH"], path = f"{self.machine.bin}:/usr/bin:/bin", os.environ["PATH"]
         self.addCleanup(os.environ.__setitem__, "PATH", path)
-        order: tasks.Order = {"keys": [], "imports": "auto", "timeout": 60.0, "split_above": 1000000}
+        order: tasks.Order = {"keys": [], "timeout": 60.0, "split_above": 1000000}
         for name, content in (("six.pcap", parts.over_ipv6(self.plain())), ("a.pcapng", self.pcapng().read_bytes())):
             capture = self.capture(name, content)
-            answer = large.in_parts(os.fsencode(capture), 3, order)
+            answer = large.in_parts(os.fsencode(capture), order)
             alone = self.any(capture)
             self.assertEqual(
                 (answer["outcome"], answer["status"], answer["program"], answer["report_sha256"]),

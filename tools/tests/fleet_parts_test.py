@@ -49,6 +49,7 @@ class Beside(unittest.TestCase):
         programs: dict[str, str | pathlib.Path] = {
             "h2audit": str(PROGRAM),
             "h2audit-any": beside("h2audit-any"),
+            "h2audit-import": beside("h2audit-import"),
             "h2audit-merge": beside("h2audit-merge"),
             "h2audit-split": SPLIT if SPLIT.exists() else STAND_IN,
         }
@@ -110,12 +111,10 @@ class Imports(Beside):
         (self.machine.bin / "h2audit-any").unlink()
         self.assertEqual(self.machine.run("--jobs", "1", "captures")[0], 3)
         self.assertEqual(self.machine.ask("SELECT outcome, reason FROM captures"), [("refused", "bad-block")])
-        order: tasks.Order = {"keys": [], "imports": "auto", "timeout": 60.0, "split_above": 0}
+        order: tasks.Order = {"keys": [], "timeout": 60.0, "split_above": 0}
         with mock.patch.dict(os.environ, self.machine.surroundings):
             answer = tasks.audit(os.fsencode(capture), order)
         self.assertEqual((answer["outcome"], answer["reason"]), ("failed", "no-program h2audit-any"))
-        self.assertEqual(self.machine.run("--jobs", "1", "--resume", "--import", "never", "captures")[0], 3)
-        self.assertEqual(self.machine.ask("SELECT outcome, reason FROM captures"), [("refused", "bad-magic")])
 
 
 class Parts(Beside):
@@ -140,7 +139,7 @@ class Parts(Beside):
             "SELECT program, outcome, reason, status, sha256, report_sha256, report_bytes FROM captures"
         )
         digests = [hashlib.sha256(text).hexdigest() for text in (large.read_bytes(), wanted.stdout)]
-        self.assertEqual(row, [("h2audit-merge", "audited", None, wanted.returncode, *digests, len(wanted.stdout))])
+        self.assertEqual(row, [("h2audit-any", "audited", None, wanted.returncode, *digests, len(wanted.stdout))])
         self.assertEqual(list((self.machine.folder / "temporary").iterdir()), [])
 
     def test_one_worker(self) -> None:
@@ -149,8 +148,8 @@ class Parts(Beside):
         path = os.environ["PATH"]
         self.addCleanup(os.environ.__setitem__, "PATH", path)
         os.environ["PATH"] = f"{self.machine.bin}:/usr/bin:/bin"
-        order: tasks.Order = {"keys": [], "imports": "auto", "timeout": 60.0, "split_above": 1000000}
-        answer = tasks_of_large.in_parts(os.fsencode(large), 3, order)
+        order: tasks.Order = {"keys": [], "timeout": 60.0, "split_above": 1000000}
+        answer = tasks_of_large.in_parts(os.fsencode(large), order)
         self.assertEqual(
             (answer["outcome"], answer["report_sha256"]),
             ("audited", hashlib.sha256(self.report_of(large).stdout).hexdigest()),

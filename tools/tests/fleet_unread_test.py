@@ -1,7 +1,6 @@
 """Tests of what h2audit-fleet does not audit, and says so: fleet_unread_test.py [PROGRAM]
 
-What an import may read more of than h2audit is imported, and needs PROGRAM; what then is not audited has a row by its
-reason. Folders and lists that bring nothing are said.
+What is not audited has a row by its reason, which needs PROGRAM. Folders and lists that bring nothing are said.
 """
 
 import errno
@@ -18,7 +17,7 @@ from unittest import mock
 from h2audit.fleet import tasks
 from tools.tests import fleet_parts_test as parts
 from tools.tests import tls_talk
-from tools.tests.fleet_captures import TOP, Machine, beside, by_hand, summary
+from tools.tests.fleet_captures import TOP, Machine, by_hand, summary
 
 EXAMPLE = "stream_overrun_go"
 # What root gives up, to be kept out as others are.
@@ -49,7 +48,6 @@ class Unread(parts.Beside):
 
     def setUp(self) -> None:
         super().setUp()
-        self.machine.link("h2audit-import", beside("h2audit-import"))
         self.example = (TOP / "examples" / f"{EXAMPLE}.pcap").read_bytes()
 
     def capture(self, name: str, content: bytes) -> None:
@@ -60,7 +58,7 @@ class Unread(parts.Beside):
         return {name: tuple(row) for name, *row in found}
 
     def test_imported(self) -> None:
-        """Two tags, a tag of another kind, IPv6: audited by an import. ARP beside audited connections asks for none."""
+        """Two tags, a tag of another kind, IPv6, each alone or beside a plain connection; and ARP."""
         for name, tags in (("two", "8100000588a80006"), ("service", "88a80005"), ("three", "810000058100000591000006")):
             self.capture(f"{name}.pcap", rewritten(self.example, bytes.fromhex(tags)))
         self.capture("six.pcap", parts.over_ipv6(self.example))
@@ -69,11 +67,7 @@ class Unread(parts.Beside):
         self.capture("tagged.pcap", rewritten(self.example, bytes.fromhex("81000005")))
         status, said, error = self.machine.run("--jobs", "2", "captures")
         self.assertEqual((status, said, error), (1, "7 captures: 7 with faults, 0 in which nothing was audited\n", ""))
-        found = self.rows("program, outcome")
-        self.assertEqual(
-            {name for name, row in found.items() if row == ("h2audit", "audited")}, {"arp.pcap", "tagged.pcap"}
-        )
-        self.assertEqual(set(found.values()), {("h2audit", "audited"), ("h2audit-any", "audited")})
+        self.assertEqual(set(self.rows("outcome, sha256 IS NOT NULL").values()), {("audited", 1)})
 
     def test_not_audited(self) -> None:
         """Whatever is not audited has a row by its reason."""
@@ -135,19 +129,6 @@ class Unread(parts.Beside):
         found = self.rows("nanos", "open_stalls")
         names = ("plain.pcap", "six.pcap", "two.pcap", "a.pcapng", "packed.pcap.gz")
         self.assertEqual(found, {name: (201057000,) for name in names})
-
-    def test_import_refused(self) -> None:
-        """What h2audit audited stands where an import that might read more is refused."""
-        self.capture("both.pcap", self.example + parts.over_ipv6(self.example)[24:])
-        self.machine.script("h2audit-any", "echo 'h2audit-any: capture refused: address-clash: a' >&2; exit 3\n")
-        self.assertEqual(
-            self.machine.run("--jobs", "1", "captures"),
-            (3, "1 captures: 1 with faults, 0 in which nothing was audited, 1 in part\n", ""),
-        )
-        self.assertEqual(
-            self.rows("program, outcome, reason"),
-            {"both.pcap": ("h2audit", "partial", "import refused: address-clash: a")},
-        )
 
 
 class Said(unittest.TestCase):
@@ -235,9 +216,10 @@ class Said(unittest.TestCase):
         """Where the folder for temporary files is full, that is what the reason says."""
         full = self.folder("full")
         surroundings = {"PATH": f"{full}:/usr/bin:/bin", "TMPDIR": str(full)}
-        (full / "h2audit").write_text("#!/bin/sh\necho report || { echo 'h2audit: write failed' >&2; exit 4; }\n")
-        (full / "h2audit").chmod(0o755)
-        order: tasks.Order = {"keys": [], "imports": "never", "timeout": 60.0, "split_above": 0}
+        any = full / "h2audit-any"
+        any.write_text("#!/bin/sh\necho report || { echo 'h2audit-any: write failed' >&2; exit 4; }\n")
+        any.chmod(0o755)
+        order: tasks.Order = {"keys": [], "timeout": 60.0, "split_above": 0}
         with mock.patch.dict(os.environ, surroundings), mock.patch("tempfile.tempdir", None):
             with mock.patch("tempfile.TemporaryFile", side_effect=self.no_room):
                 answer = tasks.audit(os.fsencode(self.machine.captures / f"{EXAMPLE}.pcap"), order)

@@ -280,43 +280,5 @@ class Files(unittest.TestCase):
                 self.assertEqual(run.stderr, f"h2audit-import: standard output: {why}\n4\n", words)
 
 
-class Course(unittest.TestCase):
-    """The course of TCP, on packets that are made for it."""
-
-    def course_of(self, datagrams: list[bytes]) -> list[str]:
-        with tempfile.TemporaryDirectory(prefix="h2audit-test-") as folder:
-            path = pathlib.Path(folder, "course")
-            tools.imported("--course", path, input=captured(datagrams))
-            self.assertEqual(path.stat().st_mode & 0o777, 0o600)
-            return path.read_text().splitlines()
-
-    def test_lines(self) -> None:
-        datagrams = opening() + [
-            segment(0, 101, flags=ACK), segment(0, 101, PREFACE), segment(0, 101, PREFACE),
-            segment(0, 101 + 40, b"later"), segment(0, 101 + len(PREFACE), b"1234567"),
-            segment(0, 101 + 35, b"12345" + b"later!"),
-            segment(1, 901, flags=ACK)[:34] + b"\0\0" + segment(1, 901, flags=ACK)[36:], segment(1, 901, b"answer"),
-            segment(1, 907, flags=1 | ACK), segment(0, 147, flags=4),
-        ]  # fmt: skip
-        place = [f"file 1 packet {at + 1} time {10**9 + at}" for at in range(len(datagrams))]
-        self.assertEqual(self.course_of(datagrams), [
-            "h2audit-course 1", "file 1 -", "connection 1 client 10.0.0.1:40000 server 10.0.0.2:443",
-            f"syn 1 {place[0]}", f"syn-ack 1 {place[1]}", f"ack 1 {place[2]}",
-            f"hole 1 client from {place[5]} to {place[6]}",
-            f"resent 1 client {place[7]} bytes 10 after {10**9 + 6}",
-            f"window-zero 1 server from {place[8]} to {place[9]}",
-            f"fin 1 server {place[10]}", f"rst 1 client {place[11]}",
-            f"last 1 client {place[11]}", "sums 1 client segments 5 bytes 46 resent 10 doubled 1",
-            f"last 1 server {place[10]}", "sums 1 server segments 1 bytes 6 resent 0 doubled 0",
-        ])  # fmt: skip
-
-    def test_changes_nothing(self) -> None:
-        """The capture and the map are the same with a course and without."""
-        with tempfile.TemporaryDirectory(prefix="h2audit-test-") as folder:
-            for name in ("mixed", "loss-and-reordering", "two-interfaces"):
-                words = [*tools.key_log_of(name), tools.capture_named(name)]
-                self.assertEqual(tools.imported("--course", f"{folder}/course", *words), tools.imported(*words))
-
-
 if __name__ == "__main__":
     unittest.main()

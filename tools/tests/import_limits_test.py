@@ -130,7 +130,7 @@ class Limits(unittest.TestCase):
             file.writelines([HEADER, record(datagram(0, 0, SYN)), record(datagram(0, 0, SYN | ACK, is_server=True))])
             file.write(record(datagram(0, 1, ACK, b"\x16\x03\x03\x40\x00")))
             file.writelines(record(datagram(0, 6 + at, ACK, b"abc")) for at in reversed(range(count)))
-        self.assertEqual(self.imported("--course", self.folder / "course", path)[0], 6)
+        self.assertEqual(self.imported(path)[0], 6)
 
     def test_secrets_one_by_one(self) -> None:
         """Connections that wait for keys on standard input, and as many blocks of secrets, each of another random."""

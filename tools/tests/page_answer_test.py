@@ -21,14 +21,12 @@ from tools.tests.page_answers import (
     MS,
     START,
     audit_of,
-    cause,
     connection,
     document_of,
     finding,
     many,
     opening,
     page_of,
-    request,
     stalled,
 )
 from tools.tests.page_test import Tags
@@ -51,10 +49,9 @@ class OpenStalls(unittest.TestCase):
             "connection 1, frame 10, packet 10",
             rows(text),
         )
-        self.assertIn("the client, 10.0.0.1|its window of a stream: no grant came|1|1|2 s|2 s", rows(text))
         self.assertIn("server, stream 1|0|1|2 s|2 s|0|2,147,483,647|0", rows(text))
         (window,) = [one for one in audit_of(report, document).windows if one.stream == 1]
-        self.assertEqual((window.connection.zero, series_of(window).times[-1]), (START, START + 2100 * MS))
+        self.assertEqual((window.connection.start, series_of(window).times[-1]), (START, START + 2100 * MS))
 
     def test_of_a_report_alone(self) -> None:
         """What is not known is not said to be 0."""
@@ -139,20 +136,23 @@ class Sums(unittest.TestCase):
 
 
 class Causes(unittest.TestCase):
-    def test_what_spans_do_not_tell(self) -> None:
-        """Of stalls that do not show, the time of all is no less than the longest; together they count once."""
-        waits = cause("stream-window", "unshown", 40 * MS, "no stall shows here")
-        two = [request(stream, "GET /", START + MS, [[0, 50 * MS, "sending"]], waits) for stream in (1, 3)]
-        document = document_of([connection(1, 60 * MS, two)])
-        report = HEAD + opening(1) + FLOWS + finding(1, 5, "client", "connection-credit", 0, 9)
-        (found,) = asked(audit_of(report, document))
-        self.assertEqual((found.times, found.longest, found.nanos), (2, 40 * MS, 40 * MS))
+    def test_whom_to_ask(self) -> None:
+        """Each cause that h2audit-why sums up has a row, and words."""
+        report, document = stalled()
+        sums = {"times": 3, "connections": 2, "longest": 20 * MS, "nanos": 50 * MS}
+        for kind, why, words in (
+            ("stream-window", "granted-nothing", "its window of a stream: no grant came"),
+            ("application", "before", "its application: it took long to begin"),
+        ):
+            document["asked"] = [{"side": "client", "peer": "10.0.0.1", "kind": kind, "why": why, **sums}]
+            text = page_of(report, document)
+            self.assertIn(f"the client, 10.0.0.1|{words}|3|2|20 ms|50 ms", rows(text))
 
     def test_nobody_to_ask(self) -> None:
-        waits = {**cause("tcp", "resent", 20 * MS, "held by TCP"), "ask": None}
-        one = request(1, "GET /", START + MS, [[0, MS, "sending"], [MS, 20 * MS, "tcp"]], waits)
-        report = HEAD + opening(1) + FLOWS + finding(1, 5, "client", "connection-credit", 0, 9)
-        text = page_of(report, document_of([connection(1, 60 * MS, [one])]))
+        report, document = stalled()
+        document["asked"] = [{"side": None, "peer": None, "kind": "tcp", "why": "resent", "times": 1, "connections": 1,
+                              "longest": 20 * MS, "nanos": 20 * MS}]  # fmt: skip
+        text = page_of(report, document)
         self.assertIn("nobody: the path between them|TCP: bytes were sent again|1|1|20 ms|20 ms", rows(text))
 
 

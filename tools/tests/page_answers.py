@@ -4,11 +4,11 @@ import io
 import json
 from typing import Any
 
-from h2audit.page.answer import attach
 from h2audit.page.document import page
 from h2audit.page.library import library
-from h2audit.page.model import Audit, read_audit
+from h2audit.page.model import Audit, audit_of_document
 from h2audit.page.waterfall import NAMES
+from h2audit.report.charts import document_of_report
 
 Json = dict[str, Any]
 
@@ -56,8 +56,9 @@ def connection(number: int, nanos: int, requests: list[Json], stalls: list[Json]
 
 
 def document_of(connections: list[Json], text: str = "Flow control held back 1 request.") -> Json:
-    return {"files": ["a.pcap"], "summary": {"text": text}, "warnings": [], "not_audited": [],
-            "connections": connections}  # fmt: skip
+    requests = sum(len(one["requests"]) for one in connections)
+    return {"files": ["a.pcap"], "summary": {"text": text, "requests": requests}, "warnings": [], "not_audited": [],
+            "asked": [], "connections": connections}  # fmt: skip
 
 
 def finding(frame: int, after: int, side: str, kind: str, stream: int, value: int) -> str:
@@ -70,10 +71,30 @@ def opening(number: int, frames: int = 40) -> str:
 
 
 def audit_of(report: str, document: Json | None = None) -> Audit:
-    audit = read_audit(io.BytesIO(report.encode()))
+    said = document_of_report(io.BytesIO(report.encode()))
     if document:
-        attach(audit, json.loads(json.dumps(document)))
-    return audit
+        said = {**said, **json.loads(json.dumps(document)), "report": {}}
+        charts = {
+            one["number"]: one["charts"] for one in document_of_report(io.BytesIO(report.encode()))["connections"]
+        }
+        said["connections"] = [{**one, "charts": charts[one["number"]]} for one in said["connections"]]
+        for one in said["connections"]:
+            lasts(one)
+    return audit_of_document(said)
+
+
+def lasts(one: Json) -> None:
+    """The charts of a capture begin with its connection's SYN, and what is open lasts up to its last packet."""
+    charts = one["charts"]
+    charts["begin"], charts["until"] = one["begin"], one["begin"] + one["nanos"]
+    open_stalls = [(stall["side"], stall["stream"]) for stall in one["stalls"] if stall["end"] is None]
+    for window in charts["windows"]:
+        if window["stream"] == 0:
+            window["times"][0] = charts["begin"]
+        if window["stream"] == 0 or (window["side"], window["stream"]) in open_stalls:
+            window["frames"].append(max(charts["frames"], window["frames"][-1]))
+            window["times"].append(charts["until"])
+            window["credits"].append(window["credits"][-1])
 
 
 def page_of(report: str, document: Json | None = None) -> str:

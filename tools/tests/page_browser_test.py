@@ -26,8 +26,7 @@ from selenium.webdriver.support.ui import Select
 from h2audit.page import chart_data, document
 from h2audit.page.library import library
 from h2audit.page.model import read_audit
-from h2audit.report.blame import what_happened
-from h2audit.report.lines import Finding
+from h2audit.report.charts import document_of_report
 from tools.tests.browser import Browser
 from tools.tests.page_test import FINDING, crowded, large
 
@@ -130,11 +129,10 @@ class Examples(InBrowser):
                 self.example(report.name.removesuffix(".frames.report"))
                 self.drawn()
                 shown = self.browser.run("return document.body.innerText")
-                for frame, record, time, side, kind, stream, value in FINDING.findall(text):
-                    if not kind.endswith("-credit"):
-                        finding = Finding(int(frame), int(record), int(time), side, kind, int(stream), int(value))
-                        self.assertIn(what_happened(finding), shown)
-                        self.assertIn(f"({kind})", shown)
+                (one,) = document_of_report(io.BytesIO(text.encode()))["connections"]
+                for finding in one["charts"]["findings"]:
+                    self.assertIn(finding["text"], shown)
+                    self.assertIn(f"({finding['kind']})", shown)
                 self.judge_colours(text)
 
     def judge_colours(self, text: str) -> None:

@@ -55,8 +55,7 @@ class Examples(unittest.TestCase):
 
     def test_sums_hold_the_longest(self) -> None:
         """Of each row of whom to ask: the time of all is no less than that of its longest request."""
-        made = {"H2AUDIT_WHY": str(WHY), "H2AUDIT_ANY": str(TOP / "companions" / "target" / "release" / "h2audit-any")}
-        self.enterContext(mock.patch.dict(os.environ, made))
+        self.enterContext(mock.patch.dict(os.environ, {"H2AUDIT_WHY": str(WHY)}))
         for capture in EXAMPLES:
             audit = audit_of(arguments([str(capture), "-o", "-"]))
             for one in asked(audit):
@@ -112,7 +111,7 @@ class Endings(unittest.TestCase):
                 self.assertNotIn(b"Traceback", done.stderr)
 
     def test_a_program_that_is_missing(self) -> None:
-        done = ran(EXAMPLES[0], "-o", "/dev/null", H2AUDIT_ANY="/nowhere/h2audit-any")
+        done = ran(EXAMPLES[0], "-o", "/dev/null", H2AUDIT_WHY="/nowhere/h2audit-why")
         self.assertEqual((done.returncode, done.stderr.count(b"\n")), (4, 1))
 
     def test_nothing_is_left_behind(self) -> None:
@@ -151,10 +150,10 @@ class Endings(unittest.TestCase):
             slow = pathlib.Path(place, "slow")
             slow.write_text(f"#!/bin/sh\ntouch {place}/begun-$$\nexec sleep 100\n")
             slow.chmod(0o755)
-            # h2audit-any and h2audit-why wait for the audit of what they have imported.
+            # h2audit-why waits for the audit of what it has imported.
             words = [str(PAGE), str(EXAMPLES[0]), "-o", "/dev/null"]
             with subprocess.Popen(words, env={**os.environ, "TMPDIR": folder, "H2AUDIT": str(slow)}) as running:
-                while len(begun := list(pathlib.Path(place).glob("begun-*"))) < 2:
+                while len(begun := list(pathlib.Path(place).glob("begun-*"))) < 1:
                     self.assertIsNone(running.poll())
                     time.sleep(0.02)
                 running.terminate()

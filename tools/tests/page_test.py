@@ -283,17 +283,17 @@ class Hostile(unittest.TestCase):
         )
 
     def test_numbers_that_are_too_large(self) -> None:
-        """No credit line, and a frame or a time that a list does not hold."""
+        """A frame or a time that no 64 bits hold, and one that would be negative in them."""
         opening = "connection 1 client 1.2.3.4:5 server 1.2.3.4:6 record 1 http2 frames 2\n"
-        for frame, time, kind in (
-            ("9" * 20, 1, "stream-overrun"),
-            (1, "9" * 20, "stream-overrun"),
-            (1, 1 << 63, "stream-stall-begin"),
+        for frame, time, kind, why in (
+            ("9" * 20, 1, "stream-overrun", "is no line of a report"),
+            (1, "9" * 20, "stream-overrun", "is no line of a report"),
+            (1, 1 << 63, "stream-stall-begin", "has a number that is too large"),
+            (1 << 63, 1, "stream-credit", "has a number that is too large"),
         ):
             line = f"frame {frame} record 1 time {time} client {kind} stream 1 value -5\n"
             self.assertEqual(
-                answer(HEAD + opening + line),
-                (3, "h2audit-page: report refused: line 3 has a number that is too large\n"),
+                answer(HEAD + opening + line), (3, f"h2audit-page: report refused: line 3 {why}\n"), (frame, time)
             )
 
 

@@ -14,7 +14,7 @@ import unittest
 import xml.etree.ElementTree as xml
 
 from h2audit.plot import drawing, program
-from h2audit.plot.windows import chosen, connections_of, windows_of
+from h2audit.plot.windows import chosen, connections_of
 from tools.tests.running import ran
 from tools.tests.signals import SIGNALS, hidden_in, signalled
 
@@ -81,7 +81,8 @@ class Examples(unittest.TestCase):
     def test_stalls_are_those_of_the_report(self) -> None:
         for report in reports():
             text = report.read_text()
-            windows = [window for one in connections_of(report.open("rb")) for window in windows_of(one)]
+            with report.open("rb") as file:
+                windows = [window for one in connections_of(file) for window in one.windows]
             drawn = sorted(
                 f"stall {window.side} stream {window.stream} from {begin.frame} "
                 + (f"to {end.frame} nanos {end.time - begin.time}" if end else "open")
@@ -125,7 +126,8 @@ class Choices(unittest.TestCase):
 
     def windows(self, *words: str) -> tuple[list[str], int]:
         asked = program.arguments([str(self.REPORT), *words])
-        drawn, left_out = chosen(connections_of(self.REPORT.open("rb")), asked)
+        with self.REPORT.open("rb") as report:
+            drawn, left_out = chosen(connections_of(report), asked)
         return [window.name for window in drawn], left_out
 
     def test_windows(self) -> None:
@@ -188,7 +190,7 @@ class Reading(unittest.TestCase):
             axes = drawing.draw(windows, left_out, True).axes
             self.assertEqual(len({(axis.get_ylim(), axis.get_yscale()) for axis in axes}), 1, report.name)
             least, most = axes[0].get_ylim()
-            values = [finding.value for window in windows for finding in drawing.heights(window)]
+            values = [credit for window in windows for credit in drawing.heights(window)]
             self.assertTrue(least <= min(values) and max(values) <= most, report.name)
 
 

@@ -9,8 +9,7 @@ import sys
 import tempfile
 import unittest
 
-from h2audit.report import blame, lines
-from h2audit.report.notes import Pairing, sentence
+from h2audit.report import blame, lines, words
 from tools.tests.signals import SIGNALS, hidden_in, signalled
 
 TOP = pathlib.Path(__file__).resolve().parents[2]
@@ -136,36 +135,15 @@ class Blame(unittest.TestCase):
             (10**9, "1 s"),
             (1234000000007, "1,234.000000007 s"),
         ):
-            self.assertEqual(blame.duration(nanos), said)
+            self.assertEqual(words.duration(nanos), said)
 
 
 class Lines(unittest.TestCase):
     def test_examples(self) -> None:
-        """Each line of each report is read, and the stalls are those that the report has."""
+        """Each line of each report is read."""
         for report in sorted((TOP / "examples").glob("*report")):
             read = list(lines.read_lines(io.BytesIO(report.read_bytes())))
             self.assertEqual(len(read), len(report.read_text().splitlines()))
-            self.judge(read)
-
-    def judge(self, read: list[lines.Line]) -> None:
-        pairing, begins = Pairing(), []
-        for line in read:
-            if isinstance(line, lines.Opening):
-                pairing = Pairing()
-            elif isinstance(line, lines.Finding) and line.kind in blame.STALL_BEGIN + blame.STALL_END:
-                begins += [note for note in [pairing.note(line)] if line.kind in blame.STALL_BEGIN]
-        found = [
-            (
-                note.finding.side,
-                note.finding.stream,
-                note.finding.frame,
-                note.other and note.other.finding.frame,
-                note.waited,
-            )
-            for note in begins
-        ]
-        self.assertEqual(found, [tuple(line) for line in read if isinstance(line, lines.Stall)])
-        self.assertFalse([note for note in begins if "stall" not in sentence(note)])
 
     def test_each_line(self) -> None:
         """The lines that the reader in Rust is held against too."""

@@ -102,7 +102,7 @@ try 'cipher suites, resumption, PSK, early data' import_tls_test "${audits[@]}"
 try 'what h2audit-any says of an original' any_test "${audits[@]}"
 try_built 'reports of earlier imports' import_map_test "$built"
 try 'mutated captures and key logs' import_mutations_test
-try 'imports: what was once read wrongly, preambles, the course of TCP' import_corpus_test
+try 'imports: what was once read wrongly, preambles' import_corpus_test
 try 'imports: memory and work' import_limits_test
 try 'many captures: tables' fleet_test "${audits[@]}" Tables
 try 'many captures: lost workers, memory, time' fleet_test \
@@ -129,6 +129,7 @@ try 'install and package' tools/tests/package_test.sh "$program" "$split"
 try_built 'the answer in words: captures' why_test "$built"
 try_built 'the answer in words: one answer in all forms' why_forms_test "$built"
 try_built 'the answer in words: what is true of captures' why_said_test "$built"
+try_built 'the answer in words: charts' why_charts_test "$built"
 try_built 'the answer in words: hostile captures' why_hostile_test "$built"
 try_built 'the answer in words: jobs of CI' why_ci_test "$built"
 try_built 'the answer in words: before and after' why_compare_test "$built"

@@ -167,7 +167,6 @@ class Depth(unittest.TestCase):
         "report_pages/filling/+pages": "the pages, one for each worker",
         "split_merge/ranges/+fn-in_ranges-join+arg3+in_ranges": "the workers",
         "stop_desk/crews/+fn-fork-join+arg3+fork": "the workers",
-        "tcp_streams/overlay/+set_apart_halves": "halves of the segments",
     }
 
     def test_each_is_bounded(self) -> None:

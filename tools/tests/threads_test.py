@@ -27,8 +27,10 @@ def pings(frames: int, first: str = "C PING") -> bytes:
     return capture_of(f"opened\n{first}\n" + "C PING\n" * (frames - 5))
 
 
-def connections(count: int, last: bytes = b"") -> bytes:
-    """So many connections of six records and four frames each, in 480 bytes, and what the server sends last."""
+def connections(count: int, last: bytes = b"", settings: bytes = SETTINGS, opening: bytes = b"") -> bytes:
+    """So many connections of six records and four frames each, in 480 bytes, by the server's settings, with what the
+    client sends behind its acknowledgement, and the server last.
+    """
     capture = Capture()
     for port in range(1000, 1000 + count):
         client = (0x0A000001, port)
@@ -37,8 +39,8 @@ def connections(count: int, last: bytes = b"") -> bytes:
         capture.syn("S", 5000, SYN_ACK)
         for side, payload in (
             ("C", PREFACE + SETTINGS),
-            ("S", SETTINGS),
-            ("C", SETTINGS_ACK),
+            ("S", settings),
+            ("C", SETTINGS_ACK + opening),
             ("S", SETTINGS_ACK + last),
         ):
             capture.send(side, payload)
@@ -62,6 +64,8 @@ TWO_LOUD_STREAMS = capture_of("opened\nC HEADERS 1\nC HEADERS 3\nS WINDOW_UPDATE
 UNMATCHED, AT_ONCE = SETTINGS_ACK, "C ACK"
 # A grant of nothing, which is a connection error, and is told as its frame is met.
 NOTHING_GRANTED = frame_of(["WINDOW_UPDATE", "0", "0"])
+# SETTINGS by which each stream begins without credit, and the opening of one, at which its stall is told.
+NO_WINDOW, OPENING = frame_of(["SETTINGS", "4", "0"]), frame_of(["HEADERS", "1"])
 SHORT, LONG, LONGER = pings(3904, AT_ONCE), pings(4096, AT_ONCE), pings(20004, AT_ONCE)
 
 Ways = dict[str, int]
@@ -141,6 +145,11 @@ ROWS: list[tuple[str, bytes, Ways]] = [
         {"flows of two": 2, "one is made ready beside the other": 1, "two blocks are summed": 2},
     ),
     ("--workers 2", connections(2, NOTHING_GRANTED), {"flows of two": 2, "told as met, so there is no round": 0}),
+    (
+        "--workers 2",
+        connections(2, opening=OPENING, settings=NO_WINDOW),
+        {"flows of two": 2, "stalls are told as met, so there is no round": 0},
+    ),
     (
         "--workers 2 --block 4",
         connections(2, NOTHING_GRANTED),

@@ -165,10 +165,11 @@ class Words(OnCaptures):
         self.assertRegex(run.stderr.decode(), "^h2audit-why: the report is not about the capture that was made: .*\n$")
         report.write_bytes(self.audited(capture, other))
         self.assertEqual(ran("--rows", "-", "--audit", report, capture).returncode, 4)
-        # Of some parts alone: connections that it has not are left out.
+        # Of some parts alone: connections that it has not are left out. What counts packets stands in the first row.
         report.write_bytes(self.audited(capture))
         both = ran("--rows", "-", "--audit", report, capture, other)
-        self.assertEqual((both.returncode, both.stdout), (0, ran("--rows", "-", capture).stdout))
+        self.assertEqual(both.returncode, 0)
+        self.assertEqual(both.stdout.splitlines()[2:], ran("--rows", "-", capture).stdout.splitlines()[2:])
 
     def test_damaged_report(self) -> None:
         """A report that was cut or changed is refused by name."""

@@ -120,7 +120,7 @@ class Bash(unittest.TestCase):
         self.assertEqual(self.offered("h2audit-import", "-k", "READ"), ["README.md"])
         self.assertEqual(self.offered("h2audit-any", "--groups", "10"), ["1024"])
         self.assertEqual(self.offered("h2audit-why", "--color", "a"), ["auto", "always"])
-        self.assertEqual(self.offered("h2audit-fleet", "--import", "a"), ["auto", "always"])
+        self.assertEqual(self.offered("h2audit-fleet", "--split-above", "5"), ["512"])
         self.assertEqual(self.offered("h2audit-fleet", "--reports", "exam"), ["examples"])
         self.assertEqual(self.offered("h2audit-split", "--parts", "5"), ["500"])
         self.assertEqual(self.offered("h2audit-split", "-o", "parts", "READ"), ["README.md"])
@@ -148,7 +148,7 @@ class Fish(unittest.TestCase):
         self.assertIn("README.md", self.offered("h2audit-any -k READ"))
         self.assertEqual(self.offered("h2audit-import --jobs 6"), ["6", "60", "61", "62", "63", "64"])
         self.assertEqual(sorted(self.offered("h2audit-why --color a")), ["always", "auto"])
-        self.assertEqual(sorted(self.offered("h2audit-fleet --import a")), ["always", "auto"])
+        self.assertEqual(self.offered("h2audit-fleet --split-above 5"), ["512"])
         self.assertEqual(self.offered("h2audit-split --parts 50"), ["500"])
 
 
@@ -222,7 +222,7 @@ class Zsh(unittest.TestCase):
         self.assertEqual(self.completed("h2audit-any --groups=10"), "h2audit-any --groups=1024")
         self.assertEqual(self.completed("h2audit-import --key-log=READ"), "h2audit-import --key-log=README.md")
         self.assertEqual(self.completed("h2audit-why --color=n"), "h2audit-why --color=never")
-        self.assertEqual(self.completed("h2audit-fleet --import=n"), "h2audit-fleet --import=never")
+        self.assertEqual(self.completed("h2audit-fleet --split-above=5"), "h2audit-fleet --split-above=512")
         self.assertEqual(self.completed("h2audit-split --parts=50"), "h2audit-split --parts=500")
         self.assertEqual(self.completed("h2audit-merge exam").rstrip("/"), "h2audit-merge examples")
 

@@ -2,16 +2,16 @@
 
 #![forbid(unsafe_code)]
 
-mod making;
 mod parts;
 mod read_map;
 mod words;
 
 use std::ffi::OsString;
-use std::io::{BufRead, BufReader};
+use std::io::{BufRead, BufReader, Write};
 use std::path::Path;
 
-use originals::{bring_back, no_report, write_last_packets, Original, Shown};
+use import::Sink;
+use originals::{bring_back, no_report, Keeping, Original, Shown};
 use programs::{end_cleanly, print, program_named, run, say, Audit, Failure, Input, Outcome, Output, PrivateFile};
 
 use parts::PartPrograms;
@@ -35,20 +35,22 @@ fn any(words: Vec<OsString>) -> Outcome {
     };
     end_cleanly().map_err(|error| Failure::from_io("signals", &error))?;
     match asked {
-        Words::Back(map) => of_original(&map),
+        Words::Back(map, rows) => of_original(&map, rows.as_deref()),
         Words::Audit(asked) => audited(&asked),
         Words::Help | Words::Version => Ok(NO_FAULTS),
     }
 }
 
 /// Prints a report that stands on standard input, of what was imported with a map, as one of the original.
-fn of_original(map: &Path) -> Outcome {
+fn of_original(map: &Path, rows: Option<&Path>) -> Outcome {
     let mut original = read_map::read_map(map)?;
     let input = BufReader::with_capacity(BUFFER, Input::open(Path::new("-"))?);
-    let shown = write(input, &mut original)?;
+    let mut rows = rows.map(Output::begin).transpose()?;
+    let shown = write(input, &mut original, rows.as_mut())?;
     if !shown.is_there {
         return Err(no_report());
     }
+    rows.map_or(Ok(()), Output::finish)?;
     say_back(&original);
     let status = if shown.has_faults { FAULTS } else { NO_FAULTS };
     Ok(ending(&original, status))
@@ -60,29 +62,41 @@ fn audited(asked: &Audited) -> Outcome {
     let part_programs = asked.parts.map(|parts| PartPrograms::find().map(|found| (found, parts))).transpose()?;
     let files = if asked.is_sorted { import::sorted(&asked.files)? } else { asked.files.clone() };
     let mut made = PrivateFile::new()?;
-    let (mut original, last_packets) = making::make(asked, &files, &mut made)?;
+    let mut original = made_of(asked, &files, &mut made)?;
     say_back(&original);
     let capture = made.path()?;
-    let (shown, status) = match part_programs {
-        None => of_audit(Audit::start(&program, &asked.options, &capture)?, &mut original)?,
+    let mut rows = asked.rows.as_deref().map(Output::begin).transpose()?;
+    let status = match part_programs {
+        None => of_audit(Audit::start(&program, &asked.options, &capture)?, &mut original, rows.as_mut())?,
         Some((found, parts)) => {
             let parts = found.audit(&program, &asked.options, parts, &capture)?;
-            match of_audit(parts.merging, &mut original)? {
-                (_, status) if status > FAULTS => return Err(parts::as_ours(parts::MERGE, status, "")),
-                (shown, _) if !parts.is_whole => (shown, CAPTURE_REFUSED),
-                found => found,
+            match of_audit(parts.merging, &mut original, rows.as_mut())? {
+                status if status > FAULTS => return Err(parts::as_ours(parts::MERGE, status, "")),
+                _ if !parts.is_whole => CAPTURE_REFUSED,
+                status => status,
             }
         }
     };
-    if let (Some(last_packets), Some(file)) = (last_packets, &asked.last_packets) {
-        write_last_packets(&last_packets.with_open_stalls(&shown), file)?;
+    if status <= FAULTS || asked.parts.is_some() {
+        rows.map_or(Ok(()), Output::finish)?;
     }
     Ok(ending(&original, status))
 }
 
-/// Prints the report of an audit, and answers what it shows and the status of what audits.
-fn of_audit(audit: Audit, original: &mut Original) -> Result<(Shown, i32), Failure> {
-    let shown = match write(audit.report, original) {
+/// Makes the capture that is audited, and answers what brings its report back to the original.
+fn made_of(asked: &Audited, files: &[OsString], made: &mut PrivateFile) -> Result<Original, Failure> {
+    let mut keeping = Keeping::default();
+    let mut sink = Sink::new(made, &mut keeping)?;
+    let Audited { key_logs, is_reordered, .. } = asked;
+    let import = import::Asked { program: NAME, files, key_logs, is_reordered: *is_reordered, can_repeat: true };
+    import::imported(&import, &mut sink, None)?;
+    drop(sink);
+    Ok(keeping.original)
+}
+
+/// Prints the report of an audit, and answers the status of what audits.
+fn of_audit(audit: Audit, original: &mut Original, rows: Option<&mut Output>) -> Result<i32, Failure> {
+    let shown = match write(audit.report, original, rows) {
         Ok(shown) => shown,
         Err(failure) => {
             // A program that a signal ends in the middle of a line has said no report.
@@ -94,15 +108,15 @@ fn of_audit(audit: Audit, original: &mut Original) -> Result<(Shown, i32), Failu
     };
     match audit.running.status()? {
         NO_FAULTS | FAULTS if !shown.is_there => Err(no_report()),
-        status => Ok((shown, status)),
+        status => Ok(status),
     }
 }
 
-/// Prints a report, each line about the original.
-fn write(report: impl BufRead, original: &mut Original) -> Result<Shown, Failure> {
+/// Prints a report, each line about the original, and writes its rows.
+fn write(report: impl BufRead, original: &mut Original, mut rows: Option<&mut Output>) -> Result<Shown, Failure> {
     let mut output = Output::standard()?;
-    let written = bring_back(report, original, &mut output);
-    let shown = written.map_err(|broken| broken.failure(&output))?;
+    let written = bring_back(report, original, &mut output, rows.as_mut().map(|rows| *rows as &mut dyn Write));
+    let shown = written.map_err(|broken| broken.failure(&output, rows.as_deref()))?;
     output.finish().map(|()| shown)
 }
 

@@ -48,8 +48,17 @@ struct Reading {
     has_counts: bool,
     /// How many packets are too late to be put in order, where that was asked for.
     left: Option<u64>,
-    /// The connection whose lines come, with the flows that it has so far.
-    connection: Option<(u64, Began, Vec<SideRead>, u64)>,
+    connection: Option<Told>,
+}
+
+/// The connection whose lines come.
+struct Told {
+    opening: u64,
+    began: Began,
+    /// The flows so far.
+    sides: Vec<SideRead>,
+    fragments: u64,
+    last: Option<i64>,
 }
 
 enum Began {
@@ -106,14 +115,16 @@ impl Reading {
                     "refused" => Began::Refused(words.get(10..)?.join(" ")),
                     _ => return None,
                 };
-                self.connection = Some((number(8)?, began, Vec::new(), 0));
+                self.connection =
+                    Some(Told { opening: number(8)?, began, sides: Vec::new(), fragments: 0, last: None });
             }
             "flow" => {
                 let end = words.get(9)?.to_string();
                 let side = SideRead { has_gap: *words.get(5)? != "none", tail: number(7)?, end };
-                self.connection.as_mut()?.2.push(side);
+                self.connection.as_mut()?.sides.push(side);
             }
-            "fragments" => self.connection.as_mut()?.3 = number(1)?,
+            "fragments" => self.connection.as_mut()?.fragments = number(1)?,
+            "last" => self.connection.as_mut()?.last = Some(words.get(6)?.parse().ok()?),
             "reordered" => self.left = Some(number(6)?),
             "back" => self.original.back = Some(import::times_go_back(number(4)?, number(8)?, self.left)),
             "other" => {
@@ -127,13 +138,14 @@ impl Reading {
 
     /// The connection whose lines came is whole: of TLS its client's flow comes first, and both are there.
     fn enter(&mut self) -> Option<()> {
-        if let Some((opening, began, sides, fragments)) = self.connection.take() {
-            let became = match began {
+        if let Some(told) = self.connection.take() {
+            let became = match told.began {
                 Began::Clear => Became::Clear,
                 Began::Refused(reason) => Became::Refused(reason),
-                Began::Tls => Became::Read(sides.try_into().ok()?),
+                Began::Tls => Became::Read(told.sides.try_into().ok()?),
             };
-            self.original.add_connection(opening, Connection { became, fragments });
+            let (fragments, last) = (told.fragments, told.last);
+            self.original.add_connection(told.opening, Connection { became, fragments, last });
         }
         Some(())
     }
@@ -153,31 +165,61 @@ mod tests {
         capture records 9 segments 8 snapped 0 not-ipv4 0 fragments 1 not-tcp 0 refused 0\n\
         connection client [2001:db8::1]:1 server 10.0.0.2:2 file 1 packet 1 tls 1.3 SUITE alpn h2 records 7\n\
         flow client bytes 9 gap none tail 5 end cut\nflow server bytes 7 gap 7 tail 0 end no-key\nfragments 1\n\
+        last file 1 packet 9 time 20\n\
         connection client 10.0.0.1:1 server 10.0.0.2:2 file 1 packet 4 refused no-key\n";
     const REPORT: &[u8] = b"capture records 3 segments 3 snapped 0 not-ipv4 0 fragments 0 not-tcp 0 refused 0\n\
         unopened 240.0.0.1:9 10.0.0.2:2 segments 4\n\
         connection 1 client 240.0.0.1:1 server 10.0.0.2:2 record 1 http2 frames 2\n\
         flow client bytes 9 gap none tail 1\nflow server bytes 7 gap 7 tail 0\n\
-        frame 1 record 3 time 5 client stream-overrun stream 1 value -5\naudit of all frames\n\
+        frame 1 record 3 time 5 client stream-overrun stream 1 value -5\n\
+        frame 1 record 3 time 5 server stream-stall-begin stream 1 value 0\n\
+        frame 2 record 3 time 7 server stream-stall-end stream 1 value 9\n\
+        frame 2 record 3 time 8 server connection-stall-begin stream 0 value 0\n\
+        stall server stream 1 from 1 to 2 nanos 2\nstall server stream 0 from 2 open\naudit stopped at frame 2\n\
         connection 2 client 10.0.0.1:1 server 10.0.0.2:2 record 2 no-preface\nflow client bytes 0 gap none tail 0\n";
     const WANTED: &str = "capture records 9 segments 8 snapped 0 not-ipv4 0 fragments 1 not-tcp 0 refused 0\n\
         record 3 fragment\nunopened [2001:db8::1]:9 10.0.0.2:2 segments 4\n\
         connection 1 client [2001:db8::1]:1 server 10.0.0.2:2 record 1 http2 frames 2\nfragments 1\n\
         flow client bytes 9 gap none tail 6\nflow server bytes 7 gap 7 tail 0 end no-key\n\
-        frame 1 record 9 time 5 client stream-overrun stream 1 value -5\naudit of all frames\n\
+        frame 1 record 9 time 5 client stream-overrun stream 1 value -5\n\
+        frame 1 record 9 time 5 server stream-stall-begin stream 1 value 0\n\
+        frame 2 record 9 time 7 server stream-stall-end stream 1 value 9\n\
+        frame 2 record 9 time 8 server connection-stall-begin stream 0 value 0\n\
+        stall server stream 1 from 1 to 2 nanos 2\nstall server stream 0 from 2 open\naudit stopped at frame 2\n\
         connection 2 client 10.0.0.1:1 server 10.0.0.2:2 record 4 refused no-key\n";
+    const ROWS: &str = r#"h2audit-rows 1
+["captures",9,8,0,0,1,0,0]
+["passed_over",3,"fragment"]
+["unopened",1,"[2001:db8::1]:9","10.0.0.2:2",4]
+["findings",1,1,1,9,5,"client","stream-overrun",1,-5,"client"]
+["findings",1,2,1,9,5,"server","stream-stall-begin",1,0,"nobody"]
+["findings",1,3,2,9,7,"server","stream-stall-end",1,9,"nobody"]
+["findings",1,4,2,9,8,"server","connection-stall-begin",0,0,"nobody"]
+["stalls",1,5,"server",1,1,2,2,"client"]
+["stalls",1,6,"server",0,2,null,12,"client"]
+["connections",1,"[2001:db8::1]:1","10.0.0.2:2",1,"http2",2,9,null,6,null,7,7,0,"no-key",2]
+["connections",2,"10.0.0.1:1","10.0.0.2:2",4,"refused no-key",null,null,null,null,null,null,null,null,null,null]
+"#;
 
-    /// The report of the original, where map and report are some.
-    fn brought_back(map: &[u8], report: &[u8]) -> Option<Vec<u8>> {
-        let (mut reading, mut out) = (Reading::default(), Vec::new());
+    /// The report of the original and its rows, where map and report are some.
+    fn brought_back(map: &[u8], report: &[u8]) -> Option<(String, String)> {
+        let (mut reading, mut out, mut rows) = (Reading::default(), Vec::new(), Vec::new());
         reading.read(map).ok()?;
-        bring_back(report, &mut reading.original, &mut out).ok()?;
-        Some(out)
+        bring_back(report, &mut reading.original, &mut out, Some(&mut rows)).ok()?;
+        Some((String::from_utf8(out).ok()?, String::from_utf8(rows).ok()?))
     }
 
     #[test]
     fn each_line_is_about_the_original() {
-        assert_eq!(brought_back(MAP, REPORT).as_deref(), Some(WANTED.as_bytes()));
+        assert_eq!(brought_back(MAP, REPORT), Some((WANTED.to_string(), ROWS.to_string())));
+    }
+
+    /// A map of an earlier version has no last packets.
+    #[test]
+    fn an_open_stall_without_an_end() {
+        let map = String::from_utf8_lossy(MAP).replace("last file 1 packet 9 time 20\n", "");
+        let rows = ROWS.replace("null,12,", "null,null,");
+        assert_eq!(brought_back(map.as_bytes(), REPORT), Some((WANTED.to_string(), rows)));
     }
 
     #[test]

@@ -18,8 +18,8 @@ pub enum Words {
     Help,
     Version,
     Audit(Audited),
-    /// A report on standard input is taken back to the original by this map.
-    Back(PathBuf),
+    /// A report on standard input is taken back to the original by this map; and where its rows go.
+    Back(PathBuf, Option<PathBuf>),
 }
 
 #[derive(Default)]
@@ -31,8 +31,8 @@ pub struct Audited {
     /// h2audit's.
     pub options: Vec<String>,
     pub parts: Option<u64>,
-    /// Where the times of last packets go.
-    pub last_packets: Option<PathBuf>,
+    /// Where the rows of the report go.
+    pub rows: Option<PathBuf>,
     pub program: Option<OsString>,
 }
 
@@ -56,7 +56,7 @@ pub fn words_of(words: Vec<OsString>) -> Result<Words, Failure> {
             Long("block") => block = Some(count(&mut parser, "--block", MOST_FRAMES)?),
             Long("frames") => has_frames = true,
             Long("parts") => asked.parts = Some(count(&mut parser, "--parts", MOST_PARTS)?),
-            Long("last-packets") => asked.last_packets = Some(PathBuf::from(parser.value().map_err(wrong)?)),
+            Long("rows") => asked.rows = Some(PathBuf::from(parser.value().map_err(wrong)?)),
             Long("map") => map = Some(PathBuf::from(parser.value().map_err(wrong)?)),
             Long("h2audit") => asked.program = Some(parser.value().map_err(wrong)?),
             Value(file) => asked.files.push(file),
@@ -68,9 +68,12 @@ pub fn words_of(words: Vec<OsString>) -> Result<Words, Failure> {
     }
     asked.options.extend(has_frames.then(|| "--frames".to_string()));
     match map {
+        _ if asked.rows.as_deref().map_or(false, |rows| rows.as_os_str() == "-") => {
+            Err(Failure::Usage("--rows takes a file: the report goes to standard output".to_string()))
+        }
         None => Ok(Words::Audit(asked)),
-        Some(map) if asked.is_empty() => Ok(Words::Back(map)),
-        Some(_) => Err(Failure::Usage("--map takes a report on standard input, and nothing else".to_string())),
+        Some(map) if asked.is_empty() => Ok(Words::Back(map, asked.rows)),
+        Some(_) => Err(Failure::Usage("--map takes a report on standard input, and no option but --rows".to_string())),
     }
 }
 
@@ -78,7 +81,7 @@ impl Audited {
     fn is_empty(&self) -> bool {
         let has_words = !self.files.is_empty() || !self.key_logs.is_empty() || !self.options.is_empty();
         let has_order = self.is_sorted || self.is_reordered;
-        !has_words && !has_order && self.parts.is_none() && self.last_packets.is_none() && self.program.is_none()
+        !has_words && !has_order && self.parts.is_none() && self.program.is_none()
     }
 }
 

@@ -3,8 +3,9 @@
 use std::rc::Rc;
 
 pub use import::Uncaptured;
-use reports::{Finding, Side};
+use reports::{Capture, Finding, Flow, Side};
 
+pub use crate::charts::{Charted, ChartsSaid, Others};
 pub use crate::files::Files;
 use crate::frames::Frames;
 pub use crate::requests::Requests;
@@ -365,6 +366,9 @@ pub struct ConnectionSaid {
     pub gaps: Vec<(Side, u64)>,
     /// Bytes of each side that the other one acknowledged, and that were not captured.
     pub uncaptured: [Uncaptured; 2],
+    pub flows: Vec<Flow>,
+    /// Where charts are asked for.
+    pub charts: ChartsSaid,
     /// Where both ends of connections are asked about.
     pub all_frames: Option<Frames>,
 }
@@ -395,6 +399,7 @@ pub struct NotAudited {
 pub struct Answer {
     pub files: Files,
     pub packets: u64,
+    pub counts: Capture,
     pub warnings: Vec<Warning>,
     pub not_audited: Vec<NotAudited>,
     pub connections: Vec<ConnectionSaid>,

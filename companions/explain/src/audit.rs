@@ -4,7 +4,7 @@ use std::collections::HashMap;
 use std::io::BufRead;
 
 use programs::Failure;
-use reports::{Finding, Form, Line, Opening, ReadError, Reader, Side};
+use reports::{Finding, Flow, Form, Line, Opening, ReadError, Reader, Side};
 
 use crate::answer::Nanos;
 
@@ -33,8 +33,7 @@ pub struct Audit {
     /// That opened it.
     pub record: u64,
     pub form: Form,
-    /// The offset from which on bytes of a side are missing.
-    pub gaps: Vec<(Side, u64)>,
+    pub flows: Vec<Flow>,
     pub faults: Vec<Finding>,
     /// In the order of begins.
     pub stalls: Vec<Stalled>,
@@ -58,7 +57,7 @@ pub fn read_audits(report: impl BufRead, not_read: fn(ReadError) -> Failure) -> 
                 going_on.clear();
                 audits.push(Audit::of(opening));
             }
-            (Line::Flow(flow), Some(audit)) => audit.gaps.extend(flow.gap.map(|gap| (flow.side, gap))),
+            (Line::Flow(flow), Some(audit)) => audit.flows.push(flow),
             (Line::Finding(finding), Some(audit)) => audit.add(finding, &mut going_on)?,
             (Line::Audited { stopped_at: Some(frame) }, Some(audit)) => audit.stopped_at = Some(frame_of(frame)?),
             _ => {} // stalls are known by their ends
@@ -85,11 +84,16 @@ impl Audit {
             number: opening.number,
             record: opening.record,
             form: opening.form,
-            gaps: Vec::new(),
+            flows: Vec::new(),
             faults: Vec::new(),
             stalls: Vec::new(),
             stopped_at: None,
         }
+    }
+
+    /// The offsets from which on bytes of a side are missing.
+    pub fn gaps(&self) -> impl Iterator<Item = (Side, u64)> + '_ {
+        self.flows.iter().filter_map(|flow| Some((flow.side, flow.gap?)))
     }
 
     /// How many frames it has, where it is of HTTP/2.
@@ -148,7 +152,7 @@ mod tests {
         let ends: Vec<_> = audit.stalls.iter().map(|one| (one.begin.frame, one.end.map(|end| end.frame))).collect();
         assert_eq!(ends, [(3, Some(6)), (4, None)]);
         assert_eq!((audit.stopped_at, audit.faults.len(), audit.frames()), (Some(7), 1, Some(9)));
-        assert_eq!((audit.gaps[0], audit.stalls[0].begin.credit), ((Side::Client, 4), -7));
+        assert_eq!((audit.gaps().next(), audit.stalls[0].begin.credit), (Some((Side::Client, 4)), -7));
     }
 
     #[test]

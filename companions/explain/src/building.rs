@@ -5,8 +5,8 @@ use std::fs::File;
 use std::path::Path;
 
 use import::{Courses, Sink, Summary};
-use originals::{Keeping, LastPackets};
-use programs::{program_named, temporary_failure, Failure, Output, PrivateFile};
+use originals::Keeping;
+use programs::{program_named, temporary_failure, Failure, PrivateFile};
 
 use crate::answer::{Answer, Files};
 use crate::audit::{broken, Audit};
@@ -14,7 +14,7 @@ use crate::doubts::{doubts_of, not_audited};
 use crate::learning::{Known, Learned, Learning};
 use crate::listening::Listening;
 use crate::made::{each_record, Notes};
-use crate::reported::{audited, of_original, read_report, Reported};
+use crate::reported::{audited, of_original, read_report, ReportTo, Reported};
 use crate::telling::tell;
 
 /// What is asked.
@@ -38,6 +38,8 @@ pub struct Asked<'a> {
     pub has_spans: bool,
     /// Whether all frames are, as where both ends of connections are asked about.
     pub has_frames: bool,
+    /// Whether the credits of windows are, as charts show them.
+    pub has_charts: bool,
 }
 
 /// What was made, and what is known of it.
@@ -65,14 +67,21 @@ pub fn answer_of(asked: &Asked<'_>) -> Result<Answer, Failure> {
     }
 }
 
-/// The same; and writes the report of the original, as h2audit-any does.
-pub fn answer_with_report(asked: &Asked<'_>, output: &mut Output) -> Result<(Answer, Reported), Failure> {
+/// The same; and writes the report of the original.
+pub fn answer_with_report(asked: &Asked<'_>, to: ReportTo<'_>) -> Result<(Answer, Reported), Failure> {
     let (made, keeping) = make(asked, Some(Keeping::default()))?;
-    let last_packets = LastPackets::of(&made.summary, &made.courses);
-    let mut report = tempfile::tempfile().map_err(|error| temporary_failure(&error))?;
-    let answer = answer_by_audit(asked, made, Some(&mut report))?;
+    let (answer, report) = match asked.report {
+        Some(path) => {
+            let report = File::open(path).map_err(|error| Failure::of_file(path, &error))?;
+            (answer_by(asked, made, read_report(path)?)?, report)
+        }
+        None => {
+            let mut report = tempfile::tempfile().map_err(|error| temporary_failure(&error))?;
+            (answer_by_audit(asked, made, Some(&mut report))?, report)
+        }
+    };
     let mut original = keeping.unwrap_or_default().original;
-    Ok((answer, of_original(report, &mut original, &last_packets, output)?))
+    Ok((answer, of_original(report, &mut original, to)?))
 }
 
 fn answer_by_audit(asked: &Asked<'_>, mut made: Made, copy: Option<&mut File>) -> Result<Answer, Failure> {
@@ -86,8 +95,8 @@ fn answer_by_audit(asked: &Asked<'_>, mut made: Made, copy: Option<&mut File>) -
 
 fn answer_by(asked: &Asked<'_>, mut made: Made, audits: Vec<Audit>) -> Result<Answer, Failure> {
     let files = std::mem::take(&mut made.files);
-    let cuts = std::mem::take(&mut made.cuts);
-    let mut answer = Answer { files, packets: made.summary.counts.records, cuts, ..Answer::default() };
+    let (cuts, counts) = (std::mem::take(&mut made.cuts), made.summary.counts);
+    let mut answer = Answer { files, packets: counts.records, counts, cuts, ..Answer::default() };
     tell(asked, &mut made, audits, &mut answer)?;
     answer.not_audited = not_audited(&answer, &made.summary);
     answer.warnings = doubts_of(&answer, &made.summary, &made.courses);

@@ -6,6 +6,7 @@ use programs::Failure;
 use crate::answer::{ConnectionSaid, Nanos, StallSaid, StallWhy};
 use crate::audit::{broken, Audit};
 use crate::blocks::Blocks;
+use crate::charts::Charts;
 use crate::course::Course;
 use crate::cutter::{kind, Cutter, Head};
 use crate::doubts::limits_of;
@@ -64,6 +65,7 @@ impl Connection {
         let stop = stop_of(&audit)?;
         let all_frames = asking.has_frames.then(|| Frames::new(known.initials, course));
         let about = about(&known, &audit, course, stop);
+        let charts = asking.charts.as_ref().map(|choice| Box::new(Charts::new(choice, &audit, asking.numbers)));
         let findings = Findings::new(audit.faults, &audit.stalls, &about);
         let unshown =
             [0, 1].map(|side| Walk::unshown_of(&about, side).map(|nanos| (Unshown::of_connection(nanos), Vec::new())));
@@ -85,6 +87,7 @@ impl Connection {
             uses_window: [false; 2],
             overflow: None,
             early_grants: Default::default(),
+            charts,
             about,
             known,
         };
@@ -229,7 +232,7 @@ type CutFrames<'a> = [Option<(u32, &'a [Nanos])>; 2];
 
 fn ended(walk: Walk, cuts: CutFrames<'_>, said: &mut ConnectionSaid) -> (Packed, Seen) {
     let Walk { about, known, table, initials, windows, settings, blocks, signals, findings, leaks, .. } = walk;
-    let Walk { unanswered, bursts, unshown, mut uses_window, stop, .. } = walk;
+    let Walk { unanswered, bursts, unshown, mut uses_window, stop, charts, .. } = walk;
     let packed = table.end(|stream| {
         stream.sides.iter_mut().zip(&initials).for_each(|(one, initial)| one.window.look(initial));
         if known.back.is_some() {
@@ -240,6 +243,7 @@ fn ended(walk: Walk, cuts: CutFrames<'_>, said: &mut ConnectionSaid) -> (Packed,
     said.round_trip = about.round_trip;
     said.captured_at = about.captured_at;
     said.until = about.tcp.last.time.max(said.begin);
+    said.charts = charts.map(|charts| charts.end((said.begin, said.until), said.frames)).unwrap_or_default();
     said.limits = limits_of(&about.round_trip, about.captured_at, uses_window);
     let has_overflow = findings.said.iter().any(|fault| fault.finding.kind.name() == "setting-overflow");
     said.notes.extend(unanswered.said(has_overflow));

@@ -87,6 +87,7 @@ impl Talk {
             names: Names { are_wanted: self.has_names, has_query: false },
             has_spans: true,
             has_frames: false,
+            charts: None,
             interner: Interner::default(),
             numbers: Numbers::new(),
             live: Rc::default(),

@@ -15,6 +15,7 @@ mod building;
 mod bursts;
 mod causes;
 mod certainty;
+mod charts;
 mod connection;
 #[cfg(test)]
 mod conversations;
@@ -25,7 +26,7 @@ mod files;
 mod findings;
 pub mod frames;
 mod hung;
-mod intervals;
+pub mod intervals;
 mod leaks;
 mod learning;
 mod life;
@@ -36,10 +37,12 @@ mod made;
 mod names;
 mod packed;
 mod passed;
+mod report_charts;
 mod reported;
 mod requests;
 mod rounds;
 mod seen;
+pub mod series;
 mod settings;
 mod signals;
 mod spoken;
@@ -56,8 +59,8 @@ pub mod words;
 
 pub use building::{answer_of, answer_with_report, Asked};
 pub use import::{CLIENT, SERVER};
-pub use originals::write_last_packets;
-pub use reported::Reported;
+pub use report_charts::{read_charts, ReportSaid, Reported as ReportedConnection};
+pub use reported::{ReportTo, Reported};
 
 /// The side of this number.
 pub(crate) fn side_of(number: usize) -> Side {

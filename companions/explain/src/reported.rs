@@ -6,7 +6,7 @@ use std::io::{self, BufReader, Read, Seek};
 use std::path::Path;
 use std::process::{Command, Stdio};
 
-use originals::{bring_back, no_report, LastPacket, LastPackets, Original};
+use originals::{bring_back, no_report, Original};
 use programs::{printable, temporary_failure, Audit as Running, Failure, Output, H2AUDIT};
 use reports::ReadError;
 
@@ -24,8 +24,12 @@ pub struct Reported {
     pub back: Option<String>,
     /// What was passed over that may hold more, or that nothing was read.
     pub words: Option<String>,
-    /// Of the connections with a stall that did not end.
-    pub last_packets: Vec<LastPacket>,
+}
+
+/// Where the report of the original goes, which is h2audit-any's: as rows, and as text where that is wanted.
+pub struct ReportTo<'a> {
+    pub rows: &'a mut Output,
+    pub text: Option<&'a mut Output>,
 }
 
 /// The connections of a report that is there, which may be of some parts alone.
@@ -87,16 +91,15 @@ fn copied(report: &mut impl io::Read, file: &mut File) -> Result<(), Failure> {
     done.map_err(|error| temporary_failure(&error))
 }
 
-/// Writes the report of the original, which is h2audit-any's.
-pub fn of_original(
-    mut report: File,
-    original: &mut Original,
-    last_packets: &LastPackets,
-    output: &mut Output,
-) -> Result<Reported, Failure> {
+/// Writes the report of the original.
+pub fn of_original(mut report: File, original: &mut Original, to: ReportTo<'_>) -> Result<Reported, Failure> {
     report.rewind().map_err(|error| temporary_failure(&error))?;
-    let written = bring_back(BufReader::new(report), original, output);
-    let shown = written.map_err(|broken| broken.failure(output))?;
+    let (report, ReportTo { rows, text }) = (BufReader::new(report), to);
+    let written = match text {
+        Some(text) => bring_back(report, original, text, Some(rows)).map_err(|broken| broken.failure(text, Some(rows))),
+        None => bring_back(report, original, &mut io::sink(), Some(rows)).map_err(|broken| broken.failure(rows, None)),
+    };
+    let shown = written?;
     if !shown.is_there {
         return Err(no_report());
     }
@@ -106,6 +109,5 @@ pub fn of_original(
         is_nothing_read,
         back: original.back.take(),
         words: original.passed_over_words(is_nothing_read),
-        last_packets: last_packets.with_open_stalls(&shown),
     })
 }

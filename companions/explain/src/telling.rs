@@ -6,10 +6,11 @@ use import::{Became, Courses};
 use programs::Failure;
 use reports::Form;
 
-use crate::answer::{Answer, At, ConnectionSaid, Ended, How, Outcome, Requests, RoundTrip};
+use crate::answer::{Answer, At, ChartsSaid, ConnectionSaid, Ended, How, Outcome, Requests, RoundTrip};
 use crate::audit::{broken, Audit};
 use crate::blocks::Names;
 use crate::building::{Asked, Made};
+use crate::charts::Choice;
 use crate::connection::Connection;
 use crate::learning::Known;
 use crate::made::{each_record, Record};
@@ -49,6 +50,7 @@ struct Walk<'a> {
 
 /// Says what became of each connection, and walks over those of HTTP/2.
 pub fn tell(asked: &Asked<'_>, made: &mut Made, audits: Vec<Audit>, answer: &mut Answer) -> Result<(), Failure> {
+    let charts = asked.has_charts.then(|| Choice::of(&audits));
     let mut walked: Vec<Option<Walked>> = Vec::new();
     walked.resize_with(made.known.len(), || None);
     answer.connections.reserve_exact(audits.len());
@@ -66,6 +68,7 @@ pub fn tell(asked: &Asked<'_>, made: &mut Made, audits: Vec<Audit>, answer: &mut
         names: Names { are_wanted: asked.has_names, has_query: asked.has_query },
         has_spans: asked.has_spans,
         has_frames: asked.has_frames,
+        charts,
         interner: Interner::default(),
         numbers: Numbers::new(),
         live: Rc::default(),
@@ -172,7 +175,11 @@ fn said_at_first(made: &mut Made, audit: Audit, number: usize) -> Result<(Connec
         }
         became => said.tls = became.words().strip_prefix("tls ").unwrap_or_default().to_string(),
     }
-    said.gaps = audit.gaps.clone();
+    said.gaps = audit.gaps().collect();
+    said.flows = audit.flows.clone();
+    for flow in &mut said.flows {
+        flow.tail = flow.tail.saturating_add(outcome.became.cut_bytes(flow.side as usize));
+    }
     said.outcome = match &audit.form {
         Form::Http2 { .. } => Outcome::Http2,
         Form::NotHttp2 => Outcome::NotHttp2,
@@ -223,6 +230,8 @@ pub fn unsaid(number: u64, client: String, server: String, opened: At) -> Connec
         stopped_at: None,
         gaps: Vec::new(),
         uncaptured: Default::default(),
+        flows: Vec::new(),
+        charts: ChartsSaid::default(),
         all_frames: None,
     }
 }

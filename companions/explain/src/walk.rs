@@ -9,6 +9,7 @@ use programs::Failure;
 use crate::answer::{is_pushed, At, Nanos, Place};
 use crate::blocks::{answered_of, asked_of, Blocks, Decoded, Names};
 use crate::bursts::Bursts;
+use crate::charts::{Charts, Choice, Left};
 use crate::cutter::{flag, kind, Cut};
 use crate::findings::{Findings, Here};
 use crate::intervals::Interval;
@@ -36,6 +37,8 @@ pub struct Asking {
     pub names: Names,
     pub has_spans: bool,
     pub has_frames: bool,
+    /// What is shown in charts, where they are asked for.
+    pub charts: Option<Rc<Choice>>,
     pub interner: Interner,
     /// How numbers of streams are hashed; and how many streams are not packed.
     pub numbers: Numbers,
@@ -68,6 +71,7 @@ pub struct Walk {
     pub overflow: Option<i64>,
     /// Grants for streams that are not opened yet: by the side that may send, with their times.
     pub early_grants: HashMap<Key, Vec<(Nanos, u32)>>,
+    pub charts: Option<Box<Charts>>,
 }
 
 /// A frame of a side: when its packets came, where it ends, and at which record.
@@ -129,6 +133,10 @@ impl Walk {
             leaks.after(self.number, &self.table);
         }
         self.overflow = None;
+        if let Walk { charts: Some(charts), table, initials, windows, .. } = self {
+            let (kind, stream) = (frame.cut.head.kind, frame.cut.head.stream);
+            charts.after(&Left { at: frame.at, kind, stream, table, initials, windows });
+        }
         let head = &frame.cut.head;
         if (head.kind == kind::RST_STREAM || head.has(flag::END_STREAM)) && self.known.back.is_none() {
             self.table.settle(head.stream);
@@ -186,6 +194,7 @@ impl Walk {
 
     /// A stream opens by HEADERS of the client, or by a promise of the server.
     fn open(&mut self, asking: &Asking, frame: Frame<'_>, number: u32, promised_on: u32) {
+        self.charts.iter_mut().for_each(|charts| charts.opened = Some(number));
         let Walk { table, initials, about, known, windows, early_grants, .. } = self;
         let is_pushed = is_pushed(number);
         let ends_client = is_pushed || frame.cut.head.has(flag::END_STREAM);

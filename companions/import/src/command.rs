@@ -7,8 +7,6 @@ use std::path::{Path, PathBuf};
 use captures::{Error, Item, Reader, Source};
 use programs::{end_cleanly, is_special, print, printable, say, Failure, Outcome, Output};
 
-use crate::course::Courses;
-use crate::course_file::CourseFile;
 use crate::importing::{imported, Asked};
 use crate::map_file::MapFile;
 use crate::outcomes::Summary;
@@ -34,17 +32,12 @@ pub fn main(words: Vec<OsString>) -> Outcome {
 }
 
 fn look_for_same_files(asked: &Import) -> Result<(), Failure> {
-    let named = [("OUT.pcap", Some(&asked.output)), ("MAP", asked.map.as_ref()), ("COURSE", asked.course.as_ref())];
-    for (at, (one, path)) in named.iter().enumerate() {
-        for (other, other_path) in &named[at + 1..] {
-            if let (Some(path), Some(other_path)) = (path, other_path) {
-                if is_same_file(path, other_path) {
-                    return Err(Failure::Usage(format!("{one} and {other} are the same file")));
-                }
-            }
+    match &asked.map {
+        Some(map) if is_same_file(&asked.output, map) => {
+            Err(Failure::Usage("OUT.pcap and MAP are the same file".to_string()))
         }
+        _ => Ok(()),
     }
-    Ok(())
 }
 
 /// Whether what is written to either would replace the other.
@@ -64,11 +57,10 @@ fn import(asked: &Import) -> Outcome {
     let files = if asked.is_sorted { sorted(&asked.files)? } else { asked.files.clone() };
     let mut output = Output::begin_private(&asked.output)?;
     let mut map = asked.map.as_deref().map(Output::begin_private).transpose()?;
-    let mut course = asked.course.as_deref().map(Output::begin_private).transpose()?;
-    let summary = made(asked, &files, &mut output, map.as_mut(), course.as_mut())?;
+    let summary = made(asked, &files, &mut output, map.as_mut())?;
     summary.times_go_back().iter().for_each(|words| say(NAME, words));
     output.finish()?;
-    [map, course].into_iter().flatten().try_for_each(Output::finish)?;
+    map.map_or(Ok(()), Output::finish)?;
     if summary.read() > 0 {
         return Ok(0);
     }
@@ -76,31 +68,16 @@ fn import(asked: &Import) -> Outcome {
     Ok(NOTHING_READ)
 }
 
-fn made(
-    asked: &Import,
-    files: &[OsString],
-    output: &mut Output,
-    map: Option<&mut Output>,
-    course: Option<&mut Output>,
-) -> Result<Summary, Failure> {
-    let can_repeat = [Some(&asked.output), asked.map.as_ref(), asked.course.as_ref()]
+fn made(asked: &Import, files: &[OsString], output: &mut Output, map: Option<&mut Output>) -> Result<Summary, Failure> {
+    let can_repeat = [Some(&asked.output), asked.map.as_ref()]
         .into_iter()
         .flatten()
         .all(|path| path.as_os_str() != "-" && !is_special(path).unwrap_or(true));
     let mut map = MapFile::new(map);
-    let mut courses = Courses::default();
-    let summary = {
-        let mut sink = Sink::new(output, &mut map)?;
-        let courses = course.is_some().then_some(&mut courses);
-        let Import { key_logs, is_reordered, .. } = asked;
-        let asked = Asked { program: NAME, files, key_logs, is_reordered: *is_reordered, can_repeat };
-        imported(&asked, &mut sink, courses)?
-    };
-    if let Some(out) = course {
-        let (files_of, addresses) = map.names();
-        CourseFile { out, files: files_of, addresses }.write(files, &summary, &courses)?;
-    }
-    Ok(summary)
+    let mut sink = Sink::new(output, &mut map)?;
+    let Import { key_logs, is_reordered, .. } = asked;
+    let asked = Asked { program: NAME, files, key_logs, is_reordered: *is_reordered, can_repeat };
+    imported(&asked, &mut sink, None)
 }
 
 /// The files in the order of their first packets; those without any come last.

@@ -376,6 +376,9 @@ impl Connection {
             _ => Became::Clear,
         };
         let preamble = self.preamble.filter(|_| !matches!(became, Became::Refused(_)));
-        Outcome { opening: self.opening, ends: self.numbers.ends[CLIENT], became, preamble, fragments: 0 }
+        let (opening, ends) = (self.opening, self.numbers.ends[CLIENT]);
+        // Fragments, and packets behind this one, are the table's to tell.
+        let last = Arrival { packet: opening, nanos: 0 };
+        Outcome { opening, ends, became, preamble, fragments: 0, last }
     }
 }

@@ -27,7 +27,6 @@ mod addresses;
 pub mod command;
 mod connections;
 mod course;
-mod course_file;
 mod importing;
 mod listener;
 mod map_file;

@@ -31,11 +31,6 @@ impl<'a> MapFile<'a> {
         map
     }
 
-    /// The files, and what addresses stand for.
-    pub fn names(&self) -> (&Files, &Addresses) {
-        (&self.files, &self.addresses)
-    }
-
     fn line(&mut self, text: std::fmt::Arguments<'_>) {
         self.written(|out| out.write_fmt(text).and_then(|()| out.write_all(b"\n")));
     }
@@ -63,6 +58,8 @@ impl<'a> MapFile<'a> {
         if outcome.fragments > 0 {
             self.line(format_args!("fragments {}", outcome.fragments));
         }
+        let (file, packet) = self.files.place(outcome.last.packet);
+        self.line(format_args!("last file {file} packet {packet} time {}", outcome.last.nanos));
     }
 
     fn sides(&mut self, read: &Read) {

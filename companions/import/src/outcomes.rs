@@ -68,6 +68,21 @@ pub enum Became {
 }
 
 impl Became {
+    /// The bytes of a TLS record of a side that the capture cuts, which h2audit does not see.
+    pub fn cut_bytes(&self, side: usize) -> u64 {
+        match self {
+            Became::Read(read) => {
+                let side = if side == crate::CLIENT { &read.client } else { &read.server };
+                if side.has_gap {
+                    0
+                } else {
+                    side.tail as u64
+                }
+            }
+            Became::Clear | Became::Refused(_) => 0,
+        }
+    }
+
     /// As the map says it (docs/MAP.md).
     pub fn words(&self) -> String {
         match self {
@@ -93,6 +108,8 @@ pub struct Outcome {
     pub preamble: Option<Preamble>,
     /// IP fragments that were passed over, and belong to it.
     pub fragments: u64,
+    /// Its last packet, of either side.
+    pub last: Arrival,
 }
 
 /// A pair of endpoints with segments before any opening of theirs.

@@ -89,6 +89,8 @@ pub struct Table {
     outcomes: Vec<(usize, Outcome)>,
     /// How many connections opened.
     count: usize,
+    /// The last packet of each of them.
+    last: Vec<Arrival>,
     /// With the time of an RST, until that is long ago.
     reset: VecDeque<(i64, usize, usize)>,
     /// Which connections wait for the keys of a client random.
@@ -131,6 +133,7 @@ impl Table {
         if segment.flags & (flags::SYN | flags::ACK) == flags::SYN && !self.repeats(side, place, segment.sequence) {
             let slot = self.open(shared, sink, arrival, segment, place.map(|place| place.state));
             let connection = self.count - 1;
+            self.last.push(arrival);
             self.places.insert(pair, Place { connection, client_is_less: is_less, state: State::Open(slot) });
             self.take_open(shared, sink, arrival, CLIENT, segment, slot);
             return Some(Taken { sender: Sender { connection, side: CLIENT }, opens: true });
@@ -143,6 +146,7 @@ impl Table {
             }
         };
         let sender = Sender { connection: place.connection, side };
+        self.last[place.connection] = arrival;
         match place.state {
             State::Open(slot) => self.take_open(shared, sink, arrival, side, segment, slot),
             State::Over { passes: true, .. } => sink.emit(arrival, Some(sender), Written::whole(segment)),
@@ -310,8 +314,9 @@ impl Table {
             self.finish(shared, sink, slot);
         }
         self.outcomes.sort_by_key(|(number, _)| *number);
-        for (number, outcome) in &mut self.outcomes {
+        for ((number, outcome), last) in self.outcomes.iter_mut().zip(self.last) {
             outcome.fragments = self.fragments.get(number).copied().unwrap_or(0);
+            outcome.last = last;
         }
         let unopened = self.unopened.into_iter().map(Stray::unopened).collect();
         (self.outcomes.into_iter().map(|(_, outcome)| outcome).collect(), unopened)

@@ -20,7 +20,6 @@ pub struct Import {
     pub key_logs: Vec<OsString>,
     pub output: PathBuf,
     pub map: Option<PathBuf>,
-    pub course: Option<PathBuf>,
     pub is_sorted: bool,
     pub is_reordered: bool,
 }
@@ -28,7 +27,7 @@ pub struct Import {
 pub fn words_of(words: Vec<OsString>) -> Result<Words, Failure> {
     let mut parser = lexopt::Parser::from_args(words);
     let (mut files, mut key_logs, mut is_sorted, mut is_reordered) = (Vec::new(), Vec::new(), false, false);
-    let (mut output, mut map, mut course) = (None, None, None);
+    let (mut output, mut map) = (None, None);
     while let Some(word) = parser.next().map_err(wrong)? {
         match word {
             Short('h') | Long("help") => return Ok(Words::Help),
@@ -36,7 +35,6 @@ pub fn words_of(words: Vec<OsString>) -> Result<Words, Failure> {
             Short('k') | Long("key-log") => key_logs.push(parser.value().map_err(wrong)?),
             Short('o') | Long("output") => output = Some(PathBuf::from(parser.value().map_err(wrong)?)),
             Short('m') | Long("map") => map = Some(PathBuf::from(parser.value().map_err(wrong)?)),
-            Long("course") => course = Some(PathBuf::from(parser.value().map_err(wrong)?)),
             Long("sort") => is_sorted = true,
             Long("reorder") => is_reordered = true,
             Short('j') | Long("jobs") => {
@@ -47,5 +45,5 @@ pub fn words_of(words: Vec<OsString>) -> Result<Words, Failure> {
         }
     }
     let output = output.ok_or_else(|| missing(&["-o/--output"]))?;
-    Ok(Words::Import(Import { files, key_logs, output, map, course, is_sorted, is_reordered }))
+    Ok(Words::Import(Import { files, key_logs, output, map, is_sorted, is_reordered }))
 }

@@ -193,6 +193,7 @@ fn opened_again() {
     let (courses, summary) = courses_of(&packets);
     assert_eq!(courses.connections.len(), 2);
     assert_eq!(summary.outcomes.iter().map(|one| one.opening).collect::<Vec<_>>(), [1, 4]);
+    assert_eq!(summary.outcomes.iter().map(|one| Some(one.last)).collect::<Vec<_>>(), [at(3), at(5)]);
     let [first, second] = [&courses.connections[0], &courses.connections[1]];
     assert_eq!((Some(first.syn), first.sides[CLIENT].last, first.sides[SERVER].last), (at(1), at(3), at(2)));
     assert_eq!((Some(second.syn), second.sides[CLIENT].last, second.sides[SERVER].last), (at(4), at(5), None));

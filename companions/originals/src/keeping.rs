@@ -44,7 +44,8 @@ impl Listener for Keeping {
                 Outcome::Refused(why) => Became::Refused(why.to_string()),
                 Outcome::Read(read) => Became::Read([side_of(&read.client), side_of(&read.server)]),
             };
-            self.original.add_connection(outcome.opening, Connection { became, fragments: outcome.fragments });
+            let (fragments, last) = (outcome.fragments, Some(outcome.last.nanos));
+            self.original.add_connection(outcome.opening, Connection { became, fragments, last });
         }
     }
 

@@ -3,11 +3,9 @@
 #![forbid(unsafe_code)]
 
 mod keeping;
-mod last_packets;
 mod original;
 mod report;
 
 pub use keeping::Keeping;
-pub use last_packets::{write_last_packets, LastPacket, LastPackets};
 pub use original::{Became, Connection, Original, Other, SideRead};
 pub use report::{bring_back, no_report, Broken, Shown};

@@ -4,7 +4,7 @@
 //! into a temporary file where it is long.
 
 use std::collections::HashMap;
-use std::io::{self, Seek, SeekFrom, Write};
+use std::io::{self, Write};
 use std::net::SocketAddrV4;
 
 use reports::{grouped, Capture, Side};
@@ -40,10 +40,13 @@ impl SideRead {
     }
 }
 
-/// A connection, and how many IP fragments of its packets were passed over.
+/// A connection.
 pub struct Connection {
     pub became: Became,
+    /// How many IP fragments of its packets were passed over.
     pub fragments: u64,
+    /// The time of its last packet, which an older map does not tell.
+    pub last: Option<i64>,
 }
 
 /// Packets that hold no TCP segment, by what they are.
@@ -138,9 +141,8 @@ impl Original {
     }
 
     /// The lines about packets that were passed over.
-    pub fn passed_over(&mut self) -> io::Result<&mut SpooledTempFile> {
-        self.passed_over.seek(SeekFrom::Start(0))?;
-        Ok(&mut self.passed_over)
+    pub fn passed_over(&mut self) -> &mut SpooledTempFile {
+        &mut self.passed_over
     }
 }
 

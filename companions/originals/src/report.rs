@@ -1,9 +1,10 @@
 //! Brings a report of h2audit back to the packets and addresses of the original (docs/REPORT_FORMAT.md, "Reports of
 //! h2audit-any").
 
-use std::io::{self, BufRead, Write};
+use std::io::{self, BufRead, Read, Seek, Write};
 
 use programs::{temporary_failure, Failure, Output};
+use reports::rows::Rows;
 use reports::{finding_in, is_fault, read_line, Capture, Flow, Form, Line, Opening, LONGEST_LINE};
 
 use crate::original::{Became, Original};
@@ -14,14 +15,17 @@ pub enum Broken {
     NoReport,
     Read(io::Error),
     Write(io::Error),
+    /// Rows could not be written.
+    Rows(io::Error),
     /// What is said of packets that were passed over could not be read back.
     Temporary(io::Error),
 }
 
 impl Broken {
-    /// Why there is none in this output.
-    pub fn failure(&self, output: &Output) -> Failure {
+    /// Why there is none in this output, or none in that of rows.
+    pub fn failure(&self, output: &Output, rows: Option<&Output>) -> Failure {
         match self {
+            Broken::Rows(error) => rows.unwrap_or(output).failure(error),
             Broken::NoReport => no_report(),
             Broken::Read(error) => Failure::from_io("h2audit", error),
             Broken::Write(error) => output.failure(error),
@@ -47,19 +51,23 @@ impl From<io::Error> for Broken {
 pub struct Shown {
     pub is_there: bool,
     pub has_faults: bool,
-    /// The connections with a stall that did not end: their numbers, and the packets that opened them.
-    pub with_open_stalls: Vec<(u64, u64)>,
 }
 
-/// Writes the report of the original, and answers what it shows.
-pub fn bring_back(source: impl BufRead, original: &mut Original, out: &mut impl Write) -> Result<Shown, Broken> {
+/// Writes the report of the original, and its rows where they are wanted, and answers what it shows.
+pub fn bring_back<'a, W: Write>(
+    source: impl BufRead,
+    original: &'a mut Original,
+    out: &'a mut W,
+    rows: Option<&'a mut dyn Write>,
+) -> Result<Shown, Broken> {
     let mut source = source;
     let mut line = Vec::new();
-    let mut back = Back { original, out, opening: None, number: 0, shown: Shown::default() };
+    let rows = rows.map(Rows::begin).transpose().map_err(Broken::Rows)?;
+    let mut back = Back { original, out, rows, opening: None, shown: Shown::default() };
     loop {
         read_line(&mut source, &mut line, LONGEST_LINE + 1).map_err(Broken::Read)?;
         if line.is_empty() {
-            return Ok(back.shown);
+            return back.finish();
         }
         let text = std::str::from_utf8(&line).ok().filter(|text| text.is_ascii()).ok_or(Broken::NoReport)?;
         back.line(text)?;
@@ -69,9 +77,9 @@ pub fn bring_back(source: impl BufRead, original: &mut Original, out: &mut impl 
 struct Back<'a, W> {
     original: &'a mut Original,
     out: &'a mut W,
+    rows: Option<Rows<'a>>,
     /// The packet that opened the connection whose lines come.
     opening: Option<u64>,
-    number: u64,
     shown: Shown,
 }
 
@@ -82,28 +90,40 @@ impl<W: Write> Back<'_, W> {
         }
         match text.split(' ').next() {
             Some("frame") => self.finding(text),
-            Some("stall") => self.stall(text),
             Some("flow" | "connection" | "unopened") => match Line::of(text.trim_end_matches('\n')) {
                 Some(Line::Flow(flow)) => self.flow(&flow),
                 Some(Line::Opening(opening)) => self.connection(&opening),
                 Some(Line::Unopened { sender, receiver, segments }) => self.unopened(&sender, &receiver, segments),
                 _ => Err(Broken::NoReport),
             },
-            _ => Ok(self.out.write_all(text.as_bytes())?),
+            _ => self.put(text.as_bytes()),
         }
+    }
+
+    fn finish(self) -> Result<Shown, Broken> {
+        self.rows.map_or(Ok(()), Rows::finish).map_err(Broken::Rows)?;
+        Ok(self.shown)
+    }
+
+    /// Writes a piece of the report.
+    fn put(&mut self, piece: &[u8]) -> Result<(), Broken> {
+        if let Some(rows) = &mut self.rows {
+            rows.take(piece).map_err(Broken::Rows)?;
+        }
+        Ok(self.out.write_all(piece)?)
     }
 
     /// The first line, for which stand the counts of the original, and what was passed over there.
     fn capture(&mut self, text: &str) -> Result<(), Broken> {
         Capture::of(text.trim_end_matches('\n')).ok_or(Broken::NoReport)?;
         self.shown.is_there = true;
-        self.out.write_all(self.original.capture.line().as_bytes())?;
-        let passed_over = self.original.passed_over().map_err(Broken::Temporary)?;
+        self.put(self.original.capture.line().as_bytes())?;
+        self.original.passed_over().rewind().map_err(Broken::Temporary)?;
         let mut piece = vec![0; 1 << 16];
         loop {
-            match io::Read::read(passed_over, &mut piece).map_err(Broken::Temporary)? {
+            match self.original.passed_over().read(&mut piece).map_err(Broken::Temporary)? {
                 0 => return Ok(()),
-                size => self.out.write_all(&piece[..size])?,
+                size => self.put(&piece[..size])?,
             }
         }
     }
@@ -112,20 +132,9 @@ impl<W: Write> Back<'_, W> {
         let line = finding_in(text.trim_end_matches('\n')).ok_or(Broken::NoReport)?;
         let packet = self.packet(line.record)?;
         self.shown.has_faults |= is_fault(line.kind);
-        self.out.write_all(&text.as_bytes()[..line.record_at.start])?;
-        self.out.write_all(itoa::Buffer::new().format(packet).as_bytes())?;
-        self.out.write_all(&text.as_bytes()[line.record_at.end..])?;
-        Ok(())
-    }
-
-    fn stall(&mut self, text: &str) -> Result<(), Broken> {
-        if let (true, Some(opening)) = (text.ends_with(" open\n"), self.opening) {
-            let known = &mut self.shown.with_open_stalls;
-            if known.last() != Some(&(self.number, opening)) {
-                known.push((self.number, opening));
-            }
-        }
-        Ok(self.out.write_all(text.as_bytes())?)
+        self.put(&text.as_bytes()[..line.record_at.start])?;
+        self.put(itoa::Buffer::new().format(packet).as_bytes())?;
+        self.put(&text.as_bytes()[line.record_at.end..])
     }
 
     fn packet(&self, record: u64) -> Result<u64, Broken> {
@@ -138,27 +147,31 @@ impl<W: Write> Back<'_, W> {
 
     fn unopened(&mut self, sender: &str, receiver: &str, segments: u64) -> Result<(), Broken> {
         let (sender, receiver) = (self.endpoint(sender)?, self.endpoint(receiver)?);
-        Ok(writeln!(self.out, "unopened {sender} {receiver} segments {segments}")?)
+        self.put(format!("unopened {sender} {receiver} segments {segments}\n").as_bytes())
     }
 
     fn connection(&mut self, opening: &Opening) -> Result<(), Broken> {
         let packet = self.packet(opening.record)?;
         let (client, server) = (self.endpoint(&opening.client)?, self.endpoint(&opening.server)?);
-        let number = opening.number;
-        write!(self.out, "connection {number} client {client} server {server} record {packet} ")?;
-        (self.opening, self.number) = (Some(packet), number);
+        self.opening = Some(packet);
         let connection = self.original.connection(packet);
-        match (&opening.form, connection.map(|connection| &connection.became)) {
-            (Form::NoHandshake, _) => writeln!(self.out, "no-handshake")?,
-            (_, Some(Became::Refused(reason))) => writeln!(self.out, "refused {reason}")?,
-            (Form::Http2 { frames }, _) => writeln!(self.out, "http2 frames {frames}")?,
-            (Form::NotHttp2, _) => writeln!(self.out, "not-http2")?,
-            (Form::NoPreface, _) => writeln!(self.out, "no-preface")?,
-            (Form::Refused(reason), _) => writeln!(self.out, "refused {reason}")?,
+        let form = match (&opening.form, connection.map(|connection| &connection.became)) {
+            (Form::NoHandshake, _) => "no-handshake".into(),
+            (_, Some(Became::Refused(reason))) => format!("refused {reason}").into(),
+            (Form::Http2 { frames }, _) => format!("http2 frames {frames}").into(),
+            (form, _) => form.words(),
+        };
+        let number = opening.number;
+        let fragments = connection.map_or(0, |connection| connection.fragments);
+        let last = connection.and_then(|connection| connection.last);
+        let line = format!("connection {number} client {client} server {server} record {packet} {form}\n");
+        self.put(line.as_bytes())?;
+        if let Some(rows) = &mut self.rows {
+            rows.last_packet(last);
         }
-        match connection.map(|connection| connection.fragments) {
-            Some(count) if count > 0 => Ok(writeln!(self.out, "fragments {count}")?),
-            _ => Ok(()),
+        match fragments {
+            0 => Ok(()),
+            count => self.put(format!("fragments {count}\n").as_bytes()),
         }
     }
 
@@ -173,10 +186,7 @@ impl<W: Write> Back<'_, W> {
         let tail = flow.tail.checked_add(of_tls).ok_or(Broken::NoReport)?;
         let end = side.and_then(|side| side.special_end()).map(str::to_string).or_else(|| flow.end.clone());
         let gap = flow.gap.map_or("none".to_string(), |gap| gap.to_string());
-        write!(self.out, "flow {} bytes {} gap {gap} tail {tail}", flow.side, flow.bytes)?;
-        match end {
-            Some(end) => Ok(writeln!(self.out, " end {end}")?),
-            None => Ok(writeln!(self.out)?),
-        }
+        let end = end.map_or(String::new(), |end| format!(" end {end}"));
+        self.put(format!("flow {} bytes {} gap {gap} tail {tail}{end}\n", flow.side, flow.bytes).as_bytes())
     }
 }

@@ -49,9 +49,9 @@ impl<'a> Cursor<'a> {
         Some(if is_negative { -size } else { size })
     }
 
-    /// A word without white space.
-    pub fn word(&mut self) -> Option<&'a str> {
-        self.while_some(|byte| !matches!(byte, b' ' | b'\t'..=b'\r' | 0x1c..=0x1f))
+    /// An endpoint, of ASCII that shows.
+    pub fn endpoint(&mut self) -> Option<&'a str> {
+        self.while_some(|byte| byte.is_ascii_graphic())
     }
 
     /// A name of small letters, digits and hyphens.

@@ -48,6 +48,8 @@ pub enum Blame {
 #[derive(Debug)]
 pub(crate) struct Row {
     pub name: &'static str,
+    /// Its place in the table, by which findings at one frame are in order.
+    pub rank: usize,
     pub blame: Blame,
     pub sections: &'static str,
     pub sentence: &'static str,
@@ -61,7 +63,7 @@ static KINDS: Lazy<Vec<Row>> = Lazy::new(|| {
 });
 
 fn rows_of(table: &'static str) -> impl Iterator<Item = Row> {
-    table.lines().filter(|line| !line.starts_with('#')).map(|line| {
+    table.lines().filter(|line| !line.starts_with('#')).enumerate().map(|(rank, line)| {
         let mut cells = line.splitn(4, '|').map(str::trim);
         let mut cell = || cells.next().unwrap_or_default();
         let (name, blame, sections, sentence) = (cell(), cell(), cell(), cell());
@@ -70,7 +72,7 @@ fn rows_of(table: &'static str) -> impl Iterator<Item = Row> {
             "the other side" => Blame::Other,
             _ => Blame::Named,
         };
-        Row { name, blame, sections, sentence }
+        Row { name, rank, blame, sections, sentence }
     })
 }
 
@@ -102,6 +104,11 @@ impl Kind {
 
     pub fn blame(&self) -> Blame {
         self.row().blame
+    }
+
+    /// What puts findings at one frame in order (docs/REPORT_FORMAT.md).
+    pub fn rank(&self) -> usize {
+        self.row().rank
     }
 
     pub fn is_credit(&self) -> bool {

@@ -1,16 +1,18 @@
 //! Reports of h2audit and maps of imports: what their lines say (docs/REPORT_FORMAT.md, docs/MAP.md), who is to blame
-//! for a finding, and the sentences that tell it.
+//! for a finding, the sentences that tell it, and a report as rows for a database.
 
 #![forbid(unsafe_code)]
 
 mod blame;
 mod cursor;
+pub mod json;
 mod kinds;
 mod lines;
 pub mod maps;
 mod notes;
 mod numbers;
 mod reading;
+pub mod rows;
 mod sentences;
 
 pub use blame::{section_of, who_is_to_blame};

@@ -1,5 +1,6 @@
 //! What the lines of a report say, as docs/REPORT_FORMAT.md has them.
 
+use std::borrow::Cow;
 use std::ops::Range;
 
 use crate::cursor::Cursor;
@@ -25,6 +26,19 @@ pub enum Form {
     NoPreface,
     NoHandshake,
     Refused(String),
+}
+
+impl Form {
+    /// As a report says it, without the number of frames.
+    pub fn words(&self) -> Cow<'static, str> {
+        match self {
+            Form::Http2 { .. } => "http2".into(),
+            Form::NotHttp2 => "not-http2".into(),
+            Form::NoPreface => "no-preface".into(),
+            Form::NoHandshake => "no-handshake".into(),
+            Form::Refused(reason) => format!("refused {reason}").into(),
+        }
+    }
 }
 
 /// The line that begins a connection.
@@ -247,9 +261,9 @@ fn opening(text: &str) -> Option<Opening> {
     line.literal("connection ")?;
     let number = line.number()?;
     line.literal(" client ")?;
-    let client = line.word()?.to_string();
+    let client = line.endpoint()?.to_string();
     line.literal(" server ")?;
-    let server = line.word()?.to_string();
+    let server = line.endpoint()?.to_string();
     line.literal(" record ")?;
     let record = line.number()?;
     line.literal(" ")?;
@@ -335,9 +349,9 @@ fn passed_over(text: &str) -> Option<Line> {
 fn unopened(text: &str) -> Option<Line> {
     let mut line = Cursor::new(text);
     line.literal("unopened ")?;
-    let sender = line.word()?.to_string();
+    let sender = line.endpoint()?.to_string();
     line.literal(" ")?;
-    let receiver = line.word()?.to_string();
+    let receiver = line.endpoint()?.to_string();
     line.literal(" segments ")?;
     let segments = line.number()?;
     line.end()?;

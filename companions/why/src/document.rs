@@ -8,6 +8,8 @@ use explain::answer::{
 };
 use reports::{section_of, sentence_of, Side};
 
+use crate::asked::Shown;
+use crate::charts;
 use crate::gates::is_unanswered;
 use crate::json::Json;
 use crate::phrases::{how_name, Phrases};
@@ -16,12 +18,15 @@ use crate::wording::{code_name, grpc_name, SIDES};
 
 const VERSION: u32 = 1;
 
-/// The document, and a line feed.
-pub fn write(whole: &Whole<'_>, to: &mut dyn Write) -> io::Result<()> {
+/// The document, and a line feed; for a page with its charts, and of the requests those that it shows.
+pub fn write(whole: &Whole<'_>, shown: Option<&Shown>, to: &mut dyn Write) -> io::Result<()> {
     let answer = whole.answer;
     let mut json = Json::new(to);
     json.open(b'{');
     json.name("h2audit_why").number(VERSION);
+    if let Some(shown) = shown {
+        charts::heading(&mut json, &answer.counts, &shown.asked);
+    }
     files(json.name("files"), answer);
     summary(json.name("summary"), answer, &whole.summary);
     json.name("warnings").list(&answer.warnings, |json, one| {
@@ -40,7 +45,10 @@ pub fn write(whole: &Whole<'_>, to: &mut dyn Write) -> io::Result<()> {
         });
     });
     json.name("connections").open(b'[');
-    whole.connections.iter().try_for_each(|one| connection(&mut json, one, &answer.files))?;
+    for (place, one) in whole.connections.iter().enumerate() {
+        let requests = shown.and_then(|shown| shown.requests.get(place));
+        connection(&mut json, one, requests.map(Vec::as_slice), &answer.files)?;
+    }
     json.close(b']');
     json.close(b'}');
     json.line();
@@ -100,7 +108,8 @@ pub fn place(json: &mut Json<'_>, at: Option<At>, files: &Files) {
     });
 }
 
-fn connection(json: &mut Json<'_>, one: &Connection<'_>, files: &Files) -> io::Result<()> {
+/// A connection with all its requests; or with those that a page shows, and its charts.
+fn connection(json: &mut Json<'_>, one: &Connection<'_>, shown: Option<&[usize]>, files: &Files) -> io::Result<()> {
     let said = one.said;
     json.open(b'{');
     of_connection(json, said, files);
@@ -117,8 +126,11 @@ fn connection(json: &mut Json<'_>, one: &Connection<'_>, files: &Files) -> io::R
     }
     json.close(b']');
     json.name("requests").open(b'[');
-    for found in said.requests.iter() {
-        json.object(|json| request(json, &found, &one.phrases, files));
+    let all = 0..if shown.is_some() { 0 } else { said.requests.len() };
+    for at in all.chain(shown.into_iter().flatten().copied()) {
+        if let Some(found) = said.requests.get(at) {
+            json.object(|json| request(json, &found, &one.phrases, files));
+        }
         json.give()?;
     }
     json.close(b']');
@@ -137,6 +149,9 @@ fn connection(json: &mut Json<'_>, one: &Connection<'_>, files: &Files) -> io::R
         }
     });
     json.name("notes").list(&said.notes, |json, note| json.text(note));
+    if shown.is_some() {
+        charts::of_connection(json, said, files)?;
+    }
     json.close(b'}');
     json.give()
 }

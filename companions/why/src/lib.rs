@@ -2,6 +2,8 @@
 
 #![forbid(unsafe_code)]
 
+mod asked;
+mod charts;
 pub mod compare;
 mod compare_said;
 mod document;
@@ -9,7 +11,6 @@ pub mod ends;
 mod ends_said;
 mod ends_stalls;
 mod gates;
-mod json;
 mod junit;
 mod page;
 mod phrases;
@@ -19,6 +20,7 @@ mod summing;
 mod text;
 mod wording;
 
+pub use charts::write_report;
 pub use ends_said::by_place;
 pub use gates::{failures_of, lines_of, Failure, Gates, Place, Reason};
 pub use junit::{write as write_junit, Judged};
@@ -28,9 +30,11 @@ pub use summing::{Connection, Summary, Tally, Verdict, Whole};
 
 use std::io::{self, Write};
 
+use asked::Shown;
 use compare::Compared;
 use ends::Joined;
 use page::Page;
+use reports::json;
 
 /// A form in which an answer is written.
 #[derive(Clone, Copy, Debug)]
@@ -38,6 +42,8 @@ pub enum Form {
     Text(Look),
     /// One document of JSON.
     Document,
+    /// The same for a page, with charts and the requests that it shows.
+    Charts,
     /// A line of JSON for each request.
     Lines,
     /// Rows for a database.
@@ -47,7 +53,11 @@ pub enum Form {
 pub fn write(whole: &Whole<'_>, form: Form, to: &mut dyn Write) -> io::Result<()> {
     match form {
         Form::Text(look) => text::write(whole, look, to),
-        Form::Document => document::write(whole, to),
+        Form::Document => document::write(whole, None, to),
+        Form::Charts => {
+            let shown = Shown::of(whole.connections.iter().map(|one| one.said));
+            document::write(whole, Some(&shown), to)
+        }
         Form::Lines => document::write_lines(whole, to),
         Form::Rows => rows::write(whole, to),
     }

@@ -6,12 +6,13 @@ mod terminal;
 mod words;
 
 use std::ffi::OsString;
+use std::fs::File;
 use std::io;
 use std::path::Path;
 
 use explain::answer::Answer;
-use explain::Reported;
-use programs::{end_cleanly, print, printable, run, say, Failure, Outcome, Output};
+use explain::{ReportTo, Reported};
+use programs::{end_cleanly, print, printable, run, say, Failure, Outcome, Output, BUFFER};
 use why::compare::Compared;
 use why::ends::{Apart, Joined};
 use why::{Form, Judged, Look, Whole};
@@ -42,7 +43,9 @@ fn why(words: Vec<OsString>) -> Outcome {
 fn of_one(asked: &Asked, files: &[OsString]) -> Outcome {
     let form = match &asked.form {
         Asks::Rows(file) => return rows(asked, files, file),
+        Asks::Windows(report) => return windows(report),
         Asks::Document => Form::Document,
+        Asks::Charts => Form::Charts,
         Asks::Lines => Form::Lines,
         Asks::Text => Form::Text(look_of(asked)),
     };
@@ -51,34 +54,35 @@ fn of_one(asked: &Asked, files: &[OsString]) -> Outcome {
     ended(asked, &[&whole], vec![judged(asked, &whole)], |to| why::write(&whole, form, to))
 }
 
-/// Writes rows. Where the report of the original is written too, the status is that of h2audit-any.
-fn rows(asked: &Asked, files: &[OsString], file: &Path) -> Outcome {
-    let report = match &asked.report {
-        Some(report) => report,
-        None => {
-            let answer = answered(asked, files)?;
-            return write_rows(&answer, file).map(|()| DONE);
+/// The charts of a report that is there.
+fn windows(report: &Path) -> Outcome {
+    let said = match report == Path::new("-") {
+        true => explain::read_charts(io::stdin().lock())?,
+        false => {
+            let file = File::open(report).map_err(|error| Failure::of_file(report, &error))?;
+            explain::read_charts(io::BufReader::with_capacity(BUFFER, file))?
         }
     };
-    let mut output = Output::begin(report)?;
+    written(Path::new("-"), |to| why::write_report(&said, to)).map(|()| DONE)
+}
+
+/// Writes the rows of the report of the original, and of what it means. The status is that of h2audit-any.
+fn rows(asked: &Asked, files: &[OsString], file: &Path) -> Outcome {
     let files = in_order(asked, files)?;
-    let (answer, reported) = explain::answer_with_report(&explained(asked, &files), &mut output)?;
-    write_rows(&answer, file)?;
-    output.finish()?;
-    if let Some(file) = &asked.last_packets {
-        explain::write_last_packets(&reported.last_packets, file)?;
-    }
+    let mut rows = Output::begin(file)?;
+    let mut report = asked.report.as_deref().map(Output::begin).transpose()?;
+    let to = ReportTo { rows: &mut rows, text: report.as_mut() };
+    let (answer, reported) = explain::answer_with_report(&explained(asked, &files), to)?;
+    let written = why::write(&Whole::new(&answer), Form::Rows, &mut rows);
+    written.map_err(|error| rows.failure(&error))?;
+    rows.finish()?;
+    report.map_or(Ok(()), Output::finish)?;
     reported.back.iter().chain(&reported.words).for_each(|words| say(NAME, words));
     Ok(match reported {
         Reported { is_nothing_read: true, .. } => NOTHING_AUDITED,
         Reported { has_faults: true, .. } => FAILED,
         Reported { .. } => DONE,
     })
-}
-
-fn write_rows(answer: &Answer, file: &Path) -> Result<(), Failure> {
-    let whole = Whole::new(answer);
-    written(file, |to| why::write(&whole, Form::Rows, to))
 }
 
 /// The capture after the change may fail the run.
@@ -141,8 +145,9 @@ fn explained<'a>(asked: &'a Asked, files: &'a [OsString]) -> explain::Asked<'a> 
         report: asked.audit.as_deref(),
         has_names: asked.has_names,
         has_query: asked.has_query,
-        has_spans: matches!(asked.form, Asks::Document | Asks::Lines),
+        has_spans: matches!(asked.form, Asks::Document | Asks::Charts | Asks::Lines),
         has_frames: matches!(asked.captures, Captures::Ends(_)),
+        has_charts: asked.form == Asks::Charts,
     }
 }
 

@@ -1,11 +1,11 @@
-//! The answer as rows for a database: a line of JSON for each request, each of its directions, and each fault.
-//!
-//! A line is a list: the name of a table, and the values of its columns after the capture, in the order of
-//! h2audit/fleet/schema.sql. Letters that a terminal would act on are escapes in names, and long names are cut.
+//! The answer as rows for a database, which stand behind those of the report ([`reports::rows`]): a line of JSON for each
+//! request, each of its directions, and each fault. Letters that a terminal would act on are escapes in names, and long
+//! names are cut.
 
 use std::io::{self, Write};
 
 use explain::answer::{At, Direction, FaultSaid, Files, Request};
+use reports::rows::row;
 use reports::Side;
 
 use crate::document::{cause_side, certainty_name, kind_name, why_name};
@@ -15,12 +15,10 @@ use crate::phrases::{how_name, Phrases};
 use crate::summing::Whole;
 use crate::wording::{escaped, SIDES};
 
-const FIRST_LINE: &[u8] = b"h2audit-rows 1\n";
 /// A few bytes may stand for a name of a megabyte, over and over again.
 const LONGEST_NAME: usize = 1024;
 
 pub fn write(whole: &Whole<'_>, to: &mut dyn Write) -> io::Result<()> {
-    to.write_all(FIRST_LINE)?;
     let files = &whole.answer.files;
     let mut json = Json::new(to);
     for one in &whole.connections {
@@ -36,14 +34,6 @@ pub fn write(whole: &Whole<'_>, to: &mut dyn Write) -> io::Result<()> {
         }
     }
     json.finish()
-}
-
-fn row<'a>(json: &mut Json<'a>, values: impl FnOnce(&mut Json<'a>)) -> io::Result<()> {
-    json.open(b'[');
-    values(json);
-    json.close(b']');
-    json.line();
-    json.give()
 }
 
 fn certainty(json: &mut Json<'_>, connection: u64, fault: &FaultSaid) {

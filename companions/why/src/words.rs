@@ -39,8 +39,11 @@ pub enum Colours {
 pub enum Asks {
     Text,
     Document,
+    Charts,
     Lines,
     Rows(PathBuf),
+    /// The charts of a report.
+    Windows(PathBuf),
 }
 
 /// The captures of which is said something.
@@ -69,10 +72,8 @@ pub struct Asked {
     pub program: Option<OsString>,
     /// h2audit's.
     pub options: Vec<String>,
-    /// Where the report of the original goes, and the times of last packets; and a report that is there, so that no
-    /// program audits.
+    /// Where the report of the original goes; and a report that is there, so that no program audits.
     pub report: Option<PathBuf>,
-    pub last_packets: Option<PathBuf>,
     pub audit: Option<PathBuf>,
     pub gates: Gates,
     pub has_gates: bool,
@@ -98,7 +99,6 @@ struct Taken {
     program: Option<OsString>,
     workers: Option<u64>,
     report: Option<PathBuf>,
-    last_packets: Option<PathBuf>,
     audit: Option<PathBuf>,
     reasons: Vec<Reason>,
     stall: Option<Nanos>,
@@ -123,12 +123,16 @@ pub fn words_of(words: Vec<OsString>) -> Result<Words, Failure> {
             Long("no-requests") => taken.has_no_requests = true,
             Long("json") => taken.form("--json", Asks::Document)?,
             Long("json-lines") => taken.form("--json-lines", Asks::Lines)?,
+            Long("charts") => taken.form("--charts", Asks::Charts)?,
+            Long("windows") => {
+                let report = PathBuf::from(parser.value().map_err(wrong)?);
+                taken.form("--windows", Asks::Windows(report))?;
+            }
             Long("rows") => {
                 let file = PathBuf::from(parser.value().map_err(wrong)?);
                 taken.form("--rows", Asks::Rows(file))?;
             }
             Long("report") => taken.report = Some(PathBuf::from(parser.value().map_err(wrong)?)),
-            Long("last-packets") => taken.last_packets = Some(PathBuf::from(parser.value().map_err(wrong)?)),
             Long("workers") => {
                 taken.workers = Some(number("--workers", &parser.value().map_err(wrong)?, 1, MOST_WORKERS)?);
             }
@@ -193,7 +197,6 @@ impl Taken {
             program: self.program,
             options: self.workers.map(|workers| format!("--workers={workers}")).into_iter().collect(),
             report: self.report,
-            last_packets: self.last_packets,
             audit: self.audit,
             gates: Gates { reasons, stall: self.stall, life: self.life, needs_http2: self.needs_http2 },
             has_gates,
@@ -218,6 +221,7 @@ impl Taken {
             match form {
                 Some("--json-lines") => return refuse(format!("{option} has no lines of JSON: --json")),
                 Some("--rows") => return refuse(format!("{option} has no rows: --json")),
+                Some("--charts") => return refuse(format!("{option} has no charts: --json")),
                 _ => {}
             }
         }
@@ -226,6 +230,9 @@ impl Taken {
         }
         if self.has_no_requests && self.reasons.contains(&Reason::Status) {
             return refuse("--fail-on status reads the fields of answers: not with --no-requests".to_string());
+        }
+        if form == Some("--windows") && !(self.files.is_empty() && of_two.is_none() && !self.has_gates()) {
+            return refuse("--windows reads a report, and nothing else".to_string());
         }
         if form == Some("--rows") && self.has_gates() {
             return refuse("--rows has no reasons to fail, and no JUnit file".to_string());
@@ -237,10 +244,8 @@ impl Taken {
     fn check_report(&self) -> Result<(), Failure> {
         let refuse = |why: &str| Err(Failure::Usage(why.to_string()));
         match (&self.report, &self.audit, &self.form) {
-            (None, ..) if self.last_packets.is_some() => refuse("--last-packets goes with --report"),
             (None, None, _) => Ok(()),
-            (Some(_), Some(_), _) => refuse("--report is of a run of h2audit: not with --audit"),
-            (Some(report), None, Some((_, Asks::Rows(rows)))) if report == rows => {
+            (Some(report), _, Some((_, Asks::Rows(rows)))) if report == rows => {
                 refuse("--rows and --report are the same file")
             }
             (_, _, Some((_, Asks::Rows(_)))) => Ok(()),
@@ -388,11 +393,8 @@ mod tests {
             refused(&["--no-requests", "--fail-on", "hung,status"]).starts_with("--fail-on status reads the fields")
         );
         assert_eq!(refused(&["--report", "a"]), "--report goes with --rows");
-        assert_eq!(refused(&["--rows", "a", "--last-packets", "b"]), "--last-packets goes with --report");
         assert_eq!(refused(&["--json", "--audit", "a"]), "--audit goes with --rows");
         assert_eq!(refused(&["--rows", "-", "--report", "-"]), "--rows and --report are the same file");
-        let by_report = refused(&["--rows", "-", "--report", "a", "--audit", "b"]);
-        assert_eq!(by_report, "--report is of a run of h2audit: not with --audit");
         let by_name = "--compare matches requests by their names: not with --no-requests";
         assert_eq!(refused(&["--compare", "a", "b", "--no-requests"]), by_name);
         assert_eq!(refused(&["--nothing"]), "unrecognized arguments: --nothing");

@@ -5,6 +5,7 @@ mod SettingsRanges
 mod Arriving
 mod Reading
 mod Gathering
+mod Growth
 mod Merging
 mod BothSides
 mod Walking

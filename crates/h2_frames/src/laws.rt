@@ -1,5 +1,6 @@
 //! Laws of the definitions that the contracts of this crate cite. They do nothing at run time.
 
+ghost use Rattle.h2_frames.specs.laws.Growth.{CaptureOrderGrows};
 ghost use Rattle.h2_frames.specs.laws.Unique.{CutIsUnique, SpellingIsUnique};
 
 /// One list of bytes has one spelling: its frames and its tail are determined (RFC 9113, 4.1).
@@ -12,4 +13,10 @@ pub fn spelling_is_unique()
 #[tactic(auto, using(crate::proofs::Uniqueness::uniqueness))]
 pub fn cut_is_unique()
     ensures { CutIsUnique }
+{}
+
+/// Frames that are told when a record completes them are told in capture order: whichever side's they are, they follow
+/// all that were there before. So no order has to be changed afterwards.
+pub fn capture_order_grows()
+    ensures { CaptureOrderGrows }
 {}

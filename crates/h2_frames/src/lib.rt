@@ -10,7 +10,8 @@
 //!   `specs/Body.antt` what its payload says, `specs/CaptureOrder.antt` the order, and `specs/Cut.antt` puts them
 //!   together.
 //! - No other answer meets the contract for the same flows (`only` in `specs/code/Cutting.antt`). [`laws`] say so
-//!   without the code: one list of bytes has one spelling, two flows have one cut.
+//!   without the code: one list of bytes has one spelling, two flows have one cut, and frames that are told record by
+//!   record, as each completes them, are told in capture order.
 //! - With several threads it reads long flows in batches, with one frame by frame.
 //! - [`begin`] decides the same, and returns a [`FrameWalk`], an iterator over the frames, in place of a list:
 //!   [`FrameWalk::take_next`] takes the next frame. Its contract holds for whichever flows the walk began with
@@ -35,7 +36,8 @@
 //! - [`worked_examples`] compute bodies, headers and order on small inputs, by proof: each type's payload at the
 //!   lengths where its answer changes, padding, settings at the ends of their ranges.
 //! - The prover refuses: a value out of range left out, an order by first bytes, exchanged tails, batches merged by
-//!   records alone, a batch numbered from one too high, a list that keeps the last batch alone.
+//!   records alone, a batch numbered from one too high, a list that keeps the last batch alone, one tail told
+//!   for both.
 //! - Whole reports test that `cut_by` succeeds where there is memory, on connections of each of the four kinds;
 //!   `threads_test.py` tests how many threads batches start.
 #![tactic(auto)]

@@ -8,7 +8,8 @@ ghost use Rattle.h2_frames.specs.examples.Bodies.{LaterPairOutOfRange, MaxFrameS
 ghost use Rattle.h2_frames.specs.examples.Bodies.{PaddedPushPromises, PingLengths, PriorityLengths, PushPromises};
 ghost use Rattle.h2_frames.specs.examples.Bodies.{PushRange, RstStreamLengths, SettingsAckLengths, SettingsLengths};
 ghost use Rattle.h2_frames.specs.examples.Bodies.{UnknownTypes, WindowUpdateLengths};
-ghost use Rattle.h2_frames.specs.examples.Frames.{FrameHeaders, FramesInOrder, LastByteArrives, PrefaceOctets};
+ghost use Rattle.h2_frames.specs.examples.Frames.{FrameHeaders, FramesAsTheyCome, FramesInOrder, LastByteArrives};
+ghost use Rattle.h2_frames.specs.examples.Frames.{PrefaceOctets};
 
 /// The connection preface of a client (RFC 9113, 3.4).
 pub fn connection_preface()
@@ -61,4 +62,5 @@ pub fn setting_values()
 pub fn capture_order()
     ensures last_byte_arrives { LastByteArrives }
     ensures frames_in_order { FramesInOrder }
+    ensures frames_as_they_come { FramesAsTheyCome }
 {}

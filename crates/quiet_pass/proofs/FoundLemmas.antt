@@ -15,13 +15,14 @@ use Rattle.audit_terms.specs.code.runs.States.{state_after}
 use Rattle.quiet_pass.proofs.PassLemmas.{full-append, full-more, named-all, state-more}
 use Rattle.quiet_pass.specs.code.FoundConnections.{IsNamedAlike}
 use Rattle.quiet_pass.specs.code.FoundPass.{AreBelow, AreFramesKept, HasSaid, HaveAllMet, IsFoundAfter, IsFrameKept}
+use Rattle.quiet_pass.specs.code.FoundPass.{named_with, IsAdded}
 use Rattle.quiet_pass.specs.code.QuietPass.{IsQuietStep}
 use Rattle.quiet_pass.specs.code.SaidFrames.{HaveOwn}
 use Rattle.quiet_pass.specs.declared.found_passes.FoundPass.{FoundPass}
 use Rattle.stream_credit.proofs.QuietSteps.{none-shown}
 use Rattle.stream_credit.proofs.Words.{◌≡◌, ℕ, ◌+◌, ◌<◌, ◌==◌, Bool, true, false, List, [], ◌∷◌, ◌++◌, Some, Option}
 use Rattle.stream_credit.proofs.Words.{refl, sym, ap, ◌∙◌, arith, append-nil, append_assoc, eq-eqb, is_some}
-use Rattle.stream_credit.proofs.Words.{AllByRecursion, Finding, Frame, IfOk-weaker, OnTrue_at, OnTrue_from, shown}
+use Rattle.stream_credit.proofs.Words.{AllByRecursion, Finding, Frame, IfOk-weaker, OnTrue_at, OnTrue_from, length, shown}
 use Rattle.stream_credit.proofs.Words.{nat_tests, ne_eqb, subst, upto_stop}
 use Rattle.std.specs.Bool.{OnTrue}
 use Rattle.std.specs.Prelude.{IfOk, Result}
@@ -192,6 +193,30 @@ more {all} {some} {found} found-here frame kept orderly here =
           (kept.below number (below-front number all frame all-low)) (below-last number all frame all-low, tt);
     }
 
+-- what is named where something is said, and where nothing is
+pub named-some : (frame : Frame) (said : List Finding) (frames : List Frame) → (length said ≡ 0 → ⊥)
+    → frames ++ frame ∷ [] ≡ named_with frame said frames
+named-some frame [] frames some = absurd (some refl)
+named-some frame (one ∷ said) frames some = refl
+
+pub none-added : (frame : Frame) (old new : FoundPass) {said : List Finding} → said ≡ []
+    → new.found ≡ old.found → new.shown_at ≡ old.shown_at → new.has_stopped ≡ list_any stops said
+    → IsAdded frame said old new
+none-added frame old new {said} none found shown_at stopped = record {
+  found = rw (found, none) (sym (append-nil old.found.items));
+  shown_at = rw (shown_at, none) refl;
+  stopped = stopped;
+}
+
+-- one frame more, at which this is found, or nothing
+found-more : {all some : List Frame} {found : List Finding} (here : List Finding) (frame : Frame)
+    → AreFramesKept all some found
+    → IsOrderly (all ++ frame ∷ [])
+    → AllByRecursion (λ (finding : Finding). place_number finding.place ≡ frame.number) here
+    → AreFramesKept (all ++ frame ∷ []) (named_with frame here some) (found ++ here)
+found-more {all} {some} {found} [] frame kept orderly at = rw (append-nil found) (past frame kept)
+found-more {all} {some} {found} (one ∷ here) frame kept orderly at = more (one ∷ here) frame kept orderly at
+
 -- ---- one frame
 
 -- the audit has stopped
@@ -253,7 +278,7 @@ module _ {frames : List Frame} {old : FoundPass} (frame : Frame) (h : IsFoundAft
         goes_on = λ e. (refl, rw (state-more frame pass_start h.met) (step.goes_on (sym has.added.stopped ∙ e)));
         stopped = λ e. rw has.added.found (any-back stops old.found.items has.said (sym has.added.stopped ∙ e));
         kept = λ _. rw (has.added.found, has.added.shown_at)
-            (more has.said frame (h.kept (orderly-front 0 frames frame orderly)) orderly step.numbered);
+            (found-more has.said frame (h.kept (orderly-front 0 frames frame orderly)) orderly step.numbered);
       }
 
 -- the same of what the code says, whose machine gave up quietly just before

@@ -1,3 +1,4 @@
+mod HeldLemmas
 mod StreamFrames
 mod RowLists
 mod ConnectionLemmas

@@ -1,9 +1,14 @@
 -- Lists of rows: where one is replaced, where one is added, and where all are moved.
-use Rattle.stream_credit.proofs.Words.{nat_tests, Sides, Frame, idle_stream}
+use Rattle.stream_credit.proofs.Words.{nat_tests, Sides, Frame, Stream, idle_stream, opened_of, IsNextOpened}
+use Rattle.stream_credit.proofs.Words.{None, AllByRecursion, ap, cases_eq, inl, inr, ne_eqb, recursion_from_All}
+use Rattle.stream_credit.proofs.Words.{same_Some, sym, ◌∙◌, ◌≤◌}
+use Rattle.std.specs.List.{All, Sorted.IsNonDecreasingBy}
+use Rattle.stream_credit.specs.declared.stream_standings.Standings.{Standings}
 use Rattle.std.proofs.Common.{◌≡◌, ◌≢◌, ℕ, zero, suc, ◌-◌, ◌<◌, List, [], ◌∷◌, ◌++◌, length, get_or, slice_get}
 use Rattle.std.proofs.Common.{slice_set, Some, true, false, refl, arith}
 use Rattle.quiet_pass.specs.declared.opened_rows.Row.{Row}
-use Rattle.stream_credit.specs.code.Standings.{stream_of}
+use Rattle.quiet_pass.proofs.HeldLemmas.{unlow}
+use Rattle.quiet_pass.specs.code.HeldStreams.{held, is_low}
 use Rattle.quiet_pass.specs.code.Rows.{entry_in, AreRisingFrom, AreRising, IsAboveAll, IsRowOf, IsRowAfter}
 use Rattle.quiet_pass.specs.code.Rows.{IsOpened, IsMetOn, IsPut, IsRowMoved, AreMoved}
 
@@ -16,11 +21,39 @@ above-low low (one ∷ rows) zero row h e = grind arith
 above-low low (one ∷ rows) (suc at) row h e = grind (arith, above-low one.stream rows at row h.1 e)
 
 entry-there : (low : ℕ) (rows : List Row) (at : ℕ) (row : Row) → AreRisingFrom low rows
-    → slice_get rows at ≡ Some row → entry_in rows row.stream ≡ stream_of row.standings
+    → slice_get rows at ≡ Some row → entry_in rows row.stream ≡ held row.standings
 entry-there low [] at row h e = cc
 entry-there low (one ∷ rows) zero row h e = grind (arith, nat_tests)
 entry-there low (one ∷ rows) (suc at) row h e =
     grind (arith, nat_tests, above-low one.stream rows at row h.1 e, entry-there one.stream rows at row h.1 e)
+
+-- ---- a stream without a row
+
+least-row : (low : ℕ) (rows : List Row) → AreRisingFrom low rows → (i : ℕ) (d : Row) → i < length rows
+    → low < (get_or rows i d).stream
+least-row low [] h i d l = absurd (omega arith)
+least-row low (row ∷ rows) h zero d l = h.0
+least-row low (row ∷ rows) h (suc i) d l = omega (arith, least-row row.stream rows h.1 i d (omega arith), h.0)
+
+rows-rise : (low : ℕ) (rows : List Row) → AreRisingFrom low rows → (i j : ℕ) (d : Row) → i ≤ j → j < length rows
+    → (get_or rows i d).stream ≤ (get_or rows j d).stream
+rows-rise low [] h i j d le l = absurd (omega arith)
+rows-rise low (row ∷ rows) h zero zero d le l = omega arith
+rows-rise low (row ∷ rows) h zero (suc j) d le l = omega (arith, least-row row.stream rows h.1 j d (omega arith))
+rows-rise low (row ∷ rows) h (suc i) zero d le l = absurd (omega arith)
+rows-rise low (row ∷ rows) h (suc i) (suc j) d le l = rows-rise row.stream rows h.1 i j d (omega arith) (omega arith)
+
+entry-missed : (rows : List Row) (stream : ℕ) → AllByRecursion (λ (row : Row). row.stream ≢ stream) rows
+    → entry_in rows stream ≡ idle_stream
+entry-missed [] stream h = refl
+entry-missed (row ∷ rows) stream h = rw (ne_eqb row.stream stream h.0) (entry-missed rows stream h.1)
+
+pub missed-idle : (rows : List Row) (stream : ℕ)
+    → (IsNonDecreasingBy (λ (row : Row). row.stream) rows → All (λ (row : Row). row.stream ≢ stream) rows)
+    → AreRising rows → entry_in rows stream ≡ idle_stream
+missed-idle rows stream missed rising =
+    entry-missed rows stream
+    (recursion_from_All (λ (row : Row). row.stream ≢ stream) rows (missed (rows-rise 0 rows rising)))
 
 -- ---- one row replaced
 
@@ -45,11 +78,11 @@ module _ (row next : Row) (same : next.stream ≡ row.stream) where
 
 -- how the stream of a row stands
 pub row-stands : (rows : List Row) (stream at : ℕ) (of : IsRowOf rows stream at) → AreRising rows
-    → entry_in rows stream ≡ stream_of of.row.standings
+    → entry_in rows stream ≡ held of.row.standings
 row-stands rows stream at of rising = rw of.same at (entry-there 0 rows at of.row rising of.there)
 
 pub row-put : (rows : List Row) (stream at : ℕ) (next : Row) (of : IsRowOf rows stream at) → next.stream ≡ of.row.stream
-    → AreRising rows → IsPut stream next.standings rows (slice_set rows at next)
+    → AreRising rows → IsPut stream (held next.standings) rows (slice_set rows at next)
 row-put rows stream at next of same rising =
     let risen = set-rising of.row next same 0 rows at of.there rising in record {
       own = rw (← of.same, ← same)
@@ -58,15 +91,41 @@ row-put rows stream at next of same rising =
       rising = risen;
     }
 
+-- a row that is met quietly keeps its opening frame, so that it is marked after that as before
+opened-same : (one other : ℕ) → opened_of one ≡ opened_of other → one ≡ other
+opened-same one other e = elim (cases_eq one 0) [
+  | inl p ↦ elim (cases_eq other 0) [
+    | inl q ↦ p ∙ sym q
+    | inr q ↦ absurd (none-some other (rw (p, ne_eqb other 0 q) at e))
+  ]
+  | inr p ↦ elim (cases_eq other 0) [
+    | inl q ↦ absurd (none-some one (sym (rw (ne_eqb one 0 p, q) at e)))
+    | inr q ↦ same_Some one other (rw (ne_eqb one 0 p, ne_eqb other 0 q) at e)
+  ]
+]
+  where
+    none-some : (n : ℕ) → None ≡ Some n → ⊥
+    none-some n e = cc
+
+next-full : (frame : Frame) (old new : Standings) (initial : Sides ℕ) → is_low old ≡ false
+    → IsNextOpened frame old new → is_low new ≡ false
+next-full frame old new initial full next =
+    let opened = ap (λ (entry : Stream). entry.life.opened) (next.next initial).after in
+    let same = opened-same new.opened old.opened (rw next.unopened at opened) in
+    rw same full
+
 pub row-met : (rows : List Row) (at : ℕ) (frame : Frame) (next : Row) (of : IsRowOf rows frame.stream at)
     → IsRowAfter frame of.row next → AreRising rows → (initial : Sides ℕ)
     → IsMetOn frame.stream initial frame false rows (slice_set rows at next)
 row-met rows at frame next of after rising initial =
-    let old = row-stands rows frame.stream at of rising in
-    let put = row-put rows frame.stream at next of after.same rising in record {
+    let old = row-stands rows frame.stream at of rising ∙ unlow of.row.standings after.full in
+    let put = row-put rows frame.stream at next of after.same rising in
+    let full = next-full frame of.row.standings next.standings initial after.full after.next in
+    let own = put.own ∙ unlow next.standings full in
+    record {
       opening = rw old after.next.unopened;
       said = rw old (after.next.next initial).said;
-      after = rw (put.own, old) (after.next.next initial).after;
+      after = rw (own, old) (after.next.next initial).after;
       others = put.others;
       rising = put.rising;
     }
@@ -78,7 +137,7 @@ past-idle [] stream h = refl
 past-idle (row ∷ rows) stream h = grind (arith, nat_tests, past-idle rows stream h.1)
 
 push-own : (rows : List Row) (row : Row) (stream : ℕ) → IsAboveAll rows stream → row.stream ≡ stream
-    → entry_in (rows ++ row ∷ []) stream ≡ stream_of row.standings
+    → entry_in (rows ++ row ∷ []) stream ≡ held row.standings
 push-own [] row stream h e = grind (arith, nat_tests)
 push-own (one ∷ rows) row stream h e = grind (arith, nat_tests, push-own rows row stream h.1 e)
 
@@ -103,10 +162,18 @@ row-opened rows stream initial frame row past opened rising =
     let old = past-idle rows stream past in record {
       opening = rw old opened.by.opening;
       said = rw old opened.by.said;
-      after = rw (push-own rows row stream past opened.same, old) opened.by.after;
+      after = rw (push-own rows row stream past opened.same ∙ unlow row.standings opened.full, old) opened.by.after;
       others = λ other differ. push-others rows row other (rw opened.same differ);
       rising = push-rising 0 rows row rising (rw opened.same past) (rw opened.same (past-above rows stream past));
     }
+
+pub row-added : (rows : List Row) (row : Row) → IsAboveAll rows row.stream → AreRising rows
+    → IsPut row.stream (held row.standings) rows (rows ++ row ∷ [])
+row-added rows row past rising = record {
+  own = push-own rows row row.stream past refl;
+  others = λ other differ. push-others rows row other differ;
+  rising = push-rising 0 rows row rising past (past-above rows row.stream past);
+}
 
 -- a stream past the last row of rows that rise
 pub past-last : (low : ℕ) (rows : List Row) (row : Row) (stream : ℕ) → slice_get rows (length rows - 1) ≡ Some row

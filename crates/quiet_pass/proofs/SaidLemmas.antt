@@ -24,18 +24,19 @@ use Rattle.quiet_pass.specs.code.SaidFrames.{HaveOwn, IsConnectionKept, IsConnec
 use Rattle.quiet_pass.specs.code.SaidFrames.{MovesOneStream}
 use Rattle.quiet_pass.specs.code.Streams.{ArePut, AreStreams, as_step}
 use Rattle.audit_terms.specs.declared.items.Item.{Item}
+use Rattle.audit_terms.specs.declared.last_frames.LastFrame.{LastFrame}
+use Rattle.audit_terms.specs.declared.sides.Side.{Side}
 use Rattle.quiet_pass.specs.declared.kept_streams.Streams.{Streams}
 use Rattle.quiet_pass.specs.declared.opened_rows.Row.{Row}
 use Rattle.quiet_pass.specs.declared.passes.QuietPass.{QuietPass}
 use Rattle.stream_credit.proofs.QuietSteps.{none-shown}
-use Rattle.stream_credit.proofs.Words.{◌≡◌, ℕ, ◌<◌, ◌==◌, Bool, true, false, List, [], ◌∷◌, ◌++◌, None, Some, refl, sym}
+use Rattle.stream_credit.proofs.Words.{◌≡◌, ℕ, ◌<◌, ◌==◌, Bool, true, false, List, [], ◌∷◌, ◌++◌, None, refl, sym}
 use Rattle.stream_credit.proofs.Words.{ap, ◌∙◌, subst, arith, append-nil, eq-eqb, ne_eqb, cases_eq, inl, inr}
 use Rattle.stream_credit.proofs.Words.{AllByRecursion, AreQuiet, Change, Client, ConnectionState, Finding, Frame}
 use Rattle.stream_credit.proofs.Words.{Option}
 use Rattle.stream_credit.proofs.Words.{Server, Stream, change_of, connection_after, connection_said, flat_map}
-use Rattle.stream_credit.proofs.Words.{if◌then◌else◌, in_order, initial_after, is_side, settings_said, shown}
-use Rattle.stream_credit.specs.declared.stream_standings.Standings.{Standings}
-use Rattle.stream_credit.proofs.Words.{side_of, stream_after, stream_of, stream_said}
+use Rattle.stream_credit.proofs.Words.{in_order, initial_after, settings_said, shown}
+use Rattle.stream_credit.proofs.Words.{side_of, stream_after, stream_said}
 
 -- ---- lists of findings
 
@@ -191,14 +192,14 @@ module _ (frame : Frame) (old : QuietPass) (state : PassState) (stands : StandsF
     past-after : (s : ℕ) → s ≢ frame.stream → state.streams s ≡ after s
     past-after s differ = (step-past s state.in_force.initial frame (state.streams s) (past s differ)).after
 
-    module _ (standings : Standings) (is : stream_of standings
+    module _ (entry : Stream) (is : entry
         ≡ stream_after frame.stream state.in_force.initial (state.streams frame.stream) (frame_step frame)) where
-      own-after : after frame.stream ≡ stream_of standings
+      own-after : after frame.stream ≡ entry
       own-after =
           ap (λ step. stream_after frame.stream state.in_force.initial (state.streams frame.stream) step) own-step
           ∙ sym is
 
-      put-after : (before rows : List Row) → IsPut frame.stream standings before rows → (s : ℕ)
+      put-after : (before rows : List Row) → IsPut frame.stream entry before rows → (s : ℕ)
           → state.streams s ≡ entry_in before s → after s ≡ entry_in rows s
       put-after before rows put s e = elim (cases_eq s frame.stream) [
         | inl own ↦ subst (λ (n : ℕ). after n ≡ entry_in rows n) (sym own) (own-after ∙ sym put.own)
@@ -210,7 +211,7 @@ module _ (frame : Frame) (old : QuietPass) (state : PassState) (stands : StandsF
       same-after before rows same s differ e =
           sym (past-after s differ) ∙ e ∙ ap (λ (rows : List Row). entry_in rows s) (sym same)
 
-      put-streams : (kept : Streams) → ArePut frame.stream standings old.streams kept → AreStreams after kept
+      put-streams : (kept : Streams) → ArePut frame.stream entry old.streams kept → AreStreams after kept
       put-streams kept put = elim (cases_eq (frame.stream % 2) 1) [
         | inl odd ↦
             let one = (put.odd odd).0 stands.streams.opened in
@@ -253,6 +254,31 @@ spoken-front frame old state opens spoken empty stands item =
     ∙ ap (λ (item : Item). local_said (side_of frame.side state.previous) frame
     ++ connection_said state.connection item) item
 
+-- what a frame shows by itself and of the connection, as the machine keeps them
+pub spoken-alone : {machine : QuietPass} {frame : Frame} {opens : Bool} {before mid after : List Finding}
+    {last : LastFrame} {now connection : ConnectionState} → last ≡ side_of frame.side machine.last
+    → ((previous : Option Frame) → last ≡ last_of previous → mid ≡ before ++ local_said previous frame)
+    → now ≡ connection_of machine.connection → after ≡ mid ++ connection_said now (as_item frame opens None)
+    → connection ≡ connection_after now (as_item frame opens None)
+    → IsConnectionSaid machine frame opens before after connection
+spoken-alone {machine} {frame} {opens} {before} {mid} last-is local now-is is next-is = record {
+  said = λ state stands.
+      let previous = side_of frame.side state.previous in
+      is
+      ∙ ap (λ (now : ConnectionState). mid ++ connection_said now (as_item frame opens None))
+      (now-is ∙ stands.connection)
+      ∙ ap (λ l. l ++ connection_said state.connection (as_item frame opens None))
+      (local previous (last-is ∙ own-last machine state stands frame.side));
+  next = λ state stands.
+      next-is
+      ∙ ap (λ (now : ConnectionState). connection_after now (as_item frame opens None)) (now-is ∙ stands.connection);
+}
+  where
+    own-last : (machine : QuietPass) (state : PassState) → StandsFor machine state → (d : Side)
+        → side_of d machine.last ≡ last_of (side_of d state.previous)
+    own-last machine state stands Client = stands.client
+    own-last machine state stands Server = stands.server
+
 -- of a frame on stream 0
 pub said-on-connection : {frame : Frame} {old new : QuietPass} {connection : ConnectionState}
     {start before found : List Finding} → MovesOneStream frame → frame.stream ≡ 0
@@ -283,19 +309,19 @@ said-on-connection {frame} {old} {new} {connection} {start} {before} {found} mov
 
 -- of a frame on a stream
 pub said-on-stream : {frame : Frame} {old new : QuietPass} {opens : Bool} {connection : ConnectionState}
-    {start before found : List Finding} {entry : Stream} (standings : Standings) → MovesOneStream frame
+    {start before found : List Finding} {entry : Stream} (own : Stream) → MovesOneStream frame
     → 0 < frame.stream
-    → ((streams : ℕ → Stream) → AreStreams streams old.streams → streams frame.stream ≡ stream_of standings)
-    → opens ≡ is_opening frame.stream (stream_of standings).life frame
+    → ((streams : ℕ → Stream) → AreStreams streams old.streams → streams frame.stream ≡ own)
+    → opens ≡ is_opening frame.stream own.life frame
     → IsConnectionSaid old frame opens start before connection → start ≡ []
     → found ≡ shown false (in_order (before
-    ++ stream_said frame.stream old.initial (stream_of standings) (frame_step frame)))
-    → entry ≡ stream_after frame.stream old.initial (stream_of standings) (frame_step frame)
+    ++ stream_said frame.stream old.initial own (frame_step frame)))
+    → entry ≡ stream_after frame.stream old.initial own (frame_step frame)
     → (list_any stops found ≡ false → IsKeptAfter frame connection entry old new)
     → (state : PassState) → StandsFor old state → IsSaidStep state frame found new
-said-on-stream {frame} {old} {new} {opens} {connection} {start} {before} {found} {entry} standings moves some own
+said-on-stream {frame} {old} {new} {opens} {connection} {start} {before} {found} {entry} own moves some stood
     opening spoken empty is entered kept state stands =
-    let row : stream_of standings ≡ state.streams frame.stream = sym (own state.streams stands.streams) in
+    let row : own ≡ state.streams frame.stream = sym (stood state.streams stands.streams) in
     let opened : opens ≡ opens_stream state frame =
     opening ∙ ap (λ (one : Stream). is_opening frame.stream one.life frame) row ∙ sym (opens-own frame state) in
     let item = item-is frame old state stands moves.plain moves.unpromised opens opened in
@@ -305,10 +331,10 @@ said-on-stream {frame} {old} {new} {opens} {connection} {start} {before} {found}
     stream_said frame.stream state.in_force.initial (state.streams frame.stream) (frame_step frame) in
     let all : found ≡ shown false (in_order (front ++ one)) =
     is ∙ ap (λ l. shown false (in_order (l
-    ++ stream_said frame.stream old.initial (stream_of standings) (frame_step frame))))
+    ++ stream_said frame.stream old.initial own (frame_step frame))))
     (spoken-front frame old state opens spoken empty stands item)
     ∙ ap (λ initial. shown false (in_order (front
-    ++ stream_said frame.stream initial (stream_of standings) (frame_step frame)))) stands.initial
+    ++ stream_said frame.stream initial own (frame_step frame)))) stands.initial
     ∙ ap (λ (one : Stream). shown false (in_order (front
     ++ stream_said frame.stream state.in_force.initial one (frame_step frame)))) row in record {
       shown = λ streams name. shown-all frame old state stands moves.plain moves.unpromised one streams
@@ -317,9 +343,9 @@ said-on-stream {frame} {old} {new} {opens} {connection} {start} {before} {found}
           let keeps = kept on in
           next-stands frame old state stands moves.plain moves.unpromised new keeps.rest
           (spoken.next state stands ∙ ap (connection_after state.connection) item)
-          (put-streams frame old state stands moves.plain moves.unpromised some keeps.stands.standings
-          (keeps.stands.same ∙ entered
-          ∙ ap (λ initial. stream_after frame.stream initial (stream_of standings) (frame_step frame)) stands.initial
+          (put-streams frame old state stands moves.plain moves.unpromised some entry
+          (entered
+          ∙ ap (λ initial. stream_after frame.stream initial own (frame_step frame)) stands.initial
           ∙ ap (λ (one : Stream). stream_after frame.stream state.in_force.initial one (frame_step frame)) row)
           new.streams keeps.streams);
       numbered = rw all (numbered frame old state stands moves.plain moves.unpromised moves.range one

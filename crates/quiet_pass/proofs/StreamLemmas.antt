@@ -5,14 +5,15 @@ use Rattle.stream_credit.proofs.Words.{◌==◌, Bool, false, ap, subst, arith, 
 use Rattle.stream_credit.proofs.Words.{credit_after_change}
 use Rattle.stream_credit.proofs.Words.{int_lt, option_map, and-false, cases_Bool, same_Some, StreamLife, initial_after}
 use Rattle.stream_credit.proofs.Words.{[], Option, or-false, cases_eq}
-use Rattle.stream_credit.proofs.Words.{eq-eqb, IsQuietMove, window_of, and-true, IsMovedBy}
+use Rattle.stream_credit.proofs.Words.{eq-eqb, IsQuietMove, and-true}
 use Rattle.std.proofs.Common.{◌%◌, ap₂}
 use Rattle.audit_terms.specs.Frame.{is_server_promise, promised_in, meets}
 use Rattle.stream_credit.proofs.QuietSteps.{change_alone, quiet-changes, stream-quiet, stream-moved}
 use Rattle.quiet_pass.specs.declared.opened_rows.Row.{Row}
 use Rattle.quiet_pass.specs.declared.kept_streams.Streams.{Streams}
 use Rattle.quiet_pass.specs.code.Rows.{entry_in, AreRisingFrom, AreRising, IsMetOn, AreMoved}
-use Rattle.quiet_pass.specs.code.Streams.{AreStreams, as_step, IsStep, AreMet, AreMetOn, AreAllMoved, IsEntryMoved}
+use Rattle.quiet_pass.specs.code.Streams.{AreStreams, as_step, IsStep, AreMet, AreMetOn, AreAllMoved}
+use Rattle.quiet_pass.specs.code.HeldStreams.{held, IsEntryMoved}
 
 -- ---- a stream that the frame does not meet
 
@@ -40,16 +41,20 @@ window-quiet window credit e next f =
     let level : int_lt credit credit ≡ false = grind (arith, ints) in
     rw (← same) (refl, rw level refl)
 
--- a frame does nothing to a stream that it does not meet
-pub step-past : (s : ℕ) (initial : Sides ℕ) (frame : Frame) (entry : Stream) → meets s frame ≡ false
-    → IsStep s initial (as_step frame None s) entry entry
-step-past s initial frame entry m = step-moved s initial initial frame None entry entry (record {
+unmoved-entry : (initial : Sides ℕ) (entry : Stream) → IsEntryMoved initial initial entry entry
+unmoved-entry initial entry = record {
   life = refl;
   client = window-stays initial.client entry.window.client;
   server = window-stays initial.server entry.window.server;
   client_quiet = window-quiet entry.window.client;
   server_quiet = window-quiet entry.window.server;
-}) refl m
+}
+
+-- a frame does nothing to a stream that it does not meet
+pub step-past : (s : ℕ) (initial : Sides ℕ) (frame : Frame) (entry : Stream) → meets s frame ≡ false
+    → IsStep s initial (as_step frame None s) entry entry
+step-past s initial frame entry m =
+    step-moved s initial initial frame None entry entry (unmoved-entry initial entry) refl m
 
 step-unmet : (s : ℕ) (initial : Sides ℕ) (frame : Frame) (rows : List Row) (entry : Stream) → meets s frame ≡ false
     → entry ≡ entry_in rows s → IsStep s initial (as_step frame None s) entry (entry_in rows s)
@@ -169,13 +174,7 @@ entries-moved before after [] [] stream m =
 entries-moved before after (one ∷ old) (two ∷ new) stream m =
     let row = m.0 in
     rw row.same (elim (cases_Bool (one.stream == stream)) [
-      | inl e ↦ rw e (record {
-        life = rw (row.moved.opened, row.moved.client.ended, row.moved.server.ended) refl;
-        client = row.moved.client.moved;
-        server = row.moved.server.moved;
-        client_quiet = row.moved.client.quiet;
-        server_quiet = row.moved.server.quiet;
-      })
+      | inl e ↦ rw e row.moved
       | inr e ↦ rw e (entries-moved before after old new stream m.1)
     ])
 entries-moved before after _ _ stream m = absurd m
@@ -187,13 +186,10 @@ rising-moved before after low (one ∷ old) (two ∷ new) m h =
     rw m.0.same (h.0, rising-moved before after one.stream old new m.1 h.1)
 rising-moved before after low _ _ m h = absurd m
 
-unmoved-standing : (i standing : ℕ) → IsMovedBy i i standing standing
-unmoved-standing i standing =
-    record { moved = window-stays i (window_of standing); quiet = window-quiet (window_of standing); ended = refl }
-
 unmoved-rows : (initial : Sides ℕ) (rows : List Row) → AreMoved initial initial rows rows
 unmoved-rows initial [] = tt
-unmoved-rows initial (row ∷ rows) = grind (arith, unmoved-standing, unmoved-rows initial rows)
+unmoved-rows initial (row ∷ rows) =
+    (record { same = refl; moved = unmoved-entry initial (held row.standings) }, unmoved-rows initial rows)
 
 pub unmoved : (initial : Sides ℕ) (streams : Streams) → AreAllMoved initial initial streams streams
 unmoved initial streams = grind (arith, unmoved-rows initial)

@@ -1,3 +1,4 @@
+pub mod HeldStreams
 pub mod Rows
 pub mod Connection
 pub mod Streams

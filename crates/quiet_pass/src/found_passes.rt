@@ -81,6 +81,9 @@ impl FoundPass {
     {
         let mut said = said;
         self.has_stopped = has_stop(said.as_slice());
+        if said.is_empty() {
+            return Ok(());
+        }
         self.found.append(&mut said)?;
         self.shown_at.extend_from_slice(&[*frame])?;
         Ok(())

@@ -1,4 +1,4 @@
-//! The connection between two frames, for as long as it is quiet: then both windows have credit.
+//! The connection between two frames. A frame is met quietly where the window that it moves has credit before and after.
 
 ghost use Rattle.std.specs.Prelude.{◌≡◌, ◌^◌, false, Option};
 ghost use Rattle.std.specs.Bool.{OnTrue, OnFalse};
@@ -10,17 +10,17 @@ ghost use Rattle.quiet_pass.specs.code.Connection.{connection_of, AreCreditsAfte
 ghost use Rattle.quiet_pass.specs.code.Connection.{IsCountedCredit, IsCreditAfter, IsLoneCredit, IsOpenedAfter};
 ghost use Rattle.quiet_pass.specs.code.Connection.{IsPromisedAfter, LeavesCredit};
 
-use audit_terms::standings::{balance, kept};
+use audit_terms::standings::balance;
 use audit_terms::{
-    Change, ConnectionState, FIRST_LIMIT, FIRST_WINDOW, Frame, Side, Sides, limit_after, new_limit,
-    new_push,
+    Change, ConnectionState, FIRST_LIMIT, FIRST_WINDOW, Frame, LARGEST_WINDOW, Side, Sides,
+    limit_after, new_limit, new_push,
 };
 
 /// The connection between two frames (RFC 9113, 4.2, 5.1.1, 6.9).
 #[derive(Clone, Copy)]
 pub(crate) struct KeptConnection {
-    /// The credit in bytes of each side's connection window: more than 0.
-    pub(crate) credit: Sides<u32>,
+    /// The credit in bytes of each side's connection window.
+    pub(crate) credit: Sides<i32>,
     /// The greatest stream that the client opened so far, or 0.
     opened: u32,
     /// The greatest even stream that the server promised so far, or 0.
@@ -37,7 +37,7 @@ impl KeptConnection {
         ensures { connection_of result ≡ connection_start }
     {
         KeptConnection {
-            credit: Sides::both(FIRST_WINDOW),
+            credit: Sides::both(FIRST_WINDOW as i32),
             opened: 0,
             promised: 0,
             push: 1,
@@ -62,14 +62,14 @@ impl KeptConnection {
         }
     }
 
-    /// How a connection is kept, if both windows have credit, no more than the largest.
+    /// How a connection is kept, if both credits are in range: those of a capture are.
     pub(crate) fn of(state: &ConnectionState) -> Option<Self>
         ensures { ForSome result (λ now. connection_of now ≡ state.now) }
     {
         Some(KeptConnection {
             credit: Sides {
-                client: kept(state.credit.client)?,
-                server: kept(state.credit.server)?,
+                client: kept_credit(state.credit.client)?,
+                server: kept_credit(state.credit.server)?,
             },
             opened: state.opened,
             promised: state.promised,
@@ -105,7 +105,7 @@ impl KeptConnection {
     /// The credits of both sides after a frame that opens no stream, promises none and brings no change, as most do, if
     /// that shows nothing.
     #[inline(always)]
-    pub(crate) fn credit_after_lone(&self, frame: &Frame) -> Option<Sides<u32>>
+    pub(crate) fn credit_after_lone(&self, frame: &Frame) -> Option<Sides<i32>>
         requires { is_server_promise frame.now ≡ false }
         ensures { ForSome result (IsLoneCredit frame.now self.now) }
     {
@@ -131,7 +131,7 @@ impl KeptConnection {
 
     /// The credits of both sides after a frame, if that shows nothing but credits.
     #[inline(always)]
-    fn credits_after(&self, frame: &Frame) -> Option<Sides<u32>>
+    fn credits_after(&self, frame: &Frame) -> Option<Sides<i32>>
         ensures { ForSome result (AreCreditsAfter frame.now self.now.credit) }
     {
         let Some(side) = moved_side(frame) else {
@@ -186,19 +186,36 @@ fn moved_side(frame: &Frame) -> Option<Side>
     None
 }
 
-/// A credit after a frame, if some is left before and after it, and no more than the largest window (6.9.1).
-fn balance_after(credit: u32, side: Side, frame: &Frame) -> Option<u32>
-    ensures { ForSome result (IsCountedCredit side frame.now credit) }
+/// A credit in 32 bits, if it is in range.
+fn kept_credit(credit: i64) -> Option<i32>
+    ensures { ForSome result (λ kept. kept ≡ credit) }
 {
-    let after = balance(credit, frame.grant_to(side, 0), frame.content_by(side))?;
-    if credit == 0 || after == 0 {
+    if credit < i64::from(i32::MIN) || credit > i64::from(LARGEST_WINDOW) {
         return None;
     }
-    Some(after)
+    Some(credit as i32)
+}
+
+/// A credit after a frame, if some is left before and after it, and no more than the largest window (6.9.1).
+fn balance_after(credit: i32, side: Side, frame: &Frame) -> Option<i32>
+    ensures { ForSome result (IsCountedCredit side frame.now credit) }
+{
+    if credit <= 0 {
+        return None;
+    }
+    let after = balance(
+        credit as u32,
+        frame.grant_to(side, 0),
+        frame.content_by(side),
+    )?;
+    if after == 0 {
+        return None;
+    }
+    Some(after as i32)
 }
 
 /// A credit after a frame, if that shows nothing but credit (6.9, 6.9.1).
-fn credit_after(credit: u32, side: Side, frame: &Frame) -> Option<u32>
+fn credit_after(credit: i32, side: Side, frame: &Frame) -> Option<i32>
     ensures { ForSome result (IsCreditAfter side frame.now credit) }
 {
     if frame.grants_nothing(side, 0) {

@@ -1,19 +1,18 @@
-//! All streams of a connection, for as long as they are quiet.
+//! All streams of a connection.
 
-ghost use Rattle.std.specs.Prelude.{◌≡◌, ℕ, ◌<◌, true, false, [], IfNone, IfOk};
+ghost use Rattle.std.specs.Prelude.{◌≡◌, ℕ, ◌<◌, ◌^◌, true, false, [], IfNone, IfOk};
 ghost use Rattle.std.specs.Bool.{OnTrue};
 ghost use Rattle.std.specs.Option.{ForSome};
 ghost use Rattle.audit_terms.specs.declared.sides.Sides.{Sides as SidesTerm};
-ghost use Rattle.audit_terms.specs.declared.stream_state.Stream.{Stream};
+ghost use Rattle.audit_terms.specs.declared.stream_state.Stream.{Stream as StreamTerm};
+ghost use Rattle.audit_terms.specs.code.Room.{WindowHasRoom};
 ghost use Rattle.audit_terms.specs.Frame.{is_server_promise};
 ghost use Rattle.quiet_pass.specs.code.Rows.{AreRising, IsMetOn};
 ghost use Rattle.quiet_pass.specs.code.Streams.{AreStreams, AreMetOn, AreAllMoved, ArePut};
-ghost use Rattle.stream_credit.specs.code.Standings.{stream_of};
 
-use crate::opened_rows::{Row, meet, move_all, open, put, standings_of};
-use audit_terms::{Frame, Sides, row_of};
+use crate::opened_rows::{Row, entry_of, meet, move_all, open, put};
+use audit_terms::{Frame, Sides, Stream, row_of};
 use std::alloc::{AllocError, Global};
-use stream_credit::Standings;
 
 /// The rows of the streams that were opened.
 #[derive(Drop)]
@@ -44,7 +43,7 @@ impl Streams {
     ) -> Result<Option<bool>, AllocError>
         requires streamed { 0 < frame.now.stream }
         requires unpromised { is_server_promise frame.now ≡ false }
-        ensures quiet { IfOk result (λ met. ForSome met (λ opens. (streams : ℕ → Stream) → AreStreams streams self.old
+        ensures quiet { IfOk result (λ met. ForSome met (λ opens. (streams : ℕ → StreamTerm) → AreStreams streams self.old
             → AreMetOn initial.now frame.now opens streams self.new)) }
         ensures left { IfOk result (λ met. IfNone met (self.new ≡ self.old)) }
     {
@@ -55,27 +54,28 @@ impl Streams {
         }
     }
 
-    /// How a stream stands, if it has a row.
-    pub(crate) fn standings_of(&self, stream: u32) -> Option<Standings>
+    /// The stream of an identifier.
+    pub(crate) fn entry_of(&self, stream: u32) -> Stream
         requires { 0 < stream }
-        ensures { ForSome result (λ standings. (streams : ℕ → Stream) → AreStreams streams self.now
-            → streams stream ≡ stream_of standings) }
+        ensures same { (streams : ℕ → StreamTerm) → AreStreams streams self.now → streams stream ≡ result }
+        ensures client { WindowHasRoom (2 ^ 60) result.window.client }
+        ensures server { WindowHasRoom (2 ^ 60) result.window.server }
     {
         if stream % 2 == 1 {
-            standings_of(self.opened.as_slice(), stream)
+            entry_of(self.opened.as_slice(), stream)
         } else {
-            standings_of(self.promised.as_slice(), stream)
+            entry_of(self.promised.as_slice(), stream)
         }
     }
 
-    /// Says in the row of a stream how it stands, and returns false if there is no row.
-    pub(crate) fn put(&mut self, stream: u32, standings: Standings) -> bool
-        ensures { OnTrue result (ArePut stream standings self.old self.new) }
+    /// Says what a stream is now, and returns false if no row can say so.
+    pub(crate) fn put(&mut self, stream: u32, entry: &Stream) -> Result<bool, AllocError>
+        ensures { IfOk result (λ done. OnTrue done (ArePut stream entry.now self.old self.new)) }
     {
         if stream % 2 == 1 {
-            put(&mut self.opened, stream, standings)
+            put(&mut self.opened, stream, entry)
         } else {
-            put(&mut self.promised, stream, standings)
+            put(&mut self.promised, stream, entry)
         }
     }
 
@@ -87,7 +87,7 @@ impl Streams {
         frame: &Frame,
     ) -> Result<bool, AllocError>
         requires { is_server_promise frame.now ≡ true }
-        ensures { IfOk result (λ quiet. OnTrue quiet ((streams : ℕ → Stream) → AreStreams streams self.old
+        ensures { IfOk result (λ quiet. OnTrue quiet ((streams : ℕ → StreamTerm) → AreStreams streams self.old
             → AreMetOn initial.now frame.now false streams self.new)) }
     {
         if frame.stream % 2 == 0 || !meet_opened(&mut self.opened, frame) {

@@ -7,22 +7,23 @@
 //!   the frames so far, and it stands for the state after them (`IsQuietAfter`). By [`laws::quiet_frames_show_nothing`]
 //!   the pass over these frames then shows nothing. As soon as something may be shown, it gives up.
 //! - Then `found_connection` takes the frame's stream and the connection as they stand, has `fault_rules` say what the
-//!   frame shows, and puts both back. Past a connection error nothing more is met, only counted. It gives up too, and
-//!   all frames have to be audited, where they no longer fit: where a window has no credit left, say, at a stream that
-//!   is not opened, at SETTINGS and promises that show something, and past the number of frames that a caller allows.
+//!   frame shows, and puts both back, whatever credit is left, and whether or not the stream is opened. Past a connection
+//!   error nothing more is met, only counted. It gives up too, and all frames have to be audited, at SETTINGS and
+//!   promises that show something, and past the number of frames that a caller allows.
 //! - It keeps of each side's last frame whether a field block goes on after it, and of which stream.
 //! - It keeps SETTINGS until the end (`settings_pair::Pending`): connections have few. A change that moves an initial
 //!   window updates all streams (RFC 9113, 6.9.2); after 64 of these it gives up, so that frames cost a bounded time
 //!   each. A change that moves none costs nothing.
-//! - An opened stream has a row: how each side stands is one number, since each live window has credit. The client
-//!   opens odd streams in rising order, and the server promises even ones likewise (5.1.1): a guess finds a row, else a
-//!   binary search. It gives up at a stream that does not open past all before it, and at any use of one that is not
-//!   opened. PRIORITY and frames of unknown types do nothing to such a stream.
+//! - An opened stream has a row: how each side stands is one number. Where a live window has no credit left, the row
+//!   holds that too, and is marked, so that its frames are not met quietly. The client opens odd streams in rising
+//!   order, and the server promises even ones likewise (5.1.1): a guess finds a row, else a binary search. A frame that
+//!   opens a stream not past all before it is not quiet, nor any use of one that is not opened. PRIORITY and frames of
+//!   unknown types do nothing to such a stream.
 //! - One rule updates a row for frames of all types, ends and resets too.
-//! - Frames take no memory, but for a new stream and SETTINGS. No sum wraps, and nothing is asked of the caller:
-//!   credits are kept in 32 bits, and each sum is made in 64.
+//! - Frames take no memory, but for a new stream, SETTINGS and what is shown. No sum wraps, and nothing is asked of the
+//!   caller: credits are kept in 32 bits, and each sum is made in 64.
 //! - Refused by the prover: content of a reset stream that the connection does not count (5.1); exchanged tails, and
-//!   credits; an audit that stops only if all findings of a frame end it.
+//!   credits; an audit that stops only if all findings of a frame end it; frames on a stalled stream that show nothing.
 //! - Tested, in `threads_test.py`: that connections of which nothing is shown go through no round, so that it does not
 //!   give up there, and that `found_connection` tells a connection error without one. By whole reports: that both
 //!   succeed where there is memory.
@@ -32,6 +33,7 @@
 
 mod found_connections;
 mod found_passes;
+mod held_streams;
 mod kept_connection;
 mod kept_streams;
 pub mod laws;

@@ -1,14 +1,17 @@
 //! A row for each stream that was opened, in the order of identifiers, which is that of openings (RFC 9113, 5.1.1).
 
-ghost use Rattle.std.specs.Prelude.{◌≡◌, ℕ, true, false, IfOk};
+ghost use Rattle.std.specs.Prelude.{◌≡◌, ◌^◌, ℕ, true, false, IfOk};
 ghost use Rattle.std.specs.Bool.{OnTrue, OnFalse};
 ghost use Rattle.std.specs.Option.{ForSome};
+ghost use Rattle.audit_terms.specs.Stream.{idle_stream};
+ghost use Rattle.audit_terms.specs.code.Room.{WindowHasRoom};
 ghost use Rattle.audit_terms.specs.declared.sides.Sides.{Sides as SidesTerm};
 ghost use Rattle.quiet_pass.specs.code.Rows.{IsRowOf, IsRowAfter, IsOpened, AreRising, IsMetOn};
 ghost use Rattle.quiet_pass.specs.code.Rows.{AreMoved, IsAboveAll, IsPut, IsRowMoved, entry_in};
-ghost use Rattle.stream_credit.specs.code.Standings.{stream_of};
+ghost use Rattle.quiet_pass.specs.code.HeldStreams.{held};
 
-use audit_terms::{Frame, OfStream, Sides, row_of};
+use crate::held_streams::{held, held_after_change, hold, is_low};
+use audit_terms::{Frame, OfStream, Sides, Stream, row_of};
 use std::alloc::AllocError;
 use stream_credit::Standings;
 
@@ -32,11 +35,14 @@ impl OfStream for Row {
 }
 
 impl Row {
-    /// The row after a frame on its stream, if that shows nothing.
+    /// The row after a frame on its stream, if that shows nothing and each live window has credit.
     #[inline]
     fn after(&self, frame: &Frame) -> Option<Row>
         ensures { ForSome result (IsRowAfter frame.now self.now) }
     {
+        if is_low(&self.standings) {
+            return None;
+        }
         Some(Row {
             standings: self.standings.after(frame)?,
             ..*self
@@ -47,10 +53,23 @@ impl Row {
     fn opened(stream: u32, initial: &Sides<u32>, frame: &Frame) -> Option<Row>
         ensures { ForSome result (IsOpened stream initial.now frame.now) }
     {
-        Some(Row {
-            stream,
-            standings: Standings::opened(stream, initial, frame)?,
-        })
+        let standings = Standings::opened(stream, initial, frame)?;
+        if is_low(&standings) {
+            return None;
+        }
+        Some(Row { stream, standings })
+    }
+
+    /// Is its stream not opened?
+    fn is_idle(&self) -> bool
+        ensures { OnTrue result (held self.now.standings ≡ idle_stream) }
+    {
+        let Standings {
+            opened,
+            client,
+            server,
+        } = self.standings;
+        opened == 0 && client == 0 && server == 0
     }
 
     /// The row after a change of the initial windows in force, if that shows nothing (RFC 9113, 6.9.2).
@@ -58,49 +77,83 @@ impl Row {
         ensures { ForSome result (IsRowMoved before.now after.now self.now) }
     {
         Some(Row {
-            standings: self.standings.after_change(before, after)?,
+            standings: held_after_change(&self.standings, before, after)?,
             ..*self
         })
     }
 }
 
-/// How a stream stands, if it has a row.
-pub(crate) fn standings_of(rows: &[Row], stream: u32) -> Option<Standings>
-    ensures { ForSome result (λ standings. AreRising rows.now → entry_in rows.now stream ≡ stream_of standings) }
+/// The stream of an identifier, by its row; without one it is not opened.
+pub(crate) fn entry_of(rows: &[Row], stream: u32) -> Stream
+    ensures same { AreRising rows.now → entry_in rows.now stream ≡ result }
+    ensures client { WindowHasRoom (2 ^ 60) result.window.client }
+    ensures server { WindowHasRoom (2 ^ 60) result.window.server }
 {
     match row_of(rows, stream) {
-        Some(at) => Some(standings_at(rows, stream, at)),
-        None => None,
+        Some(at) => entry_at(rows, stream, at),
+        None => Stream::idle(),
     }
 }
 
-/// How the stream of a row stands.
-fn standings_at(rows: &[Row], stream: u32, at: usize) -> Standings
+/// The stream of a row.
+fn entry_at(rows: &[Row], stream: u32, at: usize) -> Stream
     requires { IsRowOf rows.now stream at }
-    ensures { AreRising rows.now → entry_in rows.now stream ≡ stream_of result }
+    ensures same { AreRising rows.now → entry_in rows.now stream ≡ result }
+    ensures client { WindowHasRoom (2 ^ 60) result.window.client }
+    ensures server { WindowHasRoom (2 ^ 60) result.window.server }
 {
-    rows[at].standings
+    let row = rows[at];
+    held(&row.standings)
 }
 
-/// Says in the row of a stream how it stands, and returns false if there is no row.
-pub(crate) fn put(rows: &mut Vec<Row>, stream: u32, standings: Standings) -> bool
-    ensures { OnTrue result (AreRising rows.old.items → IsPut stream standings rows.old.items rows.new.items) }
+/// Says in the row of a stream what it is now, and returns false if no row can say so. A stream past all others gets a
+/// new row, if it is opened.
+pub(crate) fn put(rows: &mut Vec<Row>, stream: u32, entry: &Stream) -> Result<bool, AllocError>
+    ensures { IfOk result (λ done. OnTrue done (AreRising rows.old.items
+        → IsPut stream entry.now rows.old.items rows.new.items)) }
 {
-    match row_of(rows.as_slice(), stream) {
+    let Some(standings) = hold(entry) else {
+        return Ok(false);
+    };
+    put_row(rows, Row { stream, standings })
+}
+
+/// Puts a row in the place of its stream's, or past all others.
+fn put_row(rows: &mut Vec<Row>, row: Row) -> Result<bool, AllocError>
+    ensures { IfOk result (λ done. OnTrue done (AreRising rows.old.items
+        → IsPut row.stream (held row.standings) rows.old.items rows.new.items)) }
+{
+    match row_of(rows.as_slice(), row.stream) {
         Some(at) => {
-            put_at(rows, at, Row { stream, standings });
-            true
+            put_at(rows, at, row);
+            Ok(true)
         }
-        None => false,
+        None => put_new(rows, row),
     }
 }
 
 /// Puts a row in the place of its stream's.
 fn put_at(rows: &mut Vec<Row>, at: usize, row: Row)
     requires { IsRowOf rows.old.items row.stream at }
-    ensures { AreRising rows.old.items → IsPut row.stream row.standings rows.old.items rows.new.items }
+    ensures { AreRising rows.old.items → IsPut row.stream (held row.standings) rows.old.items rows.new.items }
 {
     rows[at] = row;
+}
+
+/// Adds the row of a stream that has none, unless it is not opened; returns false if it is not past all others.
+fn put_new(rows: &mut Vec<Row>, row: Row) -> Result<bool, AllocError>
+    requires { AreRising rows.old.items → entry_in rows.old.items row.stream ≡ idle_stream }
+    ensures { IfOk result (λ done. OnTrue done (AreRising rows.old.items
+        → IsPut row.stream (held row.standings) rows.old.items rows.new.items)) }
+{
+    if row.is_idle() {
+        return Ok(true);
+    }
+    if !is_above_all(rows.as_slice(), row.stream) {
+        return Ok(false);
+    }
+    rows.push(row)?;
+    Ok(true)
 }
 
 /// Meets a frame on the stream of a row, and returns false if that may show something.

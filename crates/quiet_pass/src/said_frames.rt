@@ -1,16 +1,17 @@
 //! What a frame shows that is not quiet, where the connection and its streams can be kept after it as before.
 
-ghost use Rattle.std.specs.Prelude.{◌≡◌, ◌<◌, ◌++◌, false, IfOk, OnOk};
+ghost use Rattle.std.specs.Prelude.{◌≡◌, ◌<◌, ◌^◌, ◌++◌, false, IfOk, OnOk};
 ghost use Rattle.std.specs.Bool.{OnTrue};
 ghost use Rattle.std.specs.List.{list_any};
 ghost use Rattle.std.specs.Option.{ForSome};
+ghost use Rattle.audit_terms.specs.code.Room.{WindowHasRoom};
 ghost use Rattle.audit_terms.specs.code.runs.Orderly.{IsInRange};
 ghost use Rattle.audit_terms.specs.code.runs.Streams.{frame_step};
 ghost use Rattle.audit_terms.specs.Finding.{in_order, shown, stops};
 ghost use Rattle.audit_terms.specs.Pass.{PassState};
 ghost use Rattle.audit_terms.specs.Stream.{stream_after, stream_said};
 ghost use Rattle.quiet_pass.specs.code.QuietPass.{StandsFor};
-ghost use Rattle.quiet_pass.specs.code.SaidFrames.{IsConnectionSaid, IsKeptAfter, IsSaidStep, IsStanding};
+ghost use Rattle.quiet_pass.specs.code.SaidFrames.{IsConnectionSaid, IsKeptAfter, IsSaidStep};
 ghost use Rattle.quiet_pass.specs.code.SaidFrames.{MovesOneStream};
 
 use crate::kept_connection::KeptConnection;
@@ -18,7 +19,6 @@ use crate::passes::{QuietPass, is_of_settings, keep_last};
 use audit_terms::{ConnectionState, Finding, Frame, Item, Step, Stream, keep_shown, put_in_order};
 use fault_rules::{say_connection, say_local_after, say_stream};
 use std::alloc::{AllocError, Global};
-use stream_credit::Standings;
 
 impl QuietPass {
     /// What a frame shows, in order; then the machine is past it, unless the audit stops there. Nothing, where the
@@ -78,18 +78,15 @@ impl QuietPass {
         ensures { IfOk result (λ said. ForSome said (λ found. (state : PassState) → StandsFor self.old state
             → IsSaidStep state frame.now found.items self.new)) }
     {
-        let Some(standings) = self.streams.standings_of(frame.stream) else {
-            return Ok(None);
-        };
         let mut found = Vec::new(alloc);
-        let mut entry = standings.stream();
+        let mut entry = self.streams.entry_of(frame.stream);
         let opens = entry.life.is_opening(frame.stream, frame);
         let connection = self.say_alone(&mut found, frame, opens)?;
         self.say_entry(&mut found, &mut entry, frame)?;
         if shows_stop(&mut found)? {
             return Ok(Some(found));
         }
-        if !self.keep_after(frame, &connection, &entry) {
+        if !self.keep_after(frame, &connection, &entry)? {
             return Ok(None);
         }
         Ok(Some(found))
@@ -116,7 +113,7 @@ impl QuietPass {
         Ok(connection)
     }
 
-    /// Adds what a frame shows of its stream, which is opened, and brings the stream to its state after it.
+    /// Adds what a frame shows of its stream, and brings the stream to its state after it.
     fn say_entry(
         &self,
         found: &mut Vec<Finding>,
@@ -124,7 +121,8 @@ impl QuietPass {
         frame: &Frame,
     ) -> Result<(), AllocError>
         requires range { IsInRange frame.now }
-        requires kept { IsStanding entry.old }
+        requires client { WindowHasRoom (2 ^ 60) entry.old.window.client }
+        requires server { WindowHasRoom (2 ^ 60) entry.old.window.server }
         ensures said { OnOk result (found.new.items ≡ found.old.items
             ++ stream_said frame.now.stream self.now.initial entry.old (frame_step frame.now)) }
         ensures after { OnOk result (entry.new
@@ -139,21 +137,24 @@ impl QuietPass {
     }
 
     /// Keeps the connection and the frame's stream as they are after the frame; returns false if they cannot be kept.
-    fn keep_after(&mut self, frame: &Frame, connection: &ConnectionState, entry: &Stream) -> bool
-        ensures { OnTrue result (IsKeptAfter frame.now connection.now entry.now self.old self.new) }
+    fn keep_after(
+        &mut self,
+        frame: &Frame,
+        connection: &ConnectionState,
+        entry: &Stream,
+    ) -> Result<bool, AllocError>
+        ensures { IfOk result (λ kept. OnTrue kept
+            (IsKeptAfter frame.now connection.now entry.now self.old self.new)) }
     {
-        let (Some(connection), Some(standings)) = (
-            KeptConnection::of(connection),
-            Standings::of(entry),
-        ) else {
-            return false;
+        let Some(connection) = KeptConnection::of(connection) else {
+            return Ok(false);
         };
-        if !self.streams.put(frame.stream, standings) {
-            return false;
+        if !self.streams.put(frame.stream, entry)? {
+            return Ok(false);
         }
         self.connection = connection;
         keep_last(&mut self.last, frame);
-        true
+        Ok(true)
     }
 }
 

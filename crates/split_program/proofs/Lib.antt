@@ -1,4 +1,5 @@
 mod Calls
+mod Numbers
 mod Parts
 mod Refusals
 mod Works

@@ -1,4 +1,6 @@
+pub mod Asked
 pub mod Calls
+pub mod CommandLine
 pub mod Ending
 pub mod Paths
 pub mod Program

@@ -9,8 +9,7 @@ zeros number = if nat_lt number 10 then codes "00" else if nat_lt number 100 the
 
 -- the path of a file of the part of this number, of this kind
 abbrev pub path_of : (folder : List ℕ) (number : ℕ) (kind : List ℕ) → List ℕ
-path_of folder number kind =
-    folder ++ (codes "/part-" ++ (zeros number ++ (decimal number ++ (codes "." ++ kind))))
+path_of folder number kind = folder ++ (codes "/part-" ++ (zeros number ++ (decimal number ++ (codes "." ++ kind))))
 
 abbrev pub summary_path : (folder : List ℕ) → List ℕ
 summary_path folder = folder ++ codes "/split.txt"

@@ -18,12 +18,12 @@ use Rattle.capture_parts.specs.Parts.{AreSplit}
 use Rattle.capture_parts.specs.declared.fault.FileFault.{FileFault}
 use Rattle.capture_parts.specs.declared.part.FullPart.{FullPart}
 use Rattle.capture_parts.specs.declared.part.Part.{Part}
-use Rattle.split_program.specs.Calls.{DidOnly}
-use Rattle.split_program.specs.Ending.{IsToldAs, line_of, status_at, status_of}
+use Rattle.split_program.specs.Calls.{Did, DidOnly}
+use Rattle.split_program.specs.Ending.{IsToldAs, status_at, told_of}
 use Rattle.split_program.specs.Paths.{AreNamed, summary_path}
-use Rattle.split_program.specs.declared.command.Asked.{Asked}
-use Rattle.split_program.specs.declared.command.Asked.TheVariants as asked
-use Rattle.split_program.specs.declared.command.Words.{Words}
+use Rattle.split_program.specs.declared.asked.Asked.{Asked}
+use Rattle.split_program.specs.declared.asked.Asked.TheVariants as asked
+use Rattle.split_program.specs.declared.asked.Words.{Words}
 use Rattle.split_program.specs.declared.failure.Ending.{Ending}
 use Rattle.split_program.specs.declared.failure.Ending.TheVariants as ending
 use Rattle.split_program.specs.declared.failure.Failure.{Failure}
@@ -53,18 +53,15 @@ module _ {O F : Type 0} (does : O → Call F → O → Type 0) where
 
   -- making a part failed behind one call, or behind two
   abbrev pub FailsPart : O → PartPaths → O → Type 0
-  FailsPart before paths after =
-      ((answer : Result F Error) × does before (Created (string_bytes paths.packets) answer) after)
-      ⊎ ((file : F) × (mid : O) × (answer : Result F Error)
-      × does before (Created (string_bytes paths.packets) (Ok file)) mid
-      × does mid (Created (string_bytes paths.numbers) answer) after)
+  FailsPart before paths after = (answer : Result F Error) × (Did does before
+      (Created (string_bytes paths.packets) answer ∷ []) after ⊎ ((file : F) × Did does before
+      (Created (string_bytes paths.packets) (Ok file) ∷ Created (string_bytes paths.numbers) answer ∷ []) after))
 
   -- a full part is refused: that is said, and its two files are removed
   abbrev pub IsRefused : O → PartPaths → Option FullPart → O → Type 0
   IsRefused before paths None after = after ≡ before
-  IsRefused before paths (Some full) after = (line : List ℕ) × (said mid : O) × does before (Said line) said
-      × does said (RemovedFile (string_bytes paths.packets) true) mid
-      × does mid (RemovedFile (string_bytes paths.numbers) true) after
+  IsRefused before paths (Some full) after = (line : List ℕ) × Did does before (Said line
+      ∷ RemovedFile (string_bytes paths.packets) true ∷ RemovedFile (string_bytes paths.numbers) true ∷ []) after
 
   -- so is each of these parts, in turn; nothing else is done
   abbrev pub AreRefused : O → List PartPaths → List (Option FullPart) → O → Type 0
@@ -81,22 +78,19 @@ module _ {O F : Type 0} (does : O → Call F → O → Type 0) where
   -- all files of a split were removed, and the folder, as far as they could be
   abbrev pub RemovesParts : O → List PartPaths → O → Type 0
   RemovesParts before [] after = after ≡ before
-  RemovesParts before (paths ∷ more) after = (one two : Bool) × (mid next : O)
-      × does before (RemovedFile (string_bytes paths.packets) one) mid
-      × does mid (RemovedFile (string_bytes paths.numbers) two) next
-      × RemovesParts next more after
+  RemovesParts before (paths ∷ more) after = (one two : Bool) × (mid : O) × Did does before
+      (RemovedFile (string_bytes paths.packets) one ∷ RemovedFile (string_bytes paths.numbers) two ∷ []) mid
+      × RemovesParts mid more after
 
   abbrev pub RemovesAll : O → List ℕ → Paths → O → Type 0
-  RemovesAll before folder paths after = (one two : Bool) × (mid next : O)
-      × RemovesParts before paths.parts.items mid
-      × does mid (RemovedFile (string_bytes paths.summary) one) next
-      × does next (RemovedFolder folder two) after
+  RemovesAll before folder paths after = (one two : Bool) × (mid : O) × RemovesParts before paths.parts.items mid
+      × Did does mid (RemovedFile (string_bytes paths.summary) one ∷ RemovedFolder folder two ∷ []) after
 
   -- the status, and the line of a failure
   abbrev pub EndsWith : O → O → ℕ → Result Ending Failure → Type 0
   EndsWith before after status (Ok ending.Split) = (status ≡ 0) × (after ≡ before)
   EndsWith before after status (Ok ending.PartsRefused) = (status ≡ 3) × (after ≡ before)
-  EndsWith before after status (Err e) = (status ≡ status_of e) × does before (Said (line_of e)) after
+  EndsWith before after status (Err e) = (status ≡ (told_of e).0) × does before (Said (told_of e).1) after
 
   -- a text on standard output, and the status
   abbrev pub IsShown : O → List ℕ → O → ℕ → Type 0
@@ -160,8 +154,7 @@ module _ {O F : Type 0} (does : O → Call F → O → Type 0) (contents left : 
   -- a folder is made once the header was read and is not refused; after a failure nothing is left in it
   abbrev pub WorksIn : (had has : Option (List ℕ)) → O → Words → List (String Global) → O → Result Ending Failure
       → Type 0
-  WorksIn had has before words later after answer =
-      ((after ≡ before) × IsErrAnd answer (λ e. ⊤))
+  WorksIn had has before words later after answer = ((after ≡ before) × IsErrAnd answer (λ e. ⊤))
       ⊎ ((does before (MadeFolder (string_bytes words.folder) false) after) × IsErrAnd answer (IsToldAs 4))
       ⊎ ((header : List ℕ) × (between : Option (List ℕ)) × (paths : Paths) × (made mid : O)
       × (length header ≡ 24) × (refusal header ≡ None) × Consumes had between header
@@ -169,15 +162,13 @@ module _ {O F : Type 0} (does : O → Call F → O → Type 0) (contents left : 
       × (string_bytes paths.summary ≡ summary_path (string_bytes words.folder))
       × does before (MadeFolder (string_bytes words.folder) true) made
       × Works header between has made paths later mid answer
-      × MatchResult answer (λ end. after ≡ mid)
-      (λ e. RemovesAll does mid (string_bytes words.folder) paths after))
+      × MatchResult answer (λ end. after ≡ mid) (λ e. RemovesAll does mid (string_bytes words.folder) paths after))
 
   -- the first file is opened, or standard input is read, which had these bytes left, and has those
   abbrev pub Runs : (had has : Option (List ℕ)) → O → Words → List (String Global) → O → Result Ending Failure → Type 0
   Runs had has before words [] after answer = WorksIn had has before words [] after answer
   Runs had has before words (first ∷ later) after answer = (opened : Result F Error) × (mid : O)
-      × does before (Opened (string_bytes first) opened) mid
-      × MatchResult opened
+      × does before (Opened (string_bytes first) opened) mid × MatchResult opened
       (λ file. (end : Option (List ℕ)) × WorksIn (left file) end mid words later after answer)
       (λ e. (after ≡ mid) × IsErrAnd answer (IsToldAs 4))
 

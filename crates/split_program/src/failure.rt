@@ -2,7 +2,7 @@
 
 ghost use Rattle.std.specs.Prelude.{◌≡◌};
 ghost use Rattle.split_program.specs.declared.failure.Failure.TheVariants.{OutOfMemory};
-ghost use Rattle.split_program.specs.Ending.{IsToldAs, line_of, status_of};
+ghost use Rattle.split_program.specs.Ending.{IsToldAs, told_of};
 
 use crate::printable::printable;
 use pcap_records::PcapFault;
@@ -84,8 +84,8 @@ impl Failure {
 
     /// The exit status, and the line that is said.
     pub(crate) fn told(&self) -> (u8, &str)
-        ensures status { result.0 ≡ status_of self.now }
-        ensures line { result.1.now ≡ line_of self.now }
+        ensures status { result.0 ≡ (told_of self.now).0 }
+        ensures line { result.1.now ≡ (told_of self.now).1 }
     {
         match self {
             Failure::Words(text) => (2, text.as_str().trim_end()),

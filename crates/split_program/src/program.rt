@@ -1,13 +1,18 @@
 //! What the program does.
 
-ghost use Rattle.std.specs.Prelude.{◌≡◌, ◌<◌, ◌≤◌, MatchResult, None, Result as ResultTerm, length, vec_len};
+ghost use Rattle.std.specs.Prelude.{◌≡◌, ◌<◌, ◌≤◌, IfOk, MatchResult, None, Result as ResultTerm, drop, length, map};
+ghost use Rattle.std.specs.Prelude.{string_bytes, vec_len};
 ghost use Rattle.std.specs.Process.{exit_status};
+ghost use Rattle.std.specs.Result.{IsOkAnd};
+ghost use Rattle.std.specs.Vec.Iter.{into_iter_items};
 ghost use Rattle.pcap_records.specs.Refusal.{refusal};
+ghost use Rattle.split_program.specs.Asked.{Asks};
 ghost use Rattle.split_program.specs.Program.{Does, EndsWith, IsShown, RemovesAll, Runs, Works, WorksIn};
-ghost use Rattle.split_program.specs.declared.command.Asked.{Asked as AskedTerm};
+ghost use Rattle.split_program.specs.declared.asked.Asked.{Asked as AskedTerm};
 ghost use Rattle.split_program.specs.declared.failure.Failure.{Failure as FailureTerm};
 
-use crate::command::{Asked, Words, parse_words};
+use crate::asked::{Asked, Words};
+use crate::command::parse_words;
 use crate::failure::{Ending, Failure};
 use crate::finishing::finish_parts;
 use crate::inputs::{Header, begin, split_failure};
@@ -26,8 +31,10 @@ pub fn run_program<I: Read, F: Read + Write + Drop, O: Outside<F>>(
     input: &mut I,
     outside: &mut O,
 ) -> ExitCode
-    ensures { (asked : ResultTerm AskedTerm FailureTerm) × Does O.does F.contents F.remaining
-        (I.remaining input.old) (I.remaining input.new) outside.old outside.new (exit_status result) asked }
+    ensures { (asked : ResultTerm AskedTerm FailureTerm)
+        × IfOk asked (λ asked. IsOkAnd words (λ words. Asks (map string_bytes (drop 1 (into_iter_items words))) asked))
+        × Does O.does F.contents F.remaining (I.remaining input.old) (I.remaining input.new) outside.old outside.new
+        (exit_status result) asked }
 {
     match words_asked(alloc, words) {
         Ok(Asked::Text(text)) => show(text.as_str(), outside),
@@ -39,18 +46,34 @@ pub fn run_program<I: Read, F: Read + Write + Drop, O: Outside<F>>(
     }
 }
 
-fn words_asked(alloc: Global, words: io::Result<Args>) -> Result<Asked, Failure> {
-    let words = given_words(alloc, words)?;
+fn words_asked(alloc: Global, words: io::Result<Args>) -> Result<Asked, Failure>
+    ensures { IfOk result (λ asked.
+        IsOkAnd words (λ words. Asks (map string_bytes (drop 1 (into_iter_items words))) asked)) }
+{
+    match words {
+        Ok(words) => asked_by(alloc, words),
+        Err(_) => Err(words_not_text(alloc)),
+    }
+}
+
+fn asked_by(alloc: Global, words: Args) -> Result<Asked, Failure>
+    ensures { IfOk result (Asks (map string_bytes (drop 1 (into_iter_items words)))) }
+{
+    let words = behind_name(alloc, words)?;
     let texts = texts_of(alloc, words.as_slice())?;
     parse_words(alloc, texts.as_slice())
 }
 
 /// The words of the command line, without the program's name.
-fn given_words(alloc: Global, words: io::Result<Args>) -> Result<Vec<String>, Failure> {
-    match words {
-        Ok(words) => Ok(words.skip(1).collect(alloc)?),
-        Err(_) => Err(words_not_text(alloc)),
+fn behind_name(alloc: Global, mut words: Args) -> Result<Vec<String>, AllocError>
+    ensures { IfOk result (λ behind. behind.items ≡ drop 1 (into_iter_items words)) }
+{
+    words.next();
+    let mut behind = Vec::new(alloc);
+    for word in words {
+        behind.push(word)?;
     }
+    Ok(behind)
 }
 
 fn words_not_text(alloc: Global) -> Failure {
@@ -60,7 +83,9 @@ fn words_not_text(alloc: Global) -> Failure {
     }
 }
 
-fn texts_of<'a>(alloc: Global, words: &'a [String]) -> Result<Vec<&'a str>, AllocError> {
+fn texts_of<'a>(alloc: Global, words: &'a [String]) -> Result<Vec<&'a str>, AllocError>
+    ensures { IfOk result (λ texts. map (λ text. text.now) texts.items ≡ map string_bytes words.now) }
+{
     words.iter().map(|word| word.as_str()).collect(alloc)
 }
 

@@ -38,8 +38,8 @@
 //!   streams make one, and rounds go one after the other. [`worked_rounds`] shows two workers with a stop that one
 //!   sees, and steps that no worker may take.
 //! - Refused by the prover: a claim that is always 0, a look that never loads or that invents a place, a lowering that
-//!   overwrites or that is dropped; parts dropped where those of two workers join, an overrun lowered, stops handed on
-//!   as the round found them.
+//!   overwrites; parts dropped where those of two workers join, an overrun lowered, stops handed on as the round found
+//!   them; a team with as many workers as before.
 //! - Tested, in `crate_tests`: two passes in two threads, that a look loads and does not answer from what its own pass
 //!   knows, that a job sees the stop that an earlier one lowered, that two workers are in one round at once, and how
 //!   many jobs each round of an audit has. That several threads work at once is not proved.

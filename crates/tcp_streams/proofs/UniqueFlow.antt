@@ -11,7 +11,7 @@ not-shorter : (F : ℕ → Option Source) (n m : ℕ) → IsLongestRun F n → I
 not-shorter F n m h k lt = false≢true (rw (h.longest (omega (arith, k.within))) at (k.covered n lt))
 
 -- one source, one byte
-same-byte : (p : Option Source) (capture xs ys : List ℕ) (o : ℕ)
+pub same-byte : (p : Option Source) (capture xs ys : List ℕ) (o : ℕ)
     → IsSomeAnd p (λ (s : Source). slice_get capture s.index ≡ slice_get xs o)
     → IsSomeAnd p (λ (s : Source). slice_get capture s.index ≡ slice_get ys o) → get_or xs o 0 ≡ get_or ys o 0
 same-byte None capture xs ys o h k = absurd h
@@ -29,12 +29,12 @@ same-rec : (s : Option Source) (e f : Arrival) → IsArrivalOf e s → IsArrival
 same-rec None e f h k = absurd h
 same-rec (Some x) e f h k = (h.0 ∙ sym k.0, h.1 ∙ sym k.1)
 
-Rises-end : (low rec : ℕ) (l : List Arrival) (n : ℕ) → Rises low rec l n → low ≤ n
+pub Rises-end : (low rec : ℕ) (l : List Arrival) (n : ℕ) → Rises low rec l n → low ≤ n
 Rises-end low rec [] n h = omega (arith, h)
 Rises-end low rec (e ∷ l) n h = omega (arith, h.0, Rises-end e.upto e.rec l n h.2)
 
 -- entries have later records than the one before them
-entry-later : (low rec : ℕ) (l : List Arrival) (n o : ℕ) → Rises low rec l n
+pub entry-later : (low rec : ℕ) (l : List Arrival) (n o : ℕ) → Rises low rec l n
     → IfSome (arrival_at l o) (λ (f : Arrival). rec < f.rec)
 entry-later low rec [] n o h = tt
 entry-later low rec (e ∷ l) n o h = grind (arith, entry-later e.upto e.rec l n o h.2, by_lt, h.1, h.2)
@@ -65,7 +65,7 @@ module _ (S : ℕ → Option Source) (n : ℕ) where
         (rw (le-ltb e.upto e.upto (omega arith)) at (are e.upto after within))
         (rw (lt-ltb e.upto f.upto lt) at (bear e.upto after within)) first.0
 
-  arrivals-unique : (low rec rec' : ℕ) (l k : List Arrival) → Rises low rec l n → Rises low rec' k n
+  pub arrivals-unique : (low rec rec' : ℕ) (l k : List Arrival) → Rises low rec l n → Rises low rec' k n
       → Bear low l → Bear low k → l ≡ k
   arrivals-unique low rec rec' [] [] h j are bear = refl
   arrivals-unique low rec rec' [] (f ∷ k) h j are bear = absurd (omega (arith, h, j.0, Rises-end f.upto f.rec k n j.2))

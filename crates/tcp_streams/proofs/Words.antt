@@ -15,9 +15,9 @@ pub use Rattle.audit_terms.specs.declared.sides.Side.{Side, TheVariants.Client, 
 pub use Rattle.packet_heads.specs.code.Order.{AreNumberedFrom, PayloadsRise, TimesFit}
 pub use Rattle.packet_heads.specs.declared.packets.{Packet.Packet, Segment.Segment}
 pub use Rattle.packet_heads.specs.declared.packets.Packet.TheVariants.{Segment as Carried}
-pub use Rattle.tcp_streams.specs.code.Interval.{AreCaptured, IsInterval, IsCaptured, Spans, arrival_with}
-pub use Rattle.tcp_streams.specs.code.Interval.{arrivals_after, arrivals_in, at, bytes_in, run_length, size_of}
-pub use Rattle.tcp_streams.specs.code.Interval.{source_in, width, IsSame, member_piece, piece, clipped, lie_apart}
+pub use Rattle.tcp_streams.specs.code.Interval.{AreCaptured, IsInterval, IsCaptured}
+pub use Rattle.tcp_streams.specs.code.Interval.{at, bytes_in, size_of}
+pub use Rattle.tcp_streams.specs.code.Interval.{source_in, width, IsSame, member_piece, piece}
 pub use Rattle.tcp_streams.specs.code.Past.{first_strays, last_opening, members, opening_at, openings, opens, strays}
 pub use Rattle.tcp_streams.specs.code.Past.{Membership, membership, connection_of, stray_of, connections_of, past_after}
 pub use Rattle.tcp_streams.specs.{Arrivals.Rises, Bytes.bytes_of, Bytes.joined, Packets.segment_in, Packets.segment_of}
@@ -26,7 +26,7 @@ pub use Rattle.tcp_streams.specs.Members.{is_sent_by, segments_of, side_segments
 pub use Rattle.tcp_streams.specs.Membership.{is_opening, is_request, with_if}
 pub use Rattle.tcp_streams.specs.{Pair.is_endpoint, Pair.is_same_pair, code.Assembled.IsAssembled}
 pub use Rattle.tcp_streams.specs.Sequence.{Source, arrival, end_of_offsets, payload_length, source}
-pub use Rattle.tcp_streams.specs.code.{Interval.overlay, Interval.ClipsAlike, Pairs.is_of, Pairs.pair_of, Pairs.is_pair}
+pub use Rattle.tcp_streams.specs.code.{Pairs.is_of, Pairs.pair_of, Pairs.is_pair}
 pub use Rattle.tcp_streams.specs.code.Orderly.{AreTimely, AreMembers, payload_sum}
 pub use Rattle.tcp_streams.specs.code.{Past.past_of, Past.with_packet, Standings.standing_of}
 pub use Rattle.tcp_streams.specs.code.Table.{RecordsDescend, IsOpened, IsTableOf, IsUnopened}

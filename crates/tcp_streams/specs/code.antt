@@ -2,6 +2,7 @@ pub mod Assembled
 pub mod Interval
 pub mod Pairs
 pub mod Past
+pub mod SideFlow
 pub mod Standings
 pub mod Table
 pub mod Orderly

@@ -2,3 +2,4 @@ pub mod Retransmission
 pub mod Captured
 pub mod Connections
 pub mod Offsets
+pub mod Growth

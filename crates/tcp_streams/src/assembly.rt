@@ -1,18 +1,19 @@
-ghost use Rattle.std.specs.Prelude.{◌≡◌, ◌<◌, ◌≤◌, ◌^◌, None, [], false, length, IsTrue, IfOk, IsOk, IfSome};
+ghost use Rattle.std.specs.Prelude.{◌≡◌, ◌<◌, ◌≤◌, ◌^◌, ◌++◌, None, [], false, All, length, IsTrue, IfOk, IsOk, OnOk};
+ghost use Rattle.std.specs.Prelude.{IfSome};
 ghost use Rattle.packet_heads.specs.code.Order.{AreNumberedFrom, PayloadsRise, TimesFit};
 ghost use Rattle.tcp_streams.specs.code.Orderly.{IsOrderly, AreMembers, payload_sum};
-ghost use Rattle.tcp_streams.specs.Bytes.{bytes_of};
+ghost use Rattle.tcp_streams.specs.Bytes.{bytes_of, joined};
 ghost use Rattle.tcp_streams.specs.Flow.{IsFlow};
 ghost use Rattle.tcp_streams.specs.Members.{initial_of, side_segments};
 ghost use Rattle.tcp_streams.specs.Sequence.{source};
 ghost use Rattle.tcp_streams.specs.code.Assembled.{IsAssembled, IsOfCapture};
+ghost use Rattle.tcp_streams.specs.code.Interval.{IsInside, arrival_to, bytes_in};
 
-use crate::flows::Flow;
-use crate::in_order::flow_in_order;
-use crate::layout::lay_out;
+use crate::flows::{Arrival, Flow};
+use crate::interval::Interval;
 use crate::members::Connection;
-use crate::overlay::set_apart;
-use crate::pieces::pieces_of;
+use crate::pieces::piece_of_member;
+use crate::side_flow::SideFlow;
 use crate::started_side::StartedSide;
 use audit_terms::Side;
 use input_output::Capture;
@@ -74,7 +75,7 @@ pub fn assemble<'a>(
     }
 }
 
-/// The flow of a side whose initial sequence number is known.
+/// The flow of a side whose initial sequence number is known: its segments in any order, with overlaps and holes.
 fn flow_from<'a>(
     alloc: Global,
     capture: &Capture<'a>,
@@ -83,22 +84,51 @@ fn flow_from<'a>(
     requires { IsOfCapture capture.now of.now }
     ensures { IfOk result (IsAssembled capture.now of.now) }
 {
-    match flow_in_order(alloc, capture, of)? {
-        Some(flow) => Ok(flow),
-        None => flow_in_any_order(alloc, capture, of),
+    let count = of.connection.members.len();
+    let mut pieces = Vec::with_capacity(alloc, count)?;
+    let mut arrivals = Vec::with_capacity(alloc, count)?;
+    let mut side = SideFlow::new(alloc);
+    let mut run = Vec::new(alloc);
+    for member in &of.connection.members {
+        if let Some(piece) = piece_of_member(of, *member) {
+            side.take(&piece, &mut run)?;
+            if !run.is_empty() {
+                push_run(capture, &run, &mut pieces)?;
+                arrivals.push(arrival_to(&piece, side.end))?;
+            }
+        }
     }
+    let gap = side.gap();
+    Ok(Flow {
+        started: true,
+        pieces,
+        arrivals,
+        gap,
+    })
 }
 
-/// The flow of a side whose segments may come in any order, overlap and leave holes.
-fn flow_in_any_order<'a>(
-    alloc: Global,
+/// Appends the bytes of intervals to the pieces of the capture that were found.
+fn push_run<'a>(
     capture: &Capture<'a>,
-    of: &StartedSide<'_>,
-) -> Result<Flow<'a>, AllocError>
-    requires { IsOfCapture capture.now of.now }
-    ensures { IfOk result (IsAssembled capture.now of.now) }
+    run: &[Interval],
+    pieces: &mut Vec<&'a [u8]>,
+) -> Result<(), AllocError>
+    requires { All (IsInside (length capture.now)) run.now }
+    ensures { OnOk result (joined pieces.new.items ≡ joined pieces.old.items ++ bytes_in capture.now run.now) }
 {
-    let pieces = pieces_of(alloc, of)?;
-    let intervals = set_apart(alloc, pieces)?;
-    lay_out(alloc, capture, &intervals)
+    for x in run {
+        x.push_bytes(capture, pieces)?;
+    }
+    Ok(())
+}
+
+/// Bytes up to an offset arrive with the interval's record.
+fn arrival_to(x: &Interval, upto: u32) -> Arrival
+    ensures { result ≡ arrival_to x.now upto }
+{
+    Arrival {
+        upto,
+        rec: x.rec,
+        nanos: x.nanos,
+    }
 }

@@ -1,6 +1,7 @@
 //! Laws of the definitions. These calls do nothing; their contracts are what they are for.
 
 ghost use Rattle.tcp_streams.specs.laws.Flows.{ByteHasOffset, FlowIsUnique, FlowsFit, SidesFit};
+ghost use Rattle.tcp_streams.specs.laws.Growth.{FlowGrows, NewBytesArrive, SourceGrows, SourceStays};
 
 /// A side's sources have one flow: no other bytes, arrivals or gap meet the definition.
 pub fn flow_is_unique()
@@ -25,4 +26,13 @@ pub fn flows_fit()
 #[tactic(auto, using(crate::proofs::PieceLemmas::laws))]
 pub fn byte_has_offset()
     ensures { ByteHasOffset }
+{}
+
+/// A segment of a later record adds bytes where none were, at the end of the flow or behind a hole. What is there
+/// stays, and what the flow gains arrives with the segment: so bytes may be handed on while segments come.
+pub fn flow_grows()
+    ensures source_grows { SourceGrows }
+    ensures source_stays { SourceStays }
+    ensures new_bytes_arrive { NewBytesArrive }
+    ensures flow_grows { FlowGrows }
 {}

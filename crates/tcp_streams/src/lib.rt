@@ -16,11 +16,12 @@
 //! - A flow is orderly, as frame reading requires: shorter than 2^31, its arrivals rising in offset and record, times
 //!   below 2^63. It is no longer than the payloads of its side.
 //! - [`laws`]: a source has one flow; each payload byte has the offset that the RFC's arithmetic gives it; all flows
-//!   together fit in the capture.
-//! - Segments that come in order are appended as they come. Others become disjoint intervals: each half is made
-//!   disjoint, then the later half fills the gaps of the earlier, in n log n steps for any order. Pairs of endpoints
-//!   are looked up by a hash (`TableHash` of `input_output`), and the contract of [`connections`] holds for every key
-//!   of it.
+//!   together fit in the capture; one segment more adds to a flow and changes nothing that is there.
+//! - A flow grows segment by segment (`SideFlow`), as those laws allow: after each one it knows how many bytes there
+//!   are without a hole, keeps disjoint intervals of what lies behind one, and hands on by what the flow grew. A
+//!   segment takes steps in the logarithm of how many intervals are kept, and as many more for each that it covers.
+//! - Pairs of endpoints are looked up by a hash (`TableHash` of `input_output`), and the contract of [`connections`]
+//!   holds for every key of it.
 //! - The prover refuses: a last retransmission that wins, a SYN of any number that repeats an opening.
 //! - [`worked_examples`] go from packets to a flow, and compute openings, strays and offsets that wrap.
 //! - `crate_tests` tests that keys are drawn; whole reports test interleaved connections; reports of random captures,
@@ -29,15 +30,13 @@
 
 mod assembly;
 mod flows;
-mod in_order;
 mod interval;
 pub mod laws;
-mod layout;
 mod members;
 mod membership;
-mod overlay;
 mod pair;
 mod pieces;
+mod side_flow;
 mod standings;
 mod started_side;
 mod table;

@@ -1,5 +1,4 @@
-ghost use Rattle.std.specs.Prelude.{◌≡◌, ◌+◌, ◌-◌, ◌%◌, ◌<◌, ◌≤◌, ◌^◌, if◌then◌else◌, Option, IfOk};
-ghost use Rattle.std.specs.List.{filter_map};
+ghost use Rattle.std.specs.Prelude.{◌≡◌, ◌+◌, ◌-◌, ◌%◌, ◌<◌, ◌≤◌, ◌^◌, if◌then◌else◌};
 ghost use Rattle.tcp_streams.specs.code.Interval.{PayloadsFit, member_piece, piece, stretch};
 ghost use Rattle.tcp_streams.specs.Members.{is_sent_by};
 
@@ -7,24 +6,9 @@ use crate::interval::{END_OF_OFFSETS, Interval};
 use crate::started_side::StartedSide;
 use audit_terms::Side;
 use packet_heads::Segment;
-use std::alloc::{AllocError, Global};
 
 /// Sequence numbers wrap at this number (RFC 9293, 3.4).
 const MODULUS: u64 = 0x1_0000_0000;
-
-/// The offsets that a side's segments cover, a piece for each that covers any, in order of record.
-pub(crate) fn pieces_of(alloc: Global, of: &StartedSide<'_>) -> Result<Vec<Interval>, AllocError>
-    requires { PayloadsFit of.now.packets.now }
-    ensures { IfOk result (λ v. v.items ≡ filter_map (member_piece of.now) of.now.connection.now.members.items) }
-{
-    let mut pieces = Vec::new(alloc);
-    for member in &of.connection.members {
-        if let Some(piece) = piece_of_member(of, *member) {
-            pieces.push(piece)?;
-        }
-    }
-    Ok(pieces)
-}
 
 /// The piece of a member, if it is the side's.
 pub(crate) fn piece_of_member(of: &StartedSide<'_>, member: u32) -> Option<Interval>

@@ -1,9 +1,11 @@
 //! Worked examples, which stand with their answers in `specs/examples/`: a whole flow (`Retransmission`), openings and
-//! strays (`Connections`), and offsets (`Offsets`). The functions do nothing; each contract is the example.
+//! strays (`Connections`), offsets (`Offsets`), and a hole that is filled (`Growth`). The functions do nothing; each
+//! contract is the example.
 
 ghost use Rattle.tcp_streams.specs.examples.Connections.{FirstSynAckOfTheServer, OneEndpoint, OpenedAfterStrays};
 ghost use Rattle.tcp_streams.specs.examples.Connections.{OpenedTwice, PortsTellApart, RepeatedSyn, StraysOfTwoPairs};
 ghost use Rattle.tcp_streams.specs.examples.Connections.{SynFromTheOtherEnd};
+ghost use Rattle.tcp_streams.specs.examples.Growth.{ArrivalsOfFilledHole, FilledHole, KeptBehindHole, RunBeforeHole};
 ghost use Rattle.tcp_streams.specs.examples.Offsets.{BelowOffsetZero, FirstRecordWins, LastOffset, PayloadOfSyn};
 ghost use Rattle.tcp_streams.specs.examples.Offsets.{WrappedArrivals, WrappedSources};
 ghost use Rattle.tcp_streams.specs.examples.Retransmission.{WrappedRetransmission};
@@ -41,4 +43,12 @@ pub fn offsets()
     ensures payload_of_syn { PayloadOfSyn }
     ensures below_offset_zero { BelowOffsetZero }
     ensures last_offset { LastOffset }
+{}
+
+/// What segments bring behind a hole, and when the hole is filled.
+pub fn growth()
+    ensures run_before_hole { RunBeforeHole }
+    ensures kept_behind_hole { KeptBehindHole }
+    ensures filled_hole { FilledHole }
+    ensures arrivals_of_filled_hole { ArrivalsOfFilledHole }
 {}

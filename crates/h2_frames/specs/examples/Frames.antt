@@ -86,3 +86,13 @@ FramesInOrder =
     ∷ frame Server 7 5 23
     ∷ frame Client 8 9 13
     ∷ []
+
+-- record 3 completes a frame of the client, record 5 two of the server, and record 7 one of the client: each time the
+-- frames that were there stay where they are
+abbrev pub FramesAsTheyCome : Type 0
+FramesAsTheyCome =
+    (capture_order (sent Client 1 3 10 ∷ []) [] ≡ frame Client 1 3 10 ∷ [])
+    × (capture_order (sent Client 1 3 10 ∷ []) (sent Server 1 5 20 ∷ sent Server 2 5 21 ∷ [])
+    ≡ frame Client 1 3 10 ∷ frame Server 2 5 20 ∷ frame Server 3 5 21 ∷ [])
+    × (capture_order (sent Client 1 3 10 ∷ sent Client 2 7 11 ∷ []) (sent Server 1 5 20 ∷ sent Server 2 5 21 ∷ [])
+    ≡ frame Client 1 3 10 ∷ frame Server 2 5 20 ∷ frame Server 3 5 21 ∷ frame Client 4 7 11 ∷ [])

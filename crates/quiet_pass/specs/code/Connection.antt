@@ -1,5 +1,5 @@
--- The connection between two frames, as it is kept while nothing of it is shown. No public clause cites this.
-use Rattle.std.specs.Prelude.{◌≡◌, ℕ, ◌^◌, ◌<◌, false, pos, ◌+ℤ◌, ◌-ℤ◌, max, Bool, if◌then◌else◌, [], None, Option}
+-- The connection between two frames, as it is kept. No public clause cites this.
+use Rattle.std.specs.Prelude.{◌≡◌, ℕ, ℤ, false, pos, ◌+ℤ◌, ◌-ℤ◌, int_lt, max, Bool, if◌then◌else◌, [], None, Option}
 use Rattle.audit_terms.specs.declared.sides.Side.{Side}
 use Rattle.audit_terms.specs.declared.sides.Side.TheVariants.{Client, Server}
 use Rattle.audit_terms.specs.declared.sides.Sides.{Sides}
@@ -11,13 +11,14 @@ use Rattle.audit_terms.specs.Frame.{promised_in, content_by, grant_to, grants_no
 use Rattle.audit_terms.specs.Connection.{connection_said, connection_after, connection_window_said, credit_after}
 use Rattle.audit_terms.specs.Connection.{is_opened_by_headers, is_even_promise, opening_order_said}
 use Rattle.audit_terms.specs.Connection.{promise_order_said, push_said}
+use Rattle.audit_terms.specs.Window.{is_used_up, largest_window}
 use Rattle.quiet_pass.specs.declared.kept_connection.KeptConnection.{KeptConnection}
 use Rattle.stream_credit.specs.code.Standings.{AreQuiet}
 
 -- the connection that is kept so
 abbrev pub connection_of : KeptConnection → ConnectionState
 connection_of now = record {
-  credit = record { client = pos now.credit.client; server = pos now.credit.server };
+  credit = record { client = now.credit.client; server = now.credit.server };
   opened = now.opened;
   promised = now.promised;
   push = now.push;
@@ -35,23 +36,23 @@ pub record IsConnectionAfter (frame : Frame) (opens : Bool) (change : Option Cha
   pub after : connection_of new ≡ connection_after (connection_of old) (as_item frame opens change)
 
 -- these are the credits after a frame that moves nothing else of the connection: nothing of that is shown
-abbrev pub IsLoneCredit : Frame → KeptConnection → Sides ℕ → Type 0
+abbrev pub IsLoneCredit : Frame → KeptConnection → Sides ℤ → Type 0
 IsLoneCredit frame old credit = IsConnectionAfter frame false None old (record old { credit = credit })
 
 -- a credit after a frame, where some is left before and after it, and no more than the largest
-pub record IsCountedCredit (d : Side) (frame : Frame) (before after : ℕ) : Type 0 where
-  pub moved : pos after ≡ pos before +ℤ (pos (grant_to d 0 frame) -ℤ pos (content_by d frame))
-  pub some : 0 < before
-  pub left : 0 < after
-  pub within : after < 2 ^ 31
+pub record IsCountedCredit (d : Side) (frame : Frame) (before after : ℤ) : Type 0 where
+  pub moved : after ≡ before +ℤ (pos (grant_to d 0 frame) -ℤ pos (content_by d frame))
+  pub some : is_used_up before ≡ false
+  pub left : is_used_up after ≡ false
+  pub within : int_lt largest_window after ≡ false
 
 -- a credit after a frame: nothing of that is shown
-pub record IsCreditAfter (d : Side) (frame : Frame) (before after : ℕ) : Type 0 where
-  pub moved : pos after ≡ credit_after d (pos before) frame
-  pub said : AreQuiet (connection_window_said d (pos before) frame)
+pub record IsCreditAfter (d : Side) (frame : Frame) (before after : ℤ) : Type 0 where
+  pub moved : after ≡ credit_after d before frame
+  pub said : AreQuiet (connection_window_said d before frame)
 
 -- the credits of both sides after a frame: nothing of that is shown
-pub record AreCreditsAfter (frame : Frame) (before after : Sides ℕ) : Type 0 where
+pub record AreCreditsAfter (frame : Frame) (before after : Sides ℤ) : Type 0 where
   pub client : IsCreditAfter Client frame before.client after.client
   pub server : IsCreditAfter Server frame before.server after.server
 

@@ -50,10 +50,15 @@ pub record IsFoundAfter (frames : List Frame) (machine : FoundPass) : Type 0 whe
   pub stopped : machine.has_stopped ≡ true → list_any stops machine.found.items ≡ true
   pub kept : IsOrderly frames → AreFramesKept frames machine.shown_at.items machine.found.items
 
+-- the frames that findings name, with this one if it shows something
+abbrev pub named_with : Frame → (said : List Finding) → List Frame → List Frame
+named_with frame [] frames = frames
+named_with frame (_ ∷ _) frames = frames ++ frame ∷ []
+
 -- what a frame shows was added
 pub record IsAdded (frame : Frame) (said : List Finding) (old new : FoundPass) : Type 0 where
   pub found : new.found.items ≡ old.found.items ++ said
-  pub shown_at : new.shown_at.items ≡ old.shown_at.items ++ frame ∷ []
+  pub shown_at : new.shown_at.items ≡ named_with frame said old.shown_at.items
   pub stopped : new.has_stopped ≡ list_any stops said
 
 -- a frame was met, and what it shows was said

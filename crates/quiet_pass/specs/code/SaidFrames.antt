@@ -20,13 +20,6 @@ use Rattle.quiet_pass.specs.code.Connection.{as_item, connection_of}
 use Rattle.quiet_pass.specs.code.QuietPass.{AreNamed, BringsNothing, StandsFor}
 use Rattle.quiet_pass.specs.code.Streams.{ArePut}
 use Rattle.quiet_pass.specs.declared.passes.QuietPass.{QuietPass}
-use Rattle.stream_credit.specs.code.Standings.{stream_of}
-use Rattle.stream_credit.specs.declared.stream_standings.Standings.{Standings}
-
--- some standings say all of the stream
-pub record IsStanding (entry : Stream) : Type 0 where
-  pub standings : Standings
-  pub same : stream_of standings ≡ entry
 
 -- what a frame shows by itself and of the connection, and the connection after it
 pub record IsConnectionSaid (machine : QuietPass) (frame : Frame) (opens : Bool) (before after : List Finding)
@@ -55,8 +48,7 @@ pub record IsConnectionKept (frame : Frame) (connection : ConnectionState) (old 
 pub record IsKeptAfter (frame : Frame) (connection : ConnectionState) (entry : Stream) (old new : QuietPass)
     : Type 0 where
   pub rest : IsConnectionKept frame connection old new
-  pub stands : IsStanding entry
-  pub streams : ArePut frame.stream stands.standings old.streams new.streams
+  pub streams : ArePut frame.stream entry old.streams new.streams
 
 -- streams other than 0, each once, and among them that of the frame
 pub record HaveOwn (frame : Frame) (streams : List ℕ) : Type 0 where

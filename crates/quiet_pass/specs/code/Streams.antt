@@ -1,5 +1,5 @@
 -- All streams, as they are kept in rows. No public clause cites this.
-use Rattle.std.specs.Prelude.{◌≡◌, ℕ, ◌%◌, ◌<◌, Bool, if◌then◌else◌, Option, Some, None, option_map}
+use Rattle.std.specs.Prelude.{◌≡◌, ℕ, ◌%◌, ◌<◌, Bool, if◌then◌else◌, Option, Some, None}
 use Rattle.audit_terms.specs.declared.sides.Sides.{Sides}
 use Rattle.audit_terms.specs.declared.frames.Frame.{Frame}
 use Rattle.audit_terms.specs.declared.items.Change.{Change}
@@ -8,10 +8,8 @@ use Rattle.audit_terms.specs.declared.stream_state.Stream.{Stream}
 use Rattle.audit_terms.specs.Frame.{meets}
 use Rattle.audit_terms.specs.Life.{is_opening}
 use Rattle.audit_terms.specs.Stream.{stream_said, stream_after}
-use Rattle.audit_terms.specs.code.Standing.{credit_after_change, IsQuietMove}
 use Rattle.quiet_pass.specs.declared.kept_streams.Streams.{Streams}
 use Rattle.stream_credit.specs.code.Standings.{AreQuiet}
-use Rattle.stream_credit.specs.declared.stream_standings.Standings.{Standings}
 use Rattle.quiet_pass.specs.code.Rows.{entry_in, AreRising, AreMoved, IsPut}
 
 -- the rows are those of the streams: of the odd ones, which the client opens, and of the even ones, which the server
@@ -53,19 +51,11 @@ pub record AreAllMoved (before after : Sides ℕ) (old new : Streams) : Type 0 w
   pub opened : AreMoved before after old.opened.items new.opened.items
   pub promised : AreMoved before after old.promised.items new.promised.items
 
--- a stream stands so, and no other stream changes
-pub record ArePut (stream : ℕ) (standings : Standings) (old new : Streams) : Type 0 where
+-- this is a stream now, and no other stream changes
+pub record ArePut (stream : ℕ) (entry : Stream) (old new : Streams) : Type 0 where
   pub odd : stream % 2 ≡ 1
-      → (AreRising old.opened.items → IsPut stream standings old.opened.items new.opened.items)
+      → (AreRising old.opened.items → IsPut stream entry old.opened.items new.opened.items)
       × (new.promised.items ≡ old.promised.items)
   pub even : stream % 2 ≡ 0
-      → (AreRising old.promised.items → IsPut stream standings old.promised.items new.promised.items)
+      → (AreRising old.promised.items → IsPut stream entry old.promised.items new.promised.items)
       × (new.opened.items ≡ old.opened.items)
-
--- a stream after the initial windows in force go from some to others
-pub record IsEntryMoved (before after : Sides ℕ) (entry next : Stream) : Type 0 where
-  pub life : next.life ≡ entry.life
-  pub client : next.window.client ≡ option_map (credit_after_change before.client after.client) entry.window.client
-  pub server : next.window.server ≡ option_map (credit_after_change before.server after.server) entry.window.server
-  pub client_quiet : IsQuietMove entry.window.client next.window.client
-  pub server_quiet : IsQuietMove entry.window.server next.window.server

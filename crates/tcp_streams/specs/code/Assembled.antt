@@ -1,16 +1,14 @@
--- What is given where a flow is assembled, and what each way of assembling it leaves. No public clause cites these.
-use Rattle.std.specs.Prelude.{ℕ, ◌^◌, ◌<◌, ◌≤◌, List, Option, length, IsTrue}
+-- What is given where a flow is assembled, and what that leaves. No public clause cites these.
+use Rattle.std.specs.Prelude.{ℕ, ◌^◌, ◌<◌, ◌≤◌, List, length, IsTrue}
 use Rattle.packet_heads.specs.code.Order.{AreNumberedFrom, PayloadsRise, TimesFit}
 use Rattle.packet_heads.specs.declared.packets.Segment.{Segment}
-use Rattle.tcp_streams.specs.declared.interval.Interval.{Interval}
 use Rattle.tcp_streams.specs.declared.started_side.StartedSide.{StartedSide}
 use Rattle.tcp_streams.specs.declared.flows.Flow.{Flow}
-use Rattle.tcp_streams.specs.code.Interval.{IsSame, at}
-use Rattle.tcp_streams.specs.code.Orderly.{AreMembers, AreTimely, IsOrderly, payload_sum}
+use Rattle.tcp_streams.specs.code.Orderly.{AreMembers, IsOrderly, payload_sum}
 use Rattle.tcp_streams.specs.Bytes.{bytes_of}
 use Rattle.tcp_streams.specs.Flow.{IsFlow}
 use Rattle.tcp_streams.specs.Members.{side_segments}
-use Rattle.tcp_streams.specs.Sequence.{Source, source}
+use Rattle.tcp_streams.specs.Sequence.{source}
 
 -- the packets are those of a short capture, and the side's connection is theirs
 pub record IsOfCapture (capture : List ℕ) (of : StartedSide) : Type 0 where
@@ -19,13 +17,6 @@ pub record IsOfCapture (capture : List ℕ) (of : StartedSide) : Type 0 where
   pub payloads : PayloadsRise 0 (length capture) of.packets.now
   pub times : TimesFit of.packets.now
   pub members : AreMembers 0 of.packets.now of.connection.now.members.items
-
--- the flow of whatever brings what these intervals bring
-pub record IsLaidOut (capture : List ℕ) (intervals : List Interval) (flow : Flow) : Type 0 where
-  pub started : IsTrue flow.started
-  pub is_flow : (sources : ℕ → Option Source) → IsSame sources (at intervals)
-      → IsFlow capture sources (bytes_of flow) flow.arrivals.items flow.gap
-  pub timely : AreTimely flow.arrivals.items
 
 -- the segments that the side sent
 abbrev pub segments_by : StartedSide → List Segment

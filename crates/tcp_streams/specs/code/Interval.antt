@@ -1,5 +1,5 @@
 -- The intervals that `assemble` works with: runs of offsets, each from one segment. No public clause cites these.
-use Rattle.std.specs.Prelude.{◌≡◌, ℕ, suc, ◌+◌, ◌-◌, ◌<◌, ◌≤◌, ◌^◌, ◌==◌, Bool, true, ◌&&◌, nat_lt, nat_le, min, max}
+use Rattle.std.specs.Prelude.{◌≡◌, ℕ, ◌+◌, ◌-◌, ◌<◌, ◌≤◌, ◌^◌, Bool, ◌&&◌, nat_lt, nat_le, min}
 use Rattle.std.specs.Prelude.{if◌then◌else◌, List, [], ◌∷◌, ◌++◌, Option, None, Some, IfSome, option_and_then, sum_by}
 use Rattle.std.specs.List.{slice_range}
 use Rattle.packet_heads.specs.code.Order.{PayloadsRise}
@@ -39,16 +39,6 @@ at (x ∷ xs) o = if holds x o then Some (source_in x o) else at xs o
 abbrev pub IsSame : (ℕ → Option Source) → (ℕ → Option Source) → Type 0
 IsSame F G = (o : ℕ) → o < end_of_offsets → F o ≡ G o
 
--- apart, in order of offset, from low to high
-abbrev pub Spans : ℕ → List Interval → ℕ → Type 0
-Spans low [] high = low ≤ high
-Spans low (x ∷ xs) high = (low ≤ x.from) × IsInterval x × Spans x.upto xs high
-
--- each begins where the one before it ends or later, and the first at low or later
-abbrev pub lie_apart : ℕ → List Interval → Bool
-lie_apart low [] = true
-lie_apart low (x ∷ xs) = nat_le low x.from && lie_apart x.upto xs
-
 -- how many offsets the intervals hold, each counted as often as it is held
 abbrev pub width : Interval → ℕ
 width x = x.upto - x.from
@@ -56,31 +46,9 @@ width x = x.upto - x.from
 abbrev pub size_of : List Interval → ℕ
 size_of xs = sum_by width xs
 
--- they lie apart, and bring what the pieces bring
-pub record AreSetApart (pieces intervals : List Interval) : Type 0 where
-  pub spans : Spans 0 intervals (2 ^ 31)
-  pub same : IsSame (at intervals) (at pieces)
-
 -- the part of an interval between two offsets in it
 abbrev pub part_of : Interval → ℕ → ℕ → Interval
 part_of x low high = record { from = low; upto = high; index = x.index + (low - x.from); rec = x.rec; nanos = x.nanos }
-
--- the parts between two offsets
-abbrev pub clipped : ℕ → ℕ → List Interval → List Interval
-clipped low high [] = []
-clipped low high (y ∷ ys) =
-    if nat_lt (max y.from low) (min y.upto high)
-    then part_of y (max y.from low) (min y.upto high) ∷ clipped low high ys
-    else clipped low high ys
-
--- from low on, what is kept, and between it the parts of the later ones that it leaves free
-abbrev pub overlay : List Interval → List Interval → ℕ → List Interval
-overlay [] later low = clipped low end_of_offsets later
-overlay (x ∷ kept) later low = clipped low x.from later ++ x ∷ overlay kept later x.upto
-
--- what was passed over ends at or before low
-pub record ClipsAlike (low : ℕ) (all rest : List Interval) : Type 0 where
-  pub clips : (a b : ℕ) → low ≤ a → clipped a b rest ≡ clipped a b all
 
 -- the offsets from one up to another, from the payload byte `skipped` of the segment on, if there are any
 abbrev pub stretch : Segment → ℕ → ℕ → ℕ → Option Interval
@@ -110,31 +78,14 @@ member_piece of m = option_and_then (piece of.initial_number) (side_segment of m
 abbrev pub PayloadsFit : List Packet → Type 0
 PayloadsFit packets = (size : ℕ) × (size < 2 ^ 31) × PayloadsRise 0 size packets
 
--- how many of the intervals follow each other with no hole from low on
-abbrev pub run_length : ℕ → List Interval → ℕ
-run_length low [] = 0
-run_length low (x ∷ xs) = if x.from == low then suc (run_length x.upto xs) else 0
-
 -- the bytes of the intervals, one after the other
 abbrev pub bytes_in : List ℕ → List Interval → List ℕ
 bytes_in capture [] = []
 bytes_in capture (x ∷ xs) = slice_range capture x.index (x.index + width x) ++ bytes_in capture xs
 
--- the interval's bytes arrive with its record
-abbrev pub arrival_with : Interval → Arrival
-arrival_with x = record { upto = x.upto; rec = x.rec; nanos = x.nanos }
-
--- the arrivals from one on: an interval of a later record begins a new one, any other is there in time
-abbrev pub arrivals_after : Arrival → List Interval → List Arrival
-arrivals_after a [] = a ∷ []
-arrivals_after a (x ∷ xs) =
-    if nat_lt a.rec x.rec
-    then a ∷ arrivals_after (arrival_with x) xs
-    else arrivals_after (record { upto = x.upto; rec = a.rec; nanos = a.nanos }) xs
-
-abbrev pub arrivals_in : List Interval → List Arrival
-arrivals_in [] = []
-arrivals_in (x ∷ xs) = arrivals_after (arrival_with x) xs
+-- bytes up to an offset arrive with the interval's record
+abbrev pub arrival_to : Interval → ℕ → Arrival
+arrival_to x upto = record { upto = upto; rec = x.rec; nanos = x.nanos }
 
 -- the byte stands in the capture, and its record has a number and a time
 abbrev pub IsCaptured : ℕ → Source → Type 0

@@ -1,4 +1,4 @@
-use Rattle.std.proofs.Common.{List, drop, subst, sym, ap, ℕ, ◌+◌, ◌∙◌, ◌∷◌, ◌≡◌}
+use Rattle.std.proofs.Common.{List, drop, refl, subst, sym, ap, ℕ, ◌+◌, ◌∙◌, ◌∷◌, ◌≡◌}
 use Rattle.std.specs.Prelude.{is_ok}
 use Rattle.std.proofs.lemmas.List.{at_drop_more}
 use Rattle.capture_parts.specs.Outside.{RemovedFile}
@@ -16,13 +16,19 @@ loop-part-preserved g c = λ last more.
     c.loop-part.invariant last (rw first (
       is_ok c.remove_file.result,
       is_ok c.remove_file-in-loop-part.result,
-      c.remove_file.new.self,
       c.remove_file-in-loop-part.new.self,
-      subst (λ p. g.O.Outside.does c.loop-part.outside (RemovedFile p (is_ok c.remove_file.result))
-          c.remove_file.new.self) c.as_str.ensures.value
-          c.remove_file.ensures,
-      subst (λ p. g.O.Outside.does c.remove_file.new.self (RemovedFile p (is_ok c.remove_file-in-loop-part.result))
-          c.remove_file-in-loop-part.new.self)
-          c.as_str-in-loop-part.ensures.value c.remove_file-in-loop-part.ensures,
+      (
+        c.remove_file.new.self,
+        subst (λ p. g.O.Outside.does c.loop-part.outside (RemovedFile p (is_ok c.remove_file.result))
+            c.remove_file.new.self) c.as_str.ensures.value
+            c.remove_file.ensures,
+        (
+          c.remove_file-in-loop-part.new.self,
+          subst (λ p. g.O.Outside.does c.remove_file.new.self
+              (RemovedFile p (is_ok c.remove_file-in-loop-part.result)) c.remove_file-in-loop-part.new.self)
+              c.as_str-in-loop-part.ensures.value c.remove_file-in-loop-part.ensures,
+          refl,
+        ),
+      ),
       more,
     ))

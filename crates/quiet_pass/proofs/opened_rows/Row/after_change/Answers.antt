@@ -5,4 +5,4 @@ use Rattle.quiet_pass.proofs.opened_rows.Row.after_change.Goals as goal
 pub returns : goal.returns
 returns c = λ x e.
     subst (IsRowMoved c.args.before.now c.args.after.now c.args.self.now) (same_Some _ _ e)
-    (record { same = refl; moved = c.after_change.ensures _ c.in_ok-after_change.was })
+    (record { same = refl; moved = c.held_after_change.ensures _ c.in_ok-held_after_change.was })

@@ -1,7 +1,0 @@
-use Rattle.tcp_streams.proofs.IntervalLemmas.{apart-already}
-use Rattle.tcp_streams.proofs.overlay.set_apart.Goals as goal
-
-pub returns-then-lie_apart : goal.returns-then-lie_apart
-returns-then-lie_apart c =
-    apart-already c.args.pieces.items (rw (c.lie_apart.ensures.apart, c.deref.ensures.value) at c.if-lie_apart.true)
-    c.requires
