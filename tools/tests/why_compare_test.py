@@ -13,6 +13,7 @@ from contextlib import ExitStack
 
 from tests.captures import PREFACE, SYN, SYN_ACK, Capture, frame
 from tools.tests import why_peers
+from tools.tests.why_ci_test import slower
 from tools.tests.why_hostile_test import block
 from tools.tests.why_peers import Peers, can_capture, captured, nghttpd, nginx, proxy_to
 from tools.tests.why_tools import TOP, Json, OnCaptures, has_programs, programs_of, ran
@@ -78,6 +79,24 @@ class Generated(OnCaptures):
         found = compare(self.capture("before", "/a", "HEAD /a"), self.capture("after", "HEAD /a", "PUT /a"))
         self.assertEqual(turns(found), [("GET /a", 1, 1, None), ("HEAD /a", 1, 3, 1), ("PUT /a", 1, None, 3)])
         self.assertEqual([one["method"] for one in found["requests"]], ["GET", "HEAD", "PUT"])
+
+    def test_lives(self) -> None:
+        """A life grew or shrank by 1 ms, and by a tenth of the shorter one."""
+        octets = self.capture("capture", "/a", "/b").read_bytes()
+        for before, after, change, words in (
+            (10_000, 11_000, "longer", "2 lived longer, 0 shorter."),
+            (10_000, 10_999, "same", "0 lived longer, 0 shorter."),
+            (20_000, 21_999, "same", "0 lived longer, 0 shorter."),
+            (20_000, 22_000, "longer", "2 lived longer, 0 shorter."),
+            (1_000, 1_999, "same", "0 lived longer, 0 shorter."),
+            (22_000, 20_000, "shorter", "0 lived longer, 2 shorter."),
+        ):
+            files = [self.folder / "before", self.folder / "after"]
+            for file, step in zip(files, (before, after)):
+                file.write_bytes(slower(octets, step))
+            found = compare(*files)
+            self.assertEqual([one["life_change"] for one in found["requests"]], 2 * [change], (before, after))
+            self.assertIn(f"None of those in both was stalled. {words}", ran("--compare", *files).stdout.decode())
 
     def with_query(self, before: pathlib.Path, after: pathlib.Path) -> Json:
         found: Json = json.loads(ran("--json", "--query", "--compare", before, after).stdout)

@@ -17,7 +17,7 @@ from h2audit.report.words import time_of
 from tools.tests.why_test import SCHEMA, words_for
 from tools.tests.why_tools import TOP, Json, OnCaptures, has_programs, programs_of, ran
 
-FOLDERS = ("examples", "tests/tls", "tests/corpus", "tests/answer")
+FOLDERS = ("examples", "tests/tls", "tests/corpus", "tests/answer", "tests/causes")
 ENDINGS = (".pcap", ".pcapng", ".gz", ".zst")
 CAPTURES = [path for folder in FOLDERS for path in sorted((TOP / folder).iterdir()) if path.suffix in ENDINGS]
 # The members of a line that say which connection it is of.
@@ -52,7 +52,7 @@ class Forms(OnCaptures):
         import jsonschema  # type: ignore[import]
 
         validator = jsonschema.Draft202012Validator(SCHEMA)
-        self.assertGreater(len(CAPTURES), 50)
+        self.assertGreater(len(CAPTURES), 100)
         requests = 0
         for capture in CAPTURES:
             with self.subTest(capture.name):

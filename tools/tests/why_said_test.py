@@ -11,6 +11,7 @@ import sys
 import unittest
 
 from tests.captures import CLIENT, PREFACE, SERVER, SYN, SYN_ACK, Capture, frame
+from tools.tests.pcapng_blocks import block, interface, option, packet, records_of, section
 from tools.tests.why_ci_test import slower
 from tools.tests.why_test import SCHEMA
 from tools.tests.why_tools import TOP, Json, OnCaptures, has_programs, programs_of, ran, said_of
@@ -295,15 +296,26 @@ class Captured(Said):
         payload = len(kept[dropped]) - 16 - 66
         texts = [one["text"] for one in found["warnings"] if one["kind"] == "dropped"]
         self.assertEqual(len(texts), 1, found["warnings"])
-        self.assertTrue(
-            texts[0].startswith(f"{payload:,} bytes of 1 connection were acknowledged and never captured: 1 ")
-        )
+        said = f"{payload:,} bytes of 1 connection were acknowledged and never captured: 1 packet or more "
+        self.assertTrue(texts[0].startswith(said), texts)
         self.assertEqual(sum(found["connections"][0]["uncaptured"].values()), payload)
         text = ran(self.folder / "capture.pcap").stdout.decode()
         self.assertNotIn("not ended", text)
         self.assertIn("its end was not captured", text)
         whole = said_of(ANSWER / "longer_silence.pcap")
         self.assertEqual([one for one in whole["warnings"] if one["kind"] == "dropped"], [])
+
+    def test_dropped_by_the_kernel(self) -> None:
+        """Of pcapng, what its statistics say."""
+        found, link = records_of(TOP / "examples" / "paused_stream_node.pcap")
+        packets = b"".join(packet("<", 0, one[0] * 10**6 + one[1], one) for one in found)
+        statistics = [block("<", 5, struct.pack("<III", 0, 0, 0) + option("<", 5, struct.pack("<Q", many)))
+                      for many in (3, 1234)]  # fmt: skip
+        octets = section("<") + interface("<", link) + statistics[0] + packets
+        for more, text in ((statistics[1], "1,234 packets"), (b"", "3 packets")):
+            (warning,) = self.document(self.path(octets + more))["warnings"]
+            self.assertEqual(warning["kind"], "dropped")
+            self.assertTrue(warning["text"].startswith(f"{text} were dropped while this was captured"), warning)
 
 
 class Named(Said):

@@ -161,7 +161,7 @@ class Words(unittest.TestCase):
     def test_leak(self) -> None:
         request = self.found("cancelled_streams", 7)
         self.assertTrue(request["hung"])
-        for words in ("(cancelled)", "0 given back", "never had a byte"):
+        for words in ("(cancelled)", "of which the client gave back 0", "never had a byte"):
             self.assertIn(words, request["cause"]["text"])
 
     def test_grpc(self) -> None:

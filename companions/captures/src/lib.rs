@@ -42,6 +42,7 @@
 #![forbid(unsafe_code)]
 
 mod bytes;
+mod dropped;
 mod error;
 mod flows;
 mod gzip;

@@ -59,6 +59,14 @@ impl Reader {
         }
     }
 
+    /// How many packets were dropped while the file was captured, as far as it says so up to here.
+    pub fn dropped(&self) -> u64 {
+        match self {
+            Reader::Pcap(_) => 0,
+            Reader::Pcapng(reader) => reader.dropped(),
+        }
+    }
+
     pub fn source(&self) -> &Source {
         match self {
             Reader::Pcap(reader) => reader.source(),

@@ -4,6 +4,7 @@
 use std::io::{self, Write};
 
 use crate::bytes::Order;
+use crate::dropped::Dropped;
 use crate::error::Error;
 use crate::packets::{Item, Packet, MOST_CAPTURED};
 use crate::source::Source;
@@ -30,7 +31,7 @@ const BYTE_ORDER_MAGIC: u32 = 0x1A2B_3C4D;
 const TLS_KEY_LOG: u32 = 0x544C_534B;
 /// Room for a packet of any size, and its options.
 pub const LONGEST_BLOCK: usize = MOST_CAPTURED + (1 << 20);
-const MOST_INTERFACES: usize = 1 << 16;
+pub const MOST_INTERFACES: usize = 1 << 16;
 /// Before the data of a packet, in the body of its block.
 const PACKET_HEAD: usize = 20;
 const NANOS: i128 = 1_000_000_000;
@@ -251,6 +252,7 @@ fn secrets_of(order: Order, body: &[u8]) -> Result<Option<&[u8]>, Error> {
 pub struct Reader {
     blocks: Blocks,
     interfaces: Vec<Interface>,
+    dropped: Dropped,
     has_ended: bool,
 }
 
@@ -264,11 +266,17 @@ enum Found {
 
 impl Reader {
     pub fn new(source: Source) -> Reader {
-        Reader { blocks: Blocks::new(source, LONGEST_BLOCK), interfaces: Vec::new(), has_ended: false }
+        let blocks = Blocks::new(source, LONGEST_BLOCK);
+        Reader { blocks, interfaces: Vec::new(), dropped: Dropped::default(), has_ended: false }
     }
 
     pub fn source(&self) -> &Source {
         self.blocks.source()
+    }
+
+    /// How many packets were dropped, as the blocks up to here say.
+    pub fn dropped(&self) -> u64 {
+        self.dropped.packets()
     }
 
     #[allow(clippy::should_implement_trait)] // an item borrows from the reader, which no Iterator's may
@@ -281,7 +289,7 @@ impl Reader {
             match self.blocks.next()? {
                 None => break None,
                 Some(block) => match take(&mut self.interfaces, &block)? {
-                    Found::Nothing => {}
+                    Found::Nothing => self.dropped.take(block.kind, block.order, block.body()),
                     found => break Some(found),
                 },
             }

@@ -55,7 +55,7 @@ pub fn doubts_of(answer: &Answer, summary: &Summary, courses: &Courses) -> Vec<W
     said.extend(cut(answer));
     said.extend(doubled(courses));
     said.extend(one_direction(answer, summary));
-    said.extend(dropped(answer));
+    said.extend(dropped(answer, summary));
     for one in &answer.connections {
         for (side, offset) in &one.gaps {
             let offset = grouped(*offset);
@@ -137,20 +137,27 @@ fn one_direction(answer: &Answer, summary: &Summary) -> Option<Warning> {
     Some(Warning { connection: some.first().map(|one| one.number), at, ..warning("one-direction", text) })
 }
 
-/// Packets that were dropped while they were captured: their receiver had them.
-fn dropped(answer: &Answer) -> Option<Warning> {
+/// Packets that were dropped while they were captured, as the files say; and those whose receiver had them.
+fn dropped(answer: &Answer, summary: &Summary) -> Vec<Warning> {
+    let mut said = Vec::new();
+    if summary.dropped > 0 {
+        let packets = count(summary.dropped, "packet");
+        let text = format!("{packets} were dropped while this was captured, as the capture says (tcpdump -B)");
+        said.push(warning("dropped", text));
+    }
     let of_sides = |sides: &[Uncaptured; 2]| sides[0].bytes + sides[1].bytes;
     let some: Vec<_> = answer.connections.iter().filter(|one| of_sides(&one.uncaptured) > 0).collect();
-    let first = some.first()?;
-    let sum =
-        |number: fn(&Uncaptured) -> u64| grouped(some.iter().flat_map(|one| &one.uncaptured).map(number).sum::<u64>());
-    let (bytes, packets, connections) =
-        (sum(|one| one.bytes), sum(|one| one.packets), count(some.len() as u64, "connection"));
-    let text = format!(
-        "{bytes} bytes of {connections} were acknowledged and never captured: {packets} packets or more were dropped while \
-         they were captured (tcpdump -B)"
-    );
-    Some(Warning { connection: Some(first.number), at: Some(first.opened), ..warning("dropped", text) })
+    let sum = |number: fn(&Uncaptured) -> u64| some.iter().flat_map(|one| &one.uncaptured).map(number).sum::<u64>();
+    if let Some(first) = some.first() {
+        let (bytes, connections) = (grouped(sum(|one| one.bytes)), count(some.len() as u64, "connection"));
+        let packets = count(sum(|one| one.packets), "packet");
+        let text = format!(
+            "{bytes} bytes of {connections} were acknowledged and never captured: {packets} or more were dropped while \
+             they were captured (tcpdump -B)"
+        );
+        said.push(Warning { connection: Some(first.number), at: Some(first.opened), ..warning("dropped", text) });
+    }
+    said
 }
 
 /// Connections of which most segments came twice, as where a bridge and its port are both captured.

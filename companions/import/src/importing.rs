@@ -144,6 +144,7 @@ struct Importer<'a, 'b> {
     table: Table,
     /// How many were read.
     packets: u64,
+    dropped: u64,
     counts: Capture,
     others: Others,
     last: Option<i64>,
@@ -168,6 +169,7 @@ impl<'a, 'b> Importer<'a, 'b> {
             decoder: Decoder::default(),
             table: Table::default(),
             packets: 0,
+            dropped: 0,
             counts: Capture::default(),
             others: Others::default(),
             last: None,
@@ -192,6 +194,7 @@ impl<'a, 'b> Importer<'a, 'b> {
             }
         }
         self.look_for_problems()?;
+        self.dropped = self.dropped.saturating_add(reader.dropped());
         Ok(reader.source().has_bytes_behind())
     }
 
@@ -321,6 +324,7 @@ impl<'a, 'b> Importer<'a, 'b> {
         let (outcomes, unopened) = std::mem::take(&mut self.table).finish_all(self.shared, self.sink);
         let summary = Summary {
             counts: self.counts,
+            dropped: self.dropped,
             back: self.back.take(),
             reordered: self.reorder.as_ref().map(Reorder::done),
             others: self.others.most_seen(),

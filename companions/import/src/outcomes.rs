@@ -195,6 +195,8 @@ pub fn times_go_back(packet: u64, nanos: u64, left: Option<u64>) -> String {
 #[derive(Debug, Default)]
 pub struct Summary {
     pub counts: Capture,
+    /// How many packets were dropped while the files were captured, as they say.
+    pub dropped: u64,
     /// Packets are as they are written, after those that were put in order.
     pub back: Option<Back>,
     /// Where packets were to be put in order.

@@ -12,6 +12,8 @@ use crate::wording::{count, percent, rate_of, streams_named, time_of};
 
 /// Below this both ends are too near to tell them apart.
 const NEAR: Nanos = 1_000_000;
+/// Of two durations the second is told where it is so much more.
+const MORE: Nanos = 1_000_000;
 /// The initial window where no SETTINGS changed it (RFC 9113, 6.9.2).
 const FIRST_CREDIT: u32 = 65_535;
 
@@ -256,7 +258,7 @@ impl<'a> Phrases<'a> {
             let waited: Vec<u32> = behind.iter().copied().filter(|stream| *stream != holder).collect();
             let _ = write!(text, "; {} waited", streams_named(&waited));
         }
-        if let Some(stalls) = self.stalls_of(cause.side, 0).filter(|stalls| stalls.nanos > cause.nanos) {
+        if let Some(stalls) = self.stalls_of(cause.side, 0).filter(|stalls| stalls.nanos >= cause.nanos + MORE) {
             let _ = write!(text, "; the connection's window was used up for {} in all", time_of(stalls.nanos));
         }
         text
@@ -344,7 +346,7 @@ fn window_stream(request: &Request) -> u32 {
 /// For how long a request that hung was stalled before.
 fn hung_before(request: &Request) -> String {
     match request.cause.nanos - request.hung_nanos {
-        before if request.is_hung && before >= NEAR => format!("; it was stalled for {} before", time_of(before)),
+        before if request.is_hung && before >= MORE => format!("; it was stalled for {} before", time_of(before)),
         _ => String::new(),
     }
 }
