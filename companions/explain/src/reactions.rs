@@ -36,10 +36,12 @@ pub enum Reaction {
     Answer,
 }
 
-/// The quickest reactions of a side, the least first, each with the time at which it began; and how long the first took.
+/// The quickest reactions of a side, the least first, each with the time at which it began; that of each kind; and how
+/// long the first took.
 #[derive(Clone, Copy, Debug, Default, PartialEq, Eq)]
 pub struct Quickest {
     pub least: [Option<(Nanos, Nanos, Reaction)>; 3],
+    of_kinds: [Option<(Nanos, Nanos, Reaction)>; 5],
     pub first: Option<Nanos>,
 }
 
@@ -51,6 +53,10 @@ impl Quickest {
         }
         self.first.get_or_insert(took);
         let mut next = Some((took, began, kind));
+        let of_kind = &mut self.of_kinds[kind as usize];
+        if of_kind.map_or(true, |one| took < one.0) {
+            *of_kind = next;
+        }
         for place in &mut self.least {
             if place.map_or(true, |one| next.map_or(false, |next| next.0 < one.0)) {
                 std::mem::swap(place, &mut next);
@@ -60,6 +66,19 @@ impl Quickest {
 
     pub fn nanos(&self) -> Option<Nanos> {
         self.least[0].map(|least| least.0)
+    }
+
+    /// The three least of them, of two kinds where there are any, or PINGs alone.
+    pub fn three(&self) -> Option<[(Nanos, Nanos, Reaction); 3]> {
+        let [one, two, mut three] = match self.least {
+            [Some(one), Some(two), Some(three)] => [one, two, three],
+            _ => return None,
+        };
+        if one.2 == two.2 && two.2 == three.2 && one.2 != Reaction::Ping {
+            three =
+                self.of_kinds.iter().flatten().filter(|other| other.2 != one.2).min_by_key(|other| other.0).copied()?;
+        }
+        Some([one, two, three])
     }
 
     /// Whether others can tell of the way no longer.

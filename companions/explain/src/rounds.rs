@@ -1,7 +1,7 @@
 //! The round trip of a connection and the place where it was captured, by the times of acknowledgements and reactions (docs/WHY.md, 5).
 
 use crate::answer::Nanos;
-use crate::reactions::{Quickest, Reaction, LEAST_REACTION};
+use crate::reactions::{Quickest, LEAST_REACTION};
 
 /// Below this both ends are too near to tell them apart.
 pub const NEAR: Nanos = 1_000_000;
@@ -55,19 +55,17 @@ pub fn round_trip_of(tcp: [Option<Nanos>; 2], quickest: &[Quickest; 2]) -> Round
 /// Whether a side's reactions tell of a way and not of an application that took long: they are far above TCP's round
 /// trip, and so alike, though of several kinds or at several times, that no application took them.
 fn shows_more(quickest: &Quickest, known: Nanos) -> bool {
-    let [one, two, three] = match quickest.least {
-        [Some(one), Some(two), Some(three)] => [one, two, three],
-        _ => return false,
+    let [one, two, three] = match quickest.three() {
+        Some(three) => three,
+        None => return false,
     };
     let least = one.0;
-    let kinds = [one.2, two.2, three.2];
     let is_far = least >= LEAST_REACTION && least >= known.saturating_mul(TIMES);
     let is_alike = i128::from(three.0) * ALIKE.1 <= i128::from(least) * ALIKE.0;
-    let is_of_several = kinds == [Reaction::Ping; 3] || kinds != [one.2; 3];
     // One moment in which an application wakes ends all that it kept waiting.
     let began = one.1.max(two.1).max(three.1);
     let ended = [one, two, three].iter().map(|one| one.1.saturating_add(one.0)).min();
-    is_far && is_alike && is_of_several && ended.map_or(false, |ended| began >= ended)
+    is_far && is_alike && ended.map_or(false, |ended| began >= ended)
 }
 
 impl RoundTrip {
@@ -102,6 +100,7 @@ impl RoundTrip {
 #[cfg(test)]
 mod tests {
     use super::*;
+    use crate::reactions::Reaction;
 
     const MS: Nanos = 1_000_000;
 
@@ -125,6 +124,10 @@ mod tests {
         let found = round_trip_of([Some(0), Some(MS)], &[Quickest::default(), quickest(&pings)]);
         assert_eq!((found.source, found.to), (Some(Source::Http2), Some([0, 41 * MS])));
         assert!(counts(&[(0, 41, Settings), (1, 50, Answer), (60, 110, Grant)]), "two kinds");
+        assert!(
+            counts(&[(0, 49, Settings), (50, 91, Grant), (52, 93, Grant), (100, 141, Grant)]),
+            "also behind others"
+        );
         assert!(!counts(&[(0, 41, Answer), (50, 92, Answer), (100, 142, Answer)]), "a slow application");
         assert!(!counts(&pings[..2]), "two alone");
         assert!(!counts(&[(0, 41, Ping), (50, 92, Ping), (100, 152, Ping)]), "not alike");
