@@ -24,8 +24,8 @@
 //! - One rule updates a row for frames of all types, ends and resets too.
 //! - Frames take no memory, but for a new stream, SETTINGS and what is shown. No sum wraps, and nothing is asked of the
 //!   caller: credits are kept in 32 bits, and each sum is made in 64.
-//! - Refused by the prover: content of a reset stream that the connection does not count (5.1); exchanged tails; an audit
-//!   that stops only if all findings of a frame end it; frames on a stalled stream that show nothing.
+//! - Refused by the prover: content of a reset stream that the connection does not count (5.1); exchanged tails; an
+//!   audit that stops only if all findings of a frame end it; frames on a stalled stream that show nothing.
 //! - Tested, in `threads_test.py`: that connections of which nothing is shown go through no round, so that it does not
 //!   give up there, and that `found_connection` tells a connection error without one. By whole reports: that both
 //!   succeed where there is memory.
