@@ -18,7 +18,7 @@ PYTHON_PACKAGES = h2audit $(addprefix h2audit/,fleet page page/assets plot repor
 BESIDE = $(RUST_PROGRAMS) $(PYTHON_PROGRAMS) h2audit-split
 FIRST = examples/negative_window_tomcat.pcap examples/stream_overrun_go.pcap
 # The parts of "make check", the longest first.
-CHECKS = tests split sources layout believed storeys crates rules
+CHECKS = tests split companions sources layout believed storeys crates rules
 RUST_SOURCES := h2audit/report/kinds.txt $(shell find companions -name target -prune -o -type f -print)
 SOURCES := crates.txt $(shell find crates -name out -prune -o -name '*.rt' -print -o -name '*.antt' -print)
 
@@ -83,7 +83,8 @@ version:
 
 # What tells in two minutes on four processors whether a change holds together, and proves nothing: layout, types of
 # Python, the front end on every crate but the few lines of h2audit_cli, the tests of calls, the definitions to believe,
-# their storeys, and what sources call. With CRATE=NAME it proves that crate.
+# their storeys, what sources call, and form, clippy and own tests of the programs in Rust, which "make companions" built
+# before. With CRATE=NAME it proves that crate.
 check:
 ifdef CRATE
 	cd crates/$(CRATE) && rt check
@@ -99,6 +100,9 @@ check-tests:
 
 check-split:
 	@cd crates/h2audit_split && rt try -- $$(cat args) | diff stdout -
+
+check-companions:
+	@tools/tests/rust_test.sh form && tools/tests/rust_test.sh tests
 
 check-sources check-believed check-storeys check-crates check-rules: check-%:
 	$(PYTHON) -m tools.tests.$*_test
