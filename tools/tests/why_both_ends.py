@@ -10,6 +10,7 @@ from tools.tests.why_tools import TOP, Json, OnCaptures, ran
 
 SCHEMA = json.loads((TOP / "companions" / "why" / "schema.json").read_text())
 MS = 1_000_000
+PARTS = ("request", "way_out", "server", "way_back", "transfer")
 DELAY, AHEAD = 50 * MS, 7_200_000 * MS
 GET = b"\x82\x86\x84"
 Event = tuple[int, str, bytes]  # when it is sent in milliseconds, by whom, and the bytes
@@ -47,6 +48,9 @@ def ends(*words: str | pathlib.Path) -> Json:
     found: Json = json.loads(run.stdout)
     jsonschema.Draft202012Validator({**SCHEMA["$defs"]["ends"], "$defs": SCHEMA["$defs"]}).validate(found)
     for connection in found["connections"]:
+        for request in connection["requests"]:
+            if request["server"] is not None and sum(request[part] for part in PARTS) != request["nanos"]:
+                raise AssertionError(f"the parts do not sum to the life: {request}")
         for stall in connection["stalls"]:
             if stall["answer"] is not None:
                 sums = stall["way_out"] + stall["answer"] + stall["way_back"]
@@ -57,9 +61,10 @@ def ends(*words: str | pathlib.Path) -> Json:
 
 class BothEnds(OnCaptures):
     def captures(self, events: list[Event], late: Callable[[int, str], int] = lambda _, __: 0, initial: int = 5000,
-                 drift: int = 0) -> list[pathlib.Path]:  # fmt: skip
+                 drift: int = 0, again: int | None = None, lost: int | None = None) -> list[pathlib.Path]:  # fmt: skip
         """Both ends' captures of events, each of which arrives after the delay and what `late` adds, in milliseconds,
-        by its number among all. The server's clock is two hours ahead, and faster by so many parts of a million.
+        by its number among all. The server's clock is two hours ahead, and faster by so many parts of a million. One
+        event may be that before it sent again, and one may be lost on its way.
         """
         made = []
         for end in "CS":
@@ -71,6 +76,10 @@ class BothEnds(OnCaptures):
                 arrivals.append((when * MS + delay, order, side, octets))
             for when, order, side, octets in sorted(arrivals):  # those of the handshake have numbers below 0
                 capture.now = when + (when * drift // 10**6 + AHEAD if end == "S" else 0)
+                if order == lost and side != end:
+                    continue
+                if order == again and (lost is None or side == end):
+                    capture.next[side] -= len(octets)
                 if order < 0:
                     capture.syn(side, 1000 if side == "C" else initial, SYN if side == "C" else SYN_ACK)
                 else:

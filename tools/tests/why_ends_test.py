@@ -15,7 +15,7 @@ import unittest
 from contextlib import ExitStack
 
 from tests.captures import frame
-from tools.tests.why_both_ends import ASKED, MS, BothEnds, Event, ends, granted
+from tools.tests.why_both_ends import ASKED, GET, MS, PARTS, BothEnds, Event, ends, granted
 from tools.tests.why_peers import Peers, can_capture, process
 from tools.tests.why_tools import TOP, Json, has_programs, programs_of, ran
 from tools.tests.why_wire import SERVER, Loses, captured_at, wire
@@ -72,6 +72,81 @@ class Generated(BothEnds):
         (connection,) = ends(granting[0], cut)["connections"]
         self.assertEqual(len(connection["lost"]), 1)
         self.assertRegex(connection["lost"][0], r"^2 frames of the client from packet \d+ on are in the client's cap")
+
+    def request(self, *captures: pathlib.Path, stream: int = 1) -> tuple[Json, list[int | None]]:
+        """A request, and the milliseconds of its parts."""
+        (connection,) = ends(*captures)["connections"]
+        (found,) = [one for one in connection["requests"] if one["stream"] == stream]
+        return found, [None if found[part] is None else found[part] // MS for part in PARTS]
+
+    def test_requests(self) -> None:
+        """Ways of 50 ms and a server of 50 ms, where a stall follows, where none does, and with an upload before."""
+        short: list[Event] = [*ASKED[:4], (600, "S", frame(1, 5, 1, b"\x88"))]
+        long: list[Event] = [*ASKED[:5], (750, "S", frame(0, 1, 1, bytes(9)))]
+        upload: list[Event] = [
+            *ASKED[:3],
+            (500, "C", frame(1, 4, 1, GET)),
+            (530, "C", frame(0, 1, 1, bytes(9))),
+            short[4],
+        ]
+        for events, wanted in (
+            (short, [0, 50, 50, 50, 0]),
+            (long, [0, 50, 50, 50, 150]),
+            (upload, [30, 50, 20, 50, 0]),
+        ):
+            captures = self.captures(events)
+            found, parts = self.request(*captures)
+            self.assertEqual((found["name"], parts), ("GET /", wanted))
+            none = {"segments": 0, "bytes": 0, "lost": 0, "nanos": 0}
+            self.assertEqual(found["sent_again"], {"client": none, "server": none})
+            self.assertTrue(all(found[frame][side] for frame in ("asked", "answered") for side in ("client", "server")))
+            text = ran("--ends", *captures).stdout.decode()
+            self.assertIn("no side used up its credit", text)
+        words = "stream 1 GET /: 150 ms: request 30 ms, way out 50 ms, server 20 ms, way back 50 ms, transfer 0 ns"
+        self.assertIn(words, text.splitlines()[-1])
+
+    def test_requests_without_parts(self) -> None:
+        """A server that does not answer takes the rest, one that answers early begins there; and where a capture lacks
+        the answer there are no parts.
+        """
+        asked: list[Event] = [*ASKED[:4], (900, "S", frame(6, 0, 0, bytes(8)))]
+        self.assertEqual(self.request(*self.captures(asked))[1], [0, 50, 400, 0, 0])
+        early: list[Event] = [*ASKED[:3], (500, "C", frame(1, 4, 1, GET)), (540, "C", frame(0, 0, 1, bytes(9))),
+                              (570, "S", frame(1, 4, 1, b"\x88")), (800, "C", frame(0, 1, 1, bytes(9))),
+                              (900, "S", frame(0, 1, 1))]  # fmt: skip
+        self.assertEqual(self.request(*self.captures(early))[1], [0, 50, 20, 50, 330])
+        client, server = self.captures([*ASKED[:4], (600, "S", frame(1, 5, 1, b"\x88"))])
+        for capture, frames in ((client, 14 + 40 + 10), (server, 14 + 40 + 10)):
+            octets, cut = capture.read_bytes(), self.folder / f"cut-{capture.name}"
+            cut.write_bytes(octets[: octets.rindex(struct.pack("<II", frames, frames)) - 8])
+            pair = (cut, server) if capture == client else (client, cut)
+            self.assertEqual(self.request(*pair)[1], [None] * 5)
+            self.assertIn("a capture has not all of it", ran("--ends", *pair).stdout.decode())
+
+    def test_sent_again(self) -> None:
+        """The last bytes of an answer are lost and sent again after 300 ms, or sent again though they arrived."""
+        sent = frame(0, 1, 1, bytes(91))
+        events: list[Event] = [*ASKED[:5], (650, "S", sent), (950, "S", sent)]
+        for is_lost in (True, False):
+            captures = self.captures(events, again=6, lost=5 if is_lost else None)
+            found, parts = self.request(*captures)
+            self.assertEqual(parts, [0, 50, 50, 50, 350 if is_lost else 50])
+            again = found["sent_again"]["server"]
+            if is_lost:
+                self.assertEqual((again["segments"], again["bytes"], again["lost"]), (1, 100, 100))
+                self.assertEqual(again["nanos"] // MS, 300)
+                words = "The server sent 1 segment again, 100 bytes; 100 bytes were lost, and were missing for 300 ms"
+                self.assertIn(f"transfer 350 ms. {words}\n", ran("--ends", *captures).stdout.decode())
+            else:  # it came again after all of the answer was there
+                self.assertEqual(again, {"segments": 0, "bytes": 0, "lost": 0, "nanos": 0})
+            self.assertEqual(found["sent_again"]["client"]["segments"], 0)
+
+    def test_needless(self) -> None:
+        """Bytes are sent again before the answer ends, and both arrive: none was lost."""
+        sent = frame(0, 0, 1, bytes(91))
+        events: list[Event] = [*ASKED[:5], (650, "S", sent), (950, "S", sent), (1000, "S", frame(0, 1, 1, bytes(5)))]
+        found, _ = self.request(*self.captures(events, again=6))
+        self.assertEqual(found["sent_again"]["server"], {"segments": 1, "bytes": 100, "lost": 0, "nanos": 0})
 
     def test_fault_of_one_order(self) -> None:
         """A byte is sent before its grant arrives: the sender's order shows an overrun, the receiver's does not."""
@@ -268,8 +343,14 @@ class Wire(Peers):
                 since.append(time.monotonic())
             return end == 1 and len(since) >= 60 and time.monotonic() < since[59] + 1.5
 
-        stall = self.longest(self.download("16", loses))
+        found = self.download("16", loses)
+        stall = self.longest(found)
         self.assertEqual((stall["verdict"], stall["ask"]), ("content-delayed", None), stall)
+        (request,) = found["requests"]
+        again = request["sent_again"]["server"]
+        self.assertTrue(0 < again["lost"] <= again["bytes"] and again["nanos"] > 1_400_000_000, request)
+        self.assertGreater(request["transfer"], again["nanos"])
+        self.assertGreater(request["way_out"] + request["way_back"], 0.95 * ROUND_TRIP * 1e9)
 
 
 if __name__ == "__main__":

@@ -26,7 +26,7 @@ pub enum Apart {
 pub struct End<'a> {
     pub connection: &'a Connection<'a>,
     pub files: &'a Files,
-    frames: &'a Frames,
+    pub frames: &'a Frames,
     /// By sides, the frames' numbers; the times at which they had come, where those that go back count as the latest
     /// before them; and the bytes of content before each frame.
     numbers: [Vec<u32>; 2],

@@ -1,4 +1,4 @@
-//! What both ends of a connection tell of its stalls, as text and for machines.
+//! What both ends of a connection tell of its requests and stalls, as text and for machines.
 
 use std::cmp::Reverse;
 use std::collections::HashMap;
@@ -12,6 +12,7 @@ use reports::{sentence_of, Side};
 use crate::compare_said::files_of;
 use crate::document;
 use crate::ends::{Both, Joined};
+use crate::ends_requests::{RequestOfBoth, RequestsOfBoth};
 use crate::ends_stalls::{faults_of, stalls_of, FaultOfBoth, ShownBy, StallOfBoth};
 use crate::gates::Place;
 use crate::json::Json;
@@ -20,7 +21,8 @@ use crate::summing::Whole;
 use crate::wording::{count, escaped, list_of, time_of, SIDES};
 
 const VERSION: u32 = 1;
-const MOST_STALLS: usize = 12;
+/// So many requests, and so many stalls, are shown unless all are asked for.
+const MOST_SHOWN: usize = 12;
 const DRIFTS: &str = "the clocks drift apart: parts of late stalls may be wrong by as much";
 
 /// The names of the requests of an end, by their streams.
@@ -65,15 +67,26 @@ fn connection(both: &Both<'_>, page: &mut Page<'_>) -> io::Result<()> {
     if stalls.is_empty() {
         page.line("  no side used up its credit")?;
     }
-    let most = if page.look.is_all { stalls.len() } else { stalls.len().min(MOST_STALLS) };
     let names = SIDES.map(|side| names_of(both, side));
-    for one in &stalls[..most] {
+    let words = |one: &StallOfBoth<'_>| {
         let name = names[one.stall.side as usize].get(&one.stall.stream).cloned().flatten();
-        page.folded(&format!("  {}", stall_words(both, one, name.as_deref())), "      ", Colour::Plain)?;
+        stall_words(both, one, name.as_deref())
+    };
+    first_ones(&stalls, "stall", words, page)?;
+    let mut requests: Vec<_> = RequestsOfBoth::of(both).iter().collect();
+    requests.sort_by_key(|one| Reverse(one.nanos));
+    first_ones(&requests, "request", request_words, page)
+}
+
+/// A line for each of the first ones, or of all, and how many more there are.
+fn first_ones<T>(all: &[T], what: &str, words: impl Fn(&T) -> String, page: &mut Page<'_>) -> io::Result<()> {
+    let most = if page.look.is_all { all.len() } else { all.len().min(MOST_SHOWN) };
+    for one in &all[..most] {
+        page.folded(&format!("  {}", words(one)), "      ", Colour::Plain)?;
     }
-    match stalls.len() - most {
+    match all.len() - most {
         0 => Ok(()),
-        more => page.line(&format!("  {} more: --all", count(more as u64, "stall"))),
+        more => page.line(&format!("  {} more: --all", count(more as u64, what))),
     }
 }
 
@@ -96,15 +109,21 @@ fn head_of(both: &Both<'_>) -> String {
     text + &format!("   round trip {round_trip}; the server's clock is {ahead} {way}, to within {within}")
 }
 
+fn stream_words(stream: u32, name: Option<&str>) -> String {
+    let name = name.filter(|name| !name.is_empty());
+    format!("stream {stream}{}", name.map_or(String::new(), |name| format!(" {}", escaped(name))))
+}
+
+fn request_words(one: &RequestOfBoth) -> String {
+    format!("{}: {}", stream_words(one.stream, one.name.as_deref()), one.words())
+}
+
 fn stall_words(both: &Both<'_>, one: &StallOfBoth<'_>, name: Option<&str>) -> String {
     let (stall, sender) = (one.stall, one.stall.side);
-    let mut place = match stall.stream {
+    let place = match stall.stream {
         0 => "the connection".to_string(),
-        stream => format!("stream {stream}"),
+        stream => stream_words(stream, name),
     };
-    if let Some(name) = name.filter(|name| !name.is_empty()) {
-        let _ = write!(place, " {}", escaped(name));
-    }
     let lasts = time_of(stall.nanos) + if stall.end.is_none() { " without an end" } else { "" };
     let shows = if one.shows_there { "shows at both ends".to_string() } else { format!("shows at the {sender} alone") };
     let packets = packets_of(both.end(sender).files, Some(stall.begin), stall.end);
@@ -131,7 +150,8 @@ fn fault_words(both: &Both<'_>, one: &FaultOfBoth<'_>) -> String {
     }
 }
 
-/// What both ends say of connections and requests, in each capture: a stall stands in that of its sender.
+/// What both ends say of connections and requests, in each capture: a stall stands in that of its sender, and the parts
+/// of a request in the client's.
 pub fn by_place(found: &Joined<'_>) -> [HashMap<Place, Vec<String>>; 2] {
     let mut said = [HashMap::<Place, Vec<String>>::new(), HashMap::new()];
     for side in SIDES {
@@ -147,6 +167,10 @@ pub fn by_place(found: &Joined<'_>) -> [HashMap<Place, Vec<String>>; 2] {
             lines.extend(faults.iter().filter(|one| one.shown_by.is_by(side)).map(|one| fault_words(both, one)));
             lines.extend(lost.iter().cloned());
             said[side as usize].insert((both.end(side).said().number, None), lines);
+        }
+        for one in RequestsOfBoth::of(both).iter() {
+            let place = (both.end(Side::Client).said().number, Some(one.stream));
+            said[Side::Client as usize].entry(place).or_default().push(one.words());
         }
         let names = SIDES.map(|side| names_of(both, side));
         for one in stalls_of(both) {
@@ -201,6 +225,12 @@ fn pair(json: &mut Json<'_>, both: &Both<'_>) -> io::Result<()> {
     json.name("within").number(both.round_trip / 2);
     json.name("drifts").truth(both.drifts);
     json.name("lost").list(both.lost_words(), |json, words| json.text(&words));
+    json.name("requests").open(b'[');
+    for one in RequestsOfBoth::of(both).iter() {
+        request(json, both, &one);
+        json.give()?;
+    }
+    json.close(b']');
     json.name("stalls").open(b'[');
     for one in stalls_of(both) {
         stall(json, both, &one);
@@ -221,15 +251,43 @@ fn pair(json: &mut Json<'_>, both: &Both<'_>) -> io::Result<()> {
     Ok(())
 }
 
+fn places(json: &mut Json<'_>, both: &Both<'_>, places: [Option<At>; 2]) {
+    json.object(|json| {
+        for (side, at) in SIDES.into_iter().zip(places) {
+            document::place(json.name(side.name()), at, both.end(side).files);
+        }
+    });
+}
+
+fn request(json: &mut Json<'_>, both: &Both<'_>, one: &RequestOfBoth) {
+    json.object(|json| {
+        json.name("stream").number(one.stream);
+        json.name("name").some_text(one.name.as_deref());
+        json.name("nanos").number(one.nanos);
+        places(json.name("asked"), both, one.asked);
+        places(json.name("answered"), both, one.answered);
+        json.name("request").some_number(one.parts.map(|parts| parts.request));
+        json.name("way_out").some_number(one.parts.map(|parts| parts.out));
+        json.name("server").some_number(one.parts.map(|parts| parts.server));
+        json.name("way_back").some_number(one.parts.map(|parts| parts.back));
+        json.name("transfer").some_number(one.parts.map(|parts| parts.transfer));
+        json.name("sent_again").object(|json| {
+            for (side, again) in SIDES.into_iter().zip(one.again) {
+                json.name(side.name()).object(|json| {
+                    json.name("segments").number(again.segments);
+                    json.name("bytes").number(again.bytes);
+                    json.name("lost").number(again.lost);
+                    json.name("nanos").number(again.nanos);
+                });
+            }
+        });
+    });
+}
+
 fn stall(json: &mut Json<'_>, both: &Both<'_>, one: &StallOfBoth<'_>) {
     let stall = one.stall;
     let ends = |json: &mut Json<'_>, here: Option<At>, there: Option<At>| {
-        json.object(|json| {
-            for side in SIDES {
-                let at = if side == stall.side { here } else { there };
-                document::place(json.name(side.name()), at, both.end(side).files);
-            }
-        });
+        places(json, both, SIDES.map(|side| if side == stall.side { here } else { there }));
     };
     json.object(|json| {
         json.name("side").word(stall.side.name());

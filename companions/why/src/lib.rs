@@ -8,6 +8,7 @@ pub mod compare;
 mod compare_said;
 mod document;
 pub mod ends;
+mod ends_requests;
 mod ends_said;
 mod ends_stalls;
 mod gates;
@@ -72,7 +73,7 @@ pub fn write_compared(both: &Compared<'_>, look: Option<Look>, to: &mut dyn Writ
     }
 }
 
-/// Writes what both ends of connections tell of their stalls, likewise.
+/// Writes what both ends of connections tell of their requests and stalls, likewise.
 pub fn write_joined(found: &Joined<'_>, look: Option<Look>, to: &mut dyn Write) -> io::Result<()> {
     match look {
         Some(look) => ends_said::write(found, &mut Page::new(look, &found.wholes[1].answer.files, to)),
