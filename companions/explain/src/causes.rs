@@ -71,7 +71,8 @@ fn longest(causes: impl IntoIterator<Item = Cause>) -> Option<Cause> {
 impl Held<'_> {
     /// Seeks the cause. A window that had no more grant is it, whatever took longer before.
     pub fn found(&self) -> Found {
-        let mut named: Vec<Cause> = (0..2).flat_map(|side| self.of_direction(side)).flatten().collect();
+        let mut named = Vec::new();
+        (0..2).for_each(|side| self.of_direction(side, &mut named));
         named.extend((0..2).filter_map(|side| self.unshown(side)));
         let held = named.iter().filter(|cause| is_window(cause)).map(|cause| cause.nanos).max().unwrap_or(0);
         let hung = most_of(named.iter().filter_map(|cause| self.hung(cause)), |hung| hung.0.nanos);
@@ -110,16 +111,16 @@ impl Held<'_> {
         Cause { kind, why, side: side_of(side), ask: Some(side_of(1 - side)), nanos, window, ..no_cause() }
     }
 
-    fn of_direction(&self, side: usize) -> [Option<Cause>; 3] {
+    fn of_direction(&self, side: usize, named: &mut Vec<Cause>) {
         let held = |share: Share| is_held(self.share(side, share), self.request);
-        let of_stream = held(Share::StreamStall).then_some((CauseKind::StreamWindow, Share::StreamStall));
-        let of_connection =
-            held(Share::ConnectionStall).then_some((CauseKind::ConnectionWindow, Share::ConnectionStall));
-        [
-            of_stream.and_then(|(kind, share)| self.of_window(side, kind, share)),
-            of_connection.and_then(|(kind, share)| self.of_window(side, kind, share)),
-            held(Share::Tcp).then(|| self.of_tcp(side)),
-        ]
+        let windows =
+            [(CauseKind::StreamWindow, Share::StreamStall), (CauseKind::ConnectionWindow, Share::ConnectionStall)];
+        for (kind, share) in windows.into_iter().filter(|one| held(one.1)) {
+            named.extend(self.of_window(side, kind, share));
+        }
+        if held(Share::Tcp) {
+            named.push(self.of_tcp(side));
+        }
     }
 
     /// The stalls of a window within a request's life, by the reason that took most of the time.

@@ -90,10 +90,13 @@ pub fn escaped(text: &str) -> Cow<'_, str> {
 }
 
 /// What a request is called: its method, and its path, or without one its authority.
-pub fn name_of(method: Option<&str>, target: Option<&str>) -> Option<Rc<str>> {
-    let words: Vec<&str> = [method, target].into_iter().flatten().filter(|word| !word.is_empty()).collect();
-    let text = words.join(" ");
-    (!text.is_empty()).then(|| shortened(&escaped(&text)).into())
+pub fn name_of<'a>(method: Option<&'a str>, target: Option<&'a str>) -> Option<Rc<str>> {
+    let some = |word: Option<&'a str>| word.filter(|word| !word.is_empty());
+    let text = match (some(method), some(target)) {
+        (Some(method), Some(target)) => Cow::Owned([method, target].join(" ")),
+        (one, other) => Cow::Borrowed(one.or(other)?),
+    };
+    Some(shortened(&escaped(&text)).into())
 }
 
 #[cfg(test)]

@@ -12,6 +12,8 @@ use crate::windows::FIRST_CREDIT;
 const MOST_PINGS: usize = 1 << 16;
 /// SETTINGS without an acknowledgement that are looked at; a peer that answers none is told by the first ones.
 pub const MOST_UNANSWERED: usize = 8;
+/// So many SETTINGS of a side that wait are kept; of more it is known how many.
+const MOST_SETTINGS: usize = 4096;
 /// So many streams are watched at once, and of a connection in all; of each window so many frames of content, and grants,
 /// that wait.
 const MOST_WATCHED: usize = 8;
@@ -94,6 +96,8 @@ pub struct Reactions {
     pub acknowledged: [u32; 2],
     /// SETTINGS that wait for an acknowledgement: frame, time, and initial window.
     settings: [VecDeque<(u32, Nanos, Option<u32>)>; 2],
+    /// How many wait behind those.
+    more_settings: [u32; 2],
     pings: HashMap<(usize, [u8; PING]), Nanos>,
     /// The connection's windows by the side that sends, and streams that go on.
     windows: [Window; 2],
@@ -194,15 +198,12 @@ impl Reactions {
         let head = &cut.head;
         match head.kind {
             kind::SETTINGS if head.has(flag::ACK) => {
-                let asked = if head.length == 0 { self.settings[1 - side].pop_front() } else { None };
-                if let Some((_, asked, initial)) = asked {
-                    self.acknowledged[1 - side] += 1;
-                    self.quickest[side].add(Reaction::Settings, asked, began);
-                    self.changed(side, initial);
+                if head.length == 0 {
+                    self.acknowledge(side, began);
                 }
             }
             kind::SETTINGS if head.length % 6 == 0 => {
-                self.settings[side].push_back((frame, time, Values::initial_window_of(cut.payload)));
+                self.asked(side, (frame, time, Values::initial_window_of(cut.payload)));
             }
             _ if self.quickest.iter().all(Quickest::is_settled) => {}
             kind::PING => self.ping(side, cut, (began, time)),
@@ -211,6 +212,29 @@ impl Reactions {
             kind::WINDOW_UPDATE => self.grant(side, cut, (began, time)),
             kind::RST_STREAM => self.watched.retain(|one| one.stream != head.stream),
             _ => {}
+        }
+    }
+
+    fn asked(&mut self, side: usize, settings: (u32, Nanos, Option<u32>)) {
+        if self.more_settings[side] == 0 && self.settings[side].len() < MOST_SETTINGS {
+            self.settings[side].push_back(settings);
+        } else {
+            self.more_settings[side] += 1;
+        }
+    }
+
+    /// A side acknowledges the oldest SETTINGS of the other one. Of those that were not kept any initial window may be in
+    /// force.
+    fn acknowledge(&mut self, side: usize, began: Nanos) {
+        let other = 1 - side;
+        if let Some((_, asked, initial)) = self.settings[other].pop_front() {
+            self.acknowledged[other] += 1;
+            self.quickest[side].add(Reaction::Settings, asked, began);
+            self.changed(side, initial);
+        } else if self.more_settings[other] > 0 {
+            self.more_settings[other] -= 1;
+            self.acknowledged[other] += 1;
+            self.changed(side, Some(u32::MAX));
         }
     }
 
@@ -326,6 +350,21 @@ mod tests {
         assert_eq!(window.content(100, 7), Some(5), "the last grant without which it could not be sent");
         assert_eq!(window.grant(1000, 100, 8), None, "that gives nothing back");
         assert_eq!(window.grant(1, 100, 9), None);
+    }
+
+    #[test]
+    fn settings_that_wait() {
+        let mut reactions = Reactions::default();
+        (0..5000).for_each(|frame| reactions.asked(0, (frame, 0, Some(1))));
+        assert_eq!((reactions.settings[0].len(), reactions.more_settings[0]), (MOST_SETTINGS, 904));
+        assert_eq!(reactions.unanswered(), (0..8).collect::<Vec<u32>>());
+        (0..MOST_SETTINGS).for_each(|_| reactions.acknowledge(1, 7));
+        assert_eq!(reactions.initials[1], 1 - FIRST_CREDIT);
+        reactions.asked(0, (5000, 0, Some(1)));
+        assert_eq!((reactions.settings[0].len(), reactions.more_settings[0]), (0, 905), "behind all that wait");
+        (0..1000).for_each(|_| reactions.acknowledge(1, 1));
+        assert_eq!((reactions.acknowledged[0], reactions.quickest[1].nanos()), (5001, Some(7)), "as those kept took");
+        assert_eq!(reactions.initials[1], i64::from(u32::MAX) - FIRST_CREDIT);
     }
 
     #[test]

@@ -43,14 +43,24 @@ impl Requests {
 
     pub fn get(&self, index: usize) -> Option<Request> {
         match &self.packed {
-            Some(packed) => packed.0.get(index).map(|stream| told(stream, &packed.1, self.texts.as_deref())),
+            Some(_) => self.told(index, self.texts.as_deref()),
             None => self.all.get(index).cloned(),
         }
+    }
+
+    fn told(&self, index: usize, texts: Option<&Texts>) -> Option<Request> {
+        let packed = self.packed.as_ref()?;
+        packed.0.get(index).map(|stream| told(stream, &packed.1, texts))
     }
 
     /// Each one by itself, in the order of openings.
     pub fn iter(&self) -> impl Iterator<Item = Request> + '_ {
         (0..self.len()).filter_map(|index| self.get(index))
+    }
+
+    /// The same without names where they are packed, as a name takes as long as all else of a request.
+    pub fn unnamed(&self) -> impl Iterator<Item = Request> + '_ {
+        (0..self.len()).filter_map(|index| self.told(index, None).or_else(|| self.all.get(index).cloned()))
     }
 }
 

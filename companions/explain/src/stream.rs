@@ -268,7 +268,6 @@ impl Direction {
         if self.first.is_none() && self.life.at < until {
             self.was_silent = holding.course.is_silent(self.asked.time, until);
         }
-        self.beside = Beside { before: 0, active_before: 0, ended: 0, ..self.beside };
         self.life.until = until.max(self.life.at);
         let idle = self.life.longest_idle;
         self.life.finish(holding, is_cut);
@@ -338,6 +337,11 @@ impl Direction {
             let (before, active_before, ended) = (total.content, total.active, total.ended);
             self.beside = Beside { before, active_before, ended, ..Beside::default() };
         }
+    }
+
+    /// No more is counted.
+    pub fn end_beside(&mut self) {
+        self.beside = Beside { before: 0, active_before: 0, ended: 0, ..self.beside };
     }
 
     /// The same as it sends content.

@@ -166,7 +166,9 @@ impl Walk {
         let Walk { table, about, begun, .. } = self;
         table.settle(number, |stream| {
             for (side, one) in stream.sides.iter_mut().enumerate() {
-                if let Some(end) = one.end.filter(|_| *begun != Some(number)) {
+                one.end_beside();
+                let end = one.end.filter(|end| *begun != Some(number) && one.life.at < end.time);
+                if let Some(end) = end {
                     one.finish(&about.holding(side, number), end.time, false);
                 }
             }

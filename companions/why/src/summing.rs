@@ -1,5 +1,7 @@
 //! The answer in one sentence, and what the requests of each connection come to.
 
+use std::collections::BinaryHeap;
+
 use explain::answer::{Answer, CauseKind, ConnectionSaid, Nanos, Request};
 use reports::grouped;
 
@@ -45,6 +47,18 @@ pub struct Connection<'a> {
     pub said: &'a ConnectionSaid,
     pub tally: Tally,
     pub phrases: Phrases<'a>,
+    /// The first of its requests by rank.
+    pub worst: Vec<Rank>,
+}
+
+/// What puts requests first: that they hung, and for how long they were held back; then by stream and place.
+pub type Rank = (bool, Nanos, u32, usize);
+
+/// So many are shown where not all are asked for.
+pub const MOST_REQUESTS: usize = 8;
+
+pub fn rank(request: &Request, place: usize) -> Rank {
+    (!request.is_hung, -request.trouble(), request.stream, place)
 }
 
 /// What the requests of a connection, or of all, come to.
@@ -88,12 +102,19 @@ impl<'a> Whole<'a> {
 impl<'a> Connection<'a> {
     fn new(said: &'a ConnectionSaid, answer: &'a Answer) -> Connection<'a> {
         let (mut tally, mut phrases) = (Tally::default(), Phrases::new(said, &answer.files));
-        for request in said.requests.iter() {
+        let mut worst = BinaryHeap::new();
+        for (place, request) in said.requests.unnamed().enumerate() {
             tally.add(&request);
             phrases.meet(&request);
+            let rank = rank(&request, place);
+            if worst.len() < MOST_REQUESTS {
+                worst.push(rank);
+            } else if let Some(mut last) = worst.peek_mut().filter(|last| **last > rank) {
+                *last = rank;
+            }
         }
         phrases.all_met();
-        Connection { said, tally, phrases }
+        Connection { said, tally, phrases, worst: worst.into_sorted_vec() }
     }
 }
 

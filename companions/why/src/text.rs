@@ -5,18 +5,17 @@ use std::fmt::Write as _;
 use std::io::{self, Write};
 
 use explain::answer::{is_pushed, CauseKind, RoundTrip};
-use explain::answer::{At, ConnectionSaid, FaultSaid, How, Nanos, Place, Request, Signal, Source, StallSaid};
+use explain::answer::{At, ConnectionSaid, FaultSaid, How, Place, Request, Signal, Source, StallSaid};
 use reports::{grouped, sentence_of, Side};
 
 use crate::document::signal_word;
 use crate::life::life_of;
 use crate::page::{Colour, Look, Page};
 use crate::phrases::how_name;
-use crate::summing::{is_held, Connection, Verdict, Whole};
+use crate::summing::{is_held, rank, Connection, Rank, Verdict, Whole, MOST_REQUESTS};
 use crate::wording::{code_name, count, escaped, grpc_name, letters, time_of};
 
 /// So many are shown where not all are asked for.
-const MOST_REQUESTS: usize = 8;
 const MOST_CONNECTIONS: usize = 12;
 const MOST_FAULTS: usize = 8;
 const MOST_SIGNALS: usize = 4;
@@ -148,13 +147,14 @@ fn capital(text: &str) -> String {
 
 /// The requests of a connection, of which the hung ones come first, then those that were held back longest.
 fn requests(one: &Connection<'_>, page: &mut Page<'_>) -> io::Result<()> {
-    let keys = one.said.requests.iter().enumerate();
-    let mut ordered: Vec<(bool, Nanos, u32, usize)> =
-        keys.map(|(index, one)| (!one.is_hung, -one.trouble(), one.stream, index)).collect();
-    ordered.sort_unstable();
-    let most = if page.look.is_all { ordered.len() } else { ordered.len().min(MOST_REQUESTS) };
-    let is_shown = |key: &(bool, Nanos, u32, usize)| page.look.is_all || key.1 != 0 || ordered.len() <= most;
-    let shown: Vec<usize> = ordered[..most].iter().filter(|key| is_shown(key)).map(|key| key.3).collect();
+    let number = one.said.requests.len();
+    let mut ranks: Vec<Rank> = match page.look.is_all {
+        true => one.said.requests.unnamed().enumerate().map(|(place, one)| rank(&one, place)).collect(),
+        false => one.worst.clone(),
+    };
+    ranks.sort_unstable();
+    let is_shown = |rank: &&Rank| page.look.is_all || rank.1 != 0 || number <= MOST_REQUESTS;
+    let shown: Vec<usize> = ranks.iter().filter(is_shown).map(|rank| rank.3).collect();
     let found = || shown.iter().filter_map(|index| one.said.requests.get(*index));
     let width = found().map(|request| letters(&name_of(&request))).max().unwrap_or(0).min(MOST_COLUMNS);
     let (mut told, mut held) = (Told::new(), 0);
@@ -169,8 +169,8 @@ fn requests(one: &Connection<'_>, page: &mut Page<'_>) -> io::Result<()> {
         page.folded(&line_of(&request, width, &cause, page), "      ", colour)?;
         life_of(&request).map_or(Ok(()), |life| page.folded(&format!("      {life}"), "        ", Colour::Plain))?;
     }
-    if ordered.len() > shown.len() {
-        let rest = count((ordered.len() - shown.len()) as u64, "request");
+    if number > shown.len() {
+        let rest = count((number - shown.len()) as u64, "request");
         let held = one.tally.held - held;
         let held = if held > 0 { format!(", of which {} held back", grouped(held)) } else { String::new() };
         page.line(&format!("  {rest} more{held}: --all"))?;
@@ -229,7 +229,7 @@ fn idle_stall(said: &ConnectionSaid, page: &mut Page<'_>) -> io::Result<()> {
     if said.stalls.iter().all(|stall| stall.end.is_some()) {
         return Ok(());
     }
-    let held = said.requests.iter().filter(is_held);
+    let held = said.requests.unnamed().filter(is_held);
     let named: HashSet<(Side, u32)> = held
         .map(|request| match request.cause.kind {
             CauseKind::StreamWindow => (request.cause.side, request.stream),
