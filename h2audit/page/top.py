@@ -13,6 +13,7 @@ KINDS = {
     "connection-window": "its window of the connection",
     "tcp": "TCP",
     "application": "its application",
+    "path": "what all its streams need of it",
 }
 WHY = {
     "granted-nothing": "no grant came",
@@ -129,5 +130,5 @@ def asked(audit: Audit) -> list[Asked]:
 
 def why_of(audit: Audit, one: Json) -> str:
     if audit.answer:
-        return f"{KINDS[one['kind']]}: {WHY[one['why']]}"
+        return KINDS[one["kind"]] + (f": {WHY[one['why']]}" if one["why"] else "")
     return KINDS[one["kind"]] + ": no grant was seen" * (one["why"] is not None)
