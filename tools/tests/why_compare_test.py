@@ -181,7 +181,7 @@ class Real(Peers):
             self.assertLess(one["after"]["stalled_nanos"], one["after"]["nanos"] // 10)
         self.assertLess(found["stalled_nanos"]["after"], found["stalled_nanos"]["before"] // 10)
         text = ran("--compare", before, after).stdout.decode()
-        self.assertRegex(text, r"Those in both were stalled for \S+ m?s -> .*: \d+ % less\. 2 stalled less, 0 more\.")
+        self.assertRegex(text, r"Those in both were stalled for \S+ m?s -> .*: \d+ % less\. 2 stalled less, 0 more[.;]")
         self.assertEqual(len(re.findall(r"^  GET /large \([12] of 2\)  stalled \d+ % -> ", text, re.M)), 2)
         self.assertRegex(ran("--compare", after, before).stdout.decode(), r" s more\. 0 stalled less, 2 more\.")
 
