@@ -183,7 +183,7 @@ class Real(Peers):
         text = ran("--compare", before, after).stdout.decode()
         self.assertRegex(text, r"Those in both were stalled for \S+ m?s -> .*: \d+ % less\. 2 stalled less, 0 more[.;]")
         self.assertEqual(len(re.findall(r"^  GET /large \([12] of 2\)  stalled \d+ % -> ", text, re.M)), 2)
-        self.assertRegex(ran("--compare", after, before).stdout.decode(), r" s more\. 0 stalled less, 2 more\.")
+        self.assertRegex(ran("--compare", after, before).stdout.decode(), r" s more\. 0 stalled less, 2 more[.;]")
 
     def test_slow_reader(self) -> None:
         """A client that grants a second late, then one that grants at once; nginx serves both."""
