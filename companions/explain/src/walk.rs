@@ -300,7 +300,7 @@ impl Walk {
         };
         if !is_promise {
             let Walk { table, initials, windows, about, .. } = self;
-            table.touch(cut.head.stream, |stream| drop(met(stream, frame, about, initials, windows)));
+            table.touch(cut.head.stream, |stream| met(stream, frame, about, initials, windows));
         }
         let decoded = self.blocks[side].go_on(cut.payload, cut.head.has(flag::END_HEADERS));
         self.decoded(asking, side, decoded);

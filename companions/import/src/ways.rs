@@ -223,7 +223,9 @@ mod tests {
     #[test]
     fn so_many_are_timed() {
         let mut way = Way::default();
-        (0..20).for_each(|number| drop(way.sent(at(i64::from(number)), &piece(number * 10, 10))));
+        (0..20).for_each(|number| {
+            way.sent(at(i64::from(number)), &piece(number * 10, 10));
+        });
         assert_eq!(way.timed.len(), MOST_TIMED);
         assert_eq!(took(&mut way, 50, 200), Some(43), "of the eighth, since no later one is timed");
         way.sent(at(60), &piece(200, 10));
@@ -240,13 +242,42 @@ mod tests {
 
     #[test]
     fn nagle() {
-        let all = |way: &mut Way| drop(way.answered(at(40), &ack(3000)));
+        let all = |way: &mut Way| {
+            way.answered(at(40), &ack(3000));
+        };
         assert!(is_held(all, 40, 100) && is_held(all, 44, 1447));
         assert!(!is_held(all, 46, 100), "not at once");
         assert!(!is_held(all, 40, 1448), "a whole segment");
-        assert!(!is_held(|way| drop(way.answered(at(40), &ack(2999))), 40, 100), "not all was acknowledged");
-        assert!(!is_held(|way| drop(way.answered(at(19), &ack(3000))), 19, 100), "not long");
-        assert!(!is_held(|way| drop(way.answered(at(40), &Brief { payload: 9, ..ack(3000) })), 40, 100), "an answer");
+        assert!(
+            !is_held(
+                |way| {
+                    way.answered(at(40), &ack(2999));
+                },
+                40,
+                100
+            ),
+            "not all was acknowledged"
+        );
+        assert!(
+            !is_held(
+                |way| {
+                    way.answered(at(19), &ack(3000));
+                },
+                19,
+                100
+            ),
+            "not long"
+        );
+        assert!(
+            !is_held(
+                |way| {
+                    way.answered(at(40), &Brief { payload: 9, ..ack(3000) });
+                },
+                40,
+                100
+            ),
+            "an answer"
+        );
         let answered = |way: &mut Way| {
             all(way);
             way.answered(at(41), &Brief { payload: 9, ..ack(3000) });
