@@ -25,8 +25,8 @@ from tools.tests.why_tools import TOP, Json, has_programs, programs_of, said_of,
 CAUSES = TOP / "tests" / "causes"
 README = CAUSES / "README.md"
 HELD = CAUSES / "held.tsv"
-# Rows whose answer is not right yet: answers that a server sends one after the other (in_turn), and a TCP window that is
-# below a segment, and not 0 (stops_reading_briefly).
+# Rows whose answer is not right yet: answers that a server sends one after the other (in_turn), and a TCP window that
+# is below a segment, and not 0 (stops_reading_briefly).
 NOT_YET = frozenset({"in_turn", "stops_reading_briefly"})
 NANOS = 1_000_000_000
 # A share is named right if it is so close to what was set.
