@@ -41,11 +41,11 @@ class Ends(Peers):
         return [one[0] for one in found]
 
     def test_place(self) -> None:
-        """The handshake tells the round trip and the end; the small window shows at the server alone."""
+        """TCP tells the round trip and the end; the small window shows at the server alone."""
         here, there = self.both("-w16", "-W16")
         self.assertEqual((here["captured_at"], there["captured_at"]), ("client", "server"))
         for one in (here, there):
-            self.assertEqual(one["round_trip"]["source"], "handshake")
+            self.assertEqual(one["round_trip"]["source"], "tcp")
             self.assertGreater(one["round_trip"]["nanos"], 0.95 * ROUND_TRIP * 1e9)
         cause = request_of(there, "/large")["cause"]
         self.assertEqual((cause["why"], cause["ask"], cause["proved"]), ("round-trip", "client", True))

@@ -86,7 +86,7 @@ impl<'a> Phrases<'a> {
                 format!("held by TCP for {lasts} ({share}): {}", tcp_words(cause))
             }
             CauseKind::Application => of_application(request),
-            CauseKind::Path => of_path(cause),
+            CauseKind::Path => of_path(request),
             CauseKind::Unseen => {
                 format!("not known for {lasts}: behind a gap, or past the frame at which the audit stopped")
             }
@@ -107,9 +107,7 @@ impl<'a> Phrases<'a> {
 
     /// No cause is named: not stalled at all, or for less than counts.
     fn hardly(&self, request: &Request) -> String {
-        let windows = [Share::StreamStall, Share::ConnectionStall];
-        let shares = request.sides.iter().flat_map(|said| windows.map(|share| said.shares[share as usize]));
-        let nanos: Nanos = shares.sum();
+        let nanos: Nanos = [Side::Client, Side::Server].iter().map(|side| stalled_on(request, *side)).sum();
         if nanos == 0 {
             return "not stalled".to_string();
         }
@@ -382,7 +380,8 @@ fn tcp_words(cause: &Cause) -> String {
 fn of_application(request: &Request) -> String {
     let cause = &request.cause;
     let whole = if cause.is_silent { "" } else { " on this stream" };
-    let said = format!("not stalled: the {} sent nothing{whole} for {}", cause.side, time_of(cause.nanos));
+    let stalled = not_stalled(request);
+    let said = format!("{stalled}the {} sent nothing{whole} for {}", cause.side, time_of(cause.nanos));
     match cause.credit {
         Some(credit) if credit > 0 => format!("{said} with {} bytes of credit", grouped(credit)),
         // What goes before content needs no credit.
@@ -393,13 +392,22 @@ fn of_application(request: &Request) -> String {
 }
 
 /// A side that sent all the time, how much, and on how many streams.
-fn of_path(cause: &Cause) -> String {
+fn of_path(request: &Request) -> String {
+    let cause = &request.cause;
     let (lasts, rate) = (time_of(cause.nanos), rate_of(cause.content.into(), cause.nanos));
     let shared = match cause.streams {
         0 | 1 => String::new(),
         some => format!(", shared by {} streams", grouped(u64::from(some))),
     };
-    format!("not stalled: the {} sent all the time: {lasts} at {rate}{shared}", cause.side)
+    format!("{}the {} sent all the time: {lasts} at {rate}{shared}", not_stalled(request), cause.side)
+}
+
+/// What stands before another cause where no window was stalled.
+fn not_stalled(request: &Request) -> &'static str {
+    match [Side::Client, Side::Server].iter().all(|side| stalled_on(request, *side) == 0) {
+        true => "not stalled: ",
+        false => "",
+    }
 }
 
 pub fn how_name(how: How) -> &'static str {
