@@ -40,6 +40,8 @@ struct Half {
     messages: Messages,
     opener: Option<Box<Opener>>,
     secret: Vec<u8>,
+    /// Key updates before this secret.
+    updates: u32,
     /// Records, with the keys in use.
     opened: u64,
     /// Passes over early data that was rejected.

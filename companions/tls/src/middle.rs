@@ -33,6 +33,8 @@ pub struct Middle {
     /// In the order in which they came.
     segments: Vec<Segment>,
     costs: [usize; 2],
+    /// What opened the sides before some of them was lost; nothing where nothing was read before.
+    before: Vec<Found>,
     /// What opens the side that was found first.
     found: Option<Found>,
 }
@@ -60,12 +62,18 @@ impl Default for Middle {
             borders: [Some(Borders::default()), Some(Borders::default())],
             segments: Vec::new(),
             costs: [0; 2],
+            before: Vec::new(),
             found: None,
         }
     }
 }
 
 impl Middle {
+    /// Of sides of which this opened the next record, before some of them was lost.
+    pub fn behind(before: Vec<Found>) -> Middle {
+        Middle { before, ..Middle::default() }
+    }
+
     pub fn waits(&self, side: usize) -> bool {
         self.borders[side].is_some()
     }
@@ -115,7 +123,11 @@ impl Middle {
             if tried.iter().all(Option::is_none) {
                 break;
             }
-            let known = found.as_ref().map_or(Known::Nothing, Known::Other);
+            let known = match &found {
+                _ if !self.before.is_empty() => Known::Before(&self.before),
+                Some(found) => Known::Other(found),
+                None => Known::Nothing,
+            };
             match shared.search.find(&shared.keys, &tried, &known) {
                 Ok(opens) => {
                     let side = opens.side;

@@ -117,6 +117,11 @@ impl Opener {
         Ok(Opener { sequence: 0, way: way.map_err(|_| Reason::CipherSuite(suite.code))? })
     }
 
+    /// Of the next record.
+    pub fn number(&self) -> u64 {
+        self.sequence
+    }
+
     /// Goes on with the record of this number.
     pub fn go_to(&mut self, number: u64) {
         self.sequence = number;

@@ -9,17 +9,18 @@ use std::time::{Duration, Instant};
 
 use crate::filter::{Bench, Filter, MOST_AT_ONCE};
 use crate::handshake::Stage;
-use crate::hellos::Random;
-use crate::key_log::{Keys, Label, OF_SIDES};
-use crate::key_schedule::{next_secret, traffic_keys, TrafficKeys};
+use crate::key_log::Keys;
 use crate::protection::Opener;
 use crate::reason::Reason;
 use crate::sample::{Sample, Sealed};
-use crate::suites::{suites_of_secret, Suite};
-use crate::{CLIENT, SERVER};
+use crate::suites::Suite;
+use entries::{entries_of, Entry};
 
+mod entries;
 #[cfg(test)]
 mod tests;
+
+pub use entries::{Found, Known};
 
 const MOST_NUMBERS: u64 = 1 << 20;
 const MOST_SECONDS: u64 = 60;
@@ -43,65 +44,6 @@ impl Default for Search {
     fn default() -> Search {
         Search::new(MOST_NUMBERS, MOST_SECONDS)
     }
-}
-
-/// What opens a record.
-#[derive(Clone)]
-pub struct Found {
-    /// Of the two samples.
-    pub side: usize,
-    /// Whose the secret is.
-    pub role: usize,
-    pub random: Random,
-    pub suite: Suite,
-    pub stage: Stage,
-    /// How many key updates came before it.
-    pub updates: u32,
-    pub secret: Vec<u8>,
-    pub number: u64,
-}
-
-/// What is known before.
-pub enum Known<'a> {
-    Nothing,
-    /// What opens the other side.
-    Other(&'a Found),
-    /// What opens a later record of the side, behind a key update.
-    Later(&'a Found),
-}
-
-impl Known<'_> {
-    fn found(&self) -> Option<&Found> {
-        match self {
-            Known::Nothing => None,
-            Known::Other(found) | Known::Later(found) => Some(found),
-        }
-    }
-
-    fn has(&self, random: &Random, role: usize) -> bool {
-        match self {
-            Known::Nothing => true,
-            Known::Other(found) => found.random == *random && found.role != role,
-            Known::Later(found) => found.random == *random && found.role == role,
-        }
-    }
-
-    fn updates(&self) -> Range<u32> {
-        match self {
-            Known::Later(found) => found.updates.saturating_sub(1)..found.updates,
-            _ => 0..MOST_UPDATES + 1,
-        }
-    }
-}
-
-/// A secret, and the keys that it gives for some suites.
-struct Entry {
-    random: Random,
-    role: usize,
-    stage: Stage,
-    suites: Vec<Suite>,
-    secret: Vec<u8>,
-    keys: TrafficKeys,
 }
 
 impl Search {
@@ -148,7 +90,7 @@ impl Attempt<'_> {
             }
             if known.updates().contains(&updates) {
                 if let Some(found) = self.find_among(&entries)? {
-                    return Ok(Found { updates, ..found });
+                    return Ok(found);
                 }
             }
         }
@@ -171,17 +113,15 @@ impl Attempt<'_> {
     }
 
     fn find_by(&mut self, entry: &Entry, suite: &Suite, numbers: Range<u64>) -> Result<Option<Found>, Reason> {
-        for (side, sample) in self.samples.iter().enumerate() {
-            let sealed = match sample {
+        let first = |number: u64| entry.from.saturating_add(number);
+        for (side, sample) in self.samples.iter().enumerate().filter(|(side, _)| entry.may_be_of(*side)) {
+            let tried = match sample {
                 None => continue,
                 Some(sample) if entry.stage == Stage::Traffic => (sample.record, sample.beside),
                 Some(sample) => (sample.first, None),
             };
-            let number = self.number(entry, suite, sealed, numbers.clone())?;
-            if let Some(number) = number {
-                let (random, role, suite, stage) = (entry.random, entry.role, *suite, entry.stage);
-                let secret = entry.secret.clone();
-                return Ok(Some(Found { side, role, random, suite, stage, updates: 0, secret, number }));
+            if let Some(number) = self.number(entry, suite, tried, first(numbers.start)..first(numbers.end))? {
+                return Ok(Some(entry.found(side, *suite, number)));
             }
         }
         Ok(None)
@@ -229,40 +169,5 @@ impl Attempt<'_> {
             }
         }
         None
-    }
-}
-
-/// The secrets that may have protected a record, each with the keys of one length.
-fn entries_of(keys: &Keys, known: &Known<'_>) -> Vec<Entry> {
-    let mut entries = Vec::new();
-    for (random, label, secret) in keys.with(&OF_SIDES.concat()) {
-        let role = if OF_SIDES[CLIENT].contains(&label) { CLIENT } else { SERVER };
-        if !known.has(random, role) {
-            continue;
-        }
-        let is_handshake = matches!(label, Label::ClientHandshake | Label::ServerHandshake);
-        let stage = if is_handshake { Stage::Handshake } else { Stage::Traffic };
-        let suites: Vec<Suite> = suites_of_secret(secret.len())
-            .filter(|suite| known.found().map_or(true, |found| found.suite.code == suite.code))
-            .collect();
-        for some in by_keys(&suites) {
-            let keys = traffic_keys(&some[0], secret);
-            entries.push(Entry { random: *random, role, stage, suites: some, secret: secret.to_vec(), keys });
-        }
-    }
-    entries
-}
-
-/// Suites of one hash, by the length of their keys, which is all that keys depend on.
-fn by_keys(suites: &[Suite]) -> Vec<Vec<Suite>> {
-    let of_length = |length| suites.iter().filter(|suite| suite.key_length == length).copied().collect();
-    [16, 32].into_iter().map(of_length).filter(|some: &Vec<Suite>| !some.is_empty()).collect()
-}
-
-impl Entry {
-    /// Goes on to the secret after a key update.
-    fn update(&mut self) {
-        self.secret = next_secret(&self.suites[0], &self.secret);
-        self.keys = traffic_keys(&self.suites[0], &self.secret);
     }
 }

@@ -3,7 +3,7 @@
 use captures::Arrival;
 
 use super::{Connection, Emit, Shared};
-use crate::middle::{Released, Settled};
+use crate::middle::{Middle, Released, Settled};
 use crate::reason::Reason;
 use crate::{CLIENT, SERVER};
 
@@ -15,6 +15,14 @@ impl Connection {
     /// need not be known: [`Connection::client`] tells. Each side's offsets begin with its first byte that is there.
     pub fn from_middle(number: u64, shared: &Shared) -> Connection {
         Connection { middle: Some(Box::default()), ..Connection::new(number, shared) }
+    }
+
+    /// What this connection of TLS 1.3 is behind bytes that are lost, of one side or both: it is read from its middle on,
+    /// by the secrets and from the numbers on that were reached. None where no application data of it was read.
+    pub fn behind_loss(&self, number: u64, shared: &Shared) -> Option<Connection> {
+        let before: Vec<_> = [CLIENT, SERVER].iter().filter_map(|side| self.handshake.opens(*side)).collect();
+        let middle = (!before.is_empty()).then(|| Box::new(Middle::behind(before)))?;
+        Some(Connection { middle: Some(middle), ..Connection::new(number, shared) })
     }
 
     /// The index of the client's side. Of a connection that is read from its middle on, the secret tells that.

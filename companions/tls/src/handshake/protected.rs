@@ -89,6 +89,7 @@ impl Handshake {
             (hellos::KEY_UPDATE, Stage::Traffic) => {
                 let suite = self.suite.ok_or(Reason::NotTls)?;
                 let secret = next_secret(&suite, &self.halves[side].secret);
+                self.halves[side].updates += 1;
                 self.protect(side, secret)?;
             }
             _ => {}

@@ -1,7 +1,9 @@
 use super::*;
+use crate::key_schedule::{traffic_keys, TrafficKeys};
 use crate::records::HEADER_LENGTH;
 use crate::sample::sealed_in;
 use crate::sealing::Sealer;
+use crate::{CLIENT, SERVER};
 
 /// A log of so many servers, by the hexadecimal digits of whose secrets each is told from the others.
 fn log(count: usize, length: usize) -> Keys {
@@ -66,7 +68,8 @@ fn rate(wrong: &Sealer, keys: &TrafficKeys, records: &[Sealed<'_>], has_neighbou
     const TRIES: u64 = 1 << 18;
     let samples = [None, None];
     let (suites, secret, keys) = (vec![wrong.suite], wrong.secret.clone(), keys.clone());
-    let entry = Entry { random: [0; 32], role: SERVER, stage: Stage::Traffic, suites, secret, keys };
+    let (random, stage) = ([0; 32], Stage::Traffic);
+    let entry = Entry { random, role: SERVER, stage, suites, secret, keys, updates: 0, from: 0, side: None };
     let begun = Instant::now();
     let (bench, left) = (Bench::new().unwrap(), Duration::from_secs(60));
     let mut attempt = Attempt { bench, room: Vec::new(), samples: &samples, begun, left, numbers: TRIES, seconds: 60 };

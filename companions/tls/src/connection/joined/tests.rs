@@ -235,6 +235,31 @@ fn from_within_the_handshake() {
     assert_eq!(plain.of(SERVER), b"settingsmore");
 }
 
+/// Behind lost bytes numbers go on, however high they are, and key updates may be among what was lost.
+#[test]
+fn behind_lost_records() {
+    for updates in 0..3 {
+        let (mut client, mut server) = (Sealer::new(0x1301, 1), Sealer::new(0x1301, 2));
+        let mut shared = Shared { search: Search::new(200, 60), ..shared_of(&client, &server) };
+        let (up, down) =
+            ([client.data(b"a"), client.data(b"b")].concat(), [server.data(b"c"), server.update()].concat());
+        let (_, first) = read(&mut shared, &[(CLIENT, &up), (SERVER, &[&down[..], &server.data(b"d")].concat())]);
+        assert_eq!(first.count(), 4);
+        (client.number, server.number) = (190, 150);
+        (0..updates).for_each(|_| server.skip_to_update());
+        let down = [server.data(b"lost"), server.data(b"e"), server.data(b"f")].concat();
+        let mut plain = Plain::default();
+        let mut connection = first.behind_loss(1, &shared).unwrap();
+        for (side, data) in [(SERVER, &down[1..]), (CLIENT, &client.data(b"g"))] {
+            connection.segment(&mut shared, &mut plain, side, 0, data, Arrival { packet: 1, nanos: 0 });
+        }
+        connection.finish(&mut shared, &mut plain, &KNOWN);
+        assert_eq!((plain.of(SERVER), plain.of(CLIENT)), (b"ef".to_vec(), b"g".to_vec()), "{updates}");
+        assert_eq!(connection.client(), Some(CLIENT));
+    }
+    assert!(Connection::from_middle(0, &Shared::default()).behind_loss(1, &Shared::default()).is_none());
+}
+
 #[test]
 fn padding_alerts_and_one_record_alone() {
     let (client, mut server) = (Sealer::new(0x1302, 1), Sealer::new(0x1302, 2));
