@@ -33,6 +33,8 @@ pub struct Middle {
     /// In the order in which they came.
     segments: Vec<Segment>,
     costs: [usize; 2],
+    /// What is there is looked at again once it has so many bytes, where it was in vain.
+    next_look: usize,
     /// What opened the sides before some of them was lost; nothing where nothing was read before.
     before: Vec<Found>,
     /// What opens the side that was found first.
@@ -62,6 +64,7 @@ impl Default for Middle {
             borders: [Some(Borders::default()), Some(Borders::default())],
             segments: Vec::new(),
             costs: [0; 2],
+            next_look: 0,
             before: Vec::new(),
             found: None,
         }
@@ -90,6 +93,10 @@ impl Middle {
         self.borders.iter().flatten()
     }
 
+    fn length(&self) -> usize {
+        self.waiting().map(|borders| borders.bytes().len()).sum()
+    }
+
     /// Whether records follow each other in a side that waits, or did in one that is settled.
     pub fn has_records(&self) -> bool {
         let headers = |borders: &Borders| borders.best().map_or(0, |chain| chain.headers);
@@ -99,8 +106,9 @@ impl Middle {
     /// Whether it is time to look for what opens a side: there is enough of it to try, or too much to wait on.
     pub fn is_due(&self, more_keys: bool) -> bool {
         let has_one = || self.waiting().any(|borders| borders.best().is_some());
-        let is_ripe = !more_keys && (self.has_records() && self.found.is_none() || self.found.is_some() && has_one());
-        is_ripe || [CLIENT, SERVER].iter().any(|side| self.is_over(*side))
+        let is_ripe = || if self.found.is_some() { has_one() } else { self.has_records() };
+        let is_time = !more_keys && self.length() >= self.next_look;
+        is_time && is_ripe() || [CLIENT, SERVER].iter().any(|side| self.is_over(*side))
     }
 
     /// Whether nothing is to be gained by waiting on.
@@ -115,13 +123,28 @@ impl Middle {
         if records.iter().any(|records| is_tls_1_2(records)) {
             return [(); 2].map(|()| Some(Settled::Ends(Reason::NoServerRandom)));
         }
+        let ([client, server], found) = self.search(shared, &records, is_last);
+        drop(records);
+        self.next_look = if found.is_some() { 0 } else { 2 * self.length() };
+        self.found = found;
+        let given_up = |side| self.given_up(side, is_last);
+        [client.or_else(|| given_up(CLIENT)), server.or_else(|| given_up(SERVER))]
+    }
+
+    /// What opens the sides that can be tried, and that of the first.
+    fn search(
+        &self,
+        shared: &mut Shared,
+        records: &[Vec<Sealed<'_>>; 2],
+        is_last: bool,
+    ) -> ([Option<Settled>; 2], Option<Found>) {
         let mut settled = [None, None];
         let mut samples = [CLIENT, SERVER].map(|side| Sample::of(&records[side]));
         let mut found = self.found.clone();
         loop {
             let tried = self.tried(&samples, found.is_some(), is_last);
             if tried.iter().all(Option::is_none) {
-                break;
+                return (settled, found);
             }
             let known = match &found {
                 _ if !self.before.is_empty() => Known::Before(&self.before),
@@ -138,18 +161,11 @@ impl Middle {
                 }
                 Err(why) => {
                     for side in [CLIENT, SERVER].into_iter().filter(|side| tried[*side].is_some()) {
-                        samples[side] = None;
-                        settled[side] = Some(Settled::Ends(why));
+                        (samples[side], settled[side]) = (None, Some(Settled::Ends(why)));
                     }
                 }
             }
         }
-        let is_found = found.is_some();
-        drop(records);
-        self.found = found;
-        let [client, server] = settled;
-        let given_up = |side| self.given_up(side, is_found, is_last);
-        [client.or_else(|| given_up(CLIENT)), server.or_else(|| given_up(SERVER))]
     }
 
     fn begin(&self, side: usize) -> usize {
@@ -174,10 +190,10 @@ impl Middle {
     }
 
     /// What becomes of a side without a whole record, where no more is waited for.
-    fn given_up(&self, side: usize, is_found: bool, is_last: bool) -> Option<Settled> {
+    fn given_up(&self, side: usize, is_last: bool) -> Option<Settled> {
         let borders = self.borders[side].as_ref().filter(|_| is_last || self.is_over(side))?;
         let length = borders.bytes().len();
-        Some(match (is_found, borders.is_hopeless()) {
+        Some(match (self.found.is_some(), borders.is_hopeless()) {
             (true, false) if is_last => Settled::Skipped(length),
             (false, false) if is_last => Settled::Ends(Reason::Tail(length)),
             _ => Settled::Ends(Reason::NotTls),

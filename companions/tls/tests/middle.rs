@@ -40,6 +40,8 @@ struct Cut {
     plain: Plain,
     /// The number before that of the first byte of each side.
     initial: [Option<u32>; 2],
+    /// Before its end.
+    has_records: bool,
 }
 
 impl Cut {
@@ -56,6 +58,10 @@ fn read(name: &str, before: u64) -> (Vec<Cut>, u64) {
     let file = file.iter().find(|file| file.exists()).unwrap();
     let mut shared = Shared::default();
     shared.keys.read(File::open(folder().join(name).with_extension("keys")).unwrap()).unwrap();
+    read_file(file, shared, before)
+}
+
+fn read_file(file: &Path, mut shared: Shared, before: u64) -> (Vec<Cut>, u64) {
     let mut reader = Reader::new(Source::open(file.as_ref()).ok().unwrap()).ok().unwrap();
     let mut decoder = Decoder::default();
     let (mut places, mut cuts, mut number) = (HashMap::<Ends, usize>::new(), Vec::<Cut>::new(), 0);
@@ -70,9 +76,9 @@ fn read(name: &str, before: u64) -> (Vec<Cut>, u64) {
         let place = *places.entry(pair).or_insert(cuts.len());
         if place == cuts.len() {
             let connection = Connection::from_middle(place as u64, &shared);
-            cuts.push(Cut { connection, plain: Plain::default(), initial: [None; 2] });
+            cuts.push(Cut { connection, plain: Plain::default(), initial: [None; 2], has_records: false });
         }
-        let Cut { connection, plain, initial } = &mut cuts[place];
+        let Cut { connection, plain, initial, .. } = &mut cuts[place];
         let side = usize::from(segment.ends != pair);
         let is_syn = u32::from(segment.flags & flags::SYN != 0);
         let initial = *initial[side].get_or_insert((segment.sequence + is_syn).wrapping_sub(1));
@@ -81,6 +87,7 @@ fn read(name: &str, before: u64) -> (Vec<Cut>, u64) {
             connection.segment(&mut shared, plain, side, offset, data, arrival);
         }
     }
+    cuts.iter_mut().for_each(|cut| cut.has_records = cut.connection.has_records());
     let known = Known { is_snapped: false, has_answer: false, has_client_ended: false };
     cuts.iter_mut().for_each(|cut| cut.connection.finish(&mut shared, &mut cut.plain, &known));
     (cuts, number)
@@ -150,6 +157,24 @@ fn tls_1_2_is_refused() {
         let cuts = read("curl-nginx-12-any-cooked", before).0;
         assert_eq!(cuts.iter().map(|cut| cut.connection.refused()).collect::<Vec<_>>(), [Some(Reason::NoServerRandom)]);
     }
+}
+
+/// No connection in the clear looks like records of TLS.
+#[test]
+fn nothing_in_the_clear_is_taken_for_tls() {
+    let examples = Path::new(env!("CARGO_MANIFEST_DIR")).join("../../examples");
+    let mut count = 0;
+    for entry in fs::read_dir(examples).unwrap() {
+        let path = entry.unwrap().path();
+        if path.extension().map_or(false, |form| form == "pcap") && !path.with_extension("keys").exists() {
+            for before in [0, 3, 11, 29] {
+                let (cuts, _) = read_file(&path, Shared::default(), before);
+                assert!(cuts.iter().all(|cut| !cut.has_records), "{path:?} {before}");
+                count += cuts.len();
+            }
+        }
+    }
+    assert!(count > 20, "{count}");
 }
 
 /// One connection of TLS has no key, and others are in the clear.

@@ -33,9 +33,15 @@ impl Connection {
         }
     }
 
-    /// Whether records were met that follow each other, or what opens them is known: hardly any other bytes look so.
+    /// Whether it is TLS: records were met that follow each other, or one that was opened. Hardly any other bytes look so.
     pub fn has_records(&self) -> bool {
-        self.middle.as_ref().map_or(true, |middle| middle.has_records())
+        let tells = |why: Reason| !matches!(why, Reason::NotTls | Reason::Tail(_));
+        let ended = || self.sides.iter().any(|side| side.end.map_or(false, |(why, _)| tells(why)));
+        match (&self.middle, self.refused) {
+            (_, Some(why)) => tells(why),
+            (Some(middle), None) => middle.has_records() || ended(),
+            (None, None) => true,
+        }
     }
 
     /// Looks for what opens the sides that wait, where that is due, and goes on with what waited.

@@ -183,7 +183,9 @@ fn a_log_without_the_secret() {
     none.keys.add_text(line("CLIENT_RANDOM", 9, &[1; 48]).as_bytes());
     assert_eq!(read(&mut none, &segments).1.refused(), Some(Reason::NoKey));
     let mut others = Shared { search: Search::new(5000, 60), ..shared(&[3; 48], &[4; 48]) };
-    assert_eq!(read(&mut others, &segments).1.refused(), Some(Reason::SearchedNumbers(5000)));
+    let (_, connection) = read(&mut others, &segments);
+    assert_eq!(connection.refused(), Some(Reason::SearchedNumbers(5000)));
+    assert!(connection.has_records());
 }
 
 /// Where one side's secret is there, that side is read.
@@ -294,12 +296,35 @@ fn keys_that_come_later() {
 
 #[test]
 fn what_is_no_tls_or_too_little() {
-    let refused = |data: &[u8]| read(&mut shared(&[1; 48], &[2; 48]), &[(CLIENT, data)]).1.refused();
+    let refused = |data: &[u8]| {
+        let (_, connection) = read(&mut shared(&[1; 48], &[2; 48]), &[(CLIENT, data), (SERVER, data)]);
+        assert!(!connection.has_records());
+        connection.refused()
+    };
     let cut = Sealer::new(0x1302, 1).data(&text(500));
     assert_eq!(refused(b"PRI * HTTP/2.0\r\n\r\nSM\r\n\r\n"), Some(Reason::Tail(24)));
     assert_eq!(refused(&text(40_000)), Some(Reason::NotTls));
     assert_eq!(refused(&cut[..500]), Some(Reason::Tail(500)));
     assert_eq!(refused(&[]), Some(Reason::NotTls));
+}
+
+/// Records that follow each other, none of which can be tried beside another, are not gone over at each segment.
+#[test]
+fn hostile_records_take_linear_time() {
+    let first = Sealer::new(0x1302, 1).data(b"alone");
+    let update = Sealer::new(0x1302, 1).update();
+    for next in [&[ALERT, 3, 3, 0, 2, 1, 0][..], &update] {
+        let took = |count: usize| {
+            let segments: Vec<_> =
+                [&first[..]].into_iter().chain(vec![next; count]).map(|part| (SERVER, part)).collect();
+            let mut shared = Shared { search: Search::new(10, 60), ..shared(&[3; 48], &[4; 48]) };
+            let begun = Instant::now();
+            read(&mut shared, &segments);
+            begun.elapsed()
+        };
+        let (short, long) = (took(2000), took(16_000));
+        assert!(long < short * 24 + Duration::from_millis(100), "{short:?} {long:?}");
+    }
 }
 
 /// Whatever is changed, what is read was sent.
