@@ -303,7 +303,7 @@ class Tally:
     def compare(self, place: str, one: Known, found: Said, made: Joined, segments: list[Segment], at: int) -> None:
         is_right = (found.client, found.server) == (one.client, one.server)
         self.add("sides right" if is_right else "sides wrong")
-        self.add("sides by ports", found.sides == "ports")
+        self.add(f"sides by {found.sides}")
         if not is_right:
             self.notes.append(f"{place}: sides wrong by {found.sides}")
             return
@@ -362,6 +362,9 @@ class Tally:
             self.by_grade[grade][key not in true] += 1
             if key not in true:
                 self.notes.append(f"{place}: false stall {grade} of {stall.side} stream {stall.stream} {stall.nanos}")
+        for key, stall in true.items():
+            if key not in said and stall.nanos is not None and stall.nanos >= 10**6:
+                self.notes.append(f"{place}: missed {grade_of(found, stall)} of {stall.side} stream {stall.stream}")
         wanted = [stall for stall in true.values() if stall.nanos is not None]
         self.add("stalls", len(wanted))
         self.add("stalls found", sum(key in said for key, stall in true.items() if stall.nanos is not None))

@@ -96,9 +96,10 @@ pub fn credits_of(course: &mut Course, flow: usize, side: usize, may_claim: bool
     credits.assumed.extend(initial);
     for one in &open {
         let found = concluding.open_stream(one, credits.initial);
+        let unclaimed = concluding.without_stall(one, credits.initial);
         let (credit, assumed) = match found {
-            None => (credits.initial, None),
-            Some(found) => within(found, credits.initial, &mut made),
+            None => (unclaimed, None),
+            Some(found) => within(found, [credits.initial, unclaimed], &mut made),
         };
         credits.streams.push((one.id, credit));
         credits.assumed.extend(assumed);
@@ -107,12 +108,12 @@ pub fn credits_of(course: &mut Course, flow: usize, side: usize, may_claim: bool
 }
 
 /// Where too much would have to be made to bring a credit down, nothing is claimed.
-fn within(mut found: Assumed, initial: i64, made: &mut i64) -> (i64, Option<Assumed>) {
+fn within(mut found: Assumed, [initial, unclaimed]: [i64; 2], made: &mut i64) -> (i64, Option<Assumed>) {
     let needed = (initial - found.credit).max(0);
     if found.grade == Grade::Bound || *made + needed > MOST_MADE {
         found.grade = Grade::Bound;
         found.with = None;
-        found.credit = found.credit.max(initial);
+        found.credit = found.credit.max(unclaimed);
     } else {
         *made += needed;
     }
@@ -131,12 +132,14 @@ struct Open {
     id: u32,
     evidence: [Evidence; 2],
     is_refused: bool,
+    /// The least that grants and content made of its credit, beside the beginning.
+    least: i64,
 }
 
 impl Open {
     fn of(id: u32, window: &crate::windows::Window) -> Open {
         let evidence = window.open.as_deref().cloned().unwrap_or_default();
-        Open { id, evidence, is_refused: window.is_refused }
+        Open { id, evidence, is_refused: window.is_refused, least: window.least }
     }
 
     /// Where all contents are 2^k - 1 bytes, the stream's window is the likely reason.
@@ -207,6 +210,12 @@ impl Concluding<'_> {
         let mut found = self.concluded(&self.sender.initial, &about)?;
         found.credit = found.credit.clamp(0, MOST_CREDIT);
         Some(found)
+    }
+
+    /// The credit of a stream that was open with which no stall shows, whatever settings were seen.
+    fn without_stall(&self, open: &Open, initial: i64) -> i64 {
+        let lowered = self.sender.least_in_force.map_or(0, |least| (initial - least).max(0));
+        initial.max(1 - open.least + lowered).min(MOST_CREDIT)
     }
 
     /// Of the evidence before and after the initial window changed, that which asks for more.

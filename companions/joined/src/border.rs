@@ -15,6 +15,7 @@ const EARLY: i32 = 32;
 const USUAL_FRAME: u32 = 1 << 14;
 const LONGEST_FRAME: u32 = (1 << 24) - 1;
 const UNKNOWN: i32 = i32::MIN;
+/// Of a chain with a length that is not tried.
 const BROKEN: i32 = i32::MIN + 1;
 /// No chain is worth more, nor less.
 const MOST_BITS: i32 = 1 << 30;
@@ -38,8 +39,7 @@ fn best(bytes: &[u8], positions: usize, longest: u32, needed: i32) -> Option<Bor
     let mut found: Option<(i32, Border)> = None;
     for at in 0..positions.min(bytes.len().saturating_sub(HEADER - 1)) {
         let (bits, cost) = (chains.worth(at), cost_of(at));
-        let is_best = found.map_or(true, |(most, _)| bits - cost > most);
-        if bits >= needed + cost && is_best {
+        if bits >= needed + cost && found.map_or(true, |(most, _)| bits - cost > most) {
             found = Some((bits - cost, Border { at, bits: bits as u32 }));
         }
     }

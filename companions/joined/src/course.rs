@@ -81,6 +81,7 @@ impl Course {
 
     fn content(&mut self, flow: usize, cut: &Cut<'_>, first: Nanos, last: Nanos) {
         let Head { length, stream, .. } = cut.head;
+        self.sides.content(flow, length);
         let mut found = self.streams.get(stream);
         if length > 0 {
             let window = found.as_mut().map(|found| &mut found.windows[flow]);

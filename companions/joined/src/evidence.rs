@@ -54,9 +54,7 @@ impl Pause {
         }
         let (pause, delay) = (granted.saturating_sub(self.since), content.saturating_sub(granted));
         let gap = usual.gap();
-        if pause < LEAST_PAUSE || (pause as f64) < LEAST_GAPS * gap {
-            return None;
-        }
+        let is_pause = pause >= LEAST_PAUSE && pause as f64 >= LEAST_GAPS * gap;
         let is_soon = delay <= SOON.max(pause / 2);
         let (most_of_gap, short) = match self.length {
             None => (8.0, 0.0),
@@ -64,7 +62,8 @@ impl Pause {
         };
         let of_gap = (pause as f64 / gap).log2().clamp(0.0, most_of_gap);
         let of_delay = (pause as f64 / delay.max(1) as f64).log2().clamp(0.0, 5.0);
-        Some(Touch { pause, is_soon, length: self.length, bits: of_gap + of_delay + short, has_short: short > 0.0 })
+        let bits = if is_pause && is_soon { of_gap + of_delay } else { 0.0 } + short;
+        Some(Touch { pause, is_soon, length: self.length, bits, has_short: short > 0.0 })
     }
 }
 
@@ -75,19 +74,9 @@ pub struct Touch {
     is_soon: bool,
     /// Of the content before it.
     pub length: Option<u32>,
-    bits: f64,
-    has_short: bool,
-}
-
-impl Touch {
     /// What it is worth if it is the first one.
-    pub fn bits(&self) -> f64 {
-        if self.is_soon {
-            self.bits
-        } else {
-            0.0
-        }
-    }
+    pub bits: f64,
+    has_short: bool,
 }
 
 /// What is known of one window.
@@ -138,10 +127,9 @@ impl Evidence {
     pub fn worth(&mut self, touch: &Touch) -> f64 {
         let length = touch.length.unwrap_or(0);
         let bits = match self.last {
-            None => touch.bits(),
-            Some(_) if !touch.is_soon => 1.0,
+            None => touch.bits,
             Some(last) if last != length => 5.0,
-            Some(_) if length % 1024 == 0 => 1.0,
+            Some(_) if length % 1024 == 0 || !touch.is_soon => 1.0,
             Some(_) => 3.0,
         };
         self.last = Some(length);
@@ -198,17 +186,17 @@ mod tests {
     }
 
     fn bits(pause: Nanos, delay: Nanos) -> Option<f64> {
-        touch(pause, delay, None).map(|touch| touch.bits())
+        touch(pause, delay, None).map(|touch| touch.bits)
     }
 
     #[test]
     fn pauses_that_a_grant_ended() {
         assert_eq!(bits(MS, 1000), Some(6.0 + 5.0));
-        assert_eq!(bits(19_999, 10), None, "no pause");
+        assert_eq!(bits(19_999, 10), Some(0.0), "no pause");
         assert!(bits(20_480, 10_240).map_or(false, |bits| (5.0..5.5).contains(&bits)));
         assert_eq!(bits(100 * MS, 60 * MS), Some(0.0), "content came late");
         assert_eq!(bits(100 * MS, 50 * MS), Some(7.0));
-        assert_eq!(Pause::behind(0, 9).touch(MS, None, &usual()).map(|touch| touch.bits()), None, "no grant");
+        assert_eq!(Pause::behind(0, 9).touch(MS, None, &usual()).map(|touch| touch.bits), None, "no grant");
         assert!(touch(MS, 1, Some(0)).is_none() && touch(MS, 1, Some(-1)).is_some(), "an answer");
     }
 
@@ -221,12 +209,12 @@ mod tests {
             pause.grant(MS);
             pause.touch(MS + delay, None, &usual()).expect("a touch")
         };
-        let found: Vec<_> = [of(999, 1), of(999, 1), of(2048, 1), of(2048, 1), of(77, 600_000)]
+        let found: Vec<_> = [of(999, 1), of(999, 1), of(2048, 1), of(2048, 1), of(77, 600_000), of(77, 600_000)]
             .iter()
             .map(|touch| evidence.worth(touch))
             .collect();
-        assert_eq!(found, [11.0, 3.0, 5.0, 1.0, 1.0]);
-        assert_eq!(evidence.touches, 5);
+        assert_eq!(found, [11.0, 3.0, 5.0, 1.0, 5.0, 1.0]);
+        assert_eq!(evidence.touches, 6);
     }
 
     #[test]

@@ -15,8 +15,10 @@ pub enum Told {
     Priority,
     /// By the parity of the last stream that a GOAWAY names (6.8, 5.1.1).
     GoAway,
-    /// By the ports alone: the server's is the lower one, or the one below 32,768.
+    /// By the ports alone, of which the server's is below 32,768 and the client's is not.
     Ports,
+    /// By nothing but that one side sends more content: it is taken to be the server.
+    Content,
 }
 
 impl Told {
@@ -29,6 +31,7 @@ impl Told {
             Told::Priority => "priority",
             Told::GoAway => "goaway",
             Told::Ports => "ports",
+            Told::Content => "content",
         }
     }
 
@@ -41,6 +44,8 @@ impl Told {
 #[derive(Clone, Copy, Debug, Default)]
 pub struct Sides {
     client: Option<(usize, Told)>,
+    /// How many bytes of content each flow has.
+    content: [u64; 2],
 }
 
 impl Sides {
@@ -49,9 +54,16 @@ impl Sides {
         self.client.map(|(client, _)| client == flow)
     }
 
-    /// Which flow is the client's, and how that is known; by the ports of the first flow's ends at the last.
+    /// Which flow is the client's, and how that is known; by the ports of the first flow's ends, or by content, at the
+    /// last.
     pub fn client(&self, ports: [u16; 2]) -> (usize, Told) {
-        self.client.unwrap_or((client_by_ports(ports), Told::Ports))
+        let by_ports = || client_by_ports(ports).map(|client| (client, Told::Ports));
+        let by_content = || (usize::from(self.content[0] > self.content[1]), Told::Content);
+        self.client.or_else(by_ports).unwrap_or_else(by_content)
+    }
+
+    pub fn content(&mut self, flow: usize, length: u32) {
+        self.content[flow] += u64::from(length);
     }
 
     /// The first thing that is told counts, unless a better one comes.
@@ -91,13 +103,12 @@ impl Sides {
     }
 }
 
-/// Of the first flow's sender and receiver.
-fn client_by_ports([sender, receiver]: [u16; 2]) -> usize {
-    const EPHEMERAL: u16 = 1 << 15;
-    match (sender >= EPHEMERAL, receiver >= EPHEMERAL) {
-        (true, false) => 0,
-        (false, true) => 1,
-        _ => usize::from(sender < receiver),
+/// Of the first flow's sender and receiver; none where both are alike.
+fn client_by_ports(ports: [u16; 2]) -> Option<usize> {
+    match ports.map(|port| port >= 1 << 15) {
+        [true, false] => Some(0),
+        [false, true] => Some(1),
+        _ => None,
     }
 }
 
@@ -138,10 +149,13 @@ mod tests {
     }
 
     #[test]
-    fn ports() {
-        assert_eq!(
-            [[50_000, 443], [443, 50_000], [80, 443], [443, 80], [60_000, 50_000]].map(client_by_ports),
-            [0, 1, 1, 0, 0]
-        );
+    fn ports_and_content() {
+        let of = |ports| {
+            let mut sides = Sides::default();
+            sides.content(0, 5);
+            sides.client(ports)
+        };
+        assert_eq!([[50_000, 443], [443, 50_000]].map(of), [(0, Told::Ports), (1, Told::Ports)]);
+        assert_eq!([[80, 443], [443, 80], [60_000, 50_000]].map(of), [(1, Told::Content); 3]);
     }
 }

@@ -184,6 +184,5 @@ mod tests {
         streams.end(3, &[0]);
         streams.end(3, &[1]);
         assert_eq!(open_ones(&streams), [3]);
-        assert!(streams.get(3).map_or(false, |stream| !stream.windows[0].is_live()));
     }
 }

@@ -23,8 +23,10 @@ pub struct Sender {
     pub connection: Evidence,
     /// Of the initial window that was in force at the beginning, by the streams that opened since.
     pub initial: Evidence,
-    /// The initial window that is in force since settings that were seen, and how often it changed.
+    /// The initial window that is in force since settings that were seen, the least that ever was, and how often it
+    /// changed.
     in_force: Option<i64>,
+    pub least_in_force: Option<i64>,
     changes: u32,
     /// Whether the other side answered FLOW_CONTROL_ERROR on the connection, and on a stream that opened since.
     pub is_refused: bool,
@@ -37,6 +39,8 @@ pub struct Window {
     is_live: bool,
     /// Beside its unknown beginning, and beside the initial window.
     credit: i64,
+    /// The least that this was.
+    pub least: i64,
     pause: Option<Pause>,
     /// Of how many changes of the initial window the pause knows.
     change: u32,
@@ -50,7 +54,7 @@ pub struct Window {
 impl Window {
     /// Of a stream that opens now.
     pub fn opened(is_live: bool) -> Window {
-        Window { is_live, credit: 0, pause: None, change: 0, spoken: None, open: None, is_refused: false }
+        Window { is_live, credit: 0, least: 0, pause: None, change: 0, spoken: None, open: None, is_refused: false }
     }
 
     /// Of a stream that was open at the beginning, when its sender may have waited.
@@ -62,10 +66,6 @@ impl Window {
     pub fn end(&mut self) {
         self.is_live = false;
         self.pause = None;
-    }
-
-    pub fn is_live(&self) -> bool {
-        self.is_live
     }
 
     /// The other side sent HEADERS or content.
@@ -89,7 +89,9 @@ impl Sender {
 
     /// The other side's settings are in force from here on.
     pub fn change(&mut self, initial: u32) {
-        self.in_force = Some(i64::from(initial));
+        let initial = i64::from(initial);
+        self.in_force = Some(initial);
+        self.least_in_force = Some(self.least_in_force.map_or(initial, |least| least.min(initial)));
         self.changes = self.changes.wrapping_add(1);
     }
 
@@ -174,6 +176,7 @@ impl Sender {
         };
         self.connection = connection;
         window.credit -= length;
+        window.least = window.least.min(window.credit);
         window.pause = pause_at(bound, content);
     }
 
@@ -204,7 +207,7 @@ fn pause_at(bound: Bound, content: Content) -> Option<Pause> {
 /// One window alone was at its bound.
 fn tell(evidence: &mut Evidence, touch: &Touch) {
     if touch.length.is_none() {
-        evidence.silent = touch.bits();
+        evidence.silent = touch.bits;
     } else {
         evidence.alone += evidence.worth(touch);
     }
