@@ -145,7 +145,7 @@ impl Open {
     /// Where all contents are 2^k - 1 bytes, the stream's window is the likely reason.
     fn add_bits(&mut self, sender: &Sender) {
         for evidence in self.evidence.iter_mut().filter(|one| one.touches > 0) {
-            evidence.alone = evidence.of_open_stream(evidence.alone);
+            evidence.alone = evidence.if_one_is_little(evidence.alone);
             if sender.are_windows() {
                 evidence.alone += OF_WINDOWS;
             }
@@ -187,7 +187,7 @@ impl Concluding<'_> {
         let shared = lent.iter().map(|(bits, _)| bits).sum();
         let about = About {
             what: What::Connection,
-            weighed: Weighed { alone: connection.alone, shared },
+            weighed: Weighed { alone: connection.if_one_is_little(connection.alone), shared },
             with: most.1,
             is_refused: self.sender.is_refused,
             floor: FIRST_CREDIT,
@@ -222,7 +222,7 @@ impl Concluding<'_> {
     fn open_stream(&self, open: &Open, initial: i64) -> Option<Assumed> {
         let of = |at: usize, floor: i64| {
             let mut weighed = weighed(&open.evidence[at], &self.sender.connection);
-            weighed.shared = open.evidence[at].of_open_stream(weighed.shared);
+            weighed.shared = open.evidence[at].if_one_is_little(weighed.shared);
             let is_refused = open.is_refused && (at == 1) == self.sender.has_changed();
             let about = About { what: What::Stream(open.id), weighed, with: What::Connection, is_refused, floor };
             self.concluded(&open.evidence[at], &about)

@@ -81,16 +81,17 @@ impl Course {
 
     fn content(&mut self, flow: usize, cut: &Cut<'_>, first: Nanos, last: Nanos) {
         let Head { length, stream, .. } = cut.head;
+        let is_end = cut.head.has(flag::END_STREAM);
         self.sides.content(flow, length);
         let mut found = self.streams.get(stream);
         if length > 0 {
             let window = found.as_mut().map(|found| &mut found.windows[flow]);
-            self.senders[flow].content(window, Content { first, last, length });
+            self.senders[flow].content(window, Content { first, last, length, is_end });
         }
         if let Some(found) = found {
             found.windows[1 - flow].spoken(last);
         }
-        if cut.head.has(flag::END_STREAM) {
+        if is_end {
             self.streams.end(stream, &[flow]);
         }
     }

@@ -12,13 +12,15 @@ const LEAST_PAUSE: Nanos = 20_000;
 const LEAST_GAPS: f64 = 2.0;
 /// Content follows a grant at once within half of the pause, or so soon.
 const SOON: Nanos = 200_000;
-/// One shorter touch alone is worth no more than so much, on a stream that was open.
+/// One shorter touch alone is worth no more than so much.
 const LONG_PAUSE: Nanos = 50_000_000;
 const MOST_OF_ONE: f64 = 6.0;
 /// Where a bound or each content is 2^k - 1 bytes.
 pub const OF_WINDOWS: f64 = 8.0;
 /// What is inferred from so many bits.
 pub const LIKELY: f64 = 8.0;
+/// So many touches count after which content came late.
+const MOST_SLOW: u8 = 4;
 pub const STRONG: f64 = 16.0;
 
 /// The sender paused at the bound of a window.
@@ -27,17 +29,19 @@ pub struct Pause {
     /// Since its content of so many bytes; none where the capture began.
     since: Nanos,
     length: Option<u32>,
+    is_end: bool,
     granted: Option<Nanos>,
 }
 
 impl Pause {
     /// Since the capture began.
     pub fn from_the_beginning(since: Nanos) -> Pause {
-        Pause { since, length: None, granted: None }
+        Pause { since, length: None, is_end: false, granted: None }
     }
 
-    pub fn behind(since: Nanos, length: u32) -> Pause {
-        Pause { since, length: Some(length), granted: None }
+    /// Behind content of so many bytes, which may end its stream.
+    pub fn behind(since: Nanos, length: u32, is_end: bool) -> Pause {
+        Pause { since, length: Some(length), is_end, granted: None }
     }
 
     /// The first grant counts.
@@ -58,12 +62,14 @@ impl Pause {
         let is_soon = delay <= SOON.max(pause / 2);
         let (most_of_gap, short) = match self.length {
             None => (8.0, 0.0),
+            Some(_) if self.is_end => (6.0, 0.0),
             Some(length) => (6.0, usual.bits_of_short(length)),
         };
         let of_gap = (pause as f64 / gap).log2().clamp(0.0, most_of_gap);
         let of_delay = (pause as f64 / delay.max(1) as f64).log2().clamp(0.0, 5.0);
         let bits = if is_pause && is_soon { of_gap + of_delay } else { 0.0 } + short;
-        Some(Touch { pause, is_soon, length: self.length, bits, has_short: short > 0.0 })
+        let is_short = !self.is_end && self.length.map_or(false, |length| usual.is_short(length));
+        Some(Touch { pause, is_soon, length: self.length, bits, has_short: short > 0.0, is_short })
     }
 }
 
@@ -77,6 +83,8 @@ pub struct Touch {
     /// What it is worth if it is the first one.
     pub bits: f64,
     has_short: bool,
+    /// Whether the content before it was shorter than the longest, as what fills a window is.
+    is_short: bool,
 }
 
 /// What is known of one window.
@@ -98,6 +106,7 @@ pub struct Evidence {
     pub longest: Nanos,
     last: Option<u32>,
     has_short: bool,
+    slow: u8,
     /// Bits that it was used up when the capture began.
     pub silent: f64,
     /// A bound that was passed, and its bits.
@@ -128,10 +137,12 @@ impl Evidence {
         let length = touch.length.unwrap_or(0);
         let bits = match self.last {
             None => touch.bits,
-            Some(last) if last != length => 5.0,
-            Some(_) if length % 1024 == 0 || !touch.is_soon => 1.0,
-            Some(_) => 3.0,
+            Some(last) if last != length && (touch.is_soon || touch.is_short) => 5.0,
+            Some(_) if touch.is_soon && length % 1024 != 0 => 3.0,
+            Some(_) if touch.is_soon || self.slow < MOST_SLOW => 1.0,
+            Some(_) => 0.0,
         };
+        self.slow += u8::from(!touch.is_soon && self.slow < MOST_SLOW);
         self.last = Some(length);
         self.touches = self.touches.saturating_add(1);
         self.longest = self.longest.max(touch.pause);
@@ -139,8 +150,8 @@ impl Evidence {
         bits
     }
 
-    /// What its bits are worth, of a stream that was open when the capture began.
-    pub fn of_open_stream(&self, bits: f64) -> f64 {
+    /// What its bits are worth, of a window whose beginning was not seen.
+    pub fn if_one_is_little(&self, bits: f64) -> f64 {
         if self.touches <= 1 && self.longest < LONG_PAUSE && !self.has_short {
             bits.min(MOST_OF_ONE)
         } else {
@@ -179,7 +190,7 @@ mod tests {
     }
 
     fn touch(pause: Nanos, delay: Nanos, spoken: Option<Nanos>) -> Option<Touch> {
-        let mut one = Pause::behind(0, 1000);
+        let mut one = Pause::behind(0, 1000, false);
         one.grant(pause);
         one.grant(pause + 1);
         one.touch(pause + delay, spoken, &usual())
@@ -196,7 +207,7 @@ mod tests {
         assert!(bits(20_480, 10_240).map_or(false, |bits| (5.0..5.5).contains(&bits)));
         assert_eq!(bits(100 * MS, 60 * MS), Some(0.0), "content came late");
         assert_eq!(bits(100 * MS, 50 * MS), Some(7.0));
-        assert_eq!(Pause::behind(0, 9).touch(MS, None, &usual()).map(|touch| touch.bits), None, "no grant");
+        assert_eq!(Pause::behind(0, 9, false).touch(MS, None, &usual()).map(|touch| touch.bits), None, "no grant");
         assert!(touch(MS, 1, Some(0)).is_none() && touch(MS, 1, Some(-1)).is_some(), "an answer");
     }
 
@@ -205,7 +216,7 @@ mod tests {
         let mut evidence = Evidence::default();
         assert_eq!(evidence.content(0, -100), Bound::New);
         let of = |length, delay| {
-            let mut pause = Pause::behind(0, length);
+            let mut pause = Pause::behind(0, length, false);
             pause.grant(MS);
             pause.touch(MS + delay, None, &usual()).expect("a touch")
         };
@@ -231,12 +242,12 @@ mod tests {
     }
 
     #[test]
-    fn one_short_touch_of_an_open_stream_is_little() {
+    fn one_short_touch_is_little() {
         let mut evidence = Evidence { touches: 1, longest: LONG_PAUSE - 1, ..Evidence::default() };
-        assert_eq!(evidence.of_open_stream(11.0), 6.0);
+        assert_eq!(evidence.if_one_is_little(11.0), 6.0);
         evidence.touches = 2;
-        assert_eq!(evidence.of_open_stream(14.0), 14.0);
+        assert_eq!(evidence.if_one_is_little(14.0), 14.0);
         evidence = Evidence { touches: 1, longest: LONG_PAUSE, ..Evidence::default() };
-        assert_eq!(evidence.of_open_stream(11.0), 11.0);
+        assert_eq!(evidence.if_one_is_little(11.0), 11.0);
     }
 }

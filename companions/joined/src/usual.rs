@@ -12,7 +12,7 @@ pub struct Usual {
     gaps: [u32; 64],
     count: u32,
     last: Option<Nanos>,
-    /// The longest content, and how many contents are as long, and shorter.
+    /// The longest content, and how many contents are about as long, and shorter.
     longest: u32,
     full: u32,
     short: u32,
@@ -40,14 +40,16 @@ impl Usual {
             self.count += 1;
         }
         self.are_windows &= is_window(i64::from(length));
-        match length.cmp(&self.longest) {
-            std::cmp::Ordering::Less => self.short += 1,
-            std::cmp::Ordering::Equal => self.full += 1,
-            std::cmp::Ordering::Greater => {
-                self.short += self.full;
-                self.full = 1;
-                self.longest = length;
+        if length > self.longest {
+            let before = std::mem::replace(&mut self.longest, length);
+            if self.is_short(before) {
+                self.short += std::mem::take(&mut self.full);
             }
+        }
+        if self.is_short(length) {
+            self.short += 1;
+        } else {
+            self.full += 1;
         }
     }
 
@@ -69,13 +71,18 @@ impl Usual {
         FIRST_GAP
     }
 
-    /// What it tells that content is so short: bits, where shorter content than the longest is rare.
+    /// What it tells that content is so short: bits, where short content is rare.
     pub fn bits_of_short(&self, length: u32) -> f64 {
         let all = f64::from(self.short) + f64::from(self.full);
-        if length >= self.longest || self.short == 0 {
+        if !self.is_short(length) || self.short == 0 {
             return 0.0;
         }
         (all / f64::from(self.short)).log2().clamp(0.0, 5.0)
+    }
+
+    /// Whether content is less than three quarters of the longest.
+    pub fn is_short(&self, length: u32) -> bool {
+        u64::from(length) * 4 < u64::from(self.longest) * 3
     }
 
     pub fn are_windows(&self) -> bool {
@@ -107,6 +114,7 @@ mod tests {
         assert_eq!(usual.bits_of_short(10), 0.0, "none was seen");
         usual.content(31, 31, 10);
         assert_eq!((usual.bits_of_short(10), usual.bits_of_short(1000)), (5.0, 0.0));
+        assert_eq!(usual.bits_of_short(750), 0.0, "not much shorter");
         usual.content(32, 32, 2000);
         assert!(usual.bits_of_short(1000) < 0.1);
     }

@@ -12,6 +12,8 @@ pub struct Content {
     pub first: Nanos,
     pub last: Nanos,
     pub length: u32,
+    /// Whether it ends its stream, so that no window cut it short.
+    pub is_end: bool,
 }
 
 /// All windows of a sender but those of its streams.
@@ -200,7 +202,7 @@ impl Sender {
 fn pause_at(bound: Bound, content: Content) -> Option<Pause> {
     match bound {
         Bound::None => None,
-        Bound::Old | Bound::New => Some(Pause::behind(content.last, content.length)),
+        Bound::Old | Bound::New => Some(Pause::behind(content.last, content.length, content.is_end)),
     }
 }
 
@@ -270,7 +272,7 @@ mod tests {
     const MS: Nanos = 1_000_000;
 
     fn content(time: Nanos, length: u32) -> Content {
-        Content { first: time, last: time, length }
+        Content { first: time, last: time, length, is_end: false }
     }
 
     /// Contents that are a microsecond apart, up to a pause of a millisecond; then what is granted, and content.
