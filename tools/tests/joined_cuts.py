@@ -347,7 +347,7 @@ class Tally:
             if packet >= at
         }
         begun = {
-            (stall.side, stall.stream, end) for stall, packet, _, end in one.stalls if packet < at and end is not None
+            (stall.side, stall.stream, end) for stall, packet, _, end in one.stalls if packet < at <= (end or 0)
         }
         said = set()
         for stall, _, time, end in audit.stalls:

@@ -153,11 +153,17 @@ impl Open {
     }
 }
 
+/// Likewise of new streams, and where their bound is 2^k - 1; if the connection's is too, either may be the reason.
 fn add_bits_of_windows(sender: &mut Sender) {
     let are_windows = sender.are_windows() && sender.initial.touches > 0;
-    let is_bound = sender.initial.least().map_or(false, is_window);
-    if are_windows || is_bound {
-        sender.initial.alone += OF_WINDOWS;
+    let is_bound = |evidence: &Evidence| evidence.least().map_or(false, is_window);
+    let (initial, connection) = (&mut sender.initial, &mut sender.connection);
+    if !are_windows && is_bound(initial) && is_bound(connection) && initial.of_turn == connection.turn {
+        initial.shared += OF_WINDOWS;
+        initial.lent += OF_WINDOWS;
+        connection.shared += OF_WINDOWS;
+    } else if are_windows || is_bound(initial) {
+        initial.alone += OF_WINDOWS;
     }
 }
 

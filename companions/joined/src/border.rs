@@ -223,7 +223,7 @@ mod tests {
     /// Frames above 16,384 bytes are tried where nothing else is found.
     #[test]
     fn long_frames() {
-        let bytes = [frame(0, 0, 1, &[1; 30_000]), frame(0, 0, 1, &[2; 40_000])].concat();
+        let bytes = [frame(0, 0, 1, &[1; 30_000]), frame(0, 0, 1, &[2; 40_000]).repeat(3)].concat();
         assert_eq!(place(&bytes), Some(0));
         assert_eq!(place(&bytes[20_000..]), Some(30_009 - 20_000));
     }

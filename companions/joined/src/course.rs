@@ -5,6 +5,7 @@ use std::collections::VecDeque;
 use cutter::{flag, kind, Cut, Head, Nanos};
 use hpack::{speaker, Speaker};
 
+use crate::incoming::Given;
 use crate::sides::Sides;
 use crate::streams::Streams;
 use crate::windows::{Content, Sender, Window};
@@ -59,8 +60,18 @@ impl Course {
         }
     }
 
-    /// Takes a frame of a flow.
-    pub fn take(&mut self, flow: usize, cut: &Cut<'_>) {
+    /// Takes what comes of a flow.
+    pub fn take(&mut self, flow: usize, given: Given<'_, '_>) {
+        match given {
+            Given::Begins(time) => {
+                self.senders[flow] = Sender::new(time);
+                self.streams.begins(flow, time);
+            }
+            Given::Frame(cut) => self.frame(flow, cut),
+        }
+    }
+
+    fn frame(&mut self, flow: usize, cut: &Cut<'_>) {
         self.frames += 1;
         self.longest[flow] = self.longest[flow].max(cut.head.length);
         let first = cut.times.first().copied().unwrap_or_default();
@@ -206,7 +217,7 @@ mod tests {
 
     fn taken(course: &mut Course, flow: usize, kind: u8, flags: u8, stream: u32, payload: &[u8]) {
         let head = Head { length: payload.len() as u32, kind, flags, stream };
-        course.take(flow, &Cut { head, payload, times: &[0] });
+        course.take(flow, Given::Frame(&Cut { head, payload, times: &[0] }));
     }
 
     fn open_ones(course: &Course) -> Vec<u32> {

@@ -106,7 +106,7 @@ mod tests {
         decoder.allow_table(TABLE);
         decoder.decode(&placeholders()).expect("fields");
         assert_eq!(decoder.table(), (1985, 65_505));
-        assert!(decoder.decode(b"\xff\x80\x0f\x82").is_ok(), "a far entry");
+        assert!(decoder.decode(b"\xff\xff\x0e\x82").is_ok(), "a far entry");
     }
 
     #[test]

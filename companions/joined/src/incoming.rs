@@ -65,6 +65,13 @@ impl Incoming {
     }
 }
 
+/// What is given of a flow.
+pub enum Given<'a, 'b> {
+    /// Its first frame begins behind bytes that came at this time: a frame that was cut.
+    Begins(Nanos),
+    Frame(&'a Cut<'b>),
+}
+
 /// Bytes that came together.
 struct Mark {
     flow: usize,
@@ -96,7 +103,7 @@ impl Both {
     }
 
     /// Takes what a flow brings, and gives the frames that are known then, each with its flow.
-    pub fn take(&mut self, flow: usize, piece: &Piece<'_>, mut give: impl FnMut(usize, &Cut<'_>)) {
+    pub fn take(&mut self, flow: usize, piece: &Piece<'_>, mut give: impl FnMut(usize, Given<'_, '_>)) {
         let initial = self.begin(flow, piece);
         let one = &mut self.flows[flow];
         let (offset, data) = match placed(initial, piece.sequence, piece.flags, piece.payload) {
@@ -109,7 +116,7 @@ impl Both {
             return;
         }
         if self.goes_on && one.border.is_some() {
-            self.cutters[flow].take(&data, time, |cut| give(flow, cut));
+            self.cutters[flow].take(&data, time, |cut| give(flow, Given::Frame(cut)));
             return;
         }
         one.bytes.extend_from_slice(&data);
@@ -127,16 +134,33 @@ impl Both {
     }
 
     /// The end: what is there is all.
-    pub fn finish(&mut self, mut give: impl FnMut(usize, &Cut<'_>)) {
+    pub fn finish(&mut self, mut give: impl FnMut(usize, Given<'_, '_>)) {
         self.go_on(true, &mut give);
     }
 
+    /// Says of what waits when the last byte before a border came.
+    fn begin_flows(&self, give: &mut impl FnMut(usize, Given<'_, '_>)) {
+        for (flow, one) in self.flows.iter().enumerate() {
+            let rest = match one.border {
+                Some(border) if border.at > one.gone as usize => border.at - one.gone as usize,
+                _ => continue,
+            };
+            let mut end = 0;
+            let last = self.marks.iter().filter(|mark| mark.flow == flow).find(|mark| {
+                end += mark.length;
+                end >= rest
+            });
+            last.iter().for_each(|mark| give(flow, Given::Begins(mark.time)));
+        }
+    }
+
     /// Reads the frames of all bytes that wait. Those of a flow without a border are forgotten where no more wait.
-    fn go_on(&mut self, is_full: bool, give: &mut impl FnMut(usize, &Cut<'_>)) {
+    fn go_on(&mut self, is_full: bool, give: &mut impl FnMut(usize, Given<'_, '_>)) {
         if is_full {
             self.flows.iter_mut().for_each(|one| one.look(true));
         }
         self.goes_on = true;
+        self.begin_flows(give);
         let mut places = [0; 2];
         for Mark { flow, time, length } in std::mem::take(&mut self.marks) {
             let one = &self.flows[flow];
@@ -147,7 +171,7 @@ impl Both {
                 None => continue,
             };
             let bytes = &one.bytes[begin.max(border).min(begin + length)..begin + length];
-            self.cutters[flow].take(bytes, time, |cut| give(flow, cut));
+            self.cutters[flow].take(bytes, time, |cut| give(flow, Given::Frame(cut)));
         }
         for one in &mut self.flows {
             one.gone += one.bytes.len() as u32;
@@ -171,10 +195,17 @@ mod tests {
         Piece { arrival, sequence, acknowledgement: None, flags: 16, identification: 0, payload }
     }
 
+    fn stream_of(flow: usize, given: Given<'_, '_>) -> Option<(usize, u32)> {
+        match given {
+            Given::Begins(_) => None,
+            Given::Frame(cut) => Some((flow, cut.head.stream)),
+        }
+    }
+
     /// Streams of frames, with their flows.
     fn taken(both: &mut Both, flow: usize, sequence: u32, payload: &[u8]) -> Vec<(usize, u32)> {
         let mut seen = Vec::new();
-        both.take(flow, &piece(sequence, payload), |flow, cut| seen.push((flow, cut.head.stream)));
+        both.take(flow, &piece(sequence, payload), |flow, given| seen.extend(stream_of(flow, given)));
         seen
     }
 
@@ -195,9 +226,20 @@ mod tests {
         let mut both = Both::default();
         taken(&mut both, 1, 5, &frame(3, 50));
         let mut seen = Vec::new();
-        both.finish(|flow, cut| seen.push((flow, cut.head.stream)));
+        both.finish(|flow, given| seen.extend(stream_of(flow, given)));
         assert_eq!(seen, [(1, 3)]);
         assert!(both.flows[0].border().is_none());
+    }
+
+    #[test]
+    fn a_flow_begins_behind_a_frame_that_was_cut() {
+        let mut both = Both::default();
+        taken(&mut both, 0, 1, b"re");
+        taken(&mut both, 0, 3, b"st");
+        taken(&mut both, 0, 5, &frame(5, 100).repeat(2));
+        let mut times = Vec::new();
+        both.finish(|_, given| times.extend(if let Given::Begins(time) = given { Some(time) } else { None }));
+        assert_eq!(times, [3]);
     }
 
     /// A flow that brings its first bytes after the other one went on alone is read from its own border on.

@@ -155,7 +155,7 @@ impl Joiner {
         self.both.begin(flow, piece);
         if !self.is_exact {
             let course = &mut self.course;
-            self.both.take(flow, piece, |flow, cut| course.take(flow, cut));
+            self.both.take(flow, piece, |flow, given| course.take(flow, given));
         }
     }
 
@@ -208,7 +208,7 @@ impl Joiner {
             return Err(Unjoined::Tls);
         }
         let course = &mut self.course;
-        self.both.finish(|flow, cut| course.take(flow, cut));
+        self.both.finish(|flow, given| course.take(flow, given));
         match () {
             () if self.course.frames == 0 => Err(if self.both.is_tls() { Unjoined::Tls } else { Unjoined::NoFrames }),
             () if self.course.streams.has_too_many() => Err(Unjoined::ManyStreams),

@@ -29,7 +29,8 @@ struct Opened {
 
 #[derive(Clone, Debug)]
 pub struct Streams {
-    beginning: Nanos,
+    /// Since when each flow may have waited.
+    beginnings: [Nanos; 2],
     known: BTreeMap<u32, Stream>,
     /// By parity: even ones are promised.
     opened: [Opened; 2],
@@ -39,7 +40,18 @@ pub struct Streams {
 
 impl Streams {
     pub fn new(beginning: Nanos) -> Streams {
-        Streams { beginning, known: BTreeMap::new(), opened: Default::default(), open: 0, has_too_many: false }
+        Streams {
+            beginnings: [beginning; 2],
+            known: BTreeMap::new(),
+            opened: Default::default(),
+            open: 0,
+            has_too_many: false,
+        }
+    }
+
+    /// A flow was busy with a frame until this time.
+    pub fn begins(&mut self, flow: usize, time: Nanos) {
+        self.beginnings[flow] = time;
     }
 
     /// Whether more were open than is followed.
@@ -106,7 +118,7 @@ impl Streams {
                 return None;
             }
             self.open += 1;
-            let windows = [Window::open_since(self.beginning), Window::open_since(self.beginning)];
+            let windows = self.beginnings.map(Window::open_since);
             self.known.insert(id, Stream { windows, was_open: true, ended: [false; 2] });
         }
         self.known.get_mut(&id)

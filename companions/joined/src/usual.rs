@@ -3,7 +3,7 @@
 use cutter::Nanos;
 
 /// The gap that counts as usual where none was seen.
-const FIRST_GAP: f64 = 10_000.0;
+const FIRST_GAP: f64 = 1_000_000.0;
 
 /// Bounded, however much comes.
 #[derive(Clone, Debug)]

@@ -84,7 +84,7 @@ struct Touched {
 }
 
 impl Sender {
-    /// Of a connection that is seen from this time on.
+    /// Of a connection on which nothing more of it is known than what comes behind this time.
     pub fn new(beginning: Nanos) -> Sender {
         Sender { pause: Some(Pause::from_the_beginning(beginning)), ..Sender::default() }
     }
@@ -270,6 +270,8 @@ mod tests {
     use super::*;
 
     const MS: Nanos = 1_000_000;
+    /// From one round to the next.
+    const ROUND: Nanos = MS + 4000;
 
     fn content(time: Nanos, length: u32) -> Content {
         Content { first: time, last: time, length, is_end: false }
@@ -307,7 +309,7 @@ mod tests {
     fn a_stream_that_touches_its_bound_alone() {
         let (mut sender, mut window) = open();
         for at in 0..4 {
-            round(&mut sender, &mut window, at * 2 * MS, &[1000, 500], [100_000, 1500]);
+            round(&mut sender, &mut window, at * ROUND, &[1000, 500], [100_000, 1500]);
         }
         let evidence = &window.open.expect("open")[0];
         assert_eq!((evidence.least(), evidence.touches), (Some(1500), 3));
@@ -319,7 +321,7 @@ mod tests {
     fn both_windows_in_the_same_pauses() {
         let (mut sender, mut window) = open();
         for at in 0..4 {
-            round(&mut sender, &mut window, at * 2 * MS, &[1000, 500], [1500, 1500]);
+            round(&mut sender, &mut window, at * ROUND, &[1000, 500], [1500, 1500]);
         }
         let evidence = &window.open.as_ref().expect("open")[0];
         let found = weighed(evidence, &sender.connection);
@@ -335,7 +337,7 @@ mod tests {
     fn what_a_stream_shared_goes_back_to_the_connection() {
         let (mut sender, mut window) = open();
         for at in 0..4 {
-            round(&mut sender, &mut window, at * 2 * MS, &[1000, 500], [1500, 1500]);
+            round(&mut sender, &mut window, at * ROUND, &[1000, 500], [1500, 1500]);
         }
         sender.grant(9 * MS, 100_000);
         round(&mut sender, &mut window, 9 * MS, &[1000, 1000], [0, 0]);
@@ -383,8 +385,8 @@ mod tests {
     fn an_answer_is_no_touch() {
         let (mut sender, mut window) = open();
         for at in 0..4 {
-            round(&mut sender, &mut window, at * 2 * MS, &[1000], [1000, 1000]);
-            window.spoken(at * 2 * MS + MS);
+            round(&mut sender, &mut window, at * ROUND, &[1000], [1000, 1000]);
+            window.spoken(at * ROUND + MS);
         }
         assert_eq!((window.open.expect("open")[0].touches, sender.connection.touches), (0, 0));
     }
