@@ -88,7 +88,8 @@ fn made_of(asked: &Audited, files: &[OsString], made: &mut PrivateFile) -> Resul
     let mut keeping = Keeping::default();
     let mut sink = Sink::new(made, &mut keeping)?;
     let Audited { key_logs, is_reordered, .. } = asked;
-    let import = import::Asked { program: NAME, files, key_logs, is_reordered: *is_reordered, can_repeat: true };
+    let (is_reordered, is_joined) = (*is_reordered, false);
+    let import = import::Asked { program: NAME, files, key_logs, is_reordered, is_joined, can_repeat: true };
     import::imported(&import, &mut sink, None)?;
     drop(sink);
     Ok(keeping.original)

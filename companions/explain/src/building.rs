@@ -109,7 +109,7 @@ fn make(asked: &Asked<'_>, keeping: Option<Keeping>) -> Result<(Made, Option<Kee
     let mut courses = Courses::default();
     let mut sink = Sink::new(&mut capture, &mut listening)?;
     let Asked { program, files, key_logs, is_reordered, .. } = *asked;
-    let import = import::Asked { program, files, key_logs, is_reordered, can_repeat: true };
+    let import = import::Asked { program, files, key_logs, is_reordered, is_joined: false, can_repeat: true };
     let summary = import::imported(&import, &mut sink, Some(&mut courses))?;
     drop(sink);
     if summary.counts.fragments + summary.counts.refused > 0 {

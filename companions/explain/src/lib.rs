@@ -6,6 +6,8 @@
 
 #![forbid(unsafe_code)]
 
+extern crate cutter;
+
 use reports::Side;
 
 pub mod answer;
@@ -20,7 +22,6 @@ mod connection;
 #[cfg(test)]
 mod conversations;
 mod course;
-mod cutter;
 mod doubts;
 mod files;
 mod findings;

@@ -26,6 +26,7 @@ mod damage;
 mod decoder;
 mod fields;
 mod huffman;
+mod speaker;
 mod static_table;
 mod table;
 
@@ -35,3 +36,4 @@ mod rfc_examples;
 pub use damage::{Damage, LARGEST_TABLE, LONGEST_BLOCK, LONGEST_LIST};
 pub use decoder::Decoder;
 pub use fields::{Fields, Name, Value, LONGEST_VALUE};
+pub use speaker::{speaker, Speaker};

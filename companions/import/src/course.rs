@@ -123,6 +123,16 @@ impl Courses {
         self.tracked[connection].take(&mut self.connections[connection], side, arrival, segment);
     }
 
+    /// Takes a segment that was made up: it opens a connection, and says behind which number its side begins.
+    pub(crate) fn made(&mut self, taken: &Taken, arrival: Arrival, segment: &Segment<'_>) {
+        let Taken { sender: Sender { connection, side }, opens } = *taken;
+        if opens {
+            self.connections.push(Course::of(arrival));
+            self.tracked.push(Tracked::default());
+        }
+        self.tracked[connection].begin_behind(side, segment);
+    }
+
     /// Takes the end of the capture.
     pub(crate) fn finish(&mut self) {
         for (tracked, course) in std::mem::take(&mut self.tracked).into_iter().zip(&mut self.connections) {

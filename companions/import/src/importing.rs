@@ -5,15 +5,17 @@ use std::ffi::{OsStr, OsString};
 use std::fs::File;
 
 use captures::{
-    pcapng, Arrival, Decoder, Ends, Error, Fragment, Item, Packet, PassedOver, Reader, Source, STANDARD_INPUT,
+    pcapng, Arrival, Decoder, Ends, Error, Fragment, Item, Packet, PassedOver, Reader, Source, RAW, STANDARD_INPUT,
 };
-use programs::{printable, say, Failure};
+use joined::{How, Joined, Made, SERVER};
+use programs::{printable, say, temporary_failure, Failure};
 use reports::Capture;
 use tls::Shared;
 
 use crate::course::Courses;
+use crate::joining::{Joining, Waited};
 use crate::others::Others;
-use crate::outcomes::{Back, Older, Summary};
+use crate::outcomes::{Back, Fate, JoinedConnection, Older, Summary};
 use crate::progress::Progress;
 use crate::reorder::{Held, Reorder};
 use crate::sink::{Problem, Sink};
@@ -32,6 +34,8 @@ pub struct Asked<'a> {
     pub key_logs: &'a [OsString],
     /// Whether packets are put in order of time.
     pub is_reordered: bool,
+    /// Whether connections that began before the capture are joined.
+    pub is_joined: bool,
     /// Whether what is made can be taken back, so that the files are read once more where that gives more keys.
     pub can_repeat: bool,
 }
@@ -95,6 +99,7 @@ fn read_through(
     });
     let reorder = asked.is_reordered.then(Reorder::default);
     let mut importer = Importer::new(shared, sink, courses, reorder, Progress::new(asked.program));
+    importer.joining = asked.is_joined.then(Joining::default);
     for path in files {
         let has_bytes_behind = importer.file(path).map_err(|problem| problem.failure(Some(path)))?;
         if has_bytes_behind && is_first {
@@ -150,6 +155,7 @@ struct Importer<'a, 'b> {
     last: Option<i64>,
     back: Option<Back>,
     fragmented: HashMap<([u8; 8], u32), Ends>,
+    joining: Option<Joining>,
 }
 
 impl<'a, 'b> Importer<'a, 'b> {
@@ -175,6 +181,7 @@ impl<'a, 'b> Importer<'a, 'b> {
             last: None,
             back: None,
             fragmented: HashMap::new(),
+            joining: None,
         }
     }
 
@@ -246,9 +253,19 @@ impl<'a, 'b> Importer<'a, 'b> {
         if self.decoder.has_addresses() {
             self.name_addresses();
         }
-        let taken = self.table.take(self.shared, self.sink, arrival, &segment);
-        if let (Some(courses), Some(taken)) = (self.courses.as_deref_mut(), taken) {
-            courses.take(&taken, arrival, &segment);
+        let answer = self.joining.as_mut().and_then(|joining| joining.lost_answer(&segment));
+        if let Some(headers) = answer {
+            self.answer(arrival, &headers)?;
+        }
+        match self.table.take(self.shared, self.sink, arrival, &segment) {
+            Ok(taken) => self.courses.iter_mut().for_each(|courses| courses.take(&taken, arrival, &segment)),
+            Err(stray) => {
+                if let Some(joining) = &mut self.joining {
+                    joining
+                        .take(stray, arrival, &segment)
+                        .map_err(|failure| Early::Problem(Problem::Failed(failure)))?;
+                }
+            }
         }
         Ok(())
     }
@@ -310,6 +327,88 @@ impl<'a, 'b> Importer<'a, 'b> {
         }
     }
 
+    /// Joins connections that began before the capture, behind all others: first what is made up for them, and then their
+    /// packets. Answers which are joined, and what became of each pair of endpoints.
+    fn join(&mut self) -> Result<(Vec<JoinedConnection>, Vec<Fate>), Early> {
+        let mut fates = Vec::new();
+        let mut joining = match self.joining.take() {
+            Some(joining) => joining,
+            None => return Ok((Vec::new(), fates)),
+        };
+        let mut joined = std::mem::take(&mut joining.joined);
+        self.table.finish_open(self.shared, self.sink);
+        while let Some(found) = joining.next(fates.len()) {
+            let fate = match found {
+                Err(why) => Fate::Unjoined(why),
+                Ok(found) => {
+                    let one = self.begin_joined(found)?;
+                    let connection = one.connection;
+                    joined.push(one);
+                    Fate::Joined(connection)
+                }
+            };
+            fates.push(fate);
+        }
+        self.take_waiting(joining, &fates)?;
+        joined.sort_by_key(|one| one.connection);
+        Ok((joined, fates))
+    }
+
+    /// Writes a SYN ACK that was lost.
+    fn answer(&mut self, arrival: Arrival, headers: &[u8]) -> Result<(), Early> {
+        let made = Made { side: SERVER, datagram: headers.to_vec() };
+        let connection = self.made(arrival, &[made])?;
+        let joined = JoinedConnection { connection, how: How::Answer, records: 1 };
+        self.joining.iter_mut().for_each(|joining| joining.joined.push(joined.clone()));
+        Ok(())
+    }
+
+    /// Writes what is made up for a connection.
+    fn begin_joined(&mut self, found: Joined) -> Result<JoinedConnection, Early> {
+        let Joined { first, how, records, .. } = found;
+        let connection = self.made(first, &records)?;
+        Ok(JoinedConnection { connection, how, records: records.len() as u64 })
+    }
+
+    /// Writes records that are made up, and answers which connection they belong to.
+    fn made(&mut self, arrival: Arrival, records: &[Made]) -> Result<usize, Early> {
+        let mut connection = 0;
+        self.sink.is_made = true;
+        for made in records {
+            let (data, original) = (&made.datagram[..], made.datagram.len() as u32);
+            let packet = Packet { nanos: arrival.nanos, link: Some(RAW), data, original };
+            if let Ok(segment) = Decoder::default().segment(&packet)? {
+                if let Ok(taken) = self.table.take(self.shared, self.sink, arrival, &segment) {
+                    connection = taken.sender.connection;
+                    self.courses.iter_mut().for_each(|courses| courses.made(&taken, arrival, &segment));
+                }
+            }
+        }
+        self.sink.is_made = false;
+        Ok(connection)
+    }
+
+    /// Takes the packets of connections that are joined to these.
+    fn take_waiting(&mut self, joining: Joining, fates: &[Fate]) -> Result<(), Early> {
+        let failed = |error: std::io::Error| Early::Problem(Problem::Failed(temporary_failure(&error)));
+        let mut waiting = match joining.packets().map_err(failed)? {
+            Some(waiting) => waiting,
+            None => return Ok(()),
+        };
+        let mut decoder = Decoder::default();
+        while let Some(Waited { pair, arrival, packet }) = waiting.next().map_err(failed)? {
+            if !matches!(fates.get(pair), Some(Fate::Joined(_))) {
+                continue;
+            }
+            if let Ok(segment) = decoder.segment(&packet)? {
+                if let Ok(taken) = self.table.take(self.shared, self.sink, arrival, &segment) {
+                    self.courses.iter_mut().for_each(|courses| courses.take(&taken, arrival, &segment));
+                }
+            }
+        }
+        Ok(())
+    }
+
     /// Ends all connections, and answers what the map says last; and lines of a key log with which more could be read,
     /// from the beginning.
     fn finish(mut self) -> Result<(Summary, Vec<u8>), Early> {
@@ -321,8 +420,11 @@ impl<'a, 'b> Importer<'a, 'b> {
             self.table.keys_came(self.shared, self.sink, &randoms);
         }
         self.counts.records = self.packets;
-        let (outcomes, unopened) = std::mem::take(&mut self.table).finish_all(self.shared, self.sink);
+        let (joined, fates) = self.join()?;
+        let (outcomes, mut unopened) = std::mem::take(&mut self.table).finish_all(self.shared, self.sink);
+        unopened.iter_mut().zip(fates).for_each(|(one, fate)| one.fate = fate);
         let summary = Summary {
+            joined,
             counts: self.counts,
             dropped: self.dropped,
             back: self.back.take(),

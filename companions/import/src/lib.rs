@@ -24,10 +24,13 @@
 #![forbid(unsafe_code)]
 
 mod addresses;
+mod answers;
 pub mod command;
 mod connections;
 mod course;
 mod importing;
+mod joined_lines;
+mod joining;
 mod listener;
 mod map_file;
 mod others;
@@ -52,7 +55,8 @@ pub use listener::{Files, Listener, Record, Sender, Written};
 pub use map_file::MapFile;
 pub use others::{is_tunnel, Kind, Other};
 pub use outcomes::{
-    help_for, times_go_back, Back, Became, End, Older, Outcome, Read, Reordered, SideRead, Summary, Unopened,
+    help_for, times_go_back, Back, Became, End, Fate, JoinedConnection, Older, Outcome, Read, Reordered, SideRead,
+    Summary, Unopened,
 };
 pub use preamble::Preamble;
 pub use sink::{Problem, Sink, Target};

@@ -44,6 +44,8 @@ pub struct Record<'a> {
     pub sender: Option<Sender>,
     /// Whether it opens that connection. h2audit numbers connections in the order of these records.
     pub is_opening: bool,
+    /// Whether it was made up, for a connection that began before the capture; its packet is then that connection's first.
+    pub is_made: bool,
     pub segment: Written<'a>,
 }
 

@@ -7,15 +7,18 @@ use std::net::Ipv4Addr;
 use programs::{Failure, Output};
 
 use crate::addresses::{escaped_path, Addresses};
+use crate::joined_lines::lines_of;
 use crate::listener::{Files, Listener, Record};
 use crate::others::Kind;
-use crate::outcomes::{Became, Outcome, Read, Reordered, SideRead, Summary};
+use crate::outcomes::{Became, Fate, Outcome, Read, Reordered, SideRead, Summary};
 
-const FIRST_LINE: &str = "h2audit-map 1";
+/// Of a map without and with connections that are joined.
+const FIRST_LINES: [&str; 2] = ["h2audit-map 1", "h2audit-map 2"];
 
 /// The lines of a map, written as they become known; without a file they go nowhere.
 pub struct MapFile<'a> {
     out: Option<&'a mut Output>,
+    is_joined: bool,
     files: Files,
     addresses: Addresses,
     failure: Option<Failure>,
@@ -24,10 +27,11 @@ pub struct MapFile<'a> {
 }
 
 impl<'a> MapFile<'a> {
-    pub fn new(out: Option<&'a mut Output>) -> MapFile<'a> {
-        let mut map =
-            MapFile { out, files: Files::default(), addresses: Addresses::default(), failure: None, line: Vec::new() };
-        map.line(format_args!("{FIRST_LINE}"));
+    /// One that may tell of connections that are joined.
+    pub fn new(out: Option<&'a mut Output>, is_joined: bool) -> MapFile<'a> {
+        let (files, addresses) = (Files::default(), Addresses::default());
+        let mut map = MapFile { out, is_joined, files, addresses, failure: None, line: Vec::new() };
+        map.line(format_args!("{}", FIRST_LINES[usize::from(is_joined)]));
         map
     }
 
@@ -97,7 +101,8 @@ impl Listener for MapFile<'_> {
         let mut digits = [itoa::Buffer::new(), itoa::Buffer::new(), itoa::Buffer::new()];
         let [first, second, third] = &mut digits;
         let number = first.format(record.number);
-        let parts = ["record ", number, " file ", second.format(file), " packet ", third.format(packet), "\n"];
+        let word = if record.is_made { "made " } else { "record " };
+        let parts = [word, number, " file ", second.format(file), " packet ", third.format(packet), "\n"];
         let mut line = std::mem::take(&mut self.line);
         line.clear();
         parts.iter().for_each(|part| line.extend_from_slice(part.as_bytes()));
@@ -135,15 +140,26 @@ impl Listener for MapFile<'_> {
             let (file, packet) = self.files.place(pair.first.packet);
             let segments = pair.segments;
             self.line(format_args!("unopened {source} {target} file {file} packet {packet} segments {segments}"));
+            match pair.fate {
+                Fate::NotAsked => {}
+                Fate::Joined(connection) => self.line(format_args!("joined-as {}", connection + 1)),
+                Fate::Unjoined(why) => self.line(format_args!("unjoined {}", why.word())),
+            }
         }
-        summary.outcomes.iter().for_each(|outcome| self.connection(outcome));
+        let mut joined = summary.joined.iter().peekable();
+        for (number, outcome) in summary.outcomes.iter().enumerate() {
+            self.connection(outcome);
+            if let Some(one) = joined.next_if(|one| one.connection == number) {
+                lines_of(one).iter().for_each(|line| self.line(format_args!("{line}")));
+            }
+        }
     }
 
     fn begin_anew(&mut self) -> Result<(), Failure> {
         if let Some(out) = &mut self.out {
             out.begin_anew().map_err(|error| out.failure(&error))?;
         }
-        *self = MapFile::new(self.out.take());
+        *self = MapFile::new(self.out.take(), self.is_joined);
         Ok(())
     }
 

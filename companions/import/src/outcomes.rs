@@ -3,6 +3,7 @@
 use std::fmt;
 
 use captures::{Arrival, Ends};
+use joined::{How, Unjoined};
 use reports::Capture;
 use tls::Reason;
 
@@ -122,6 +123,26 @@ pub struct Unopened {
     /// Whether one of both sends all of these, though they show that the other one sent something: they have a SYN ACK,
     /// or acknowledge more and more.
     pub is_one_way: bool,
+    pub fate: Fate,
+}
+
+/// Whether such a pair's connection was joined.
+#[derive(Clone, Copy, Debug, PartialEq, Eq)]
+pub enum Fate {
+    NotAsked,
+    /// As the connection of this number.
+    Joined(usize),
+    Unjoined(Unjoined),
+}
+
+/// A connection that was joined, and so has records that were made up.
+#[derive(Clone, Debug)]
+pub struct JoinedConnection {
+    /// As [`Summary::outcomes`] counts.
+    pub connection: usize,
+    pub how: How,
+    /// How many records were made up.
+    pub records: u64,
 }
 
 /// A packet whose time lies so far before that of the packet before it.
@@ -205,8 +226,10 @@ pub struct Summary {
     pub others: Vec<crate::others::Other>,
     /// In the order of first segments.
     pub unopened: Vec<Unopened>,
-    /// In the order of openings.
+    /// In the order of openings. Those that were joined come last.
     pub outcomes: Vec<Outcome>,
+    /// By the numbers of connections.
+    pub joined: Vec<JoinedConnection>,
 }
 
 impl Summary {

@@ -1,13 +1,12 @@
 //! The plaintext of a connection, as segments that its sides would have sent without TLS.
 
-use captures::{Arrival, Ends, END_OF_OFFSETS};
+use captures::{made_headers, Arrival, Ends, END_OF_OFFSETS, MADE_HEADERS};
 use tls::{Emit, CLIENT, SERVER, TLS_1_2};
 
 use crate::listener::{Sender, Written};
 use crate::outcomes::{Became, End, Read, SideRead};
 use crate::sink::Sink;
 
-const HEADERS_LENGTH: usize = 40;
 const PUSH_AND_ACK: u8 = 0x18;
 
 /// Ends and numbers of a connection, of which the plaintext that is written has its own.
@@ -88,18 +87,11 @@ impl Numbers {
         let next = |initial: u32, sent: u32| initial.wrapping_add(1).wrapping_add(sent);
         let sequence = next(self.initial[side].unwrap_or(0), offset);
         let answer = self.initial[other].map_or(0, |initial| next(initial, self.sent[other]));
-        let total = HEADERS_LENGTH + content.len();
-        let mut headers = [0; HEADERS_LENGTH];
-        headers[0] = 0x45;
-        headers[2..4].copy_from_slice(&(total as u16).to_be_bytes());
-        headers[6..10].copy_from_slice(&[0x40, 0, 64, 6]);
-        headers[12..24].copy_from_slice(ends);
-        headers[24..28].copy_from_slice(&sequence.to_be_bytes());
-        headers[28..32].copy_from_slice(&answer.to_be_bytes());
-        headers[32..36].copy_from_slice(&[0x50, PUSH_AND_ACK, 0xFF, 0xFF]);
-        let parts = [&headers[..], content];
+        let total = MADE_HEADERS + content.len();
         let flags = PUSH_AND_ACK;
-        let segment = Written { sequence, flags, parts, start: HEADERS_LENGTH, end: total, original: total as u32 };
+        let headers = made_headers(ends, [sequence, answer], flags, content.len());
+        let parts = [&headers[..], content];
+        let segment = Written { sequence, flags, parts, start: MADE_HEADERS, end: total, original: total as u32 };
         sink.emit(arrival, Some(self.sender(sink, side)), segment);
     }
 

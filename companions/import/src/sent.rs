@@ -55,6 +55,11 @@ impl Print {
 }
 
 impl Sent {
+    /// The number before its first byte.
+    pub fn begin(&mut self, initial: u32) {
+        self.initial = Some(initial);
+    }
+
     /// Whether bytes are missing before some that came.
     pub fn has_hole(&self) -> bool {
         !self.holes.is_empty()

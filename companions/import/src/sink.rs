@@ -53,6 +53,8 @@ pub struct Sink<'a> {
     /// Of which connections an opening is written.
     opened: Vec<bool>,
     problem: Option<Problem>,
+    /// Whether what is written now is made up.
+    pub(crate) is_made: bool,
 }
 
 impl<'a> Sink<'a> {
@@ -60,7 +62,7 @@ impl<'a> Sink<'a> {
         let written = pcap::write_header(target, RAW);
         written.map_err(|error| target.failure(&error))?;
         let writer = pcap::Writer::after_header(target);
-        Ok(Sink { writer, listener, count: 0, opened: Vec::new(), problem: None })
+        Ok(Sink { writer, listener, count: 0, opened: Vec::new(), problem: None, is_made: false })
     }
 
     /// Takes back all that was written.
@@ -90,7 +92,8 @@ impl<'a> Sink<'a> {
             self.problem = Some(Problem::Failed(self.writer.get_mut().failure(&error)));
         }
         let is_opening = sender.map_or(false, |sender| self.opens(sender.connection));
-        self.listener.record(&Record { number: self.count, arrival, sender, is_opening, segment });
+        let is_made = self.is_made;
+        self.listener.record(&Record { number: self.count, arrival, sender, is_opening, is_made, segment });
     }
 
     /// Whether nothing of a connection was written before. Its opening comes first.

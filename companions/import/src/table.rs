@@ -10,7 +10,7 @@ use tls::{Random, Shared, CLIENT, SERVER};
 
 use crate::connections::Connection;
 use crate::listener::{Sender, Written};
-use crate::outcomes::{Outcome, Unopened};
+use crate::outcomes::{Fate, Outcome, Unopened};
 use crate::plaintext::Later;
 use crate::sink::Sink;
 
@@ -35,7 +35,7 @@ enum State {
     Over { passes: bool, sequence: Option<u32> },
 }
 
-struct Stray {
+struct Pair {
     first: Arrival,
     ends: Ends,
     segments: u64,
@@ -47,10 +47,10 @@ struct Stray {
     acknowledges_more: bool,
 }
 
-impl Stray {
-    fn new(first: Arrival, ends: Ends) -> Stray {
+impl Pair {
+    fn new(first: Arrival, ends: Ends) -> Pair {
         let (has_both, has_answer, acknowledges_more) = (false, false, false);
-        Stray { first, ends, segments: 0, has_both, has_answer, acknowledged: None, acknowledges_more }
+        Pair { first, ends, segments: 0, has_both, has_answer, acknowledged: None, acknowledges_more }
     }
 
     fn take(&mut self, segment: &Segment<'_>) {
@@ -65,8 +65,9 @@ impl Stray {
     }
 
     fn unopened(self) -> Unopened {
-        let Stray { first, ends, segments, .. } = self;
-        Unopened { first, ends, segments, is_one_way: !self.has_both && (self.has_answer || self.acknowledges_more) }
+        let Pair { first, ends, segments, .. } = self;
+        let is_one_way = !self.has_both && (self.has_answer || self.acknowledges_more);
+        Unopened { first, ends, segments, is_one_way, fate: Fate::NotAsked }
     }
 }
 
@@ -76,13 +77,21 @@ pub struct Taken {
     pub opens: bool,
 }
 
+/// A segment of a pair that no opening was seen of so far: which one of these, and whether its first sender sends (0) or
+/// the other one.
+#[derive(Clone, Copy)]
+pub struct Stray {
+    pub pair: usize,
+    pub flow: usize,
+}
+
 /// The connections of a capture, and the pairs of endpoints that were not seen to open one.
 #[derive(Default)]
 pub struct Table {
     places: HashMap<Ends, Place>,
     /// Where the pairs stand that no opening was seen of, which come in the order of their first segments.
     strays: HashMap<Ends, usize>,
-    unopened: Vec<Stray>,
+    unopened: Vec<Pair>,
     slots: Vec<Option<Box<Connection>>>,
     free: Vec<usize>,
     /// By the numbers of connections.
@@ -119,14 +128,14 @@ fn later_than(connection: &Connection, places: &HashMap<Ends, Place>) -> Option<
 }
 
 impl Table {
-    /// Takes a segment to its connection, and answers which one that is.
+    /// Takes a segment to its connection, and answers which one that is, or that there is none.
     pub fn take(
         &mut self,
         shared: &mut Shared,
         sink: &mut Sink<'_>,
         arrival: Arrival,
         segment: &Segment<'_>,
-    ) -> Option<Taken> {
+    ) -> Result<Taken, Stray> {
         let (pair, is_less) = pair_of(&segment.ends);
         let place = self.places.get(&pair).copied();
         let side = place.map(|place| if place.client_is_less == is_less { CLIENT } else { SERVER });
@@ -136,14 +145,11 @@ impl Table {
             self.last.push(arrival);
             self.places.insert(pair, Place { connection, client_is_less: is_less, state: State::Open(slot) });
             self.take_open(shared, sink, arrival, CLIENT, segment, slot);
-            return Some(Taken { sender: Sender { connection, side: CLIENT }, opens: true });
+            return Ok(Taken { sender: Sender { connection, side: CLIENT }, opens: true });
         }
         let (place, side) = match (place, side) {
             (Some(place), Some(side)) => (place, side),
-            _ => {
-                self.stray(sink, arrival, segment, pair);
-                return None;
-            }
+            _ => return Err(self.stray(sink, arrival, segment, pair)),
         };
         let sender = Sender { connection: place.connection, side };
         self.last[place.connection] = arrival;
@@ -152,7 +158,7 @@ impl Table {
             State::Over { passes: true, .. } => sink.emit(arrival, Some(sender), Written::whole(segment)),
             State::Over { passes: false, .. } => {}
         }
-        Some(Taken { sender, opens: false })
+        Ok(Taken { sender, opens: false })
     }
 
     fn take_open(
@@ -244,13 +250,14 @@ impl Table {
     }
 
     /// Counts a segment of no connection, and writes its headers, for h2audit to name it.
-    fn stray(&mut self, sink: &mut Sink<'_>, arrival: Arrival, segment: &Segment<'_>, pair: Ends) {
+    fn stray(&mut self, sink: &mut Sink<'_>, arrival: Arrival, segment: &Segment<'_>, pair: Ends) -> Stray {
         let place = *self.strays.entry(pair).or_insert(self.unopened.len());
         if place == self.unopened.len() {
-            self.unopened.push(Stray::new(arrival, segment.ends));
+            self.unopened.push(Pair::new(arrival, segment.ends));
         }
         self.unopened[place].take(segment);
         sink.emit(arrival, None, Written::headers(segment, &mut self.room));
+        Stray { pair: place, flow: usize::from(self.unopened[place].ends != segment.ends) }
     }
 
     /// Goes on with what waited for keys of these connections, in the order of openings.
@@ -307,18 +314,23 @@ impl Table {
         }
     }
 
-    /// Ends all connections, and answers what became of each, and which pairs opened none.
-    pub fn finish_all(mut self, shared: &mut Shared, sink: &mut Sink<'_>) -> (Vec<Outcome>, Vec<Unopened>) {
+    /// Ends all connections.
+    pub fn finish_open(&mut self, shared: &mut Shared, sink: &mut Sink<'_>) {
         shared.keys.waits_for_sessions = false;
         for slot in self.open_slots() {
             self.finish(shared, sink, slot);
         }
+    }
+
+    /// Ends all connections, and answers what became of each, and which pairs opened none.
+    pub fn finish_all(mut self, shared: &mut Shared, sink: &mut Sink<'_>) -> (Vec<Outcome>, Vec<Unopened>) {
+        self.finish_open(shared, sink);
         self.outcomes.sort_by_key(|(number, _)| *number);
         for ((number, outcome), last) in self.outcomes.iter_mut().zip(self.last) {
             outcome.fragments = self.fragments.get(number).copied().unwrap_or(0);
             outcome.last = last;
         }
-        let unopened = self.unopened.into_iter().map(Stray::unopened).collect();
+        let unopened = self.unopened.into_iter().map(Pair::unopened).collect();
         (self.outcomes.into_iter().map(|(_, outcome)| outcome).collect(), unopened)
     }
 }

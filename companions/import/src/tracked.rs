@@ -57,6 +57,13 @@ impl Tracked {
         }
     }
 
+    /// What a side sends begins behind a segment that was made up.
+    pub fn begin_behind(&mut self, side: usize, segment: &Segment<'_>) {
+        let length = segment.payload().len() as u32;
+        let before = if segment.flags & flags::SYN != 0 { 0 } else { 1 };
+        self.sides[side].sent.begin(segment.sequence.wrapping_add(length).wrapping_sub(before));
+    }
+
     /// Counts the bytes of a segment, and notes holes.
     fn count(&mut self, course: &mut Course, side: usize, arrival: Arrival, (segment, brief): (&Segment<'_>, &Brief)) {
         let state = &mut self.sides[side];

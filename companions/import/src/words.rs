@@ -22,11 +22,13 @@ pub struct Import {
     pub map: Option<PathBuf>,
     pub is_sorted: bool,
     pub is_reordered: bool,
+    pub is_joined: bool,
 }
 
 pub fn words_of(words: Vec<OsString>) -> Result<Words, Failure> {
     let mut parser = lexopt::Parser::from_args(words);
-    let (mut files, mut key_logs, mut is_sorted, mut is_reordered) = (Vec::new(), Vec::new(), false, false);
+    let (mut files, mut key_logs) = (Vec::new(), Vec::new());
+    let (mut is_sorted, mut is_reordered, mut is_joined) = (false, false, false);
     let (mut output, mut map) = (None, None);
     while let Some(word) = parser.next().map_err(wrong)? {
         match word {
@@ -37,6 +39,7 @@ pub fn words_of(words: Vec<OsString>) -> Result<Words, Failure> {
             Short('m') | Long("map") => map = Some(PathBuf::from(parser.value().map_err(wrong)?)),
             Long("sort") => is_sorted = true,
             Long("reorder") => is_reordered = true,
+            Long("joined") => is_joined = true,
             Short('j') | Long("jobs") => {
                 number("-j/--jobs", &parser.value().map_err(wrong)?, 1, MOST_JOBS)?;
             }
@@ -45,5 +48,5 @@ pub fn words_of(words: Vec<OsString>) -> Result<Words, Failure> {
         }
     }
     let output = output.ok_or_else(|| missing(&["-o/--output"]))?;
-    Ok(Words::Import(Import { files, key_logs, output, map, is_sorted, is_reordered }))
+    Ok(Words::Import(Import { files, key_logs, output, map, is_sorted, is_reordered, is_joined }))
 }

@@ -26,8 +26,8 @@ fn import(folder: &Path, is_reordered: bool) -> Result<Vec<u8>, Failure> {
     }
     if let [out, map] = &mut outputs[..] {
         let (files, key_logs) = ([OsString::from(folder.join("capture"))], [OsString::from(folder.join("keys"))]);
-        let asked = Asked { program: "import", files: &files, key_logs: &key_logs, is_reordered, can_repeat: true };
-        let mut map = MapFile::new(Some(map));
+        let asked = Asked { program: "import", files: &files, key_logs: &key_logs, is_reordered, is_joined: false, can_repeat: true };
+        let mut map = MapFile::new(Some(map), false);
         let mut sink = Sink::new(out, &mut map)?;
         imported(&asked, &mut sink, Some(&mut Courses::default()))?;
     }

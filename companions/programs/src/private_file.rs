@@ -1,7 +1,7 @@
 //! A temporary file without a name, which holds plaintext: it goes with the process, however that ends.
 
 use std::fs::File;
-use std::io::{self, BufWriter, Seek, SeekFrom, Write};
+use std::io::{self, BufReader, BufWriter, IntoInnerError, Seek, SeekFrom, Write};
 use std::os::unix::io::AsRawFd;
 use std::path::PathBuf;
 use std::{env, process};
@@ -17,8 +17,19 @@ pub struct PrivateFile {
 
 impl PrivateFile {
     pub fn new() -> Result<PrivateFile, Failure> {
-        let file = tempfile::tempfile().map_err(|error| temporary_failure(&error))?;
-        Ok(PrivateFile { writer: BufWriter::with_capacity(BUFFER, file) })
+        PrivateFile::begin().map_err(|error| temporary_failure(&error))
+    }
+
+    /// One whose failures are named by [`temporary_failure`].
+    pub fn begin() -> io::Result<PrivateFile> {
+        tempfile::tempfile().map(|file| PrivateFile { writer: BufWriter::with_capacity(BUFFER, file) })
+    }
+
+    /// What was written, to be read.
+    pub fn read_from_the_beginning(self) -> io::Result<BufReader<File>> {
+        let mut file = self.writer.into_inner().map_err(IntoInnerError::into_error)?;
+        file.rewind()?;
+        Ok(BufReader::with_capacity(BUFFER, file))
     }
 
     /// Takes back what was written.

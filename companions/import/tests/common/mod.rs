@@ -120,7 +120,7 @@ pub fn import_in<T: Default>(
     let files: Vec<OsString> = paths.iter().map(OsString::from).collect();
     let key_logs: Vec<OsString> = keys.exists().then(|| keys.into()).into_iter().collect();
     let mut sink = Sink::new(&mut made, &mut listener)?;
-    let asked = Asked { program: "import", files: &files, key_logs: &key_logs, is_reordered, can_repeat: true };
+    let asked = Asked { program: "import", files: &files, key_logs: &key_logs, is_reordered, is_joined: false, can_repeat: true };
     let summary = imported(&asked, &mut sink, courses)?;
     drop(sink);
     Ok((made.0, listener.state, summary))

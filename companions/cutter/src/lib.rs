@@ -1,10 +1,14 @@
 //! Cuts the frames of one side out of its bytes as they come (RFC 9113, 4.1; docs/AUDIT_RULES.md, 4).
 
-use crate::answer::Nanos;
+#![forbid(unsafe_code)]
+
+/// A time in nanoseconds since 1970.
+pub type Nanos = i64;
 
 /// What a client sends first (RFC 9113, 3.4).
 pub const PREFACE: &[u8; 24] = b"PRI * HTTP/2.0\r\n\r\nSM\r\n\r\n";
-const HEADER: usize = 9;
+/// So many bytes stand before a frame's payload.
+pub const HEADER: usize = 9;
 const STREAM: u32 = (1 << 31) - 1;
 /// So many different times of packets of one frame are kept.
 const MOST_TIMES: usize = 1 << 20;
@@ -13,6 +17,7 @@ const MOST_TIMES: usize = 1 << 20;
 pub mod kind {
     pub const DATA: u8 = 0;
     pub const HEADERS: u8 = 1;
+    pub const PRIORITY: u8 = 2;
     pub const RST_STREAM: u8 = 3;
     pub const SETTINGS: u8 = 4;
     pub const PUSH_PROMISE: u8 = 5;
@@ -40,7 +45,7 @@ pub struct Head {
 }
 
 impl Head {
-    fn of(bytes: &[u8; HEADER]) -> Head {
+    pub fn of(bytes: &[u8; HEADER]) -> Head {
         let [high, middle, low, kind, flags, a, b, c, d] = *bytes;
         Head {
             length: u32::from_be_bytes([0, high, middle, low]),

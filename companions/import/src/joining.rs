@@ -1,0 +1,116 @@
+//! Connections that began before the capture (docs/MAP.md, 4): what is kept of pairs of endpoints that were not seen to
+//! open one, until all is read; and what is made up for those that are joined.
+//!
+//! Their packets wait in a temporary file without a name. At the end, behind all that is written otherwise, come the
+//! beginnings that are made up, and behind these the packets, as new connections of the capture that is made.
+
+use std::io::{self, BufReader, Read, Write};
+
+use captures::{flags, Arrival, Packet, Segment, MADE_HEADERS, RAW};
+use joined::{Joined, Joiner, Piece, Unjoined};
+use programs::{temporary_failure, Failure, PrivateFile};
+
+use crate::answers::Answers;
+use crate::outcomes::JoinedConnection;
+use crate::table::Stray;
+
+/// Pair, packet, time, length of the datagram, and how long it was.
+const HEAD: usize = 28;
+
+/// The pairs of endpoints by the order of their first segments.
+#[derive(Default)]
+pub struct Joining {
+    pairs: Vec<Option<Box<Joiner>>>,
+    waiting: Option<PrivateFile>,
+    head: Vec<u8>,
+    answers: Answers,
+    /// Of connections that opened, and whose answer was made up.
+    pub joined: Vec<JoinedConnection>,
+}
+
+impl Joining {
+    /// Takes a segment of a pair that has opened no connection so far.
+    pub fn take(&mut self, stray: Stray, arrival: Arrival, segment: &Segment<'_>) -> Result<(), Failure> {
+        if stray.pair == self.pairs.len() {
+            self.pairs.push(Some(Box::new(Joiner::new(arrival, segment.ends))));
+        }
+        let joiner = match self.pairs.get_mut(stray.pair).and_then(Option::as_mut) {
+            Some(joiner) => joiner,
+            None => return Ok(()),
+        };
+        joiner.take(stray.flow, &piece_of(arrival, segment));
+        if !joiner.is_over() {
+            self.keep(stray.pair, arrival, segment).map_err(|error| temporary_failure(&error))?;
+        }
+        Ok(())
+    }
+
+    /// The SYN ACK that is missing before a segment.
+    pub fn lost_answer(&mut self, segment: &Segment<'_>) -> Option<[u8; MADE_HEADERS]> {
+        self.answers.take(segment)
+    }
+
+    fn keep(&mut self, pair: usize, arrival: Arrival, segment: &Segment<'_>) -> io::Result<()> {
+        let file = match &mut self.waiting {
+            Some(file) => file,
+            none => none.insert(PrivateFile::begin()?),
+        };
+        self.head.clear();
+        self.head.extend_from_slice(&(pair as u32).to_le_bytes());
+        self.head.extend_from_slice(&arrival.packet.to_le_bytes());
+        self.head.extend_from_slice(&arrival.nanos.to_le_bytes());
+        self.head.extend_from_slice(&(segment.datagram_length() as u32).to_le_bytes());
+        self.head.extend_from_slice(&segment.original.to_le_bytes());
+        file.write_all(&self.head)?;
+        segment.datagram().iter().try_for_each(|part| file.write_all(part))
+    }
+
+    /// What became of the next pair, in the order of first segments; none where all were asked for.
+    pub fn next(&mut self, pair: usize) -> Option<Result<Joined, Unjoined>> {
+        let joiner = self.pairs.get_mut(pair)?.take()?;
+        Some(joiner.finish())
+    }
+
+    /// The packets that wait.
+    pub fn packets(self) -> io::Result<Option<Waiting>> {
+        let file = self.waiting.map(PrivateFile::read_from_the_beginning).transpose()?;
+        Ok(file.map(|file| Waiting { file, datagram: Vec::new() }))
+    }
+}
+
+fn piece_of<'a>(arrival: Arrival, segment: &Segment<'a>) -> Piece<'a> {
+    let Segment { sequence, acknowledgement, flags, identification, .. } = *segment;
+    let acknowledgement = (flags & flags::ACK != 0).then_some(acknowledgement);
+    Piece { arrival, sequence, acknowledgement, flags, identification, payload: segment.payload() }
+}
+
+/// The packets that waited, in their order.
+pub struct Waiting {
+    file: BufReader<std::fs::File>,
+    datagram: Vec<u8>,
+}
+
+/// One of them.
+pub struct Waited<'a> {
+    pub pair: usize,
+    pub arrival: Arrival,
+    pub packet: Packet<'a>,
+}
+
+impl Waiting {
+    pub fn next(&mut self) -> io::Result<Option<Waited<'_>>> {
+        let mut head = [0; HEAD];
+        match self.file.read_exact(&mut head) {
+            Err(error) if error.kind() == io::ErrorKind::UnexpectedEof => return Ok(None),
+            read => read?,
+        }
+        let four = |at: usize| u32::from_le_bytes([head[at], head[at + 1], head[at + 2], head[at + 3]]);
+        let eight = |at: usize| u64::from(four(at)) | u64::from(four(at + 4)) << 32;
+        let (length, original) = (four(20) as usize, four(24));
+        self.datagram.resize(length, 0);
+        self.file.read_exact(&mut self.datagram)?;
+        let nanos = eight(12) as i64;
+        let packet = Packet { nanos, link: Some(RAW), data: &self.datagram, original };
+        Ok(Some(Waited { pair: four(0) as usize, arrival: Arrival { packet: eight(4), nanos }, packet }))
+    }
+}

@@ -1,0 +1,39 @@
+//! Joins connections that a capture met in their middle: finds where their frames begin, which side is the client, which
+//! streams were open, and what credit each window must have had; and makes up a beginning with which plain h2audit audits
+//! the unaltered packets.
+//!
+//! [`Joiner`] takes the segments of a pair of endpoints that was not seen to open a connection, as [`Piece`]s; what is
+//! decrypted, or stands behind a gap, comes in the same way. [`Joiner::finish`] gives what is [`Joined`], or why nothing
+//! is. What is inferred has its evidence in bits and a [`Grade`] (docs/WHY.md).
+//!
+//! ```text
+//! incoming ─ border       the frames of both flows, in the order in which they came
+//!    └─ course ─ sides, streams, windows ─ usual, evidence     what they tell
+//!          └─ assumed     credits, and how sure they are
+//!                └─ beginning ─ frames, handshake     the records that are made up
+//! ```
+//!
+//! Each byte is looked at a bounded number of times. What is kept of a connection does not grow with its frames, but with
+//! the streams that are open; at most 1 MiB of a flow waits for its border.
+
+#![forbid(unsafe_code)]
+
+mod assumed;
+mod beginning;
+mod border;
+mod course;
+mod evidence;
+mod frames;
+mod handshake;
+mod incoming;
+mod joiner;
+mod sides;
+mod streams;
+mod usual;
+mod windows;
+
+pub use assumed::{Assumed, Grade, What};
+pub use handshake::Made;
+pub use incoming::Piece;
+pub use joiner::{is_first_of_server, Border, How, Inferred, Joined, Joiner, Unjoined, CLIENT, SERVER};
+pub use sides::Told;
