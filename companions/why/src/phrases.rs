@@ -365,7 +365,7 @@ fn whose(cause: &Cause) -> &'static str {
 fn tcp_words(cause: &Cause) -> String {
     let (side, other) = (cause.side, cause.side.other());
     match cause.why {
-        CauseWhy::ZeroWindow => format!("the {other}'s TCP window was 0"),
+        CauseWhy::ZeroWindow => format!("the {other}'s TCP window was used up"),
         CauseWhy::Resent => format!("TCP sent bytes of the {side} again"),
         CauseWhy::Hole => format!("bytes of the {side} came out of order or again"),
         CauseWhy::Nagle => format!(
