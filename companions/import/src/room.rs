@@ -12,10 +12,13 @@ const DELAYED: i64 = 2;
 /// What one side sent, as far as the other one's TCP window is to be told from it.
 #[derive(Debug, Default)]
 pub struct Room {
-    /// The number behind the last byte that the other side takes, and behind all that was sent.
-    edge: Option<u32>,
+    /// The number that the other side acknowledged, and the one behind the last byte that it takes.
+    window: Option<(u32, u32)>,
+    /// The number behind all that was sent.
     sent: Option<(Arrival, u32)>,
-    /// When all of that was acknowledged, and how many bytes the other side took then; and when first it took more.
+    /// How many bytes the other side took before it acknowledged all of that.
+    before: u32,
+    /// When it did, and how many bytes it took then; and when first it took more.
     left: Option<(Arrival, u32)>,
     risen: Option<(Arrival, u32)>,
 }
@@ -47,21 +50,34 @@ impl Room {
         (until.nanos.saturating_sub(told.nanos) >= LEAST_HELD).then_some((from, until))
     }
 
+    /// Whether so many bytes had no room before all that was sent was acknowledged.
+    pub fn was_full(&self, payload: u32) -> bool {
+        self.left.is_some() && self.before < payload
+    }
+
+    /// How many bytes the other side takes of what is sent next, which has this number.
+    fn room(&self, end: u32) -> u32 {
+        self.window.filter(|(_, edge)| is_behind(*edge, end)).map_or(0, |(_, edge)| edge.wrapping_sub(end))
+    }
+
     /// A segment of the other side, whose window is so large.
     pub fn answered(&mut self, arrival: Arrival, segment: &Brief, window: u32) {
         if !segment.has(flags::ACK) || segment.has(flags::RST) {
             return;
         }
-        let edge = segment.acknowledgement.wrapping_add(window);
-        let edge = self.edge.filter(|before| !is_behind(edge, *before)).unwrap_or(edge);
-        self.edge = Some(edge);
+        let number = segment.acknowledgement;
+        if self.window.map_or(false, |(before, _)| is_behind(before, number)) {
+            return;
+        }
+        let before = self.sent.map_or(0, |(_, end)| self.room(end));
+        self.window = Some((number, number.wrapping_add(window)));
         let end = match self.sent {
-            Some((_, end)) if end == segment.acknowledgement => end,
+            Some((_, end)) if end == number => end,
             _ => return,
         };
-        let room = if is_behind(edge, end) { edge.wrapping_sub(end) } else { 0 };
+        let room = self.room(end);
         match self.left {
-            None => self.left = Some((arrival, room)),
+            None => (self.left, self.before) = (Some((arrival, room)), before),
             Some((_, left)) if room > left => {
                 self.risen.get_or_insert((arrival, room));
             }
@@ -113,7 +129,15 @@ mod tests {
     }
 
     #[test]
-    fn a_window_never_gets_smaller() {
-        assert_eq!(held(1448, &[(1, 5000), (2, 10)]), None);
+    fn the_room_before_an_acknowledgement() {
+        let mut room = Room::default();
+        let answer = |acknowledgement| Brief { acknowledgement, flags: flags::ACK, ..Brief::default() };
+        room.answered(at(0), &answer(1), 1500);
+        room.sent(at(1), &Brief { sequence: 1, payload: 1000, ..Brief::default() }, LIMITS);
+        assert!(!room.was_full(501), "nothing is acknowledged");
+        room.answered(at(40), &answer(1001), 1500);
+        assert!(room.was_full(501) && !room.was_full(500));
+        room.answered(at(41), &answer(1), 0);
+        assert_eq!(room.room(1001), 1500, "an older one tells nothing");
     }
 }

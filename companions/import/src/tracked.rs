@@ -85,7 +85,7 @@ impl Tracked {
                 }
             }
         }
-        if let Some(from) = held_back {
+        if let Some(from) = held_back.filter(|_| !state.room.was_full(brief.payload)) {
             course.held.push(held(Why::Nagle, side, from, Some(arrival)));
         }
         if let (Fresh::Bytes { again: 0, .. }, Some(size)) = (fresh, state.way.segment_size()) {

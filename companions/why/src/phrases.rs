@@ -233,7 +233,7 @@ impl<'a> Phrases<'a> {
     fn whose(&self, cause: &Cause) -> String {
         match (cause.kind, cause.why) {
             (CauseKind::ConnectionWindow, _) => self.of_connection(cause),
-            (CauseKind::StreamWindow, CauseWhy::Stalls(StallWhy::RoundTrip | StallWhy::GrantedNothing)) => {
+            (CauseKind::StreamWindow, CauseWhy::Stalls(why)) if why != StallWhy::GrantLost => {
                 self.initial_window(cause).unwrap_or_default()
             }
             _ => String::new(),
