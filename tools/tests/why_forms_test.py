@@ -150,7 +150,9 @@ class Forms(OnCaptures):
             (suite,) = [suite for suite in top if suite.get("name") == name]
             own, *cases = suite.findall("testcase")
             why = dict(unread(found)).get(connection["number"])
-            told = [line for line in (own.findtext("failure") or "").splitlines() if line.startswith("not-audited: not")]
+            told = [
+                line for line in (own.findtext("failure") or "").splitlines() if line.startswith("not-audited: not")
+            ]
             self.assertEqual(bool(told), why is not None)
             if why is not None:
                 (words_of_it,) = [one["text"] for one in found["not_audited"] if one["reason"] == why]

@@ -125,7 +125,6 @@ impl Total {
         self.turn.is_some() && self.turn == times.first().copied() && self.begun == self.ended && self.newest < order
     }
 
-
     /// Content came in packets at these times; a pause is one that is longer than this.
     pub fn sent(&mut self, times: &[Nanos], length: u32, pause: Nanos) {
         self.content += u64::from(length);

@@ -68,7 +68,7 @@ pub struct Side {
 #[derive(Clone, Copy, Debug, Default, PartialEq, Eq)]
 pub struct Uncaptured {
     pub bytes: u64,
-    /// In so many packets at least, none being larger than those that were captured.
+    /// In so many packets at least, none being larger than those that were captured, and than the segment size.
     pub packets: u64,
     /// The first packet that shows them: one behind them, or the first that acknowledges those at the end.
     pub first: Option<Arrival>,

@@ -82,9 +82,9 @@ impl Sent {
         self.acknowledged.saturating_sub(u32::from(is_fin))
     }
 
-    /// What the other side has, though it was not captured; and the first packet that acknowledges what of it is at the
-    /// end.
-    pub fn uncaptured(&self) -> Uncaptured {
+    /// What the other side has, though it was not captured, where it takes segments of this size; and the first packet that
+    /// acknowledges what of it is at the end.
+    pub fn uncaptured(&self, size: u32) -> Uncaptured {
         let mut found = Uncaptured::default();
         if self.is_snapped {
             return found;
@@ -93,7 +93,7 @@ impl Sent {
         found.first = self.beyond.filter(|_| behind.0 < behind.1);
         let holes = self.holes.iter().map(|(begin, end)| (*begin, (*end).min(self.acknowledged)));
         for (begin, end) in holes.chain([behind]).filter(|(begin, end)| begin < end) {
-            let (length, longest) = (u64::from(end - begin), u64::from(self.longest.max(1)));
+            let (length, longest) = (u64::from(end - begin), u64::from(self.longest.max(size)));
             found.bytes += length;
             found.packets += (length + longest - 1) / longest;
         }
@@ -198,7 +198,7 @@ mod tests {
     #[test]
     fn what_the_other_side_has() {
         let mut sent = Sent { initial: Some(u32::MAX), longest: 10, ..Sent::default() };
-        let uncaptured = |sent: &Sent| (sent.uncaptured().bytes, sent.uncaptured().packets);
+        let uncaptured = |sent: &Sent| (sent.uncaptured(1).bytes, sent.uncaptured(1).packets);
         for (begin, end) in [(0, 10), (35, 45), (60, 70)] {
             sent.cover(begin, end);
         }
@@ -212,7 +212,7 @@ mod tests {
         assert_eq!(uncaptured(&sent), (30, 4));
         acknowledge(&mut sent, 71);
         assert_eq!(uncaptured(&sent), (40, 5), "the last number is that of a FIN");
-        let beyond = |sent: &Sent| sent.uncaptured().first.map(|arrival| arrival.packet);
+        let beyond = |sent: &Sent| sent.uncaptured(1).first.map(|arrival| arrival.packet);
         assert_eq!(beyond(&sent), None);
         acknowledge(&mut sent, 75);
         acknowledge(&mut sent, 76);
@@ -225,6 +225,7 @@ mod tests {
         assert_eq!(uncaptured(&sent), (43, 6), "no side sends so much at once");
         sent.cover(72, 75);
         assert_eq!((uncaptured(&sent), beyond(&sent)), ((40, 5), None));
+        assert_eq!(sent.uncaptured(20).packets, 3, "of the segment size");
         assert_eq!(uncaptured(&Sent { is_snapped: true, ..sent }), (0, 0));
     }
 }

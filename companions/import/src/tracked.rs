@@ -113,13 +113,7 @@ impl Tracked {
     }
 
     /// Notes the receive window, which holds back what the other side sends.
-    fn window(
-        &mut self,
-        course: &mut Course,
-        side: usize,
-        arrival: Arrival,
-        (segment, brief): (&Segment<'_>, &Brief),
-    ) {
+    fn window(&mut self, course: &mut Course, side: usize, arrival: Arrival, (segment, brief): (&Segment<'_>, &Brief)) {
         if segment.flags & flags::SYN != 0 {
             self.shifts[side] = Some(brief.shift);
         }
@@ -142,7 +136,7 @@ impl Tracked {
     pub fn finish(self, course: &mut Course) {
         for (side, state) in self.sides.into_iter().enumerate() {
             course.sides[side].lost = state.holed;
-            let found = state.sent.uncaptured();
+            let found = state.sent.uncaptured(state.way.largest());
             let first = state.holed.filter(|_| found.bytes > 0).into_iter().chain(found.first);
             course.sides[side].uncaptured = Uncaptured { first: first.min_by_key(|one| one.nanos), ..found };
             course.held.extend(state.closed.map(|from| held(Why::ZeroWindow, 1 - side, from, None)));

@@ -15,6 +15,8 @@ const FIRST_CONGESTION_WINDOW: u32 = 10;
 /// Options that take away from the segment size, as the timestamps of each segment do (RFC 7323, 3.2).
 const OPTIONS: u32 = 12;
 const TCP_HEADER: usize = 20;
+/// What every side takes (RFC 9293, 3.7.1).
+const LEAST_SIZE: u32 = 536;
 const MOST_SHIFTED: u8 = 14;
 
 /// What one side sent, as far as the other one's acknowledgements are to be told from it.
@@ -59,7 +61,7 @@ pub struct Brief {
     pub flags: u8,
     pub payload: u32,
     /// The largest segment that its side takes, and by how much its windows are shifted, as a SYN says.
-    size: Option<u32>,
+    pub size: Option<u32>,
     pub shift: Option<u8>,
 }
 
@@ -116,6 +118,11 @@ impl Way {
             one.nanos = if is_opening { arrival.nanos } else { one.nanos };
         }
         first
+    }
+
+    /// The largest segment that the other side takes.
+    pub fn largest(&self) -> u32 {
+        self.size.unwrap_or(LEAST_SIZE)
     }
 
     /// How many bytes a whole segment of the side has.
